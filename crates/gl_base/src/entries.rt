@@ -11,5 +11,7 @@ pub enum Entry {
         vertex: Vertex,
     },
     /// A recovery: every vertex is scheduled again. `ticket` is the least that a later update may have.
-    Restart { ticket: u64 },
+    Restart {
+        ticket: u64,
+    },
 }

@@ -1,0 +1,26 @@
+-- Levels count the edges of a walk, and distances sum their weights, as breadth-first search and single-source
+-- shortest paths of LDBC Graphalytics do.
+use Rattle.std.specs.Prelude.{◌≡◌, ℕ, ◌<◌, List, length, slice_index, sum_by}
+use Rattle.graph_core.specs.DataGraph.{DataGraph, size}
+use Rattle.graph_core.specs.Walks.{IsLeast, IsLeastOrInf}
+
+-- x is the number of edges of a shortest walk from a to v
+abbrev pub IsLevel : DataGraph → ℕ → ℕ → ℕ → Type 0
+IsLevel g a v x = IsLeast g length a v x
+
+-- x is the sum of weights of a cheapest walk from a to v
+abbrev pub IsDistance : DataGraph → ℕ → ℕ → ℕ → Type 0
+IsDistance g a v x = IsLeast g (λ path. sum_by (λ e. e.weight) path) a v x
+
+-- the level of v from a, and INF where no walk goes there
+abbrev pub IsLevelOrInf : DataGraph → ℕ → ℕ → ℕ → Type 0
+IsLevelOrInf g a v x = IsLeastOrInf g length a v x
+
+-- the distance of v from a, and INF where no walk goes there
+abbrev pub IsDistanceOrInf : DataGraph → ℕ → ℕ → ℕ → Type 0
+IsDistanceOrInf g a v x = IsLeastOrInf g (λ path. sum_by (λ e. e.weight) path) a v x
+
+-- each vertex has its level from a, and INF where no walk goes there
+pub record AreLevels (g : DataGraph) (a : ℕ) (numbers : List ℕ) : Type 0 where
+  pub count : length numbers ≡ size g
+  pub each : (v : ℕ) → v < size g → IsLevelOrInf g a v (slice_index numbers v)
