@@ -1,0 +1,129 @@
+-- Lemmas on files in memory, and on those that were opened.
+use Rattle.std.proofs.Common.{◌≡◌, ◌≢◌, ℕ, ◌<◌, Bool, true, false, List, [], ◌∷◌, ◌++◌, length, get_or, take, drop, map, Option, Some, None, refl, sym, ap, ◌∙◌, arith, length-append, length-set}
+use Rattle.std.specs.Prelude.{bytes_eq, All, zero, suc, slice_get, slice_set, nat_lt, min, IsTrue}
+use Rattle.std.specs.Option.{option_map}
+use Rattle.std.specs.Io.KnownBytes.{Consumes, IsAtEnd}
+use Rattle.std.proofs.lemmas.Option.{slice_get-map, slice_get_read}
+use Rattle.std.proofs.lemmas.Bool.Decides.{nat_tests}
+use Rattle.gl_outside.specs.Frames.{ReadsOnly, OpensOnly}
+use Rattle.std.proofs.lemmas.List.{length-map, map-set, get_or_read, get_or_append_left}
+use Rattle.std.proofs.lemmas.List.Elements.{All-head, All-tail}
+use Rattle.std.proofs.lemmas.List.Sums.{fold-append}
+use Rattle.std.proofs.lemmas.Slice.Eq.{bytes_eq-Decides}
+use Rattle.gl_outside.specs.Store.{NamedBytes, StoreState, bytes_at, bytes_of, newer, given_by, is_open, left_by}
+use Rattle.gl_outside.specs.OpenFiles.{left_in, IsInside}
+use Rattle.gl_outside.specs.declared.mem_files.OpenFile.{OpenFile}
+
+-- what an index reads
+pub bytes_at-read : (files : List NamedBytes) (place : ℕ) (file : NamedBytes) → place < length files → file ≡ get_or files place file → bytes_at files place ≡ file.bytes
+bytes_at-read files place file inside read = ap (λ (f : NamedBytes). f.bytes) (sym (get_or_read files place file inside read _))
+
+pub bytes_at-append : (files more : List NamedBytes) (place : ℕ) → place < length files → bytes_at (files ++ more) place ≡ bytes_at files place
+bytes_at-append files more place inside = ap (λ (f : NamedBytes). f.bytes) (get_or_append_left files more _ place inside)
+
+-- more files leave the open ones as they are
+pub IsInside-append : (files more : List NamedBytes) (open_file : OpenFile) → IsInside files open_file → IsInside (files ++ more) open_file
+IsInside-append files more open_file inside = record {
+  known = omega (arith, inside.known, length-append files more);
+  within = omega (arith, inside.within, ap (length {A = ℕ}) (bytes_at-append files more open_file.place inside.known));
+}
+
+pub left_in-append : (files more : List NamedBytes) (open_file : OpenFile) → IsInside files open_file → left_in (files ++ more) open_file ≡ left_in files open_file
+left_in-append files more open_file inside = ap (drop open_file.at) (bytes_at-append files more open_file.place inside.known)
+
+pub map-left_in-append : (files more : List NamedBytes) (opened : List OpenFile) → All (IsInside files) opened → map (left_in (files ++ more)) opened ≡ map (left_in files) opened
+map-left_in-append files more [] inside = refl
+map-left_in-append files more (o ∷ os) inside =
+    let first = left_in-append files more o (All-head (IsInside files) o os inside) in
+    let rest = map-left_in-append files more os (All-tail (IsInside files) o os inside) in
+    cc
+
+-- a file more of this name is what the name gives
+bytes_of-push : (files : List NamedBytes) (file : NamedBytes) (name : List ℕ) → bytes_of (files ++ file ∷ []) name ≡ newer name (bytes_of files name) file
+bytes_of-push files file name = fold-append (newer name) None files (file ∷ [])
+
+false_from_not : (b : Bool) → ¬ (b ≡ true) → b ≡ false
+false_from_not true refuted = absurd (refuted refl)
+false_from_not false refuted = refl
+
+pub bytes_of_put : (files now : List NamedBytes) (file : NamedBytes) (name : List ℕ) → now ≡ files ++ file ∷ [] → file.name ≡ name → bytes_of now name ≡ Some file.bytes
+bytes_of_put files now file name grown named =
+    let same = (bytes_eq-Decides file.name name).1 named in
+    rw (grown, bytes_of-push files file name, same)
+
+-- and changes no other name
+pub bytes_of_other : (files now : List NamedBytes) (file : NamedBytes) (name other : List ℕ) → now ≡ files ++ file ∷ [] → file.name ≡ name → other ≢ name → bytes_of now other ≡ bytes_of files other
+bytes_of_other files now file name other grown named apart =
+    let differs = false_from_not (bytes_eq file.name other) (λ e. apart (sym ((bytes_eq-Decides file.name other).0 e) ∙ named)) in
+    rw (grown, bytes_of-push files file other, differs)
+
+-- elements by their index
+pub slice_get_pushed : {X : Type 0} (xs : List X) (y : X) → slice_get (xs ++ y ∷ []) (length xs) ≡ Some y
+slice_get_pushed [] y = refl
+slice_get_pushed (x ∷ xs) y = slice_get_pushed xs y
+
+pub slice_get-append_left : {X : Type 0} (xs ys : List X) (i : ℕ) → i < length xs → slice_get (xs ++ ys) i ≡ slice_get xs i
+slice_get-append_left [] ys i inside = absurd (omega (arith, inside))
+slice_get-append_left (x ∷ xs) ys zero inside = refl
+slice_get-append_left (x ∷ xs) ys (suc i) inside = slice_get-append_left xs ys i (omega (arith, inside))
+
+pub slice_get-set_same : {X : Type 0} (xs : List X) (i : ℕ) (y : X) → i < length xs → slice_get (slice_set xs i y) i ≡ Some y
+slice_get-set_same [] i y inside = absurd (omega (arith, inside))
+slice_get-set_same (x ∷ xs) zero y inside = refl
+slice_get-set_same (x ∷ xs) (suc i) y inside = slice_get-set_same xs i y (omega (arith, inside))
+
+pub slice_get-set_other : {X : Type 0} (xs : List X) (i k : ℕ) (y : X) → k ≢ i → slice_get (slice_set xs i y) k ≡ slice_get xs k
+slice_get-set_other [] i k y apart = refl
+slice_get-set_other (x ∷ xs) zero zero y apart = absurd (apart refl)
+slice_get-set_other (x ∷ xs) zero (suc k) y apart = refl
+slice_get-set_other (x ∷ xs) (suc i) zero y apart = refl
+slice_get-set_other (x ∷ xs) (suc i) (suc k) y apart = slice_get-set_other xs i k y (λ e. apart (ap (λ (n : ℕ). suc n) e))
+
+-- an index into a list, seen through a function
+pub slice_get-map_read : {X Y : Type 0} (f : X → Y) (xs : List X) (i : ℕ) (x : X) → i < length xs → x ≡ get_or xs i x → slice_get (map f xs) i ≡ Some (f x)
+slice_get-map_read f xs i x inside read = slice_get-map f xs i ∙ ap (option_map f) (slice_get_read xs (length xs) i x refl inside read)
+
+pub slice_get-map_set : {X Y : Type 0} (f : X → Y) (xs : List X) (i : ℕ) (y : X) → i < length xs → slice_get (map f (slice_set xs i y)) i ≡ Some (f y)
+slice_get-map_set f xs i y inside = slice_get-map f (slice_set xs i y) i ∙ ap (option_map f) (slice_get-set_same xs i y inside)
+
+empty_from_length : (xs : List ℕ) → length xs ≡ 0 → xs ≡ []
+empty_from_length [] none = refl
+empty_from_length (x ∷ xs) none = absurd (omega (arith, none))
+
+-- a number of an open file is a place in the list behind the view
+pub open_inside : {X Y : Type 0} (f : X → Y) (xs : List X) (ys : List Y) (i : ℕ) → map f xs ≡ ys → IsTrue (nat_lt i (length ys)) → i < length xs
+open_inside f xs ys i seen is_open =
+    let below : i < length ys = grind (arith, nat_tests) in
+    omega (arith, below, ap length seen, length-map xs f)
+
+pub map-slice_set : {X Y : Type 0} (f : X → Y) (xs : List X) (i : ℕ) (y : X) → map f (slice_set xs i y) ≡ slice_set (map f xs) i (f y)
+map-slice_set f xs i y = map-set f xs i y
+
+-- a file that was opened has all of its bytes left
+pub left_in_new : (files : List NamedBytes) (opened now : List OpenFile) (new : OpenFile) (number : ℕ) → now ≡ opened ++ new ∷ [] → number ≡ length opened → slice_get (map (left_in files) now) number ≡ Some (left_in files new)
+left_in_new files opened now new number grown numbered =
+    rw (grown, numbered)
+    (slice_get-map (left_in files) (opened ++ new ∷ []) (length opened) ∙ ap (option_map (left_in files)) (slice_get_pushed opened new))
+
+-- what a read of the next bytes tells
+pub reads_next : (old new : Option (List ℕ)) (before after buf : List ℕ) (count : ℕ) → old ≡ Some before → new ≡ Some after → before ≡ take count buf ++ after → count ≡ min (length before) (length buf) → Consumes old new (take count buf) × (count ≡ 0 → 0 < length buf → IsAtEnd new)
+reads_next old new before after buf count old_is new_is spelled counted =
+    let lengths = ap (length {A = ℕ}) spelled ∙ length-append (take count buf) after in
+    rw (old_is, new_is) (spelled, λ none room. empty_from_length after (omega (arith, counted, none, room, lengths)))
+
+-- an open adds a file that is open, and leaves the others
+pub opens_only : (old new : StoreState) (left : List ℕ) → new.files ≡ old.files → new.opened ≡ old.opened ++ left ∷ [] → OpensOnly given_by is_open left_by old new
+opens_only old new left files opened = record {
+  gives = λ name. ap (λ (fs : List NamedBytes). bytes_of fs name) files;
+  open_files = λ other was. let more = ap (length {A = List ℕ}) opened ∙ length-append old.opened (left ∷ []) in grind (arith, nat_tests);
+  others = λ other was. rw opened (slice_get-append_left old.opened (left ∷ []) other (grind (arith, nat_tests)));
+}
+
+-- a read changes what one file has left
+pub reads_only : (old new : StoreState) (file : ℕ) (left : List ℕ) → new.files ≡ old.files → new.handed ≡ old.handed → new.opened ≡ slice_set old.opened file left → ReadsOnly given_by (λ (s : StoreState). Some s.handed) is_open left_by file old new
+reads_only old new file left files handed opened = record {
+  gives = λ name. ap (λ (fs : List NamedBytes). bytes_of fs name) files;
+  names = ap (λ (names : List (List ℕ)). Some names) handed;
+  open_files = λ other. ap (λ (n : ℕ). nat_lt other n) (ap (length {A = List ℕ}) opened ∙ length-set old.opened file left);
+  others = λ other apart. rw opened (slice_get-set_other old.opened file other left apart);
+}

@@ -1,0 +1,33 @@
+use Rattle.std.proofs.Common.{◌≡◌, Some, slice_get, slice_set, ap, sym, ◌∙◌, rules}
+use Rattle.gl_outside.specs.Store.{StoreState}
+use Rattle.gl_outside.specs.OpenFiles.{left_in}
+use Rattle.gl_outside.proofs.StoredFiles.{slice_get-map_read, slice_get-map_set, reads_next, reads_only, map-slice_set, open_inside}
+use Rattle.gl_outside.proofs.mem_files.MemFilesFiles.read.Goals as goal
+
+pub returns-clause-bytes : goal.returns-clause-bytes
+returns-clause-bytes c =
+    let files = c.self.inside.files.items in
+    let opened = c.self.inside.opened.items in
+    let inside = open_inside (left_in files) opened c.args.self.now.opened c.args.file.0 (ap (λ (s : StoreState). s.opened) c.self.view_is) c.requires in
+    let old : slice_get c.args.self.now.opened c.args.file.0 ≡ Some (left_in files c.index.result.now) =
+    ap (λ (s : StoreState). slice_get s.opened c.args.file.0) (sym c.self.view_is) ∙ slice_get-map_read (left_in files) opened c.args.file.0 c.index.result.now inside c.index.ensures in
+    let new = slice_get-map_set (left_in files) opened c.args.file.0 c.read_on-count.result.1 inside in
+    reads_next _ _ _ _ c.read_on-count.new.buf c.read_on-count.result.0 old new (search rules) (search rules)
+
+pub returns-clause-frame : goal.returns-clause-frame
+returns-clause-frame c =
+    let files = c.self.inside.files.items in
+    let opened = c.self.inside.opened.items in
+    reads_only _ _ c.args.file.0 (left_in files c.read_on-count.result.1)
+    (ap (λ (s : StoreState). s.files) c.self.view_is)
+    (ap (λ (s : StoreState). s.handed) c.self.view_is)
+    (map-slice_set (left_in files) opened c.args.file.0 c.read_on-count.result.1 ∙ ap (λ (s : StoreState). slice_set s.opened c.args.file.0 (left_in files c.read_on-count.result.1)) c.self.view_is)
+
+pub returns-clause-all : goal.returns-clause-all
+returns-clause-all c =
+    let files = c.self.inside.files.items in
+    let opened = c.self.inside.opened.items in
+    let inside = open_inside (left_in files) opened c.args.self.now.opened c.args.file.0 (ap (λ (s : StoreState). s.opened) c.self.view_is) c.requires in
+    let old : slice_get c.args.self.now.opened c.args.file.0 ≡ Some (left_in files c.index.result.now) =
+    ap (λ (s : StoreState). slice_get s.opened c.args.file.0) (sym c.self.view_is) ∙ slice_get-map_read (left_in files) opened c.args.file.0 c.index.result.now inside c.index.ensures in
+    rw old (search rules)

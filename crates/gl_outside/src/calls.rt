@@ -1,0 +1,55 @@
+//! The calls of an object in memory: which of them fail, and how many faults there were.
+ghost use Rattle.std.specs.Prelude.{◌≡◌, ◌↔◌, ◌≤◌, IsTrue};
+ghost use Rattle.gl_outside.specs.Faults.{Rose};
+ghost use Rattle.gl_outside.specs.Calls.{no_calls, NextFails, called, faulted};
+
+use crate::Failed;
+use crate::fault_count::FaultCount;
+use std::marker::Model;
+
+/// Counts of calls and of faults, which stay at the end of their type, and the numbers of the calls that fail.
+#[derive(Drop)]
+pub(crate) struct Calls {
+    failing: Vec<u64>,
+    made: u64,
+    faults: FaultCount,
+}
+
+impl Model for Calls {
+    ghost use Rattle.gl_outside.specs.Calls.{CallCounts};
+
+    ghost Value = { CallCounts };
+
+    ghost view = { λ c. record { failing = c.failing.items; made = c.made; faults = c.faults } };
+}
+
+impl Calls {
+    /// Before the first call, which has the number 1.
+    pub(crate) fn new(failing: Vec<u64>) -> Self
+        ensures { result ≡ no_calls failing.items }
+    {
+        Calls {
+            failing,
+            made: 0,
+            faults: FaultCount::new(),
+        }
+    }
+
+    /// Counts a call, and tells whether it is one of those that fail.
+    pub(crate) fn count(&mut self) -> bool
+        ensures told { IsTrue result ↔ NextFails self.old }
+        ensures counted { self.new ≡ called self.old }
+    {
+        self.made = self.made.saturating_add(1);
+        self.failing.contains(&self.made)
+    }
+
+    /// Counts a fault.
+    pub(crate) fn fault(&mut self) -> Failed
+        ensures counted { self.new ≡ faulted self.old }
+        ensures later { self.old.faults ≤ self.new.faults }
+        ensures rose { Rose self.old.faults self.new.faults }
+    {
+        self.faults.raise()
+    }
+}
