@@ -1,0 +1,28 @@
+//! What the readers give.
+ghost use Rattle.graph_text.specs.PlainTexts.{AreIds};
+
+use gl_base::TextFault;
+
+/// The identifiers of the vertices, ascending.
+#[derive(Debug, Drop)]
+pub struct VertexList {
+    pub ids: Vec<u64>,
+    ghost are_ids: { AreIds ids.items },
+}
+
+/// The edges as pairs of identifiers, in the order of the lines.
+#[derive(Debug, Drop)]
+pub struct PairList {
+    pub pairs: Vec<(u64, u64)>,
+}
+
+/// Why a text was not read.
+#[derive(Clone, Copy, Debug, PartialEq, Eq)]
+pub enum Reading {
+    /// The text is refused, for this fault.
+    Text(TextFault),
+    /// The source failed.
+    ReadFault,
+    /// There was not enough memory.
+    NoMemory,
+}

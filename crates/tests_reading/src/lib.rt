@@ -1,0 +1,9 @@
+//! The readers of plain texts: what they take and refuse, whatever the pieces, and where a call fails.
+#![tactic(auto)]
+
+#[cfg(test)]
+mod edges;
+#[cfg(test)]
+mod pieces;
+#[cfg(test)]
+mod vertices;
