@@ -1,0 +1,9 @@
+pub mod Fronts
+pub mod FiveWords
+pub mod Membership
+pub mod NumberedRows
+pub mod NamesHanded
+pub mod GraphOfLists
+pub mod OneGraph
+pub mod Lowering
+pub mod Searching

@@ -1,0 +1,14 @@
+-- What was written, what is gathered and the lines that are left are the whole text.
+use Rattle.engine_cli.specs.Answer.{answer_text}
+use Rattle.engine_cli.proofs.Fronts.{Printing}
+use Rattle.std.proofs.Common.{drop, ◌≤◌}
+use Rattle.engine_cli.proofs.printing.print_answer.Given as goal
+
+abbrev pub invariant-loop-place : goal.invariant-loop-place
+invariant-loop-place g l =
+    let held = g.K.Sink.held in
+    record {
+      printing : Printing (held l.fn.out) (held l.out) l.piece.items (answer_text (drop l.place l.ids) (drop l.place l.numbers)) (answer_text l.ids l.numbers);
+      later : g.K.Sink.faults l.fn.out ≤ g.K.Sink.faults l.out;
+      same : g.K.Sink.same l.fn.out l.out;
+    }

@@ -1,0 +1,10 @@
+use Rattle.std.proofs.Common.{length, sum, ◌+◌, ◌*◌}
+use Rattle.engine_cli.proofs.Searching.{Searching}
+use Rattle.engine_cli.proofs.search.levels_from.Given as goal
+
+abbrev pub invariant-loop-vertex : goal.invariant-loop-vertex
+invariant-loop-vertex l = Searching l.rows l.start l.numbers.items l.waiting.items
+
+-- a number that is lowered pays for the vertex that waits
+abbrev pub decreases-loop-vertex : goal.decreases-loop-vertex
+decreases-loop-vertex l = 2 * sum l.numbers.items + length l.waiting.items

@@ -1,0 +1,10 @@
+pub mod Words
+pub mod Answer
+pub mod Printing
+pub mod Says
+pub mod Status
+pub mod NumberedGraph
+pub mod Search
+pub mod Found
+pub mod Ended
+pub mod RunWords

@@ -1,0 +1,5 @@
+//! Tests of the top call over files in memory. Expected values are worked out by hand.
+#![tactic(auto)]
+
+#[cfg(test)]
+mod levels;
