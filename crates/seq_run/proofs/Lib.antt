@@ -1,0 +1,15 @@
+pub mod Sums
+pub mod Waking
+pub mod AtRest
+pub mod Relaxing
+pub mod Reach
+pub mod LevelsAndPaths
+pub mod Labels
+pub mod Marks
+pub mod Neighbours
+pub mod Colours
+pub mod Ties
+pub mod Cores
+pub mod FallingRanks
+pub mod StepBounds
+pub mod GoingOn

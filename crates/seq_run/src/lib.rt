@@ -1,0 +1,15 @@
+//! Orders of updates: what their replay gives on the undivided graph.
+#![tactic(auto)]
+
+mod examples;
+mod laws;
+
+pub use examples::{
+    colours_of_a_triangle, cores_of_a_triangle_with_a_tail, distances_two_ways,
+    labels_of_one_component, levels_along_a_line, levels_along_directions,
+};
+pub use laws::{
+    colours_are_least_free, colours_are_proper, components_are_labels, cores_are_core_numbers,
+    levels_are_levels, marks_are_tight, orders_go_on, paths_are_distances, tasks_are_vertices,
+    updates_are_few,
+};

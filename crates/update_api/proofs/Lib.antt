@@ -1,0 +1,2 @@
+pub mod SupportedLaws
+pub mod LeastFreeLaws

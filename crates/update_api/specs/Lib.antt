@@ -1,0 +1,4 @@
+pub mod Near
+pub mod LeastFree
+pub mod Supported
+pub mod Updates

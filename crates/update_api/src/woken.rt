@@ -1,0 +1,12 @@
+//! Whom an update wakes.
+
+/// The vertices that are scheduled again after an update of a vertex.
+#[derive(Clone, Copy, Debug, PartialEq, Eq, Hash)]
+pub enum Woken {
+    /// No vertex.
+    Nobody,
+    /// Each neighbour that an edge leads to.
+    Ahead,
+    /// Each neighbour.
+    Around,
+}
