@@ -1,0 +1,137 @@
+//! The values of a job's keys but the failures.
+ghost use Rattle.std.specs.Prelude.{◌≡◌, ◌≤◌, ◌*◌, Err, MatchResult, Ok, option_map};
+ghost use Rattle.gl_base.specs.declared.jobs.EngineKind.TheVariants.{Locking};
+ghost use Rattle.serde_json.specs.View.{view};
+ghost use Rattle.job_config.specs.Fields.{fields_of, order_of, source_of};
+ghost use Rattle.job_config.specs.Told.{told_fields};
+ghost use Rattle.job_config.specs.Values.{algorithm_in, engine_in, flag_in, needed, or_default};
+
+use crate::values::{
+    KeyFault, given_text, needed_text, number_or, read_algorithm, read_engine, read_flag,
+    read_number,
+};
+use gl_base::{Algorithm, EngineKind, Key, MAX_ID, MAX_NAME_BYTES};
+use serde_json::Value;
+
+/// The greatest length of the name under which atoms are kept, since numbers are added to it.
+const MAX_ATOM_NAME_BYTES: usize = 200;
+
+/// The greatest number of updates, and of updates between two snapshots.
+const MAX_UPDATES: u64 = 16777216;
+
+/// What a job says but for its failures.
+#[derive(Drop)]
+pub struct Fields<'a> {
+    pub vertices: &'a str,
+    pub edges: &'a str,
+    pub directed: bool,
+    pub algorithm: Algorithm,
+    pub source: Option<u64>,
+    pub engine: EngineKind,
+    pub machines: u16,
+    pub atoms: u16,
+    pub pipeline: u16,
+    pub budget: u64,
+    pub window: u32,
+    pub store: Option<&'a str>,
+    pub atoms_at: Option<&'a str>,
+    pub order: Option<&'a str>,
+}
+
+/// The algorithm, which is needed.
+fn needed_algorithm(value: Option<&Value>) -> Result<Algorithm, KeyFault>
+    ensures { result ≡ needed Key.Algorithm algorithm_in (option_map (λ v. view v.now) value.entry) }
+{
+    match value {
+        None => Err(KeyFault::Missing(Key::Algorithm)),
+        Some(value) => read_algorithm(value),
+    }
+}
+
+/// Whether edges go one way, which is needed.
+fn needed_directed(value: Option<&Value>) -> Result<bool, KeyFault>
+    ensures { result ≡ needed Key.Directed (flag_in Key.Directed)
+        (option_map (λ v. view v.now) value.entry) }
+{
+    match value {
+        None => Err(KeyFault::Missing(Key::Directed)),
+        Some(value) => read_flag(Key::Directed, value),
+    }
+}
+
+/// The source, which levels and paths need.
+fn read_source(algorithm: Algorithm, value: Option<&Value>) -> Result<Option<u64>, KeyFault>
+    ensures { result ≡ source_of algorithm (option_map (λ v. view v.now) value.entry) }
+{
+    match (algorithm, value) {
+        (Algorithm::Levels | Algorithm::Paths, None) => Err(KeyFault::Missing(Key::Source)),
+        (_, None) => Ok(None),
+        (_, Some(value)) => Ok(Some(read_number(Key::Source, 0, MAX_ID, value)?)),
+    }
+}
+
+/// The engine, or locking.
+fn engine_or_locking(value: Option<&Value>) -> Result<EngineKind, KeyFault>
+    ensures { result ≡ or_default Locking engine_in (option_map (λ v. view v.now) value.entry) }
+{
+    match value {
+        None => Ok(EngineKind::Locking),
+        Some(value) => read_engine(value),
+    }
+}
+
+/// Where the order is written, which is not where the store is.
+fn read_order<'a>(
+    store: Option<&str>,
+    value: Option<&'a Value>,
+) -> Result<Option<&'a str>, KeyFault>
+    ensures { MatchResult result (λ s. order_of (option_map (λ t. t.now) store.entry)
+        (option_map (λ v. view v.now) value.entry) ≡ Ok (option_map (λ t. t.now) s))
+        (λ e. order_of (option_map (λ t. t.now) store.entry)
+        (option_map (λ v. view v.now) value.entry) ≡ Err e) }
+{
+    let order = given_text(Key::Order, MAX_NAME_BYTES, value)?;
+    match (store, order) {
+        (Some(store), Some(order)) if order == store => {
+            Err(KeyFault::OutOfRange(Key::Order, order.len() as u64))
+        }
+        _ => Ok(order),
+    }
+}
+
+/// The values key by key, or the first fault.
+pub fn read_fields(job: &Value) -> Result<Fields<'_>, KeyFault>
+    ensures { MatchResult result (λ f. fields_of (view job.entry.now) ≡ Ok (told_fields f))
+        (λ e. fields_of (view job.entry.now) ≡ Err e) }
+{
+    let vertices = needed_text(Key::Vertices, MAX_NAME_BYTES, job.get("vertices"))?;
+    let edges = needed_text(Key::Edges, MAX_NAME_BYTES, job.get("edges"))?;
+    let directed = needed_directed(job.get("directed"))?;
+    let algorithm = needed_algorithm(job.get("algorithm"))?;
+    let source = read_source(algorithm, job.get("source"))?;
+    let engine = engine_or_locking(job.get("engine"))?;
+    let machines = number_or(Key::Machines, 1, 16, 1, job.get("machines"))?;
+    let atoms = number_or(Key::Atoms, 1, 1024, 4 * machines, job.get("atoms"))?;
+    let pipeline = number_or(Key::Pipeline, 1, 256, 16, job.get("pipeline"))?;
+    let budget = number_or(Key::Budget, 1, MAX_UPDATES, MAX_UPDATES, job.get("budget"))?;
+    let window = number_or(Key::Window, 1, MAX_UPDATES, 1048576, job.get("window"))?;
+    let store = given_text(Key::Store, MAX_NAME_BYTES, job.get("store"))?;
+    let atoms_at = given_text(Key::AtomsAt, MAX_ATOM_NAME_BYTES, job.get("atoms_at"))?;
+    let order = read_order(store, job.get("order"))?;
+    Ok(Fields {
+        vertices,
+        edges,
+        directed,
+        algorithm,
+        source,
+        engine,
+        machines: machines as u16,
+        atoms: atoms as u16,
+        pipeline: pipeline as u16,
+        budget,
+        window: window as u32,
+        store,
+        atoms_at,
+        order,
+    })
+}

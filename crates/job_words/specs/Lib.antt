@@ -1,0 +1,6 @@
+pub mod Tokens
+pub mod Lines
+pub mod Meanings
+pub mod CommandLine
+pub mod Glab
+pub mod Told

@@ -1,0 +1,88 @@
+-- The form of a word.
+use Rattle.std.specs.Prelude.{◌≡◌, ◌==◌, ◌∷◌, ◌++◌, [], ℕ, Bool, List, Option, Some, None, codes, drop, false, filter_map, if◌then◌else◌, is_some, length, map, not, option_and_then, position, string_bytes, take, true, String}
+use Rattle.std.specs.List.{list_all}
+use Rattle.std.specs.Str.{bytes_eq}
+use Rattle.gl_base.specs.declared.usage_faults.Opt.{Opt}
+use Rattle.gl_base.specs.declared.usage_faults.Opt.TheVariants.{Number, Vertices, Edges, Weight}
+
+abbrev pub Text : Type 0
+Text = List ℕ
+
+-- the bytes of the words
+abbrev pub texts : {Z : Type 0} → List (String Z) → List Text
+texts = map string_bytes
+
+-- what a word is by its form: a text, `--report`, `--NAME`, or `--NAME=VALUE`
+pub data Token : Type 0 where
+  plain : Text → Token
+  report : Token
+  bare : Opt → Token
+  joined : Opt → Text → Token
+
+-- how an option is written
+abbrev pub name_of : Opt → Text
+name_of Number = codes "--number"
+name_of Vertices = codes "--vertices"
+name_of Edges = codes "--edges"
+name_of Weight = codes "--weight"
+
+-- what follows the beginning `front`
+abbrev pub after_front : Text → Text → Option Text
+after_front front word =
+    if bytes_eq (take (length front) word) front then Some (drop (length front) word) else None
+
+-- an option, by what follows its name: nothing, or `=` (61) and at least one byte
+abbrev pub option_token : Opt → Text → Option Token
+option_token o [] = Some (bare o)
+option_token o (c ∷ []) = None
+option_token o (c ∷ x ∷ xs) = if c == 61 then Some (joined o (x ∷ xs)) else None
+
+abbrev pub option_at : Opt → Text → Option Token
+option_at o word = option_and_then (option_token o) (after_front (name_of o) word)
+
+abbrev pub or_else : Option Token → Option Token → Option Token
+or_else None other = other
+or_else (Some t) other = Some t
+
+abbrev pub some_option : Text → Option Token
+some_option word = or_else (option_at Number word) (or_else (option_at Vertices word)
+    (or_else (option_at Edges word) (option_at Weight word)))
+
+-- a word that begins with a hyphen is the flag or an option
+abbrev pub dashed_token : Text → Option Token
+dashed_token word =
+    if bytes_eq word (codes "--report") then Some report else some_option word
+
+-- what the word is; the empty word is none
+abbrev pub token_of : Text → Option Token
+token_of [] = None
+token_of (x ∷ xs) = if x == 45 then dashed_token (x ∷ xs) else Some (plain (x ∷ xs))
+
+-- the word has the form of a word
+abbrev pub is_formed : Text → Bool
+is_formed word = is_some (token_of word)
+
+-- the place of the first word that has not
+abbrev pub unformed : List Text → Option ℕ
+unformed = position (λ word. not (is_formed word))
+
+abbrev pub tokens_of : List Text → List Token
+tokens_of = filter_map token_of
+
+-- the word of a token
+abbrev pub word_of : Token → Text
+word_of (plain t) = t
+word_of report = codes "--report"
+word_of (bare o) = name_of o
+word_of (joined o v) = name_of o ++ 61 ∷ v
+
+-- a text is not empty and begins with no hyphen
+abbrev pub is_text : Token → Bool
+is_text (plain []) = false
+is_text (plain (x ∷ xs)) = not (x == 45)
+is_text _ = true
+
+-- the words are those of the tokens
+pub record Spells (ts : List Token) (words : List Text) : Type 0 where
+  pub formed : list_all is_text ts ≡ true
+  pub spelled : map word_of ts ≡ words

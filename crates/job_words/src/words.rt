@@ -1,0 +1,58 @@
+//! The public call, and what it answers.
+ghost use Rattle.std.specs.Prelude.{◌≡◌, ◌<◌, ◌^◌, length, Err, Ok, IfOk};
+ghost use Rattle.job_words.specs.CommandLine.{IsCommandLine, command_line_of};
+ghost use Rattle.job_words.specs.Tokens.{texts};
+
+use crate::forms::first_unformed;
+use crate::lines::{LineFault, read_line};
+use crate::meanings::read_meaning;
+use gl_base::{MakePlan, Name, UsageFault};
+use std::alloc::{AllocError, Global};
+
+/// A command line that was read.
+#[derive(Debug, Drop)]
+pub enum Words {
+    /// Run the job in `file`, and tell how it went where `report` is set.
+    Run { file: Name, report: bool },
+    /// Make a graph by `plan`, in the files whose names begin with `prefix`.
+    Make { prefix: Name, plan: MakePlan },
+}
+
+/// Why no command line was read.
+#[derive(Debug, Drop)]
+pub enum WordsReading {
+    /// The words are no command line, and this is their first fault.
+    Fault(UsageFault),
+    /// There was not enough memory.
+    NoMemory,
+}
+
+impl From<AllocError> for WordsReading {
+    ghost use Rattle.job_words.specs.declared.words.WordsReading.TheVariants.{NoMemory};
+
+    ghost from_gives = { λ _ e. e ≡ NoMemory };
+
+    fn from(_: AllocError) -> Self {
+        WordsReading::NoMemory
+    }
+}
+
+/// Reads the words of the command line, the program's own name not among them.
+///
+/// The first fault is found in this order: the form of the words one by one, whether they are a line
+/// (two texts, each option once and with a value), and then what the line means.
+pub fn read_words(alloc: Global, words: &[String]) -> Result<Words, WordsReading>
+    requires { length words.now < 4294967295 }
+    ensures asked { IfOk result (IsCommandLine (texts words.now)) }
+    ensures fault { (f : UsageFault) → result ≡ Err (WordsReading.Fault f)
+        → command_line_of (texts words.now) ≡ Err f }
+{
+    if let Some(place) = first_unformed(words) {
+        return Err(WordsReading::Fault(UsageFault::Form(place as u32)));
+    }
+    match read_line(alloc, words) {
+        Ok(line) => read_meaning(alloc, &line),
+        Err(LineFault::Line) => Err(WordsReading::Fault(UsageFault::Line)),
+        Err(LineFault::NoMemory) => Err(WordsReading::NoMemory),
+    }
+}
