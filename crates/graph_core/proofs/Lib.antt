@@ -1,3 +1,12 @@
 pub mod RowLemmas
 pub mod IdLemmas
 pub mod HalvesLaws
+pub mod SortLemmas
+pub mod EdgeLemmas
+pub mod HalfLemmas
+pub mod NeighbourLemmas
+pub mod VertexLemmas
+pub mod GraphLemmas
+pub mod WalkLaws
+pub mod VertexLaws
+pub mod SmallGraphs

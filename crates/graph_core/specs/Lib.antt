@@ -6,3 +6,11 @@ pub mod Colourings
 pub mod Halves
 pub mod Rows
 pub mod IdTable
+pub mod Sorting
+pub mod GraphLists
+pub mod Edges
+pub mod Neighbours
+pub mod HalfRows
+pub mod Graphs
+pub mod GraphLaws
+pub mod Digest

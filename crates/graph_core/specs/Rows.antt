@@ -1,5 +1,5 @@
 -- Lists by key, one after another in one flat list.
-use Rattle.std.specs.Prelude.{◌≡◌, ℕ, zero, suc, ◌+◌, ◌-◌, ◌<◌, ◌≤◌, ◌==◌, List, take, drop, length, map, sum, slice_index, slice_range}
+use Rattle.std.specs.Prelude.{◌≡◌, ℕ, zero, suc, ◌+◌, ◌-◌, ◌^◌, ◌<◌, ◌≤◌, ◌==◌, List, take, drop, length, map, sum, slice_index, slice_range}
 use Rattle.std.specs.List.{filter, range_with_len}
 
 -- the items with this key, in their order
@@ -13,7 +13,9 @@ rows_of starts items =
 
 -- the starts ascend, one for each row, and the end of the last row is the end of the items
 pub record AreStarts (starts : List ℕ) (total : ℕ) : Type 0 where
+  pub few : total < 2 ^ 32
   pub some : 0 < length starts
+  pub first : slice_index starts 0 ≡ 0
   pub ascending : (k : ℕ) → k + 1 < length starts → slice_index starts k ≤ slice_index starts (k + 1)
   pub within : (k : ℕ) → k < length starts → slice_index starts k ≤ total
   pub last : slice_index starts (length starts - 1) ≡ total

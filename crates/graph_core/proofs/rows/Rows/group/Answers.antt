@@ -7,7 +7,7 @@ pub invariant_of-result : goal.invariant_of-result
 invariant_of-result g c =
     let same = with_items_is c.in_ok-starts.starts c.placed.new.starts (omega arith) in
     rw same
-    (starts_of_rows c.args.count (g.K.Keyed.list c.args.keyed.now) c.placed.new.starts c.in_ok-items.items.items c.in_ok-items.ensures.rows (omega (arith, c.in_ok-starts.ensures.len)) c.in_ok-items.ensures.len c.requires.keys)
+    (starts_of_rows c.args.count (g.K.Keyed.list c.args.keyed.now) c.placed.new.starts c.in_ok-items.items.items c.in_ok-items.ensures.rows (omega (arith, c.in_ok-starts.ensures.len)) c.in_ok-items.ensures.len c.requires.few_items c.requires.keys)
 
 pub returns-clause-count : goal.returns-clause-count
 returns-clause-count g c =

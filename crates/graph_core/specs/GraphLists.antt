@@ -1,0 +1,61 @@
+-- The graph that a list of identifiers and a list of edges make, and the first fault of lists that make none.
+use Rattle.std.specs.Prelude.{◌≡◌, ℕ, Bool, if◌then◌else◌, ◌&&◌, ◌||◌, ◌==◌, nat_lt, List, [], ◌∷◌, ◌++◌, length, map, slice_index, Option, Some, None}
+use Rattle.std.specs.List.{list_any}
+use Rattle.std.specs.Option.{option_or}
+use Rattle.std.specs.List.Sorted.{IsPermutation}
+use Rattle.graph_core.specs.declared.graph_lists.EdgeIn.{EdgeIn}
+use Rattle.graph_core.specs.declared.graph_lists.GraphFault.{GraphFault}
+use Rattle.graph_core.specs.declared.graph_lists.GraphFault.TheVariants.{DoubleVertex, UnknownVertex, SelfLoop, DoubleEdge, NoMemory}
+use Rattle.graph_core.specs.DataGraph.{DataEdge, DataGraph, IsDataGraph}
+
+-- an edge as it is kept: where edges have no direction, the lower identifier comes first
+abbrev pub written : Bool → EdgeIn → EdgeIn
+written directed e = if directed || nat_lt e.from e.to then e else record { from = e.to; to = e.from; weight = e.weight }
+
+-- an edge of the graph, with the identifiers of its ends
+abbrev pub named : List ℕ → DataEdge → EdgeIn
+named ids e = record { from = slice_index ids e.from; to = slice_index ids e.to; weight = e.weight }
+
+-- the graph has just these identifiers and just these edges
+pub record IsGraphOf (ids : List ℕ) (edges : List EdgeIn) (directed : Bool) (g : DataGraph) : Type 0 where
+  pub graph : IsDataGraph g
+  pub same_ids : IsPermutation ids g.ids
+  pub same_edges : IsPermutation (map (written directed) edges) (map (named g.ids) g.edges)
+  pub direction : g.directed ≡ directed
+
+-- the first fault, where the fault of an item depends on those before it
+abbrev pub first_fault : {X : Type 0} → (List X → X → Option GraphFault) → List X → List X → Option GraphFault
+first_fault fault before [] = None
+first_fault fault before (x ∷ xs) = option_or (fault before x) (first_fault fault (before ++ x ∷ []) xs)
+
+-- an identifier that stands before it too is a double
+abbrev pub vertex_fault : List ℕ → ℕ → Option GraphFault
+vertex_fault before id = if list_any (λ other. other == id) before then Some (DoubleVertex (length before)) else None
+
+-- what is wrong with the edge at this place, whatever stands before it
+abbrev pub ends_fault : List ℕ → EdgeIn → ℕ → Option GraphFault
+ends_fault ids e place =
+    if list_any (λ id. id == e.from) ids && list_any (λ id. id == e.to) ids
+    then (if e.from == e.to then Some (SelfLoop place) else None)
+    else Some (UnknownVertex place)
+
+-- two edges are the same where they are kept with the same ends
+abbrev pub is_same : Bool → EdgeIn → EdgeIn → Bool
+is_same directed e f = (written directed e).from == (written directed f).from && (written directed e).to == (written directed f).to
+
+-- an end that is unknown, two equal ends, and an edge that stands before it too, in this order
+abbrev pub edge_fault : List ℕ → Bool → List EdgeIn → EdgeIn → Option GraphFault
+edge_fault ids directed before e =
+    option_or (ends_fault ids e (length before)) (if list_any (is_same directed e) before then Some (DoubleEdge (length before)) else None)
+
+-- the first fault of the identifiers, and else that of the edges
+abbrev pub graph_fault : List ℕ → List EdgeIn → Bool → Option GraphFault
+graph_fault ids edges directed = option_or (first_fault vertex_fault [] ids) (first_fault (edge_fault ids directed) [] edges)
+
+-- a refusal names the first fault, or want of memory
+abbrev pub Refuses : Option GraphFault → GraphFault → Type 0
+Refuses first NoMemory = Unit {0}
+Refuses first (DoubleVertex place) = first ≡ Some (DoubleVertex place)
+Refuses first (UnknownVertex place) = first ≡ Some (UnknownVertex place)
+Refuses first (SelfLoop place) = first ≡ Some (SelfLoop place)
+Refuses first (DoubleEdge place) = first ≡ Some (DoubleEdge place)

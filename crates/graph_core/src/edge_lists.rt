@@ -1,0 +1,115 @@
+//! Gives the edges of a list their vertex numbers, and sorts them.
+ghost use Rattle.std.specs.Prelude.{◌≡◌, ℕ, ◌+◌, ◌*◌, ◌^◌, ◌<◌, ◌≤◌, ◌||◌, nat_lt, length, IfOk};
+ghost use Rattle.graph_core.specs.IdTable.{IsTableOf};
+ghost use Rattle.graph_core.specs.Edges.{IsNumber, AreNumbered, StopsAt, AreEdges, edge_double};
+
+use crate::edges::Edge;
+use crate::id_table::IdTable;
+use crate::sorting::{Unsorted, sorted};
+use crate::{EdgeIn, GraphFault};
+use gl_base::{MAX_VERTICES, NoMemory};
+use std::alloc::Global;
+
+/// The edges of a graph with these identifiers, by ascending ends.
+pub fn kept_edges(
+    alloc: Global,
+    table: &IdTable,
+    ids: &[u64],
+    given: Vec<EdgeIn>,
+    directed: bool,
+) -> Result<Vec<Edge>, GraphFault>
+    requires table { IsTableOf ids.now table.now }
+    ensures { AreEdges ids.now directed given.items result }
+{
+    let Numbered { edges, fault } = number_all(alloc, table, ids, &given, directed)?;
+    drop(given);
+    match sorted(alloc, edges) {
+        Err(unsorted) => Err(double_edge(unsorted)),
+        Ok(edges) => match fault {
+            Some(fault) => Err(fault),
+            None => Ok(edges),
+        },
+    }
+}
+
+/// Edges that cannot be sorted, as a fault of the graph.
+fn double_edge(unsorted: Unsorted) -> GraphFault
+    ensures { result ≡ edge_double unsorted }
+{
+    match unsorted {
+        Unsorted::Double(place) => GraphFault::DoubleEdge(place),
+        Unsorted::NoMemory => GraphFault::NoMemory,
+    }
+}
+
+/// The edges before the first one with a wrong end, and that one's fault.
+#[derive(Drop)]
+struct Numbered {
+    edges: Vec<Edge>,
+    fault: Option<GraphFault>,
+}
+
+fn number_all(
+    alloc: Global,
+    table: &IdTable,
+    ids: &[u64],
+    given: &[EdgeIn],
+    directed: bool,
+) -> Result<Numbered, NoMemory>
+    requires table { IsTableOf ids.now table.now }
+    ensures edges { IfOk result (λ n. AreNumbered ids.now directed given.now n.edges.items) }
+    ensures stop { IfOk result (λ n. StopsAt ids.now given.now (length n.edges.items) n.fault) }
+{
+    let mut edges = Vec::with_capacity(alloc, given.len())?;
+    for place in 0..given.len() {
+        match number(table, ids, given[place], place, directed) {
+            Ok(edge) => edges.push(edge)?,
+            Err(fault) => {
+                return Ok(Numbered {
+                    edges,
+                    fault: Some(fault),
+                });
+            }
+        }
+    }
+    Ok(Numbered { edges, fault: None })
+}
+
+/// The edge at a place between the vertices of its identifiers.
+fn number(
+    table: &IdTable,
+    ids: &[u64],
+    given: EdgeIn,
+    place: usize,
+    directed: bool,
+) -> Result<Edge, GraphFault>
+    requires table { IsTableOf ids.now table.now }
+    ensures { IsNumber ids.now directed given place result }
+{
+    let Some(from) = table.find(ids, given.from) else {
+        return Err(GraphFault::UnknownVertex(place));
+    };
+    let Some(to) = table.find(ids, given.to) else {
+        return Err(GraphFault::UnknownVertex(place));
+    };
+    if given.from == given.to {
+        return Err(GraphFault::SelfLoop(place));
+    }
+    let weight = given.weight;
+    if is_forward(given, directed) {
+        Ok(Edge { from, to, weight })
+    } else {
+        Ok(Edge {
+            from: to,
+            to: from,
+            weight,
+        })
+    }
+}
+
+/// Whether an edge is kept the way round it is given.
+fn is_forward(given: EdgeIn, directed: bool) -> bool
+    ensures { result ≡ (directed || nat_lt given.from given.to) }
+{
+    directed || given.from < given.to
+}

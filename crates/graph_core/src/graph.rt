@@ -1,0 +1,142 @@
+//! The data graph as a built structure.
+ghost use Rattle.std.specs.Prelude.{◌≡◌, ℕ, ◌^◌, ◌<◌, ◌≤◌, List, [], length, map, slice_index, slice_index_or, slice_get, vec_len, All, IfOk, IfErr, OnOk, Some, None};
+
+use crate::edge_lists::kept_edges;
+use crate::edges::Edge;
+use crate::half_rows::half_rows;
+use crate::halves::Half;
+use crate::id_table::IdTable;
+use crate::neighbours::neighbour_rows;
+use crate::rows::Rows;
+use crate::vertex_lists::sorted_ids;
+use crate::{EdgeIn, GraphFault};
+use gl_base::{EdgeNo, MAX_EDGES, MAX_ID, MAX_VERTICES, Vertex};
+use std::alloc::Global;
+use std::marker::Model;
+
+/// A graph. Vertices are numbered by ascending identifier, and edges by ascending ends; an edge without
+/// direction has its lower vertex as `from`. Contracts see the data graph.
+#[derive(Drop)]
+pub struct Graph {
+    directed: bool,
+    ids: Vec<u64>,
+    table: IdTable,
+    edges: Vec<Edge>,
+    halves: Rows<Half>,
+    neighbours: Rows<Vertex>,
+}
+
+impl Model for Graph {
+    ghost use Rattle.graph_core.specs.DataGraph.{DataGraph};
+    ghost use Rattle.graph_core.specs.Graphs.{data_graph, IsKept};
+
+    ghost Value = { DataGraph };
+
+    ghost view = { λ g. data_graph g.directed g.ids.items g.edges.items };
+
+    ghost invariant = { λ g. IsKept (data_graph g.directed g.ids.items g.edges.items) g.table g.halves g.neighbours };
+}
+
+impl Graph {
+    ghost use Rattle.graph_core.specs.DataGraph.{DataGraph, IsDataGraph, size};
+    ghost use Rattle.graph_core.specs.GraphLists.{IsGraphOf, graph_fault, Refuses};
+    ghost use Rattle.graph_core.specs.Halves.{halves_of};
+    ghost use Rattle.graph_core.specs.HalfRows.{data_half};
+    ghost use Rattle.graph_core.specs.IdTable.{IsVertexWith};
+    ghost use Rattle.graph_core.specs.Neighbours.{neighbours_of};
+    ghost use Rattle.graph_core.specs.Graphs.{HasEnds};
+
+    /// The graph of a list of identifiers and a list of edges between them. It refuses first the least place
+    /// of an identifier that stands before it too; then the least place of an edge with an end that is no
+    /// identifier, with two equal ends, or that stands before it too, in this order.
+    pub fn build(
+        alloc: Global,
+        ids: Vec<u64>,
+        edges: Vec<EdgeIn>,
+        directed: bool,
+    ) -> Result<Graph, GraphFault>
+        requires few { vec_len ids ≤ MAX_VERTICES }
+        requires few_edges { vec_len edges ≤ MAX_EDGES }
+        requires ids { All (λ id. id ≤ MAX_ID) ids.items }
+        ensures graph { IfOk result (IsGraphOf ids.items edges.items directed) }
+        ensures no_fault { OnOk result (graph_fault ids.items edges.items directed ≡ None) }
+        ensures fault { IfErr result (Refuses (graph_fault ids.items edges.items directed)) }
+    {
+        let ids = sorted_ids(alloc, ids)?;
+        let table = IdTable::new(alloc, &ids)?;
+        let edges = kept_edges(alloc, &table, &ids, edges, directed)?;
+        let halves = half_rows(alloc, ids.len(), &edges, directed)?;
+        let neighbours = neighbour_rows(alloc, &halves)?;
+        Ok(Graph {
+            directed,
+            ids,
+            table,
+            edges,
+            halves,
+            neighbours,
+        })
+    }
+
+    /// How many vertices there are.
+    pub fn n(&self) -> u32
+        ensures count { result ≡ size self.now }
+        ensures graph { IsDataGraph self.now }
+    {
+        self.ids.len() as u32
+    }
+
+    /// How many edges there are.
+    pub fn m(&self) -> u32
+        ensures count { result ≡ length self.now.edges }
+        ensures graph { IsDataGraph self.now }
+    {
+        self.edges.len() as u32
+    }
+
+    /// Whether edges have a direction.
+    pub fn directed(&self) -> bool
+        ensures { result ≡ self.now.directed }
+    {
+        self.directed
+    }
+
+    /// The identifier of a vertex.
+    pub fn id(&self, v: Vertex) -> u64
+        requires { v.0 < size self.now }
+        ensures { result ≡ slice_index self.now.ids v.0 }
+    {
+        self.ids[v.0 as usize]
+    }
+
+    /// The vertex with an identifier, and `None` where no vertex has it.
+    pub fn find(&self, id: u64) -> Option<Vertex>
+        ensures { IsVertexWith self.now.ids id result }
+    {
+        self.table.find(&self.ids, id)
+    }
+
+    /// The neighbours of a vertex, ascending, each once.
+    pub fn neighbours(&self, v: Vertex) -> &[Vertex]
+        requires { v.0 < size self.now }
+        ensures { map (λ u. u.0) result.now ≡ neighbours_of self.now v.0 }
+    {
+        self.neighbours.row(v.0 as usize)
+    }
+
+    /// The edges at a vertex, ascending.
+    pub fn halves(&self, v: Vertex) -> &[Half]
+        requires { v.0 < size self.now }
+        ensures { map data_half result.now ≡ halves_of self.now v.0 }
+    {
+        self.halves.row(v.0 as usize)
+    }
+
+    /// Where an edge begins and where it ends.
+    pub fn ends(&self, e: EdgeNo) -> (Vertex, Vertex)
+        requires { e.0 < length self.now.edges }
+        ensures { HasEnds self.now e.0 result.0.0 result.1.0 }
+    {
+        let edge = self.edges[e.0 as usize];
+        (edge.from, edge.to)
+    }
+}

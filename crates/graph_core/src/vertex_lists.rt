@@ -1,0 +1,27 @@
+//! Sorts the identifiers of a graph.
+ghost use Rattle.std.specs.Prelude.{◌≡◌, List};
+ghost use Rattle.graph_core.specs.Edges.{AreIds, vertex_double};
+
+use crate::GraphFault;
+use crate::sorting::{Unsorted, sorted};
+use std::alloc::Global;
+
+/// The identifiers in order, or the first one that stands before it too.
+pub fn sorted_ids(alloc: Global, ids: Vec<u64>) -> Result<Vec<u64>, GraphFault>
+    ensures { AreIds ids.items result }
+{
+    match sorted(alloc, ids) {
+        Ok(ids) => Ok(ids),
+        Err(unsorted) => Err(double_vertex(unsorted)),
+    }
+}
+
+/// Identifiers that cannot be sorted, as a fault of the graph.
+fn double_vertex(unsorted: Unsorted) -> GraphFault
+    ensures { result ≡ vertex_double unsorted }
+{
+    match unsorted {
+        Unsorted::Double(place) => GraphFault::DoubleVertex(place),
+        Unsorted::NoMemory => GraphFault::NoMemory,
+    }
+}
