@@ -4,3 +4,4 @@ pub mod Failures
 pub mod Keys
 pub mod Jobs
 pub mod Told
+pub mod Ranges

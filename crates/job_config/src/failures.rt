@@ -99,6 +99,7 @@ pub fn read_failures(
 ) -> Result<Vec<FailureAt>, FailuresFault>
     ensures ok { IfOk result
         (λ v. failures_of machines (option_map (λ x. view x.now) value.entry) ≡ Ok v.items) }
+    ensures ranges { IfOk result (λ v. first_faulty machines [] v.items ≡ None) }
     ensures fault { (f : KeyFault) → result ≡ Err (FailuresFault.Key f)
         → failures_of machines (option_map (λ x. view x.now) value.entry) ≡ Err f }
 {

@@ -1,8 +1,9 @@
 //! The values of a job's keys but the failures.
-ghost use Rattle.std.specs.Prelude.{◌≡◌, ◌≤◌, ◌*◌, Err, MatchResult, Ok, option_map};
+ghost use Rattle.std.specs.Prelude.{◌≡◌, ◌≤◌, ◌*◌, Err, IfOk, MatchResult, Ok, option_map};
 ghost use Rattle.gl_base.specs.declared.jobs.EngineKind.TheVariants.{Locking};
 ghost use Rattle.serde_json.specs.View.{view};
 ghost use Rattle.job_config.specs.Fields.{fields_of, order_of, source_of};
+ghost use Rattle.job_config.specs.Ranges.{HasNumbers};
 ghost use Rattle.job_config.specs.Told.{told_fields};
 ghost use Rattle.job_config.specs.Values.{algorithm_in, engine_in, flag_in, needed, or_default};
 
@@ -101,8 +102,9 @@ fn read_order<'a>(
 
 /// The values key by key, or the first fault.
 pub fn read_fields(job: &Value) -> Result<Fields<'_>, KeyFault>
-    ensures { MatchResult result (λ f. fields_of (view job.entry.now) ≡ Ok (told_fields f))
+    ensures value { MatchResult result (λ f. fields_of (view job.entry.now) ≡ Ok (told_fields f))
         (λ e. fields_of (view job.entry.now) ≡ Err e) }
+    ensures ranges { IfOk result (λ f. HasNumbers (told_fields f)) }
 {
     let vertices = needed_text(Key::Vertices, MAX_NAME_BYTES, job.get("vertices"))?;
     let edges = needed_text(Key::Edges, MAX_NAME_BYTES, job.get("edges"))?;

@@ -3,6 +3,7 @@ ghost use Rattle.std.specs.Prelude.{◌≡◌, Err, IfOk, Ok, Some, option_map};
 ghost use Rattle.gl_base.specs.declared.job_faults.JobFault.{JobFault};
 ghost use Rattle.serde_json.specs.View.{view};
 ghost use Rattle.job_config.specs.Jobs.{IsJob, job_fault, job_of, of_value};
+ghost use Rattle.job_config.specs.Ranges.{IsInRanges};
 ghost use Rattle.job_config.specs.Told.{told_fields, told_job};
 
 use crate::failures::{FailuresFault, read_failures};
@@ -88,6 +89,7 @@ fn build(alloc: Global, fields: &Fields, failures: Vec<FailureAt>) -> Result<Job
 /// The job that a value says.
 fn read_value(alloc: Global, value: &Value) -> Result<Job, JobReading>
     ensures job { IfOk result (λ j. of_value (Some (view value.now)) ≡ Ok (told_job j)) }
+    ensures ranges { IfOk result (λ j. IsInRanges (told_job j)) }
     ensures fault { (f : JobFault) → result ≡ Err (JobReading.Fault f)
         → of_value (Some (view value.now)) ≡ Err f }
 {
@@ -117,6 +119,7 @@ fn read_value(alloc: Global, value: &Value) -> Result<Job, JobReading>
 /// value.
 pub fn read_job(alloc: Global, bytes: &[u8]) -> Result<Job, JobReading>
     ensures job { IfOk result (λ j. IsJob bytes.now (told_job j)) }
+    ensures ranges { IfOk result (λ j. IsInRanges (told_job j)) }
     ensures fault { (f : JobFault) → result ≡ Err (JobReading.Fault f) → job_of bytes.now ≡ Err f }
 {
     if bytes.len() > MAX_JOB_BYTES {

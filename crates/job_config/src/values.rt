@@ -1,6 +1,7 @@
 //! One value of a job.
 ghost use Rattle.std.specs.Prelude.{◌≡◌, ◌≤◌, Err, IfOk, MatchResult, Ok, option_map};
 ghost use Rattle.serde_json.specs.View.{view};
+ghost use Rattle.job_config.specs.Ranges.{IsWithin};
 ghost use Rattle.job_config.specs.Values.{algorithm_in, engine_in, flag_in, given, needed, number_in, or_default, text_in};
 
 use gl_base::{Algorithm, EngineKind, Key};
@@ -34,7 +35,7 @@ pub fn read_text<'a>(key: Key, most: usize, value: &'a Value) -> Result<&'a str,
 /// A whole number from `least` to `most`.
 pub fn read_number(key: Key, least: u64, most: u64, value: &Value) -> Result<u64, KeyFault>
     ensures value { result ≡ number_in key least most (view value.now) }
-    ensures range { IfOk result (λ n. n ≤ most) }
+    ensures range { IfOk result (IsWithin least most) }
 {
     match value.as_u64() {
         None => Err(KeyFault::WrongKind(key)),
@@ -118,10 +119,10 @@ pub fn number_or(
     default: u64,
     value: Option<&Value>,
 ) -> Result<u64, KeyFault>
-    requires { default ≤ most }
+    requires { IsWithin least most default }
     ensures value { result ≡ or_default default (number_in key least most)
         (option_map (λ v. view v.now) value.entry) }
-    ensures range { IfOk result (λ n. n ≤ most) }
+    ensures range { IfOk result (IsWithin least most) }
 {
     match value {
         None => Ok(default),

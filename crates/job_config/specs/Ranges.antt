@@ -1,0 +1,20 @@
+-- Where the numbers of a job lie.
+use Rattle.std.specs.Prelude.{◌≡◌, ◌≤◌, [], ℕ, None}
+use Rattle.job_config.specs.Failures.{first_faulty}
+use Rattle.job_config.specs.Fields.{JobFields}
+use Rattle.job_config.specs.Jobs.{JobSayings}
+
+abbrev pub IsWithin : ℕ → ℕ → ℕ → Type 0
+IsWithin least most n = (least ≤ n) × (n ≤ most)
+
+pub record HasNumbers (f : JobFields) : Type 0 where
+  pub machines : IsWithin 1 16 f.machines
+  pub atoms : IsWithin 1 1024 f.atoms
+  pub pipeline : IsWithin 1 256 f.pipeline
+  pub budget : IsWithin 1 16777216 f.budget
+  pub window : IsWithin 1 16777216 f.window
+
+-- each number is in its range, and no failure is faulty
+pub record IsInRanges (s : JobSayings) : Type 0 where
+  pub numbers : HasNumbers s.fields
+  pub failures : first_faulty s.fields.machines [] s.failures ≡ None
