@@ -13,3 +13,4 @@ pub mod Cores
 pub mod FallingRanks
 pub mod StepBounds
 pub mod GoingOn
+pub mod InPieces

@@ -3,6 +3,7 @@
 
 mod examples;
 mod laws;
+mod steps;
 
 pub use examples::{
     colours_of_a_triangle, cores_of_a_triangle_with_a_tail, distances_two_ways,
@@ -13,3 +14,4 @@ pub use laws::{
     levels_are_levels, marks_are_tight, orders_go_on, paths_are_distances, tasks_are_vertices,
     updates_are_few,
 };
+pub use steps::update_vertex;

@@ -1,2 +1,5 @@
 pub mod SupportedLaws
 pub mod LeastFreeLaws
+pub mod ScopesLaws
+pub mod LeastLaws
+pub mod MarksLaws

@@ -1,0 +1,46 @@
+//! One update, on the numbers of all vertices and edges.
+ghost use Rattle.std.specs.Prelude.{◌≡◌, ◌+◌, ◌<◌, ◌∷◌, ◌++◌, length, slice_index, slice_set};
+ghost use Rattle.update_api.specs.Links.{AreLinks, nears_at};
+ghost use Rattle.update_api.specs.Marks.{AreMarked};
+
+use update_api::{Link, Program, Scope, Woken};
+
+/// Updates the vertex with this number and identifier, and these edges at it. The numbers of all vertices
+/// and edges stand in two flat lists, from which the scope is lent; no other number changes.
+pub fn update_vertex<P: Program>(
+    program: &P,
+    vertex: usize,
+    id: u64,
+    links: &[Link],
+    values: &mut [u64],
+    edges: &mut [u64],
+) -> Woken
+    requires vertex { vertex < length values.old }
+    requires links { AreLinks links.now vertex (length values.old) (length edges.old) }
+    ensures number { values.new ≡ slice_set values.old vertex ((P.meaning program.now).number (slice_index values.old vertex) (nears_at values.old edges.old links.now)) }
+    ensures marks { AreMarked ((P.meaning program.now).mark (slice_index values.new vertex)) values.old edges.old links.now edges.new }
+    ensures woken { result ≡ (P.meaning program.now).woken (slice_index values.old vertex) (slice_index values.new vertex) }
+{
+    let (low, rest) = values.split_at_mut(vertex);
+    let (centre, high) = rest.split_at_mut(1);
+    update_centre(program, id, links, low, &mut centre[0], high, edges)
+}
+
+/// The update in its scope, where the vertex's number stands between those before it and those behind it.
+fn update_centre<P: Program>(
+    program: &P,
+    id: u64,
+    links: &[Link],
+    low: &[u64],
+    centre: &mut u64,
+    high: &[u64],
+    edges: &mut [u64],
+) -> Woken
+    requires { AreLinks links.now (length low.now) (length low.now + 1 + length high.now) (length edges.old) }
+    ensures number { centre.new ≡ (P.meaning program.now).number centre.old (nears_at (low.now ++ centre.old ∷ high.now) edges.old links.now) }
+    ensures marks { AreMarked ((P.meaning program.now).mark centre.new) (low.now ++ centre.old ∷ high.now) edges.old links.now edges.new }
+    ensures woken { result ≡ (P.meaning program.now).woken centre.old centre.new }
+{
+    let mut scope = Scope::new(id, links, low, centre, high, edges);
+    program.update(&mut scope)
+}

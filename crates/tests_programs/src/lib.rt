@@ -1,0 +1,5 @@
+//! Each program on a scope made by hand.
+#![tactic(auto)]
+
+#[cfg(test)]
+mod tables;

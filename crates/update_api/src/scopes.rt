@@ -1,0 +1,139 @@
+//! The scope of a vertex: what an update of it may read and write.
+ghost use Rattle.std.specs.Prelude.{◌≡◌, ◌≢◌, ℕ, ◌+◌, ◌^◌, ◌<◌, ◌∷◌, ◌++◌, length, slice_index};
+ghost use Rattle.std.specs.Borrow.{sem};
+ghost use Rattle.update_api.specs.Links.{AreLinks};
+
+use crate::{Direction, Link};
+
+/// What an update of a vertex may use: its identifier, its own number, which is the centre, and for each
+/// edge at it the number of the other end and the edge's own number. All of it is lent, and nothing is
+/// copied. The update may write the centre and the numbers of these edges.
+#[derive(Drop)]
+pub struct Scope<'a> {
+    id: u64,
+    links: &'a [Link],
+    low: &'a [u64],
+    centre: &'a mut u64,
+    high: &'a [u64],
+    edges: &'a mut [u64],
+    ghost fit: { AreLinks links.now (length low.now) (length low.now + 1 + length high.now) (length edges.now) },
+}
+
+impl<'a> Scope<'a> {
+    ghost use Rattle.update_api.specs.Scopes.{numbers, link_at, with_edge, LendsCentre};
+
+    /// The scope of the vertex with this identifier. The numbers before its own, its own, and those behind
+    /// it are one list in three pieces: each link leads to a place of it other than the centre's, and has
+    /// an edge that no other link has.
+    pub fn new(
+        id: u64,
+        links: &'a [Link],
+        low: &'a [u64],
+        centre: &'a mut u64,
+        high: &'a [u64],
+        edges: &'a mut [u64],
+    ) -> Scope<'a>
+        requires { AreLinks links.now (length low.now) (length low.now + 1 + length high.now) (length edges.old) }
+        ensures id { result.id ≡ id }
+        ensures links { result.links.now ≡ links.entry.now }
+        ensures low { result.low.now ≡ low.entry.now }
+        ensures centre { result.centre.now ≡ centre.old }
+        ensures same_centre { result.centre.ghost_name ≡ centre.entry.ghost_name }
+        ensures high { result.high.now ≡ high.entry.now }
+        ensures edges { result.edges.now ≡ edges.old }
+        ensures same_edges { result.edges.ghost_name ≡ edges.entry.ghost_name }
+    {
+        Scope {
+            id,
+            links,
+            low,
+            centre,
+            high,
+            edges,
+        }
+    }
+
+    /// How many edges are at the vertex.
+    pub fn degree(&self) -> usize
+        ensures count { result ≡ length self.now.links.now }
+        ensures small { result < 2 ^ 63 }
+    {
+        self.links.len()
+    }
+
+    /// The identifier of the vertex.
+    pub fn id(&self) -> u64
+        ensures { result ≡ self.now.id }
+    {
+        self.id
+    }
+
+    /// The number of the vertex.
+    pub fn centre(&self) -> u64
+        ensures { result ≡ self.now.centre.now }
+    {
+        *self.centre
+    }
+
+    /// The number of the vertex, to be written.
+    pub fn centre_mut(&mut self) -> &mut u64
+        ensures* writes_back { sem 𝓛 (LendsCentre self.entry result) }
+        ensures value { result.now ≡ self.old.centre.now }
+    {
+        self.centre
+    }
+
+    /// The number at the other end of an edge.
+    pub fn near(&self, i: usize) -> u64
+        requires { i < length self.now.links.now }
+        ensures { result ≡ slice_index (numbers self.now) (link_at self.now i).near }
+    {
+        let near = self.links[i].near as usize;
+        number_at(self.low, self.high, near)
+    }
+
+    /// The number of an edge.
+    pub fn edge(&self, i: usize) -> u64
+        requires { i < length self.now.links.now }
+        ensures { result ≡ slice_index self.now.edges.now (link_at self.now i).edge }
+    {
+        self.edges[self.links[i].edge as usize]
+    }
+
+    /// Writes the number of an edge.
+    pub fn set_edge(&mut self, i: usize, number: u64)
+        requires { i < length self.old.links.now }
+        ensures { self.new ≡ with_edge self.old i number }
+    {
+        self.edges[self.links[i].edge as usize] = number;
+    }
+
+    /// The weight of an edge.
+    pub fn weight(&self, i: usize) -> u32
+        requires { i < length self.now.links.now }
+        ensures { result ≡ (link_at self.now i).weight }
+    {
+        self.links[i].weight
+    }
+
+    /// How an edge leads.
+    pub fn direction(&self, i: usize) -> Direction
+        requires { i < length self.now.links.now }
+        ensures { result ≡ (link_at self.now i).direction }
+    {
+        self.links[i].direction
+    }
+}
+
+/// The number at this place of `low`, the centre and `high`, where it is not the centre's.
+fn number_at(low: &[u64], high: &[u64], place: usize) -> u64
+    requires within { place < length low.now + 1 + length high.now }
+    requires not_centre { place ≢ length low.now }
+    ensures { (centre : ℕ) → result ≡ slice_index (low.now ++ centre ∷ high.now) place }
+{
+    if place < low.len() {
+        low[place]
+    } else {
+        high[place - low.len() - 1]
+    }
+}
