@@ -210,3 +210,20 @@ fn each_fault_is_answered(rt: HostRuntime) -> Result<(), Fail> {
     ends(&rt, rt.alloc(), &sound(&missing, "1\n", ""), 5, "")?;
     Ok(())
 }
+
+/// Where an allocation fails the status is 11 and `out` holds a front of the answer. `rt try --test --fail-alloc N` makes the
+/// N-th one fail; with none failing the whole answer is there.
+#[test]
+fn want_of_memory_leaves_a_front(rt: HostRuntime) {
+    let words = ["run", "levels", "1", "g.v", "g.e"];
+    let Ok((ended, out, _)) = made(rt.alloc(), &sound(&words, "1\n2\n3\n4\n", PATH_OF_THREE)) else {
+        return;
+    };
+    let whole = ITS_LEVELS.as_bytes();
+    assert!(rt; whole.starts_with(out.bytes()));
+    match ended.status {
+        Status::Done => assert_eq!(rt; out.bytes(), whole),
+        Status::WriteFault => assert_eq!(rt; out.bytes(), b"".as_slice()),
+        status => assert_eq!(rt; status.number(), 11),
+    }
+}
