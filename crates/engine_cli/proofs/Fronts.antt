@@ -86,11 +86,11 @@ pub Rose-later : (a b c : ℕ) → a ≤ b → Rose b c → Rose a c
 Rose-later a b c p q top = omega (arith, q top)
 
 -- the line at a place is gathered
-pub Printing-next : (old now : Option (List ℕ)) (piece piece' text ids numbers : List ℕ) (k : ℕ) → k < length ids → length numbers ≡ length ids
-    → piece' ≡ piece ++ decimal (get_or ids k 0) ++ 32 ∷ decimal (get_or numbers k 0) ++ 10 ∷ []
+pub Printing-next : (old now : Option (List ℕ)) (piece piece' text ids numbers : List ℕ) (k id number : ℕ) → k < length ids → length numbers ≡ length ids
+    → piece' ≡ piece ++ decimal id ++ 32 ∷ decimal number ++ 10 ∷ [] → id ≡ get_or ids k 0 → number ≡ get_or numbers k 0
     → Printing old now piece (answer_text (drop k ids) (drop k numbers)) text
     → Printing old now piece' (answer_text (drop (k + 1) ids) (drop (k + 1) numbers)) text
-Printing-next old now piece piece' text ids numbers k inside same e p =
+Printing-next old now piece piece' text ids numbers k id number inside same e id_is number_is p =
     let line = decimal (get_or ids k 0) ++ 32 ∷ decimal (get_or numbers k 0) ++ 10 ∷ [] in
-    let q : piece' ≡ piece ++ line = e ∙ simp append_assoc in
+    let q : piece' ≡ piece ++ line = e ∙ rw (id_is, number_is) (simp append_assoc) in
     Printing-line old now piece line piece' _ text q (rw (answer-line ids numbers k inside same) at p)

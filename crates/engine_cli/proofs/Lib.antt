@@ -1,9 +1,10 @@
 pub mod Fronts
 pub mod FiveWords
 pub mod Membership
-pub mod NumberedRows
 pub mod NamesHanded
-pub mod GraphOfLists
+pub mod SortedOnce
 pub mod OneGraph
+pub mod Told
 pub mod Lowering
 pub mod Searching
+pub mod Ahead

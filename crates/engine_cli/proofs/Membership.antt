@@ -1,8 +1,6 @@
 -- What is contained in lists that are made of others.
-use Rattle.std.proofs.Common.{◌≡◌, ◌⊎◌, inl, inr, ℕ, suc, zero, List, [], ◌∷◌, map, refl, sym, ap, ◌∙◌, subst, arith, ⊎_elim, Contains}
-use Rattle.std.proofs.lemmas.Bool.{cases_eq}
-use Rattle.graph_core.specs.Rows.{with_key}
-use Rattle.graph_core.proofs.RowLemmas.{with_key-here, with_key-past}
+use Rattle.std.proofs.Common.{Bool, true, false, cond, ◌≡◌, ◌⊎◌, inl, inr, ℕ, suc, zero, List, [], ◌∷◌, map, refl, sym, ap, ◌∙◌, subst, arith, ⊎_elim, Contains}
+use Rattle.std.specs.List.{filter}
 
 -- an element is the first, or one of the others
 pub Contains-cons_cases : {X : Type 0} (y : X) (xs : List X) (x : X) → Contains (y ∷ xs) x → (y ≡ x) ⊎ Contains xs x
@@ -37,32 +35,31 @@ Contains-from_map f (x ∷ xs) y has =
     (λ later. let from = Contains-from_map f xs y later in (from.0, Contains-there x xs from.0 from.1, from.2))
     (Contains-cons_cases (f x) (map f xs) y has)
 
--- the items with a key are those of the pairs that have it
-pub Contains-from_with_key : (k : ℕ) (ps : List (ℕ × ℕ)) (w : ℕ) → Contains (with_key k ps) w → Contains ps (k, w)
-Contains-from_with_key k [] w has = absurd (omega (arith, has.1))
-Contains-from_with_key k (p ∷ ps) w has =
+-- what passes a test and is contained stays
+pub Contains-filter : {X : Type 0} (p : X → Bool) (xs : List X) (x : X) → Contains xs x → p x ≡ true → Contains (filter p xs) x
+Contains-filter p [] x has passes = absurd (omega (arith, has.1))
+Contains-filter {X} p (y ∷ xs) x has passes =
+    let P : Bool → Type 0 = λ b. Contains (cond b (y ∷ filter p xs) (filter p xs)) x in
     ⊎_elim
-    (λ key.
-    let first : Contains (p.1 ∷ with_key k ps) w = subst (λ (l : List ℕ). Contains l w) (with_key-here k p ps key) has in
-    ⊎_elim
-    (λ item. let same : p ≡ (k, w) = pair_equal p (k, w) key item in subst (λ (q : ℕ × ℕ). Contains (p ∷ ps) q) same (Contains-here p ps))
-    (λ later. Contains-there p ps (k, w) (Contains-from_with_key k ps w later))
-    (Contains-cons_cases p.1 (with_key k ps) w first))
-    (λ other.
-    Contains-there p ps (k, w) (Contains-from_with_key k ps w (subst (λ (l : List ℕ). Contains l w) (with_key-past k p ps other) has)))
-    (cases_eq p.0 k)
-
-pub Contains-with_key : (k : ℕ) (ps : List (ℕ × ℕ)) (w : ℕ) → Contains ps (k, w) → Contains (with_key k ps) w
-Contains-with_key k [] w has = absurd (omega (arith, has.1))
-Contains-with_key k (p ∷ ps) w has =
-    ⊎_elim
-    (λ e.
-    let P : ℕ × ℕ → Type 0 = λ q. Contains (with_key q.0 (p ∷ ps)) q.1 in
-    subst P e (subst (λ (l : List ℕ). Contains l p.1) (sym (with_key-here p.0 p ps refl)) (Contains-here p.1 (with_key p.0 ps))))
+    (λ e. let here : Contains (y ∷ filter p xs) x = subst (λ (z : X). Contains (y ∷ filter p xs) z) e (Contains-here y (filter p xs)) in
+    subst P (sym (ap p e ∙ passes)) here)
     (λ later.
-    let rest = Contains-with_key k ps w later in
+    let rest = Contains-filter p xs x later passes in
+    elim (p y) as P [ true ↦ Contains-there y (filter p xs) x rest | false ↦ rest ])
+    (Contains-cons_cases y xs x has)
+
+-- the same at a list that begins with y, by whether y passes
+from_filter_cons : {X : Type 0} (p : X → Bool) (y : X) (xs : List X) (x : X) (b : Bool) → p y ≡ b
+    → (Contains (filter p xs) x → Contains xs x × (p x ≡ true))
+    → Contains (cond b (y ∷ filter p xs) (filter p xs)) x → Contains (y ∷ xs) x × (p x ≡ true)
+from_filter_cons {X} p y xs x true passes rest has =
     ⊎_elim
-    (λ key. subst (λ (l : List ℕ). Contains l w) (sym (with_key-here k p ps key)) (Contains-there p.1 (with_key k ps) w rest))
-    (λ other. subst (λ (l : List ℕ). Contains l w) (sym (with_key-past k p ps other)) rest)
-    (cases_eq p.0 k))
-    (Contains-cons_cases p ps (k, w) has)
+    (λ e. (subst (λ (z : X). Contains (y ∷ xs) z) e (Contains-here y xs), ap p (sym e) ∙ passes))
+    (λ later. let found = rest later in (Contains-there y xs x found.0, found.1))
+    (Contains-cons_cases y (filter p xs) x has)
+from_filter_cons p y xs x false fails rest has = let found = rest has in (Contains-there y xs x found.0, found.1)
+
+-- what is left by a test is contained, and passes
+pub Contains-from_filter : {X : Type 0} (p : X → Bool) (xs : List X) (x : X) → Contains (filter p xs) x → Contains xs x × (p x ≡ true)
+Contains-from_filter p [] x has = absurd (omega (arith, has.1))
+Contains-from_filter p (y ∷ xs) x has = from_filter_cons p y xs x (p y) refl (λ h. Contains-from_filter p xs x h) has

@@ -3,7 +3,6 @@ pub mod Answer
 pub mod Printing
 pub mod Says
 pub mod Status
-pub mod NumberedGraph
 pub mod Search
 pub mod Found
 pub mod Ended

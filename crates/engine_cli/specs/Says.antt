@@ -1,16 +1,14 @@
 -- What each status of a run says: of the words and the texts, of the counts of faults, and of what `out` gained.
-use Rattle.std.specs.Prelude.{◌≡◌, ◌⊎◌, ℕ, List, Option, Some, IfSome}
+use Rattle.std.specs.Prelude.{◌≡◌, ◌⊎◌, ℕ, List, Option, Some, Err, IfSome}
 use Rattle.std.specs.Io.KnownBytes.{Appends}
-use Rattle.gl_base.specs.declared.text_faults.TextFile.TheVariants.{Vertices, Edges}
 use Rattle.gl_base.specs.declared.job_faults.JobFault.TheVariants.{OutOfRange}
 use Rattle.gl_base.specs.declared.job_faults.Key.TheVariants.{Source}
 use Rattle.gl_outside.specs.Faults.{Rose}
-use Rattle.graph_text.specs.PlainTexts.{IsVertexText, IsEdgeText}
-use Rattle.graph_text.specs.ReadAnswers.{not_plain}
+use Rattle.graph_text.specs.Vertices.{vertices_of}
 use Rattle.engine_cli.specs.declared.status.Status.{Status}
 use Rattle.engine_cli.specs.declared.status.Status.TheVariants.{Done, Usage, BadJob, BadGraph, ReadFault, WriteFault, NoMemory}
 use Rattle.engine_cli.specs.Words.{Asked}
-use Rattle.engine_cli.specs.Answer.{IsAnswer, LacksSource, IsValid}
+use Rattle.engine_cli.specs.Answer.{IsAnswer, LacksSource, RefusesEdges, IsValid}
 use Rattle.engine_cli.specs.Printing.{AppendsFront}
 
 -- The counts of faults, and what `out` holds, as a call begins and as it ends.
@@ -26,23 +24,12 @@ moment reads writes held = record { reads = reads; writes = writes; held = held 
 abbrev pub OfTexts : (List ℕ → Option (List ℕ)) → Asked → (List ℕ → List ℕ → Type 0) → Type 0
 OfTexts given asked P = IfSome (given asked.vertices) (λ vertices. IfSome (given asked.edges) (λ edges. P vertices edges))
 
--- no identifiers make the bytes a plain vertex text
-abbrev pub IsNoVertexText : List ℕ → Type 0
-IsNoVertexText bytes = (ids : List ℕ) → IsVertexText bytes ids → ⊥
-
--- the first is a plain vertex text, and the second is no plain edge text over it
-pub record IsNoEdgeText (vertices edges : List ℕ) : Type 0 where
-  pub ids : List ℕ
-  pub told : IsVertexText vertices ids
-  pub refused : (pairs : List (ℕ × ℕ)) → IsEdgeText ids edges pairs → ⊥
-
 abbrev pub Says : (List ℕ → Option (List ℕ)) → Asked → Moment → Moment → Status → Type 0
 Says given asked before now Done =
     (text : List ℕ) × Appends before.held now.held text × OfTexts given asked (λ vertices edges. IsAnswer asked.source vertices edges text)
 Says given asked before now (Usage fault) = ⊥
 Says given asked before now (BadGraph fault) =
-    ((fault ≡ not_plain Vertices) × IfSome (given asked.vertices) IsNoVertexText)
-    ⊎ ((fault ≡ not_plain Edges) × OfTexts given asked IsNoEdgeText)
+    IfSome (given asked.vertices) (λ vertices. vertices_of vertices ≡ Err fault) ⊎ OfTexts given asked (RefusesEdges fault)
 Says given asked before now (BadJob fault) =
     (fault ≡ OutOfRange Source asked.source) × OfTexts given asked (LacksSource asked.source)
 Says given asked before now ReadFault = Rose before.reads now.reads

@@ -1,6 +1,23 @@
 -- A search by lowering numbers.
-use Rattle.std.specs.Prelude.{◌≡◌, ◌⊎◌, ℕ, ◌+◌, ◌*◌, ◌<◌, ◌≤◌, nat_lt, List, length, slice_index, sum, count_by, All, Contains}
+use Rattle.std.specs.Prelude.{◌≡◌, ◌⊎◌, ℕ, ◌+◌, ◌*◌, ◌<◌, ◌≤◌, nat_lt, List, length, map, slice_index, sum, count_by, All, Contains}
+use Rattle.std.specs.List.{filter}
 use Rattle.gl_base.specs.declared.limits.TheConstants.{INF}
+use Rattle.gl_base.specs.declared.numbers.Vertex.{Vertex}
+use Rattle.graph_core.specs.Halves.{DataHalf}
+use Rattle.graph_core.specs.HalfRows.{data_half}
+use Rattle.graph_core.specs.declared.halves.Half.{Half}
+
+-- the vertices that these halves lead out to
+abbrev pub ahead_of : List DataHalf → List ℕ
+ahead_of halves = map (λ h. h.other) (filter (λ h. h.out) halves)
+
+-- the same of halves as the graph keeps them
+abbrev pub ahead : List Half → List ℕ
+ahead halves = ahead_of (map data_half halves)
+
+-- vertices by their numbers
+abbrev pub numbers_of : List Vertex → List ℕ
+numbers_of vertices = map (λ v. v.0) vertices
 
 -- how many numbers are not INF
 abbrev pub reached : List ℕ → ℕ

@@ -2,9 +2,7 @@
 #![tactic(auto)]
 
 mod ended;
-mod halves;
 mod levels;
-mod numbering;
 mod printing;
 mod reading;
 mod search;

@@ -2,12 +2,14 @@
 ghost use Rattle.std.specs.Prelude.{◌≡◌, ◌≤◌, ◌∷◌, ◌++◌, [], length, decimal, OnOk, OnErr};
 ghost use Rattle.std.specs.Io.KnownBytes.{Appends};
 ghost use Rattle.gl_outside.specs.Faults.{Rose};
+ghost use Rattle.graph_core.specs.DataGraph.{size};
 ghost use Rattle.engine_cli.specs.Answer.{answer_text};
 ghost use Rattle.engine_cli.specs.Printing.{AppendsFront, Moves, Prints};
 
 use crate::writing::Writing;
-use gl_base::NoMemory;
+use gl_base::{NoMemory, Vertex};
 use gl_outside::{Failed, Sink};
+use graph_core::Graph;
 use itoa::Buffer;
 use std::alloc::Global;
 
@@ -17,22 +19,23 @@ const PIECE: usize = 65536;
 /// As many bytes as a line has at most: two numbers of 20 digits, a blank and LF.
 const LINE: usize = 42;
 
-/// Prints a line for each identifier, with the number at its place. Where the sink fails or memory runs out it holds a
-/// front of these lines.
+/// Prints a line for each vertex: its identifier and the number at its place. Where the sink fails or memory runs out it
+/// holds a front of these lines.
 pub fn print_answer<K: Sink>(
     alloc: Global,
     out: &mut K,
-    ids: &[u64],
+    graph: &Graph,
     numbers: &[u64],
 ) -> Result<(), Writing>
-    requires { length numbers.now ≡ length ids.now }
-    ensures printed { Prints result (answer_text ids.now numbers.now) (K.held out.old) (K.held out.new) (K.faults out.old) (K.faults out.new) }
+    requires { length numbers.now ≡ size graph.now }
+    ensures printed { Prints result (answer_text graph.now.ids numbers.now) (K.held out.old) (K.held out.new) (K.faults out.old) (K.faults out.new) }
     ensures later { K.faults out.old ≤ K.faults out.new }
     ensures same { K.same out.old out.new }
 {
     let mut piece = Vec::with_capacity(alloc, PIECE).map_err(|_| Writing::NoMemory)?;
-    for (place, id) in ids.iter().enumerate() {
-        push_line(&mut piece, *id, numbers[place])?;
+    for vertex in 0..graph.n() {
+        let id = graph.id(Vertex(vertex));
+        push_line(&mut piece, id, numbers[vertex as usize])?;
         write_when_full(out, &mut piece)?;
     }
     write_all(out, &piece)?;

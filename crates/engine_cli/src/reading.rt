@@ -1,11 +1,12 @@
 //! Reads the graph's files.
 ghost use Rattle.std.specs.Prelude.{◌≡◌, ℕ, ◌≤◌, [], ◌∷◌, List, OnOk, OnErr};
 ghost use Rattle.gl_outside.specs.Names.{AppendsNames};
-ghost use Rattle.engine_cli.specs.Found.{TakesVertices, TakesPairs, HandsOver};
+ghost use Rattle.engine_cli.specs.Found.{TakesVertices, TakesGraph, HandsOver};
 
 use crate::Status;
 use gl_outside::{Files, OpenFault, SourceOf};
-use graph_text::{PairList, Reading, VertexList, read_pairs, read_vertices};
+use graph_core::Graph;
+use graph_text::{Reading, VertexList, read_edges, read_vertices};
 use std::alloc::Global;
 
 /// The vertices that the file of this name lists.
@@ -30,14 +31,14 @@ pub fn vertices_of<F: Files>(alloc: Global, files: &mut F, name: &str) -> Result
     }
 }
 
-/// The edges that the file of this name lists, over these vertices.
-pub fn pairs_of<F: Files>(
+/// The graph of the edges that the file of this name lists, over these vertices. Edges have no direction and no weight.
+pub fn graph_of<F: Files>(
     alloc: Global,
     files: &mut F,
     name: &str,
-    list: &VertexList,
-) -> Result<PairList, Status>
-    ensures answer { TakesPairs list.now.ids.items (F.given files.old name.now) (F.reads files.old) (F.reads files.new) result }
+    list: VertexList,
+) -> Result<Graph, Status>
+    ensures answer { TakesGraph list.ids.items (F.given files.old name.now) (F.reads files.old) (F.reads files.new) result }
     ensures given { (other : List ℕ) → F.given files.new other ≡ F.given files.old other }
     ensures later { F.reads files.old ≤ F.reads files.new }
     ensures names { HandsOver (F.handed files.old) (F.handed files.new) (name.now ∷ []) }
@@ -49,8 +50,8 @@ pub fn pairs_of<F: Files>(
         Err(OpenFault::NoMemory) => return Err(Status::NoMemory),
     };
     let mut source = SourceOf::new(files, file);
-    match read_pairs(alloc, &mut source, list) {
-        Ok(pairs) => Ok(pairs),
+    match read_edges(alloc, &mut source, list, false, false) {
+        Ok(graph) => Ok(graph),
         Err(Reading::Text(fault)) => Err(Status::BadGraph(fault)),
         Err(Reading::ReadFault) => Err(Status::ReadFault),
         Err(Reading::NoMemory) => Err(Status::NoMemory),

@@ -1,69 +1,64 @@
 //! Breadth-first search: the levels of all vertices from one of them.
-ghost use Rattle.std.specs.Prelude.{◌≡◌, ℕ, ◌<◌, ◌≤◌, [], ◌∷◌, List, length, vec_len, All, IfOk, OnOk};
-ghost use Rattle.gl_base.specs.declared.limits.TheConstants.{INF, MAX_VERTICES};
-ghost use Rattle.graph_core.specs.DataGraph.{DataGraph};
+ghost use Rattle.std.specs.Prelude.{◌≡◌, ◌<◌, [], ◌∷◌, vec_len, All, IfOk, OnOk};
+ghost use Rattle.graph_core.specs.DataGraph.{size};
 ghost use Rattle.graph_core.specs.Levels.{AreLevels};
-ghost use Rattle.engine_cli.specs.NumberedGraph.{AreRows};
-ghost use Rattle.engine_cli.specs.Search.{Lowers};
+ghost use Rattle.engine_cli.specs.Search.{Lowers, ahead, numbers_of};
 
-use gl_base::{INF, NoMemory};
-use graph_core::Rows;
+use gl_base::{INF, NoMemory, Vertex};
+use graph_core::{Graph, Half};
 use std::alloc::Global;
 use std::collections::VecDeque;
 
-/// The levels from `start` in the graph with these rows of neighbours, and INF for each vertex that no walk reaches.
-pub fn levels_from(alloc: Global, rows: &Rows<u32>, start: u32) -> Result<Vec<u64>, NoMemory>
-    requires inside { start < length rows.now }
-    requires few { length rows.now ≤ MAX_VERTICES }
-    requires within { All (λ row. All (λ v. v < length rows.now) row) rows.now }
-    ensures levels { IfOk result (λ numbers. (g : DataGraph) → AreRows g rows.now → AreLevels g start numbers.items) }
+/// The level of each vertex from `start`, and INF for each that no walk leads to.
+pub fn levels_from(alloc: Global, graph: &Graph, start: Vertex) -> Result<Vec<u64>, NoMemory>
+    requires { start.0 < size graph.now }
+    ensures { IfOk result (λ numbers. AreLevels graph.now start.0 numbers.items) }
 {
-    let mut numbers = Vec::from_elem(alloc, INF, rows.len())?;
-    numbers[start as usize] = 0;
+    let mut numbers = Vec::from_elem(alloc, INF, graph.n() as usize)?;
+    numbers[start.0 as usize] = 0;
     let mut waiting = VecDeque::new(alloc);
     waiting.push_back(start)?;
     while let Some(vertex) = waiting.pop_front() {
-        let number = numbers[vertex as usize] + 1;
-        lower_all(
-            &mut numbers,
-            &mut waiting,
-            rows.row(vertex as usize),
-            number,
-        )?;
+        let number = numbers[vertex.0 as usize] + 1;
+        lower_ahead(&mut numbers, &mut waiting, graph.halves(vertex), number)?;
     }
     Ok(numbers)
 }
 
-/// Lowers the numbers of these vertices to `number` where they are above it, and lets those vertices wait.
-fn lower_all(
+/// Lowers the numbers of the vertices that these halves lead out to, where they are above `number`, and lets those
+/// vertices wait.
+fn lower_ahead(
     numbers: &mut Vec<u64>,
-    waiting: &mut VecDeque<u32>,
-    vertices: &[u32],
+    waiting: &mut VecDeque<Vertex>,
+    halves: &[Half],
     number: u64,
 ) -> Result<(), NoMemory>
-    requires { All (λ v. v < vec_len numbers.old) vertices.now }
-    ensures { OnOk result (Lowers vertices.now number numbers.old.items numbers.new.items waiting.old.items waiting.new.items) }
+    requires { All (λ h. h.other.0 < vec_len numbers.old) halves.now }
+    ensures { OnOk result (Lowers (ahead halves.now) number numbers.old.items numbers.new.items (numbers_of waiting.old.items) (numbers_of waiting.new.items)) }
 {
-    for vertex in vertices {
-        lower(numbers, waiting, *vertex, number)?;
+    for half in halves {
+        lower(numbers, waiting, half, number)?;
     }
     Ok(())
 }
 
-/// The same for one vertex.
+/// The same for one half.
 fn lower(
     numbers: &mut Vec<u64>,
-    waiting: &mut VecDeque<u32>,
-    vertex: u32,
+    waiting: &mut VecDeque<Vertex>,
+    half: &Half,
     number: u64,
 ) -> Result<(), NoMemory>
-    requires { vertex < vec_len numbers.old }
-    ensures { OnOk result (Lowers (vertex ∷ []) number numbers.old.items numbers.new.items waiting.old.items waiting.new.items) }
+    requires { half.now.other.0 < vec_len numbers.old }
+    ensures { OnOk result (Lowers (ahead (half.now ∷ [])) number numbers.old.items numbers.new.items (numbers_of waiting.old.items) (numbers_of waiting.new.items)) }
 {
-    if numbers[vertex as usize] <= number {
+    if !half.out {
         return Ok(());
     }
-    waiting.push_back(vertex)?;
-    numbers[vertex as usize] = number;
+    if numbers[half.other.0 as usize] <= number {
+        return Ok(());
+    }
+    waiting.push_back(half.other)?;
+    numbers[half.other.0 as usize] = number;
     Ok(())
 }

@@ -10,7 +10,7 @@ ghost use Rattle.engine_cli.specs.RunWords.{asked_by};
 
 use crate::levels::find_levels;
 use crate::printing::print_answer;
-use crate::reading::{pairs_of, vertices_of};
+use crate::reading::{graph_of, vertices_of};
 use crate::words::{RunWords, read_run};
 use crate::writing::Writing;
 use crate::{Ended, Status};
@@ -88,15 +88,15 @@ fn run_levels<F: Files, K: Sink>(
         Ok(list) => list,
         Err(status) => return status,
     };
-    let pairs = match pairs_of(alloc, files, run.edges, &list) {
-        Ok(pairs) => pairs,
+    let graph = match graph_of(alloc, files, run.edges, list) {
+        Ok(graph) => graph,
         Err(status) => return status,
     };
-    let numbers = match find_levels(alloc, &list, &pairs, run.source) {
+    let numbers = match find_levels(alloc, &graph, run.source) {
         Ok(numbers) => numbers,
         Err(status) => return status,
     };
-    match print_answer(alloc, out, &list.ids, &numbers) {
+    match print_answer(alloc, out, &graph, &numbers) {
         Ok(()) => Status::Done,
         Err(Writing::WriteFault) => Status::WriteFault,
         Err(Writing::NoMemory) => Status::NoMemory,

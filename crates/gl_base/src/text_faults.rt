@@ -10,8 +10,24 @@ pub enum TextFile {
 /// What is wrong with a text.
 #[derive(Clone, Copy, Debug, PartialEq, Eq, Hash)]
 pub enum TextKind {
-    /// It is not a plain text: lines in order, each in its one spelling. Said of the whole text, at line 0.
-    NotPlain,
+    /// A vertex line without exactly one field, or an edge line with fewer than two.
+    Fields,
+    /// A field is no number.
+    Number,
+    /// A number is above its limit.
+    TooLarge,
+    /// The vertex or the edge stood in an earlier line.
+    Double,
+    /// It is one more than there may be.
+    TooMany,
+    /// An end of an edge is no vertex.
+    Unknown,
+    /// Both ends of an edge are the same vertex.
+    SelfLoop,
+    /// An edge without a weight, where edges have one.
+    NoWeight,
+    /// The text has more bytes than it may have.
+    TooLong,
 }
 
 /// The first fault of a text. Lines are counted from 1.

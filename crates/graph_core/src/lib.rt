@@ -24,3 +24,4 @@ pub use laws::{
     walks_join, walks_stay,
 };
 pub use rows::{Keyed, Rows};
+pub use vertex_lists::sorted_ids;

@@ -1,5 +1,9 @@
-pub mod NumberRuns
-pub mod NumberTexts
-pub mod Pieces
-pub mod VertexNumbers
-pub mod EdgeNumbers
+pub mod Runs
+pub mod CutPieces
+pub mod LinePieces
+pub mod RowTexts
+pub mod TextRuns
+pub mod FirstFaults
+pub mod RowLaws
+pub mod VertexTexts
+pub mod EdgeTexts

@@ -1,189 +1,228 @@
-//! Reads plain edge texts.
-ghost use Rattle.std.specs.Prelude.{ℕ, ◌≡◌, ◌+◌, ◌*◌, ◌≤◌, ◌↔◌, length, List, [], None, Some, IsTrue, All, AllPairs, Contains};
+//! Reads edge texts.
+ghost use Rattle.std.specs.Prelude.{◌≡◌, ℕ, ◌≤◌, Bool, List, length, Option, Some, Err};
+ghost use Rattle.std.specs.List.{list_any};
 ghost use Rattle.std.specs.Io.KnownBytes.{Consumes};
-ghost use Rattle.gl_base.specs.declared.limits.TheConstants.{MAX_EDGES};
-ghost use Rattle.gl_base.specs.declared.text_faults.TextFile.TheVariants.{Edges};
-ghost use Rattle.graph_core.specs.IdTable.{IsTableOf};
-ghost use Rattle.graph_text.specs.Tables.{IsTableOf-prop};
-ghost use Rattle.graph_text.specs.Numbers.{TakesNumber};
-ghost use Rattle.graph_text.specs.PlainTexts.{ArePairs};
-ghost use Rattle.graph_text.specs.PlainNumbers.{edge_numbers, numbers_taken, AreEdgeNumbers, is_id, IsPairBelow, AreKnownPairs, IsFirstId, IsNextPair};
-ghost use Rattle.graph_text.specs.ReadAnswers.{ReadsPairs, not_plain};
+ghost use Rattle.graph_core.specs.GraphLists.{written as written_by, is_same as is_same_by};
+ghost use Rattle.graph_text.specs.Found.{ended as ended_by};
+ghost use Rattle.graph_text.specs.Edges.{edge_rules, edge_alone, edge_behind};
+ghost use Rattle.graph_text.specs.Firsts.{or_kind};
+ghost use Rattle.graph_text.specs.RowRules.{row_weight, row_ends};
+ghost use Rattle.graph_text.specs.Texts.{found_at};
+ghost use Rattle.graph_text.specs.EdgeAnswers.{ReadsGraph, AreFoundEdges, Builds, IsFaultIn, IsRefused, EndsEdges};
 
-use crate::numbers::{NumberTaker, Numbers, refusal};
-use crate::text_reader::read_text;
-use crate::{PairList, Reading, VertexList};
-use gl_base::{MAX_EDGES, NoMemory, TextFile};
+use crate::lines::{LineItem, Lines, read_lines};
+use crate::said::{Ending, Row, Said};
+use crate::{Reading, VertexList};
+use gl_base::{MAX_EDGES, MAX_ID, TextFault, TextFile, TextKind};
 use gl_outside::Source;
-use graph_core::IdTable;
+use graph_core::{EdgeIn, Graph, GraphFault};
 use std::alloc::Global;
 
-/// Reads a plain edge text to its end: lines of two identifiers of the list, the lower one first, with one blank between
-/// them, in decimal without leading zeros, strictly ascending, at most 4,194,304 of them. Any other text is refused as
-/// not plain, at line 0. The source keeps what was taken, whatever is answered.
-pub fn read_pairs<S: Source>(
+/// Reads an edge text to its end, and builds the graph of its edges between the vertices of the list. A line has two
+/// identifiers and, where `weighted`, a weight from 0 to 4294967295, which may end in a point and zeros; further fields
+/// are passed over, and where edges have no weight theirs is 1. The lines need no order. Blanks and tabs, a CR at the
+/// end of a line, zeros before a number, lines without a field and lines that begin with `#` are passed over.
+///
+/// A text is refused at its first faulty line, and there for the first of `Fields` (fewer than two fields), `Number` and
+/// `TooLarge` (of an identifier), `Unknown` (an identifier that is no vertex), `SelfLoop`, `NoWeight`, `Number` and
+/// `TooLarge` (of the weight), `Double` (the edge stood in an earlier line, either way round where it has no direction)
+/// and `TooMany` (more than 4,194,304 of them); as `TooLong` where it has more than 1,073,741,824 bytes, and no line that
+/// ends within them is faulty. The source keeps what was taken, whatever is answered.
+pub fn read_edges<S: Source>(
     alloc: Global,
     source: &mut S,
-    list: &VertexList,
-) -> Result<PairList, Reading>
-    ensures answer { ReadsPairs list.now.ids.items result (S.left source.old) (S.faults source.old) (S.faults source.new) }
+    list: VertexList,
+    directed: bool,
+    weighted: bool,
+) -> Result<Graph, Reading>
+    ensures answer { ReadsGraph list.ids.items directed weighted result (S.left source.old) (S.faults source.old) (S.faults source.new) }
     ensures taken { (taken : List ℕ) × Consumes (S.left source.old) (S.left source.new) taken }
     ensures later { S.faults source.old ≤ S.faults source.new }
     ensures same { S.same source.old source.new }
 {
-    let table = match IdTable::new(alloc, &list.ids) {
-        Ok(table) => table,
-        Err(NoMemory) => return Err(Reading::NoMemory),
-    };
-    read_text(source, Numbers::new(Pairs::new(alloc, list, table)))
+    let mut lines = Lines::new(alloc);
+    let ending = read_lines(source, weighted, &mut lines)?;
+    built(alloc, list, directed, lines, ending)
 }
 
-/// The edges that were read, and the line that is begun.
-#[derive(Drop)]
-struct Pairs<'a> {
-    list: &'a VertexList,
-    table: IdTable,
-    pairs: Vec<(u64, u64)>,
-    from: Option<u64>,
-    ghost table_is: { IsTableOf list.now.ids.items table } by { IsTableOf-prop list.now.ids.items table },
-    ghost are: { AreKnownPairs list.now.ids.items pairs.items },
-    ghost known: { (id : ℕ) → from ≡ Some id → IsTrue (is_id list.now.ids.items id) },
-    ghost few: { length (numbers_taken pairs.items from) ≤ 2 * MAX_EDGES + 1 },
-}
+impl LineItem for EdgeIn {
+    ghost use Rattle.gl_base.specs.declared.limits.TheConstants.{MAX_EDGES};
+    ghost use Rattle.graph_text.specs.RowRules.{edge_row};
 
-impl NumberTaker for Pairs<'_> {
-    type Read = PairList;
+    const MOST: usize = MAX_EDGES;
 
-    ghost file = { Edges };
+    ghost MOST = { MAX_EDGES };
 
-    ghost over = { λ p. p.list.now.ids.items };
+    ghost says = { edge_row };
 
-    ghost taken = { λ p. numbers_taken p.pairs.items p.from };
-
-    ghost are = { AreEdgeNumbers };
-
-    ghost gives = { λ ids numbers list. (numbers ≡ edge_numbers list.pairs.items) × ArePairs ids list.pairs.items };
-
-    ghost few = { λ p. p.few };
-
-    fn file() -> TextFile
-        ensures { result ≡ Edges }
-    {
-        TextFile::Edges
-    }
-
-    fn take(&mut self, number: u64, end: u8) -> Result<(), Reading> {
-        match self.from {
-            None => self.begin_line(number, end),
-            Some(from) => self.end_line(from, number, end),
+    fn said(row: Row, weighted: bool) -> Said<EdgeIn> {
+        match row {
+            Row::Nothing => Said::Passed,
+            Row::One(_) => Said::Wrong(TextKind::Fields),
+            Row::Two(from, to) => with_ends(from, to, weight_in(weighted, None)),
+            Row::Three(from, to, weight) => with_ends(from, to, weight_in(weighted, Some(weight))),
         }
-    }
-
-    fn finish(self) -> Result<PairList, Reading> {
-        if self.from.is_some() {
-            return Err(refusal(TextFile::Edges));
-        }
-        Ok(PairList { pairs: self.pairs })
     }
 }
 
-impl<'a> Pairs<'a> {
-    /// Nothing is read.
-    fn new(alloc: Global, list: &'a VertexList, table: IdTable) -> Self
-        requires { IsTableOf list.now.ids.items table }
-        ensures list { result.list.now ≡ list.now }
-        ensures pairs { result.pairs.items ≡ [] }
-        ensures from { result.from ≡ None }
-    {
-        Pairs {
-            list,
-            table,
-            pairs: Vec::new(alloc),
-            from: None,
-        }
-    }
-
-    /// Takes the first identifier of a line, and the byte behind it.
-    #[inline(always)]
-    fn begin_line(&mut self, id: u64, end: u8) -> Result<(), Reading>
-        requires { self.old.from ≡ None }
-        ensures takes { TakesNumber (AreEdgeNumbers self.old.list.now.ids.items) (not_plain Edges) (numbers_taken self.old.pairs.items self.old.from) (id, end) (numbers_taken self.new.pairs.items self.new.from) result }
-        ensures list { self.new.list.now ≡ self.old.list.now }
-    {
-        if !self.is_first(id, end) {
-            return Err(refusal(TextFile::Edges));
-        }
-        self.from = Some(id);
-        Ok(())
-    }
-
-    /// Takes the second identifier of a line, and the byte behind it.
-    #[inline(always)]
-    fn end_line(&mut self, from: u64, to: u64, end: u8) -> Result<(), Reading>
-        requires { self.old.from ≡ Some from }
-        ensures takes { TakesNumber (AreEdgeNumbers self.old.list.now.ids.items) (not_plain Edges) (numbers_taken self.old.pairs.items self.old.from) (to, end) (numbers_taken self.new.pairs.items self.new.from) result }
-        ensures list { self.new.list.now ≡ self.old.list.now }
-    {
-        if !self.is_next(from, to, end) {
-            return Err(refusal(TextFile::Edges));
-        }
-        match self.pairs.push((from, to)) {
-            Ok(()) => {
-                self.from = None;
-                Ok(())
-            }
-            Err(_) => Err(Reading::NoMemory),
-        }
-    }
-
-    /// Whether the identifier, with this byte behind it, may begin a line. It is looked up only where it isn't that of
-    /// the line before.
-    #[inline(always)]
-    fn is_first(&self, id: u64, end: u8) -> bool
-        ensures { IsTrue result ↔ IsFirstId self.now.list.now.ids.items id end }
-    {
-        end == b' ' && (self.is_first_of_last(id) || self.is_vertex(id))
-    }
-
-    /// Whether the last pair has this identifier first.
-    #[inline(always)]
-    fn is_first_of_last(&self, id: u64) -> bool
-        ensures { IsTrue result → Contains self.now.list.now.ids.items id }
-    {
-        match self.pairs.last() {
-            Some(last) => last.0 == id,
-            None => false,
-        }
-    }
-
-    /// Whether the identifier is that of a vertex.
-    fn is_vertex(&self, id: u64) -> bool
-        ensures { IsTrue result ↔ Contains self.now.list.now.ids.items id }
-    {
-        self.table.find(&self.list.ids, id).is_some()
-    }
-
-    /// Whether the pair, with this byte behind it, may stand behind those that were read.
-    #[inline(always)]
-    fn is_next(&self, from: u64, to: u64, end: u8) -> bool
-        ensures { IsTrue result ↔ IsNextPair self.now.list.now.ids.items self.now.pairs.items from to end }
-    {
-        end == b'\n'
-            && from < to
-            && self.pairs.len() < MAX_EDGES
-            && is_above(&self.pairs, from, to)
-            && self.is_vertex(to)
-    }
-}
-
-/// Whether the pair is above the last of these, which ascend.
-#[inline(always)]
-fn is_above(pairs: &[(u64, u64)], from: u64, to: u64) -> bool
-    requires { AllPairs IsPairBelow pairs.now }
-    ensures { IsTrue result ↔ All (λ other. IsPairBelow other (from, to)) pairs.now }
+/// The weight that the third field tells, where there is one.
+#[inline]
+fn weight_in(weighted: bool, third: Option<Option<u64>>) -> Result<u32, TextKind>
+    ensures { result ≡ row_weight weighted third }
 {
-    match pairs.last() {
-        Some(last) => last.0 < from || last.0 == from && last.1 < to,
-        None => true,
+    if !weighted {
+        return Ok(1);
+    }
+    match third {
+        None => Err(TextKind::NoWeight),
+        Some(None) => Err(TextKind::Number),
+        Some(Some(weight)) if weight <= 4294967295 => Ok(weight as u32),
+        Some(Some(_)) => Err(TextKind::TooLarge),
+    }
+}
+
+/// The edge between two ends, with its weight or what is wrong with that.
+#[inline]
+fn with_ends(from: Option<u64>, to: Option<u64>, weight: Result<u32, TextKind>) -> Said<EdgeIn>
+    ensures { result ≡ row_ends from to weight }
+{
+    let (Some(from), Some(to)) = (from, to) else {
+        return Said::Wrong(TextKind::Number);
+    };
+    if from > MAX_ID || to > MAX_ID {
+        return Said::Wrong(TextKind::TooLarge);
+    }
+    match weight {
+        Ok(weight) => Said::Item(EdgeIn { from, to, weight }),
+        Err(kind) => {
+            let weight = 0;
+            Said::Late(EdgeIn { from, to, weight }, kind)
+        }
+    }
+}
+
+/// The graph of the edges that were found, or the first fault.
+fn built(
+    alloc: Global,
+    list: VertexList,
+    directed: bool,
+    lines: Lines<EdgeIn>,
+    ending: Option<Ending<EdgeIn>>,
+) -> Result<Graph, Reading>
+    requires { AreFoundEdges (found_at lines ending) }
+    ensures { Builds list.ids.items directed (found_at lines ending) result }
+{
+    let ended = ended(ending, &list.ids, directed, &lines.items);
+    match Graph::build(alloc, list.ids, lines.items, directed) {
+        Err(fault) => Err(refused(fault, &lines.places)),
+        Ok(graph) => match ended {
+            Ok(()) => Ok(graph),
+            Err(fault) => Err(Reading::Text(fault)),
+        },
+    }
+}
+
+/// The fault of edges that make no graph, each of which has its line.
+fn refused(fault: GraphFault, places: &[u32]) -> Reading
+    requires { IsFaultIn (length places.now) fault }
+    ensures { IsRefused places.now fault result }
+{
+    match fault {
+        GraphFault::UnknownVertex(place) => {
+            Reading::Text(edge_fault(places[place], TextKind::Unknown))
+        }
+        GraphFault::SelfLoop(place) => {
+            Reading::Text(edge_fault(places[place], TextKind::SelfLoop))
+        }
+        GraphFault::DoubleEdge(place) => {
+            Reading::Text(edge_fault(places[place], TextKind::Double))
+        }
+        GraphFault::NoMemory => Reading::NoMemory,
+        GraphFault::DoubleVertex(_) => unreachable!(),
+    }
+}
+
+/// Whether the text ended well, where these edges stand in it.
+fn ended(
+    ending: Option<Ending<EdgeIn>>,
+    ids: &[u64],
+    directed: bool,
+    edges: &[EdgeIn],
+) -> Result<(), TextFault>
+    ensures { EndsEdges ids.now directed edges.now ending result }
+{
+    match ending {
+        None => Ok(()),
+        Some(Ending::Fault(line, kind)) => Err(edge_fault(line, kind)),
+        Some(Ending::Late(line, e, kind)) => Err(edge_fault(line, alone(ids, e).unwrap_or(kind))),
+        Some(Ending::Full(line, e)) => {
+            let wrong = behind(ids, directed, edges, e);
+            Err(edge_fault(line, wrong.unwrap_or(TextKind::TooMany)))
+        }
+    }
+}
+
+/// What is wrong with the ends of an edge.
+fn alone(ids: &[u64], e: EdgeIn) -> Option<TextKind>
+    ensures { result ≡ edge_alone ids.now e }
+{
+    if !(ids.contains(&e.from) && ids.contains(&e.to)) {
+        Some(TextKind::Unknown)
+    } else if e.from == e.to {
+        Some(TextKind::SelfLoop)
+    } else {
+        None
+    }
+}
+
+/// What is wrong with an edge behind others.
+fn behind(ids: &[u64], directed: bool, edges: &[EdgeIn], e: EdgeIn) -> Option<TextKind>
+    ensures { result ≡ edge_behind ids.now directed edges.now e }
+{
+    match alone(ids, e) {
+        Some(kind) => Some(kind),
+        None if stands(directed, edges, e) => Some(TextKind::Double),
+        None => None,
+    }
+}
+
+/// Whether the edge is one of these.
+fn stands(directed: bool, edges: &[EdgeIn], e: EdgeIn) -> bool
+    ensures { result ≡ list_any (is_same_by directed e) edges.now }
+{
+    edges.iter().any(|f| is_same(directed, e, *f))
+}
+
+/// Whether two edges have the same ends, either way round where they have no direction.
+fn is_same(directed: bool, e: EdgeIn, f: EdgeIn) -> bool
+    ensures { result ≡ is_same_by directed e f }
+{
+    let e = written(directed, e);
+    let f = written(directed, f);
+    e.from == f.from && e.to == f.to
+}
+
+/// The edge with its lower end first, where it has no direction.
+fn written(directed: bool, e: EdgeIn) -> EdgeIn
+    ensures { result ≡ written_by directed e }
+{
+    if directed || e.from < e.to {
+        return e;
+    }
+    EdgeIn {
+        from: e.to,
+        to: e.from,
+        weight: e.weight,
+    }
+}
+
+/// A fault of the edge text.
+fn edge_fault(line: u32, kind: TextKind) -> TextFault
+    ensures { result ≡ record { file = TextFile.Edges; line = line; kind = kind } }
+{
+    TextFault {
+        file: TextFile::Edges,
+        line,
+        kind,
     }
 }

@@ -2,11 +2,12 @@
 #![tactic(auto)]
 
 mod edges;
+mod fields;
+mod lines;
 mod lists;
-mod numbers;
-mod text_reader;
+mod said;
 mod vertices;
 
-pub use edges::read_pairs;
-pub use lists::{PairList, Reading, VertexList};
+pub use edges::read_edges;
+pub use lists::{Reading, VertexList};
 pub use vertices::read_vertices;

@@ -1,5 +1,5 @@
 //! What the readers give.
-ghost use Rattle.graph_text.specs.PlainTexts.{AreIds};
+ghost use Rattle.graph_text.specs.Ids.{AreIds};
 
 use gl_base::TextFault;
 
@@ -8,12 +8,6 @@ use gl_base::TextFault;
 pub struct VertexList {
     pub ids: Vec<u64>,
     ghost are_ids: { AreIds ids.items },
-}
-
-/// The edges as pairs of identifiers, in the order of the lines.
-#[derive(Debug, Drop)]
-pub struct PairList {
-    pub pairs: Vec<(u64, u64)>,
 }
 
 /// Why a text was not read.

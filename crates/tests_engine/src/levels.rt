@@ -106,33 +106,100 @@ fn levels_are_printed(rt: HostRuntime) -> Result<(), Fail> {
 }
 
 #[test]
-fn texts_and_sources_are_refused(rt: HostRuntime) -> Result<(), Fail> {
+fn texts_are_read_as_users_write_them(rt: HostRuntime) -> Result<(), Fail> {
     let words = ["run", "levels", "1", "g.v", "g.e"];
-    for (vertices, edges, file) in [
-        ("1\n2\n3\n4\n", "2 1\n", TextFile::Edges),
-        ("1\n2\n3\n4\n", "1 5\n", TextFile::Edges),
-        ("1\n2\n3\n4\n", "1 2", TextFile::Edges),
-        ("1\n2\n3\n4\n", "1 1\n", TextFile::Edges),
-        ("1\n2\n3\n4\n", "2 3\n1 2\n", TextFile::Edges),
-        ("1\n2\n3\n4\n", "1 2\n1 2\n", TextFile::Edges),
-        ("2\n1\n", "", TextFile::Vertices),
-        ("01\n", "", TextFile::Vertices),
-        ("1\n1\n", "1 1\n", TextFile::Vertices),
-        ("9223372036854775807\n", "", TextFile::Vertices),
-        ("1", "", TextFile::Vertices),
+    for (vertices, edges) in [
+        // Lines in any order, ends either way round, and weights that are passed over.
+        ("4\n3\n1\n2\n", "3 2 0.5\n2 1 7\n"),
+        // Comments, tabs, CR LF, lines without a field, and a last line without LF.
+        (
+            "# id\r\n1\r\n2\r\n\r\n3\r\n4",
+            "#from\tto\r\n1\t2\r\n\r\n \t2\t \t3",
+        ),
+        // Zeros before a number, and further fields.
+        ("01\n002\n3\n0004\n", "1 002 a b c\n2 3 # no comment\n"),
+        (" 1 \n\t2\n3\n4\n# end", "1 2\n2 3\n#4 4\n\r\n"),
     ] {
-        let status = ends(&rt, rt.alloc(), &sound(&words, vertices, edges), 3, "")?;
+        ends(
+            &rt,
+            rt.alloc(),
+            &sound(&words, vertices, edges),
+            0,
+            ITS_LEVELS,
+        )?;
+    }
+    Ok(())
+}
+
+/// Asserts that each pair of texts is refused for this fault, and nothing is printed.
+fn all_are_refused(
+    rt: &impl Abort,
+    alloc: Global,
+    rows: &[(&str, &str, TextFault)],
+) -> Result<(), Fail> {
+    let words = ["run", "levels", "1", "g.v", "g.e"];
+    for (vertices, edges, want) in rows {
+        let status = ends(rt, alloc, &sound(&words, *vertices, *edges), 3, "")?;
         let Status::BadGraph(fault) = status else {
             return Err(Fail::from("a text was not refused"));
         };
-        let want = TextFault {
-            file,
-            line: 0,
-            kind: TextKind::NotPlain,
-        };
-        assert_eq!(rt; fault, want, "at {vertices:?} and {edges:?}");
+        assert_eq!(rt; fault, *want, "at {vertices:?} and {edges:?}");
     }
-    for (source, vertices) in [("5", "1\n2\n3\n4\n"), ("1", ""), ("0", "1\n2\n")] {
+    Ok(())
+}
+
+/// A fault of a line of the vertex text.
+fn of_vertices(line: u32, kind: TextKind) -> TextFault {
+    let file = TextFile::Vertices;
+    TextFault { file, line, kind }
+}
+
+/// A fault of a line of the edge text.
+fn of_edges(line: u32, kind: TextKind) -> TextFault {
+    let file = TextFile::Edges;
+    TextFault { file, line, kind }
+}
+
+#[test]
+fn edge_texts_are_refused_at_their_first_fault(rt: HostRuntime) -> Result<(), Fail> {
+    let four = "1\n2\n3\n4\n";
+    let rows = [
+        (four, "1 5\n", of_edges(1, TextKind::Unknown)),
+        (four, "1 2\n2\n", of_edges(2, TextKind::Fields)),
+        (four, "# 1\r\n\r\n1 1\n", of_edges(3, TextKind::SelfLoop)),
+        (four, "1 2\n2 1", of_edges(2, TextKind::Double)),
+        (four, "2 3\n1 -2\n1 1\n", of_edges(2, TextKind::Number)),
+        (
+            four,
+            "1 9223372036854775807\n",
+            of_edges(1, TextKind::TooLarge),
+        ),
+        // Both texts come before the source.
+        ("2\n", "2\n", of_edges(1, TextKind::Fields)),
+    ];
+    all_are_refused(&rt, rt.alloc(), &rows)
+}
+
+#[test]
+fn vertex_texts_are_refused_at_their_first_fault(rt: HostRuntime) -> Result<(), Fail> {
+    let rows = [
+        ("1\n1\n", "1 1\n", of_vertices(2, TextKind::Double)),
+        ("1\n2 3\n", "", of_vertices(2, TextKind::Fields)),
+        ("1\n\n1x\n1\n", "", of_vertices(3, TextKind::Number)),
+        (
+            "9223372036854775807\n",
+            "",
+            of_vertices(1, TextKind::TooLarge),
+        ),
+        // The vertex text comes before the edge text and the source.
+        ("2\n2\n", "2\n", of_vertices(2, TextKind::Double)),
+    ];
+    all_are_refused(&rt, rt.alloc(), &rows)
+}
+
+#[test]
+fn sources_are_refused(rt: HostRuntime) -> Result<(), Fail> {
+    for (source, vertices) in [("5", "1\n2\n3\n4\n"), ("1", "# none\n"), ("0", "1\n2\n")] {
         let words = ["run", "levels", source, "g.v", "g.e"];
         let status = ends(&rt, rt.alloc(), &sound(&words, vertices, ""), 2, "")?;
         let Status::BadJob(JobFault::OutOfRange(Key::Source, found)) = status else {

@@ -1,4 +1,4 @@
-//! The readers of plain texts: what they take and refuse, whatever the pieces, and where a call fails.
+//! The readers of texts: what they take and refuse, whatever the pieces, and where a call fails.
 #![tactic(auto)]
 
 #[cfg(test)]

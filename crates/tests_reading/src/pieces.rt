@@ -1,7 +1,8 @@
 //! A source that gives a few bytes at a time.
 ghost use Rattle.std.specs.Prelude.{◌<◌};
 
-use gl_outside::{Failed, Source};
+use gl_outside::{Failed, PlainSource, Source};
+use std::alloc::{AllocError, Global};
 
 /// Another source, of which at most so many bytes are given at once.
 #[derive(Drop)]
@@ -34,4 +35,9 @@ impl<S: Source> Source for InPieces<S> {
         let most = self.most.min(buf.len());
         self.source.read(&mut buf[..most])
     }
+}
+
+/// The source of these bytes.
+pub fn plain_source(alloc: Global, text: &str) -> Result<PlainSource, AllocError> {
+    Ok(PlainSource::new(Vec::from_slice(alloc, text.as_bytes())?))
 }

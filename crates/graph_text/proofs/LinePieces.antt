@@ -1,0 +1,88 @@
+-- A text, read piece by piece.
+use Rattle.std.proofs.Common.{◌≡◌, ℕ, ◌+◌, ◌-◌, ◌≤◌, true, nat_le, List, [], ◌++◌, length, take, ◌∙◌, ap, subst, arith, Option, None, Some, Result, Ok, Err, cond, length-append, length-take}
+use Rattle.std.proofs.lemmas.List.{append-nil}
+use Rattle.std.proofs.lemmas.Bool.Decides.{nat_tests}
+use Rattle.std.proofs.KnownBytes.{Consumes-trans}
+use Rattle.std.specs.Io.KnownBytes.{Consumes, IsAtEnd}
+use Rattle.gl_base.specs.declared.limits.TheConstants.{MAX_TEXT_BYTES}
+use Rattle.graph_text.specs.declared.lines.Lines.{Lines}
+use Rattle.graph_text.specs.declared.said.Row.{Row}
+use Rattle.graph_text.specs.declared.said.Said.{Said}
+use Rattle.graph_text.specs.declared.said.Halt.{Halt}
+use Rattle.graph_text.specs.declared.said.Halt.TheVariants.{Stopped, ReadFault, NoMemory}
+use Rattle.graph_text.specs.Firsts.{run, and_then}
+use Rattle.graph_text.specs.Found.{Kept, Stop, whole}
+use Rattle.graph_text.specs.Steps.{Text, byte_step, line_end, nothing_read, past, found_within, found_by_bytes}
+use Rattle.graph_text.specs.Texts.{kept_at, text_at, Gives, TakesPiece, IsTold, ReadsBytes}
+use Rattle.graph_text.proofs.Runs.{run_joined}
+
+-- some of the first bytes were taken, at least one a turn, and they lead here
+pub record SoFar (first left : Option (List ℕ)) (turns : ℕ) (leads : List ℕ → Type 0) : Type 0 where
+  pub taken : List ℕ
+  pub told : Consumes first left taken
+  pub leads_here : leads taken
+  pub long : turns ≤ length taken
+
+-- these bytes lead here, with so much room behind them
+pub record Leads {X : Type 0} (most : ℕ) (says : Row → Said X) (room : ℕ) (here : Text X) (taken : List ℕ) : Type 0 where
+  pub ran : run (byte_step most says) nothing_read taken ≡ Ok here
+  pub space : length taken + room ≡ MAX_TEXT_BYTES
+
+-- a text of these bytes alone
+ends_within : {X : Type 0} (limit most : ℕ) (says : Row → Said X) (bytes : List ℕ) (t : Text X) (found : Result (Kept X) (Stop X)) → length bytes ≤ limit
+    → run (byte_step most says) nothing_read bytes ≡ Ok t → line_end most says t ≡ found → found_within limit most says bytes ≡ whole found
+ends_within limit most says bytes t found short ran ends =
+    let within : nat_le (length bytes) limit ≡ true = grind (arith, nat_tests) in
+    ap (λ b. cond b (whole (and_then (line_end most says) (run (byte_step most says) nothing_read bytes))) (past (run (byte_step most says) nothing_read (take limit bytes)))) within
+    ∙ ap (λ r. whole (and_then (line_end most says) r)) ran ∙ ap whole ends
+
+-- a source at its end has told all
+told_all : (first left : Option (List ℕ)) (taken : List ℕ) → Consumes first left taken → IsAtEnd left → IsTold first taken
+told_all None left taken h end = tt
+told_all (Some text) None taken h end = absurd h
+told_all (Some text) (Some rest) taken h end = h ∙ ap (λ xs. taken ++ xs) end ∙ append-nil taken
+
+-- a read that took nothing
+pub nothing_more : (first mid left : Option (List ℕ)) (taken buf : List ℕ) (n : ℕ) → n ≡ 0 → Consumes first mid taken → Consumes mid left (take n buf) → Consumes first left taken
+nothing_more first mid left taken buf n none told more =
+    let e : taken ++ take n buf ≡ taken = ap (λ k. taken ++ take k buf) none ∙ append-nil taken in
+    subst (Consumes first left) e (Consumes-trans first mid left taken (take n buf) told more)
+
+-- the end of the source
+pub source_ends : {X : Type 0} (most : ℕ) (says : Row → Said X) (room : ℕ) (here : Text X) (new : Lines X) (result : Result (Unit {0}) (Halt X))
+    (first left : Option (List ℕ)) (taken : List ℕ) (before now : ℕ) → Leads most says room here taken → Consumes first left taken → IsAtEnd left
+    → Gives (line_end most says here) (kept_at new) result → ReadsBytes most says new result first before now
+unfolding found_by_bytes
+source_ends most says room here new (Ok done) first left taken before now leads told end gives =
+    (taken, ends_within MAX_TEXT_BYTES most says taken here _ (let e = leads.space in omega arith) leads.ran gives, told_all first left taken told end)
+source_ends most says room here new (Err (Stopped ending)) first left taken before now leads told end gives =
+    (taken, ends_within MAX_TEXT_BYTES most says taken here _ (let e = leads.space in omega arith) leads.ran gives, told_all first left taken told end)
+source_ends most says room here new (Err ReadFault) first left taken before now leads told end gives = absurd gives
+source_ends most says room here new (Err NoMemory) first left taken before now leads told end gives = tt
+
+-- how much was taken into a buffer
+pub length_taken : (buf : List ℕ) (n : ℕ) → n ≤ length buf → length (take n buf) ≡ n
+length_taken buf n h = rw length-take (omega arith)
+
+-- one piece more
+pub leads_more : {X : Type 0} (most : ℕ) (says : Row → Said X) (room : ℕ) (here : Text X) (new : Lines X) (number : Option ℕ) (taken piece : List ℕ)
+    (count : ℕ) → Leads most says room here taken → length piece ≡ count → TakesPiece most says here piece room new (Ok number)
+    → Leads most says (room - count) (text_at new number) (taken ++ piece)
+leads_more most says room here new number taken piece count leads long takes = record {
+  ran = run_joined (byte_step most says) nothing_read here _ taken piece leads.ran takes.1;
+  space = (let e = leads.space in let fits = takes.0 in omega (arith, length-append taken piece));
+}
+
+told_rest : (first left : Option (List ℕ)) (taken : List ℕ) → Consumes first left taken → (rest : List ℕ) × IsTold first (taken ++ rest)
+told_rest None left taken h = ([], tt)
+told_rest (Some text) None taken h = absurd h
+told_rest (Some text) (Some rest) taken h = (rest, h)
+
+-- a piece that ends the reading
+pub piece_settles : {X : Type 0} (most : ℕ) (says : Row → Said X) (room : ℕ) (here : Text X) (new : Lines X) (error : Halt X)
+    (first left : Option (List ℕ)) (taken piece : List ℕ) (before now : ℕ) → Leads most says room here taken → Consumes first left (taken ++ piece)
+    → TakesPiece most says here piece room new (Err error) → ReadsBytes most says new (Err error) first before now
+piece_settles most says room here new (Stopped ending) first left taken piece before now leads told takes =
+    let rest = told_rest first left (taken ++ piece) told in ((taken ++ piece) ++ rest.0, takes taken rest.0 leads.ran leads.space, rest.1)
+piece_settles most says room here new ReadFault first left taken piece before now leads told takes = absurd takes
+piece_settles most says room here new NoMemory first left taken piece before now leads told takes = tt

@@ -1,0 +1,34 @@
+-- Vertex texts.
+use Rattle.std.specs.Prelude.{ℕ, ◌==◌, if◌then◌else◌, List, [], ◌∷◌, Option, None, Some, Result, Ok, Err}
+use Rattle.std.specs.List.{list_any}
+use Rattle.gl_base.specs.declared.limits.TheConstants.{MAX_VERTICES}
+use Rattle.gl_base.specs.declared.text_faults.TextFault.{TextFault}
+use Rattle.gl_base.specs.declared.text_faults.TextFile.TheVariants.{Vertices}
+use Rattle.gl_base.specs.declared.text_faults.TextKind.{TextKind}
+use Rattle.gl_base.specs.declared.text_faults.TextKind.TheVariants.{Fields, Double}
+use Rattle.graph_text.specs.declared.said.Said.{Said}
+use Rattle.graph_text.specs.declared.said.Said.TheVariants.{Passed, Wrong, Item}
+use Rattle.graph_text.specs.Lines.{is_empty, is_comment}
+use Rattle.graph_text.specs.Numerals.{id_of}
+use Rattle.graph_text.specs.Firsts.{Rules, items_of}
+
+-- an item, or what is wrong
+abbrev pub said_of : {X : Type 0} → Result X TextKind → Said X
+said_of (Ok x) = Item x
+said_of (Err kind) = Wrong kind
+
+-- a line of one identifier
+abbrev pub vertex_said : List (List ℕ) → Said ℕ
+vertex_said [] = Passed
+vertex_said (f ∷ fs) = if is_comment f then Passed else (if is_empty fs then said_of (id_of f) else Wrong Fields)
+
+-- an identifier stands once
+abbrev pub vertex_behind : List ℕ → ℕ → Option TextKind
+vertex_behind ids id = if list_any (λ other. other == id) ids then Some Double else None
+
+abbrev pub vertex_rules : Rules ℕ
+vertex_rules = record { file = Vertices; says = vertex_said; alone = λ id. None; behind = vertex_behind; most = MAX_VERTICES }
+
+-- the identifiers of a vertex text in the order of its lines, or its first fault
+abbrev pub vertices_of : List ℕ → Result (List ℕ) TextFault
+vertices_of bytes = items_of vertex_rules bytes

@@ -1,0 +1,247 @@
+//! Reads the lines of a text from any source, byte by byte, and keeps their items alone.
+ghost use Rattle.std.specs.Prelude.{◌≡◌, ℕ, ◌+◌, ◌-◌, ◌^◌, ◌<◌, ◌≤◌, Bool, min, List, length, Option, None, IfOk};
+ghost use Rattle.std.specs.Io.KnownBytes.{Consumes};
+ghost use Rattle.gl_base.specs.declared.limits.TheConstants.{MAX_TEXT_BYTES};
+ghost use Rattle.graph_text.specs.declared.said.Row.{Row};
+ghost use Rattle.graph_text.specs.declared.said.Said.{Said};
+ghost use Rattle.graph_text.specs.Firsts.{run};
+ghost use Rattle.graph_text.specs.Found.{collect};
+ghost use Rattle.graph_text.specs.Steps.{byte_step, line_end, nothing_read};
+ghost use Rattle.graph_text.specs.Places.{IsInside};
+ghost use Rattle.graph_text.specs.Texts.{text_at, kept_at, IsBetween, TakesItem, Gives, GivesText, TakesPiece, ReadsBytes, ReadsLines};
+
+use crate::Reading;
+use crate::fields::{Fields, Place, broken, with_digit};
+use crate::said::{Ending, Halt, Row, Said};
+use gl_base::{MAX_TEXT_BYTES, TextKind};
+use gl_outside::Source;
+use std::alloc::Global;
+
+/// How many bytes are asked for at once.
+const PIECE: usize = 65536;
+
+/// What a line of a text may say.
+pub(crate) trait LineItem: Copy {
+    /// How many there may be.
+    const MOST: usize;
+
+    ghost MOST: { ℕ };
+
+    /// What a line says, by its fields.
+    ghost says: { Bool → Row → Said Self };
+
+    /// What a line says, by its fields.
+    fn said(row: Row, weighted: bool) -> Said<Self>
+        ensures { result ≡ says weighted row };
+}
+
+/// A text, as far as it was read: the items with their lines, and the line that is begun.
+#[derive(Drop)]
+pub(crate) struct Lines<X> {
+    pub(crate) items: Vec<X>,
+    pub(crate) places: Vec<u32>,
+    line: u32,
+    fields: Fields,
+    before_cr: Option<(Place, Option<u64>)>,
+}
+
+impl<X: LineItem> Lines<X> {
+    /// Nothing is read.
+    pub(crate) fn new(alloc: Global) -> Self
+        ensures text { text_at result None ≡ nothing_read }
+    {
+        Lines {
+            items: Vec::new(alloc),
+            places: Vec::new(alloc),
+            line: 1,
+            fields: Fields::new(),
+            before_cr: None,
+        }
+    }
+
+    /// Keeps what a line says.
+    fn keep(&mut self, said: Said<X>) -> Result<(), Halt<X>>
+        requires { self.old.line + 1 < 2 ^ 32 }
+        ensures kept { Gives (collect X.MOST (kept_at self.old) said) (kept_at self.new) result }
+        ensures line { self.new.line ≤ self.old.line + 1 }
+    {
+        match said {
+            Said::Passed => {}
+            Said::Wrong(kind) => return Err(Halt::Stopped(Ending::Fault(self.line, kind))),
+            Said::Late(x, kind) => return Err(Halt::Stopped(Ending::Late(self.line, x, kind))),
+            Said::Item(x) => self.push(x)?,
+        }
+        self.line += 1;
+        Ok(())
+    }
+
+    /// Keeps an item and its line.
+    fn push(&mut self, x: X) -> Result<(), Halt<X>>
+        ensures takes { TakesItem X.MOST (kept_at self.old) x (kept_at self.new) result }
+        ensures line { self.new.line ≡ self.old.line }
+    {
+        if self.items.len() >= X::MOST {
+            return Err(Halt::Stopped(Ending::Full(self.line, x)));
+        }
+        match self.items.push(x) {
+            Ok(()) => {}
+            Err(_) => return Err(Halt::NoMemory),
+        }
+        match self.places.push(self.line) {
+            Ok(()) => Ok(()),
+            Err(_) => Err(Halt::NoMemory),
+        }
+    }
+
+    /// Ends the line that is begun.
+    #[inline]
+    fn end_line(&mut self, weighted: bool, number: Option<u64>) -> Result<(), Halt<X>>
+        requires { self.old.line + 1 < 2 ^ 32 }
+        ensures kept { Gives (line_end X.MOST (X.says weighted) (text_at self.old number)) (kept_at self.new) result }
+        ensures line { self.new.line ≤ self.old.line + 1 }
+    {
+        let (place, number) = match self.before_cr {
+            Some(before) => before,
+            None => (self.fields.place, number),
+        };
+        self.keep(X::said(self.fields.row(place, number), weighted))
+    }
+
+    /// Takes one byte, and gives the number of the field that is begun. A digit inside a number touches that number alone.
+    #[inline(always)]
+    fn take(
+        &mut self,
+        weighted: bool,
+        number: Option<u64>,
+        byte: u8,
+    ) -> Result<Option<u64>, Halt<X>>
+        requires between { IsBetween self.old number }
+        requires room { self.old.line + 1 < 2 ^ 32 }
+        ensures takes { GivesText (byte_step X.MOST (X.says weighted) (text_at self.old number) byte) self.new result }
+        ensures between { IfOk result (IsBetween self.new) }
+        ensures line { self.new.line ≤ self.old.line + 1 }
+    {
+        match number {
+            Some(n) if byte.is_ascii_digit() => Ok(Some(with_digit(n, byte - b'0'))),
+            _ => self.take_any(weighted, number, byte),
+        }
+    }
+
+    /// Takes one byte, whatever it is.
+    fn take_any(
+        &mut self,
+        weighted: bool,
+        number: Option<u64>,
+        byte: u8,
+    ) -> Result<Option<u64>, Halt<X>>
+        requires { self.old.line + 1 < 2 ^ 32 }
+        ensures takes { GivesText (byte_step X.MOST (X.says weighted) (text_at self.old number) byte) self.new result }
+        ensures between { IfOk result (IsBetween self.new) }
+        ensures line { self.new.line ≤ self.old.line + 1 }
+    {
+        if byte == b'\n' {
+            self.end_line(weighted, number)?;
+            self.fields.place = Place::Begin;
+            self.before_cr = None;
+            return Ok(None);
+        }
+        if byte == b'\r' {
+            self.before_cr = Some((self.fields.place, number));
+            self.fields.place = broken(self.fields.place);
+            return Ok(None);
+        }
+        self.before_cr = None;
+        Ok(self.fields.take(number, byte))
+    }
+
+    /// Takes bytes in turn.
+    fn take_bytes(
+        &mut self,
+        weighted: bool,
+        number: Option<u64>,
+        bytes: &[u8],
+    ) -> Result<Option<u64>, Halt<X>>
+        requires between { IsBetween self.old number }
+        requires room { self.old.line + length bytes.now < 2 ^ 32 }
+        ensures takes { GivesText (run (byte_step X.MOST (X.says weighted)) (text_at self.old number) bytes.now) self.new result }
+        ensures between { IfOk result (IsBetween self.new) }
+        ensures line { self.new.line ≤ self.old.line + length bytes.now }
+    {
+        let mut number = number;
+        for byte in bytes {
+            number = self.take(weighted, number, *byte)?;
+        }
+        Ok(number)
+    }
+
+    /// Takes the next bytes, of which no more than `room` are within the limit.
+    fn take_piece(
+        &mut self,
+        weighted: bool,
+        number: Option<u64>,
+        piece: &[u8],
+        room: usize,
+    ) -> Result<Option<u64>, Halt<X>>
+        requires between { IsBetween self.old number }
+        requires room { self.old.line + room < 2 ^ 32 }
+        ensures takes { TakesPiece X.MOST (X.says weighted) (text_at self.old number) piece.now room self.new result }
+        ensures between { IfOk result (IsBetween self.new) }
+        ensures line { IfOk result (λ _. self.new.line ≤ self.old.line + length piece.now) }
+    {
+        let within = piece.len().min(room);
+        let number = self.take_bytes(weighted, number, &piece[..within])?;
+        if within < piece.len() {
+            return Err(Halt::Stopped(Ending::Fault(self.line, TextKind::TooLong)));
+        }
+        Ok(number)
+    }
+}
+
+/// Reads the source to its end, or up to the line that ends the reading. The items are kept in `lines`; what is answered
+/// is why no more was read, where the text has more.
+pub(crate) fn read_lines<S: Source, X: LineItem>(
+    source: &mut S,
+    weighted: bool,
+    lines: &mut Lines<X>,
+) -> Result<Option<Ending<X>>, Reading>
+    requires { text_at lines.old None ≡ nothing_read }
+    ensures answer { ReadsLines X.MOST (X.says weighted) lines.new result (S.left source.old) (S.faults source.old) (S.faults source.new) }
+    ensures taken { (taken : List ℕ) × Consumes (S.left source.old) (S.left source.new) taken }
+    ensures later { S.faults source.old ≤ S.faults source.new }
+    ensures same { S.same source.old source.new }
+{
+    match read_bytes(source, weighted, lines) {
+        Ok(()) => Ok(None),
+        Err(Halt::Stopped(ending)) => Ok(Some(ending)),
+        Err(Halt::ReadFault) => Err(Reading::ReadFault),
+        Err(Halt::NoMemory) => Err(Reading::NoMemory),
+    }
+}
+
+/// Reads the bytes of the source. Each turn takes one at least, so one turn more than there may be finds the end.
+fn read_bytes<S: Source, X: LineItem>(
+    source: &mut S,
+    weighted: bool,
+    lines: &mut Lines<X>,
+) -> Result<(), Halt<X>>
+    requires { text_at lines.old None ≡ nothing_read }
+    ensures answer { ReadsBytes X.MOST (X.says weighted) lines.new result (S.left source.old) (S.faults source.old) (S.faults source.new) }
+    ensures taken { (taken : List ℕ) × Consumes (S.left source.old) (S.left source.new) taken }
+    ensures later { S.faults source.old ≤ S.faults source.new }
+    ensures same { S.same source.old source.new }
+{
+    let mut buf = [0; PIECE];
+    let mut number = None;
+    let mut room = MAX_TEXT_BYTES as usize;
+    'reading: for _turn in 0..=MAX_TEXT_BYTES {
+        match source.read(&mut buf) {
+            Ok(0) => return lines.end_line(weighted, number),
+            Ok(count) => {
+                number = lines.take_piece(weighted, number, &buf[..count], room)?;
+                room -= count;
+            }
+            Err(_) => return Err(Halt::ReadFault),
+        }
+    }
+    unreachable!()
+}
