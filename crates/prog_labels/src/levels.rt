@@ -35,7 +35,8 @@ impl Program for Levels {
 
 /// The least of the vertex's own level and one more than the level of each in-neighbour that was reached.
 fn least_level(scope: &Scope<'_>) -> u64
-    ensures { result ≡ least scope.now.centre.now (map (λ near. near.number + 1) (filter comes_reached (nears scope.now))) }
+    ensures { let offered = map (λ near. near.number + 1) (filter comes_reached (nears scope.now)) in
+        result ≡ least scope.now.centre.now offered }
 {
     let mut level = scope.centre();
     for i in 0..scope.degree() {
@@ -47,7 +48,8 @@ fn least_level(scope: &Scope<'_>) -> u64
 /// The level, or one more than that of a neighbour which was reached and from which an edge comes, where
 /// that is less.
 fn lowered(level: u64, neighbour: u64, comes: bool) -> u64
-    ensures { result ≡ (if comes && nat_lt neighbour INF then min level (neighbour + 1) else level) }
+    ensures { result
+        ≡ (if comes && nat_lt neighbour INF then min level (neighbour + 1) else level) }
 {
     if comes && neighbour < INF {
         level.min(neighbour + 1)

@@ -4,7 +4,7 @@ ghost use Rattle.std.specs.List.{filter};
 ghost use Rattle.update_api.specs.Directions.{leads_out, leads_into};
 ghost use Rattle.update_api.specs.Marks.{AreMarked};
 ghost use Rattle.update_api.specs.Scopes.{numbers, nears};
-ghost use Rattle.update_api.specs.Updates.{least, comes_reached, is_tight, update_of_paths};
+ghost use Rattle.update_api.specs.Updates.{least, comes_reached, update_of_paths};
 
 use gl_base::INF;
 use update_api::{Direction, Program, Scope, Woken};
@@ -40,7 +40,8 @@ impl Program for Paths {
 /// The least of the vertex's own distance and, for each in-neighbour that was reached, its distance and
 /// the weight of the edge.
 fn least_distance(scope: &Scope<'_>) -> u64
-    ensures { result ≡ least scope.now.centre.now (map (λ near. near.number + near.weight) (filter comes_reached (nears scope.now))) }
+    ensures { let reached = filter comes_reached (nears scope.now) in
+        result ≡ least scope.now.centre.now (map (λ near. near.number + near.weight) reached) }
 {
     let mut distance = scope.centre();
     for i in 0..scope.degree() {
@@ -53,7 +54,8 @@ fn least_distance(scope: &Scope<'_>) -> u64
 /// The distance, or that of a neighbour which was reached and from which an edge of this weight comes,
 /// together with the weight, where that is less.
 fn lowered(distance: u64, neighbour: u64, weight: u32, comes: bool) -> u64
-    ensures { result ≡ (if comes && nat_lt neighbour INF then min distance (neighbour + weight) else distance) }
+    ensures { result
+        ≡ (if comes && nat_lt neighbour INF then min distance (neighbour + weight) else distance) }
 {
     if comes && neighbour < INF {
         distance.min(neighbour + u64::from(weight))
@@ -63,8 +65,10 @@ fn lowered(distance: u64, neighbour: u64, weight: u32, comes: bool) -> u64
 }
 
 /// Marks each edge at the vertex, which has the distance `own` now: 1 where it is tight, and 0 elsewhere.
+/// No mark depends on the source, and so the contracts name any.
 fn mark_edges(scope: &mut Scope<'_>, own: u64)
-    ensures marks { AreMarked (λ near. if is_tight own near then 1 else 0) (numbers scope.old) scope.old.edges.now scope.old.links.now scope.new.edges.now }
+    ensures marks { let mark = (update_of_paths 0).mark own in
+        AreMarked mark (numbers scope.old) scope.old.edges.now scope.old.links.now scope.new.edges.now }
     ensures same_id { scope.new.id ≡ scope.old.id }
     ensures same_links { scope.new.links.now ≡ scope.old.links.now }
     ensures same_low { scope.new.low.now ≡ scope.old.low.now }
@@ -81,7 +85,10 @@ fn mark_edges(scope: &mut Scope<'_>, own: u64)
 /// The mark of an edge of this weight: 1 where it leads without slack from a reached end to the other one,
 /// and 0 elsewhere.
 fn mark_of(own: u64, neighbour: u64, weight: u32, direction: Direction) -> u64
-    ensures { (mark : ℕ) → result ≡ (if is_tight own (record { number = neighbour; mark = mark; weight = weight; out = leads_out direction; into = leads_into direction }) then 1 else 0) }
+    ensures { (old : ℕ) → let out = leads_out direction in
+        let into = leads_into direction in
+        result ≡ (update_of_paths 0).mark own
+        (record { number = neighbour; mark = old; weight = weight; out = out; into = into }) }
 {
     let weight = u64::from(weight);
     let forth = direction.leads_out() && own < INF && own + weight == neighbour;

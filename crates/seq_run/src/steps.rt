@@ -17,9 +17,13 @@ pub fn update_vertex<P: Program>(
 ) -> Woken
     requires vertex { vertex < length values.old }
     requires links { AreLinks links.now vertex (length values.old) (length edges.old) }
-    ensures number { values.new ≡ slice_set values.old vertex ((P.meaning program.now).number (slice_index values.old vertex) (nears_at values.old edges.old links.now)) }
-    ensures marks { AreMarked ((P.meaning program.now).mark (slice_index values.new vertex)) values.old edges.old links.now edges.new }
-    ensures woken { result ≡ (P.meaning program.now).woken (slice_index values.old vertex) (slice_index values.new vertex) }
+    ensures number { let nears = nears_at values.old edges.old links.now in
+        let number = (P.meaning program.now).number (slice_index values.old vertex) nears in
+        values.new ≡ slice_set values.old vertex number }
+    ensures marks { let mark = (P.meaning program.now).mark (slice_index values.new vertex) in
+        AreMarked mark values.old edges.old links.now edges.new }
+    ensures woken { result
+        ≡ (P.meaning program.now).woken (slice_index values.old vertex) (slice_index values.new vertex) }
 {
     let (low, rest) = values.split_at_mut(vertex);
     let (centre, high) = rest.split_at_mut(1);
@@ -36,9 +40,12 @@ fn update_centre<P: Program>(
     high: &[u64],
     edges: &mut [u64],
 ) -> Woken
-    requires { AreLinks links.now (length low.now) (length low.now + 1 + length high.now) (length edges.old) }
-    ensures number { centre.new ≡ (P.meaning program.now).number centre.old (nears_at (low.now ++ centre.old ∷ high.now) edges.old links.now) }
-    ensures marks { AreMarked ((P.meaning program.now).mark centre.new) (low.now ++ centre.old ∷ high.now) edges.old links.now edges.new }
+    requires { let vertices = length low.now + 1 + length high.now in
+        AreLinks links.now (length low.now) vertices (length edges.old) }
+    ensures number { let values = low.now ++ centre.old ∷ high.now in
+        centre.new ≡ (P.meaning program.now).number centre.old (nears_at values edges.old links.now) }
+    ensures marks { let values = low.now ++ centre.old ∷ high.now in
+        AreMarked ((P.meaning program.now).mark centre.new) values edges.old links.now edges.new }
     ensures woken { result ≡ (P.meaning program.now).woken centre.old centre.new }
 {
     let mut scope = Scope::new(id, links, low, centre, high, edges);

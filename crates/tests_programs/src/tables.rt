@@ -3,6 +3,7 @@ use gl_base::INF;
 use prog_colours::Colours;
 use prog_labels::{Components, Levels};
 use prog_paths::Paths;
+use seq_run::update_vertex;
 use std::test::Fail;
 use update_api::{Direction, Link, Program, Scope, Woken};
 
@@ -94,5 +95,30 @@ fn colours_are_the_least_free(rt: HostRuntime) -> Result<(), Fail> {
     ] {
         assert_eq!(rt; gives(&Colours, values), (number, [8, 8, 8], Woken::Nobody));
     }
+    Ok(())
+}
+
+#[test]
+fn one_update_on_flat_lists(rt: HostRuntime) -> Result<(), Fail> {
+    let links = [
+        Link {
+            near: 2,
+            edge: 1,
+            weight: 3,
+            direction: Direction::Both,
+        },
+        Link {
+            near: 0,
+            edge: 0,
+            weight: 9,
+            direction: Direction::Both,
+        },
+    ];
+    let mut values = [0, INF, 4];
+    let mut edges = [0, 0, 5];
+    let woken = update_vertex(&Paths { source: 7 }, 1, 8, &links, &mut values, &mut edges);
+    assert_eq!(rt; woken, Woken::Ahead);
+    assert_eq!(rt; values, [0, 7, 4]);
+    assert_eq!(rt; edges, [0, 1, 5]);
     Ok(())
 }

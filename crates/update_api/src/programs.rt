@@ -18,8 +18,10 @@ pub trait Program: Copy {
     /// Updates a vertex. It writes the number of the vertex and the numbers of its edges, and nothing else,
     /// and tells whom the update wakes.
     fn update(&self, scope: &mut Scope<'_>) -> Woken
-        ensures number { scope.new.centre.now ≡ (meaning self.now).number scope.old.centre.now (nears scope.old) }
-        ensures marks { AreMarked ((meaning self.now).mark scope.new.centre.now) (numbers scope.old) scope.old.edges.now scope.old.links.now scope.new.edges.now }
+        ensures number { scope.new.centre.now
+            ≡ (meaning self.now).number scope.old.centre.now (nears scope.old) }
+        ensures marks { let mark = (meaning self.now).mark scope.new.centre.now in
+            AreMarked mark (numbers scope.old) scope.old.edges.now scope.old.links.now scope.new.edges.now }
         ensures woken { result ≡ (meaning self.now).woken scope.old.centre.now scope.new.centre.now }
         ensures same_id { scope.new.id ≡ scope.old.id }
         ensures same_links { scope.new.links.now ≡ scope.old.links.now }

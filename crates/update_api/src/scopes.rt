@@ -16,7 +16,8 @@ pub struct Scope<'a> {
     centre: &'a mut u64,
     high: &'a [u64],
     edges: &'a mut [u64],
-    ghost fit: { AreLinks links.now (length low.now) (length low.now + 1 + length high.now) (length edges.now) },
+    ghost fit: { let vertices = length low.now + 1 + length high.now in
+        AreLinks links.now (length low.now) vertices (length edges.now) },
 }
 
 impl<'a> Scope<'a> {
@@ -33,7 +34,8 @@ impl<'a> Scope<'a> {
         high: &'a [u64],
         edges: &'a mut [u64],
     ) -> Scope<'a>
-        requires { AreLinks links.now (length low.now) (length low.now + 1 + length high.now) (length edges.old) }
+        requires { let vertices = length low.now + 1 + length high.now in
+            AreLinks links.now (length low.now) vertices (length edges.old) }
         ensures id { result.id ≡ id }
         ensures links { result.links.now ≡ links.entry.now }
         ensures low { result.low.now ≡ low.entry.now }

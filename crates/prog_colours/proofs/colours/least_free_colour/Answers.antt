@@ -1,4 +1,4 @@
-use Rattle.std.proofs.Common.{◌≡◌, ℕ, suc, ◌+◌, ◌-◌, sym, ◌∙◌, arith}
+use Rattle.std.proofs.Common.{suc, ◌-◌, sym, ◌∙◌, arith}
 use Rattle.update_api.specs.Scopes.{nears}
 use Rattle.prog_colours.proofs.SearchLaws.{first_free_stops, first_free_goes_on}
 use Rattle.prog_colours.proofs.colours.least_free_colour.Goals as goal

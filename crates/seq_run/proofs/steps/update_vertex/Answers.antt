@@ -1,4 +1,4 @@
-use Rattle.std.proofs.Common.{◌≡◌, ℕ, ◌∷◌, ◌++◌, length, slice_index, slice_set, sym, ap, ◌∙◌, arith}
+use Rattle.std.proofs.Common.{◌≡◌, ◌∷◌, ◌++◌, slice_index, slice_set, sym, ap, ◌∙◌}
 use Rattle.std.proofs.Math.Seq.{get_or-append_seam}
 use Rattle.seq_run.proofs.InPieces.{written, one_number}
 use Rattle.seq_run.proofs.steps.update_vertex.Goals as goal
