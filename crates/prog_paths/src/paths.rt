@@ -78,7 +78,7 @@ fn mark_edges(scope: &mut Scope<'_>, own: u64)
 {
     for i in 0..scope.degree() {
         let mark = mark_of(own, scope.near(i), scope.weight(i), scope.direction(i));
-        scope.set_edge(i, mark);
+        *scope.edge_mut(i) = mark;
     }
 }
 

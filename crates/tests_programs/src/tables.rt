@@ -122,3 +122,31 @@ fn one_update_on_flat_lists(rt: HostRuntime) -> Result<(), Fail> {
     assert_eq!(rt; edges, [0, 1, 5]);
     Ok(())
 }
+
+#[test]
+fn an_edge_is_written_where_it_stands(rt: HostRuntime) -> Result<(), Fail> {
+    let links = [
+        Link {
+            near: 0,
+            edge: 1,
+            weight: 1,
+            direction: Direction::Out,
+        },
+        Link {
+            near: 2,
+            edge: 0,
+            weight: 1,
+            direction: Direction::Into,
+        },
+    ];
+    let low = [4];
+    let mut centre = 5;
+    let high = [6];
+    let mut edges = [8, 9, 10];
+    let mut scope = Scope::new(7, &links, &low, &mut centre, &high, &mut edges);
+    assert_eq!(rt; *scope.edge_mut(0), 9);
+    *scope.edge_mut(0) = 1;
+    assert_eq!(rt; (scope.edge(0), scope.edge(1), scope.centre()), (1, 8, 5));
+    assert_eq!(rt; (centre, edges), (5, [8, 1, 10]));
+    Ok(())
+}

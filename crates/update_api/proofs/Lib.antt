@@ -3,3 +3,4 @@ pub mod LeastFreeLaws
 pub mod ScopesLaws
 pub mod LeastLaws
 pub mod MarksLaws
+pub mod LentEdges

@@ -4,7 +4,7 @@ use Rattle.std.proofs.Props.{props}
 use Rattle.update_api.specs.declared.links.Link.{Link}
 use Rattle.update_api.specs.declared.scopes.Scope.{Scope}
 use Rattle.update_api.specs.Links.{AreLinks}
-use Rattle.update_api.specs.Scopes.{with_centre, with_edge}
+use Rattle.update_api.specs.Scopes.{with_centre}
 
 links_one : {links : List Link} {centre vertices edges : ℕ} → IsProp (AreLinks links centre vertices edges)
 links_one = hlevel props
@@ -15,6 +15,3 @@ IsFit s = AreLinks s.links.now (length s.low.now) (length s.low.now + 1 + length
 
 pub same_with_centre : (s : Scope) (x : ℕ) (fit : IsFit (with_centre s x)) → record (with_centre s x) { fit = fit } ≡ with_centre s x
 same_with_centre s x fit = λ i. record (with_centre s x) { fit = links_one fit (with_centre s x).fit i }
-
-pub same_with_edge : (s : Scope) (i x : ℕ) (fit : IsFit (with_edge s i x)) → record (with_edge s i x) { fit = fit } ≡ with_edge s i x
-same_with_edge s i x fit = λ k. record (with_edge s i x) { fit = links_one fit (with_edge s i x).fit k }

@@ -29,14 +29,22 @@ nears s = nears_at (numbers s) s.edges.now s.links.now
 abbrev pub with_centre : Scope → ℕ → Scope
 with_centre s x = record s { centre = record s.centre { now = x } }
 
--- the scope, where the edge of link i has this number
-abbrev pub with_edge : Scope → ℕ → ℕ → Scope
-with_edge s i x =
+-- the scope, where the edge at this place has this number
+abbrev pub with_edge_at : Scope → ℕ → ℕ → Scope
+with_edge_at s place x =
     record s {
-      edges = record s.edges { now = slice_set s.edges.now (link_at s i).edge x };
-      fit = links_after s.edges.now (link_at s i).edge x s.fit;
+      edges = record s.edges { now = slice_set s.edges.now place x };
+      fit = links_after s.edges.now place x s.fit;
     }
 
 -- the scope ends with the number that is left in its centre
 abbrev pub LendsCentre : MutBor Scope → MutBor ℕ → Fml
 LendsCentre s r = Lends (the_row (record { mir = named 1; lft = [] })) u64 s r (with_centre s.now)
+
+-- the scope ends with the number that is left at this place of the edges
+abbrev pub LendsEdgeAt : MutBor Scope → ℕ → MutBor ℕ → Fml
+LendsEdgeAt s place r = Lends (the_row (record { mir = named 1; lft = [] })) u64 s r (with_edge_at s.now place)
+
+-- the scope ends with the number that is left at the edge of link i
+abbrev pub LendsEdge : MutBor Scope → ℕ → MutBor ℕ → Fml
+LendsEdge s i r = LendsEdgeAt s (link_at s.now i).edge r

@@ -1,6 +1,6 @@
 //! The scope of a vertex: what an update of it may read and write.
-ghost use Rattle.std.specs.Prelude.{◌≡◌, ◌≢◌, ℕ, ◌+◌, ◌^◌, ◌<◌, ◌∷◌, ◌++◌, length, slice_index};
-ghost use Rattle.std.specs.Borrow.{sem};
+ghost use Rattle.std.specs.Prelude.{◌≡◌, ◌≢◌, ℕ, ◌+◌, ◌^◌, ◌<◌, ◌∷◌, ◌++◌, length, slice_index, slice_set};
+ghost use Rattle.std.specs.Borrow.{Array, Lends, sem, u64 as number};
 ghost use Rattle.update_api.specs.Links.{AreLinks};
 
 use crate::{Direction, Link};
@@ -21,7 +21,7 @@ pub struct Scope<'a> {
 }
 
 impl<'a> Scope<'a> {
-    ghost use Rattle.update_api.specs.Scopes.{numbers, link_at, with_edge, LendsCentre};
+    ghost use Rattle.update_api.specs.Scopes.{numbers, link_at, LendsCentre, LendsEdge, LendsEdgeAt};
 
     /// The scope of the vertex with this identifier. The numbers before its own, its own, and those behind
     /// it are one list in three pieces: each link leads to a place of it other than the centre's, and has
@@ -102,12 +102,23 @@ impl<'a> Scope<'a> {
         self.edges[self.links[i].edge as usize]
     }
 
-    /// Writes the number of an edge.
-    pub fn set_edge(&mut self, i: usize, number: u64)
+    /// The number of an edge, to be written.
+    pub fn edge_mut(&mut self, i: usize) -> &mut u64
         requires { i < length self.old.links.now }
-        ensures { self.new ≡ with_edge self.old i number }
+        ensures* writes_back { sem 𝓛 (LendsEdge self.entry i result) }
+        ensures value { result.now ≡ slice_index self.old.edges.now (link_at self.old i).edge }
     {
-        self.edges[self.links[i].edge as usize] = number;
+        let place = self.links[i].edge as usize;
+        self.edge_at_mut(place)
+    }
+
+    /// The number of the edge at this place of the list, to be written.
+    fn edge_at_mut(&mut self, place: usize) -> &mut u64
+        requires { place < length self.old.edges.now }
+        ensures* writes_back { sem 𝓛 (LendsEdgeAt self.entry place result) }
+        ensures value { result.now ≡ slice_index self.old.edges.now place }
+    {
+        number_mut(self.edges, place)
     }
 
     /// The weight of an edge.
@@ -138,4 +149,14 @@ fn number_at(low: &[u64], high: &[u64], place: usize) -> u64
     } else {
         high[place - low.len() - 1]
     }
+}
+
+/// The number at this place, to be written.
+fn number_mut(numbers: &mut [u64], place: usize) -> &mut u64
+    requires { place < length numbers.old }
+    ensures* writes_back { let set = slice_set numbers.old place in
+        sem 𝓛 (Lends (Array number 0) number numbers.entry result set) }
+    ensures value { result.now ≡ slice_index numbers.old place }
+{
+    &mut numbers[place]
 }

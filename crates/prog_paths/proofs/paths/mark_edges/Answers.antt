@@ -23,7 +23,6 @@ same_mark own values edges link number weight direction e f g =
 pub loop-i-preserved : goal.loop-i-preserved
 loop-i-preserved c =
     let old = c.args.scope.now in let s = c.loop-i.scope in let i = c.loop-i.i in let inv = c.loop-i.invariant in let x = c.mark_of-mark.result in
-    let set = c.set_edge.ensures in
     let mark = mark_at c.args.own in
     let link = slice_index_or old.links.now i no_link in
     let inside : i < length old.links.now = omega (arith, ap (λ xs. length xs) inv.same_links) in
@@ -34,17 +33,15 @@ loop-i-preserved c =
     (c.near.ensures ∙ ap (λ v. slice_index v (slice_index_or s.links.now i no_link).near) same_numbers ∙ ap (λ l. slice_index (numbers old) l.near) same_link)
     (c.weight.ensures ∙ ap (λ l. l.weight) same_link) (c.direction.ensures ∙ ap (λ l. l.direction) same_link) in
     let marked : x ≡ mark (near_at (numbers old) old.edges.now link) = c.mark_of-mark.ensures (slice_index old.edges.now link.edge) ∙ seen in
-    let written : c.set_edge.new.self.edges.now ≡ slice_set s.edges.now link.edge x =
-    ap (λ t. t.edges.now) set ∙ ap (λ l. slice_set s.edges.now l.edge x) same_link in
     record {
-      marked = subst (AreMarkedBelow (i + 1) mark (numbers old) old.edges.now old.links.now) (sym written)
+      marked = subst (λ (l : Link). AreMarkedBelow (i + 1) mark (numbers old) old.edges.now old.links.now (slice_set s.edges.now l.edge x)) (sym same_link)
           (marked_after mark (numbers old) old.edges.now old.links.now old.fit.apart old.fit.edge i x s.edges.now inside marked inv.marked);
-      same_id = ap (λ t. t.id) set ∙ inv.same_id;
-      same_links = ap (λ t. t.links.now) set ∙ inv.same_links;
-      same_low = ap (λ t. t.low.now) set ∙ inv.same_low;
-      same_centre = ap (λ t. t.centre) set ∙ inv.same_centre;
-      same_high = ap (λ t. t.high.now) set ∙ inv.same_high;
-      same_edges = ap (λ t. t.edges.ghost_name) set ∙ inv.same_edges;
+      same_id = inv.same_id;
+      same_links = inv.same_links;
+      same_low = inv.same_low;
+      same_centre = inv.same_centre;
+      same_high = inv.same_high;
+      same_edges = inv.same_edges;
     }
 
 pub returns-clause-marks : goal.returns-clause-marks
