@@ -1,0 +1,3 @@
+pub mod Answers
+pub mod Orders
+pub mod Reports

@@ -1,0 +1,11 @@
+//! The texts that tell how a run ended: the answer, the report and the order.
+#![tactic(auto)]
+
+mod answers;
+mod hex;
+mod orders;
+mod reports;
+
+pub use answers::answer;
+pub use orders::order_bytes;
+pub use reports::report;

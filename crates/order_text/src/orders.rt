@@ -1,0 +1,60 @@
+//! The order: a line for each update and each recovery.
+ghost use Rattle.std.specs.Prelude.{◌≡◌, ◌++◌, ◌∷◌, [], decimal, codes, All, IfOk, OnOk};
+ghost use Rattle.order_text.specs.Orders.{IsEntryOf, update_line, restart_line, entry_line, order_text};
+
+use gl_base::{Entry, MachineNo, NoMemory};
+use graph_core::Graph;
+use itoa::Buffer;
+use std::alloc::Global;
+
+/// A line for each entry, in turn: ticket, machine and identifier of an update, and ticket and `restart` of a
+/// recovery, with one blank between.
+pub fn order_bytes(alloc: Global, graph: &Graph, order: &[Entry]) -> Result<Vec<u8>, NoMemory>
+    requires { All (IsEntryOf graph.now) order.now }
+    ensures { IfOk result (λ text. text.items ≡ order_text graph.now.ids order.now) }
+{
+    let mut text = Vec::new(alloc);
+    for entry in order {
+        push_entry(&mut text, graph, *entry)?;
+    }
+    Ok(text)
+}
+
+/// Adds the line of an entry.
+fn push_entry(text: &mut Vec<u8>, graph: &Graph, entry: Entry) -> Result<(), NoMemory>
+    requires { IsEntryOf graph.now entry }
+    ensures { OnOk result (text.new.items ≡ text.old.items ++ entry_line graph.now.ids entry) }
+{
+    match entry {
+        Entry::Go {
+            ticket,
+            machine,
+            vertex,
+        } => push_update(text, ticket, machine, graph.id(vertex)),
+        Entry::Restart { ticket } => push_restart(text, ticket),
+    }
+}
+
+/// Adds the line of an update.
+fn push_update(text: &mut Vec<u8>, ticket: u64, machine: MachineNo, id: u64) -> Result<(), NoMemory>
+    ensures { OnOk result (text.new.items ≡ text.old.items ++ update_line ticket machine.0 id) }
+{
+    let mut digits = Buffer::new();
+    text.extend_from_slice(digits.format(ticket).as_bytes())?;
+    text.push(b' ')?;
+    text.extend_from_slice(digits.format(machine.0).as_bytes())?;
+    text.push(b' ')?;
+    text.extend_from_slice(digits.format(id).as_bytes())?;
+    text.push(b'\n')?;
+    Ok(())
+}
+
+/// Adds the line of a recovery.
+fn push_restart(text: &mut Vec<u8>, ticket: u64) -> Result<(), NoMemory>
+    ensures { OnOk result (text.new.items ≡ text.old.items ++ restart_line ticket) }
+{
+    let mut digits = Buffer::new();
+    text.extend_from_slice(digits.format(ticket).as_bytes())?;
+    text.extend_from_slice(b" restart\n")?;
+    Ok(())
+}
