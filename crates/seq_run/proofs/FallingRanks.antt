@@ -51,7 +51,7 @@ half_at-few directed v k e = ⊎_elim
     (cases_eq e.to v)))
     (cases_eq e.from v)
 
-halves_few : (directed : Bool) (k n : ℕ) (edges : List DataEdge) → sum_below (λ v. length (halves_from directed v k edges)) n ≤ 2 * length edges
+pub halves_few : (directed : Bool) (k n : ℕ) (edges : List DataEdge) → sum_below (λ v. length (halves_from directed v k edges)) n ≤ 2 * length edges
 halves_few directed k n [] =
     let none = sum_below-le (λ v. 0) 0 n (λ v within. omega arith) in omega arith
 halves_few directed k n (e ∷ edges) =

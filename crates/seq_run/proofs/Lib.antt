@@ -14,3 +14,8 @@ pub mod FallingRanks
 pub mod StepBounds
 pub mod GoingOn
 pub mod InPieces
+pub mod Queueing
+pub mod EachOf
+pub mod LinkLemmas
+pub mod WokenTasks
+pub mod Playing

@@ -1,19 +1,15 @@
 -- Small graphs and orders, whose replay is worked out.
-use Rattle.std.specs.Prelude.{ℕ, suc, true, false, List, [], ◌∷◌, ◌++◌, map, length}
+use Rattle.std.specs.Prelude.{ℕ, true, false, List, [], ◌∷◌, ◌++◌, map, length}
 use Rattle.std.specs.List.{range_with_len}
 use Rattle.gl_base.specs.declared.entries.Entry.{Entry}
-use Rattle.gl_base.specs.declared.entries.Entry.TheVariants.{Go, Restart}
+use Rattle.gl_base.specs.declared.entries.Entry.TheVariants.{Restart}
 use Rattle.graph_core.specs.DataGraph.{DataEdge, DataGraph, size}
 use Rattle.seq_run.specs.States.{GraphState}
+use Rattle.seq_run.specs.Runs.{updates}
 
 -- an edge of this weight
 abbrev pub edge : ℕ → ℕ → ℕ → DataEdge
 edge from to weight = record { from = from; to = to; weight = weight }
-
--- updates of these vertices by machine 0, with tickets from this one on
-abbrev pub updates : ℕ → List ℕ → List Entry
-updates ticket [] = []
-updates ticket (v ∷ vs) = Go ticket (record { 0 = 0 }) (record { 0 = v }) ∷ updates (suc ticket) vs
 
 -- the numbers of all vertices, and of all edges
 abbrev pub vertex_numbers : DataGraph → GraphState → List ℕ

@@ -5,3 +5,8 @@ pub mod TightEdges
 pub mod FirstColours
 pub mod CoreNumbers
 pub mod Examples
+pub mod TaskQueues
+pub mod LinkRows
+pub mod Runs
+pub mod Played
+pub mod Waking

@@ -1,0 +1,12 @@
+//! Runs of each program on small graphs, whose numbers are worked out by hand, and a proved caller of runs.
+#![tactic(auto)]
+
+mod callers;
+#[cfg(test)]
+mod graphs;
+#[cfg(test)]
+mod tables;
+#[cfg(test)]
+mod tasks;
+
+pub use callers::levels_from;
