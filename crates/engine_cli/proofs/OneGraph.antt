@@ -1,48 +1,27 @@
--- Words and texts stand for one thing at most.
-use Rattle.std.proofs.Common.{◌≡◌, ℕ, ◌^◌, ◌<◌, false, List, [], ◌∷◌, length, get_or, Option, Some, IfSome, Result, Ok, Err, sym, ap, ◌∙◌, subst, arith, ⊎_elim, codes}
-use Rattle.std.proofs.lemmas.Fmt.{decimal_injective}
+-- A valid job over valid texts has no fault.
+use Rattle.std.proofs.Common.{◌≡◌, ℕ, ◌<◌, Bool, List, [], ◌∷◌, ◌++◌, length, get_or, Option, Some, IfSome, Result, Ok, Err, sym, ◌∙◌, subst, arith, ⊎_elim}
+use Rattle.gl_base.specs.declared.entries.Entry.{Entry}
+use Rattle.gl_base.specs.declared.entries.Entry.TheVariants.{Go}
+use Rattle.gl_base.specs.declared.numbers.Vertex.{Vertex}
+use Rattle.graph_core.specs.DataGraph.{IsDataGraph}
+use Rattle.seq_run.specs.Orders.{IsValidOrder}
 use Rattle.std.specs.List.Sorted.{IsPermutation}
+use Rattle.gl_base.specs.declared.job_faults.JobFault.{JobFault}
 use Rattle.gl_base.specs.declared.text_faults.TextFault.{TextFault}
 use Rattle.graph_text.specs.Vertices.{vertices_of}
 use Rattle.graph_text.specs.Edges.{edges_of}
 use Rattle.graph_text.specs.Tells.{ListsIds}
+use Rattle.job_config.specs.Fields.{JobFields}
+use Rattle.job_config.specs.Jobs.{JobSayings}
 use Rattle.engine_cli.specs.declared.status.Status.{Status}
-use Rattle.engine_cli.specs.declared.status.Status.TheVariants.{Done, Usage, BadJob, BadGraph, ReadFault, WriteFault, NoMemory}
+use Rattle.engine_cli.specs.declared.status.Status.TheVariants.{Done, Usage, BadJob, BadGraph, ReadFault, WriteFault, BudgetSpent, NoMemory}
 use Rattle.engine_cli.specs.Status.{IsDoneOrNoMemory}
-use Rattle.engine_cli.specs.Words.{Asked, IsRun}
-use Rattle.engine_cli.specs.Answer.{LacksSource, IsValid, RefusesEdges}
-use Rattle.engine_cli.specs.Says.{Moment, Says, IsSound}
+use Rattle.engine_cli.specs.Answer.{LacksSource, IsValid, RefusesEdges, SpendsBudget, is_weighted}
+use Rattle.engine_cli.specs.Plays.{update_of}
+use Rattle.engine_cli.specs.Runs.{run_of}
+use Rattle.engine_cli.specs.Says.{Moment, Says, IsSound, OfJob, OfTexts, RefusesSource, RefusesTexts}
+use Rattle.engine_cli.proofs.Bounds.{bound-of, one-more, since-one-more}
 use Rattle.engine_cli.proofs.SortedOnce.{sorted_once}
-
--- words ask one thing
-pub one_run : (words : List (List ℕ)) (a b : Asked) → IsRun words a → IsRun words b → a ≡ b
-one_run words a b p q =
-    let a_fits : a.source < 2 ^ 64 = omega (arith, p.source) in
-    let b_fits : b.source < 2 ^ 64 = omega (arith, q.source) in
-    let same = five_same _ _ _ _ _ _ (sym p.spelled ∙ q.spelled) in
-    same_asked a b (decimal_injective a.source b.source a_fits b_fits same.0) same.1 same.2
-  where
-    five_same : (x y u v w z : List ℕ)
-        → codes "run" ∷ codes "levels" ∷ x ∷ y ∷ u ∷ [] ≡ codes "run" ∷ codes "levels" ∷ v ∷ w ∷ z ∷ []
-        → (x ≡ v) × (y ≡ w) × (u ≡ z)
-    five_same x y u v w z e = (cc, cc, cc)
-
-    same_asked : (a b : Asked) → a.source ≡ b.source → a.vertices ≡ b.vertices → a.edges ≡ b.edges → a ≡ b
-    same_asked a b p q r =
-        ap (λ (x : ℕ). let z : Asked = record { source = x; vertices = a.vertices; edges = a.edges } in z) p
-        ∙ ap (λ (x : List ℕ). let z : Asked = record { source = b.source; vertices = x; edges = a.edges } in z) q
-        ∙ ap (λ (x : List ℕ). let z : Asked = record { source = b.source; vertices = b.vertices; edges = x } in z) r
-
--- a fact of a told text is a fact of its bytes
-told : (text : Option (List ℕ)) (bytes : List ℕ) (P : List ℕ → Type 0) → text ≡ Some bytes → IfSome text P → P bytes
-told text bytes P e h = let Q : Option (List ℕ) → Type 0 = λ t. IfSome t P in subst Q e h
-
--- a fact of two told texts is a fact of their bytes
-told_both : (given : List ℕ → Option (List ℕ)) (asked : Asked) (vertices edges : List ℕ) (P : List ℕ → List ℕ → Type 0)
-    → given asked.vertices ≡ Some vertices → given asked.edges ≡ Some edges
-    → IfSome (given asked.vertices) (λ v. IfSome (given asked.edges) (λ e. P v e)) → P vertices edges
-told_both given asked vertices edges P v e h =
-    told (given asked.edges) edges (P vertices) e (told (given asked.vertices) vertices (λ v. IfSome (given asked.edges) (λ e. P v e)) v h)
 
 -- a text that lists identifiers has no fault
 lists_no_fault : (bytes : List ℕ) (ids : List ℕ) (fault : TextFault) → ListsIds bytes ids → vertices_of bytes ≡ Err fault → ⊥
@@ -61,38 +40,87 @@ one_list bytes a b p q =
     same_ok : {x y : List ℕ} → Ok x ≡ (let r : Result (List ℕ) TextFault = Ok y in r) → x ≡ y
     same_ok e = cc
 
+-- a fact of a told text is a fact of its bytes
+told_bytes : (text : Option (List ℕ)) (bytes : List ℕ) (P : List ℕ → Type 0) → text ≡ Some bytes → IfSome text P → P bytes
+told_bytes text bytes P e h = let Q : Option (List ℕ) → Type 0 = λ t. IfSome t P in subst Q e h
+
+-- the job of a fact is the job that the file says
+of_job : (given : List ℕ → Option (List ℕ)) (file : List ℕ) (before now : Moment) (P : JobFields → Type 0) → (sound : IsSound given file before now)
+    → OfJob given file P → P sound.job.fields
+of_job given file before now P sound h =
+    let told : run_of sound.bytes ≡ Ok h.0 = told_bytes (given file) sound.bytes (λ bytes. run_of bytes ≡ Ok h.0) sound.bytes_told h.1 in
+    let Q : JobSayings → Type 0 = λ job. P job.fields in
+    subst Q (same_ok h.0 sound.job (sym told ∙ sound.job_is)) h.2
+  where
+    same_ok : (x y : JobSayings) → Ok x ≡ (let r : Result JobSayings JobFault = Ok y in r) → x ≡ y
+    same_ok x y e = cc
+
+-- a fact of the job's texts is a fact of their bytes
+of_texts : (given : List ℕ → Option (List ℕ)) (file : List ℕ) (before now : Moment) (P : List ℕ → List ℕ → Type 0) → (sound : IsSound given file before now)
+    → OfTexts given sound.job.fields P → P sound.vertices sound.edges
+of_texts given file before now P sound h =
+    told_bytes (given sound.job.fields.edges) sound.edges (P sound.vertices) sound.edges_told
+    (told_bytes (given sound.job.fields.vertices) sound.vertices (λ v. IfSome (given sound.job.fields.edges) (λ e. P v e)) sound.vertices_told h)
+
 -- an edge text that is valid over a graph's identifiers has no fault over those that the vertex text lists
-edges_refused : (source : ℕ) (fault : TextFault) (vertices edges : List ℕ) → IsValid source vertices edges → RefusesEdges fault vertices edges → ⊥
-edges_refused source fault vertices edges valid bad =
+edges_sound : (job : JobFields) (fault : TextFault) (vertices edges : List ℕ) → IsValid job vertices edges → RefusesEdges job fault vertices edges → ⊥
+edges_sound job fault vertices edges valid bad =
     let same : bad.ids ≡ valid.graph.ids = one_list vertices bad.ids valid.graph.ids bad.lists valid.told.vertex_lines in
-    let P : List ℕ → Type 0 = λ ids. edges_of ids false false edges ≡ Err fault in
+    let P : List ℕ → Type 0 = λ ids. edges_of ids job.directed (is_weighted job.algorithm) edges ≡ Err fault in
     contradicts (sym valid.told.edge_lines ∙ subst P same bad.refused)
   where
     contradicts : {X E : Type 0} → {x : X} → {e : E} → Ok x ≡ Err e → ⊥
     contradicts e = cc
 
--- the source of valid texts is not lacked
-source_there : (source : ℕ) (vertices edges : List ℕ) → IsValid source vertices edges → LacksSource source vertices edges → ⊥
-source_there source vertices edges valid bad =
+-- the source of a valid job is not lacked
+source_sound : (job : JobFields) (source : ℕ) (vertices edges : List ℕ) → IsValid job vertices edges → LacksSource job source vertices edges → ⊥
+source_sound job source vertices edges valid bad =
+    let start = valid.source_there bad.needed source bad.asked in
     let same : valid.graph.ids ≡ bad.graph.ids = one_list vertices valid.graph.ids bad.graph.ids valid.told.vertex_lines bad.told.vertex_lines in
-    let P : List ℕ → Type 0 = λ ids. (valid.start < length ids) × (get_or ids valid.start 0 ≡ source) in
-    let there = subst P same (valid.start_is.inside, valid.start_is.is) in
-    bad.lacks valid.start (record { inside = there.0; is = there.1 })
+    let P : List ℕ → Type 0 = λ ids. (start.0 < length ids) × (get_or ids start.0 0 ≡ source) in
+    let there = subst P same (start.1.inside, start.1.is) in
+    bad.lacks start.0 (record { inside = there.0; is = there.1 })
 
--- what valid words and texts come to
-pub sound_is_done : (given : List ℕ → Option (List ℕ)) (asked : Asked) (before now : Moment) (status : Status)
-    → Says given asked before now status → IsSound given asked before now → IsDoneOrNoMemory status
-sound_is_done given asked before now Done says sound = tt
-sound_is_done given asked before now (Usage fault) says sound = says
-sound_is_done given asked before now (BadJob fault) says sound =
-    source_there asked.source sound.vertices sound.edges sound.valid (told_both given asked sound.vertices sound.edges (LacksSource asked.source) sound.vertices_told sound.edges_told says.1)
-sound_is_done given asked before now (BadGraph fault) says sound =
+-- a budget of at least the step bound is not spent
+unspent : (job : JobFields) (left : Vertex) (order : List Entry) (vertices edges : List ℕ) → IsValid job vertices edges → SpendsBudget job left order vertices edges → ⊥
+unspent job left order vertices edges valid bad =
+    let p = update_of job.algorithm job.source in
+    let is : IsDataGraph bad.graph = bad.graph_is.graph.graph in
+    let next : Entry = Go 0 (record { 0 = 0 }) left in
+    let longer : IsValidOrder bad.graph p (order ++ next ∷ []) = one-more bad.graph p order left bad.play.valid bad.spent.task in
+    let few = bound-of job.algorithm job.source bad.graph (order ++ next ∷ []) is bad.start longer in
+    omega (arith, few, bad.spent.spent, valid.enough bad.graph bad.graph_is, since-one-more order left bad.play.updates)
+
+-- what a valid job and valid texts come to
+pub sound_is_done : (given : List ℕ → Option (List ℕ)) (file : List ℕ) (report : Bool) (before now : Moment) (tells : List ℕ → Type 0) (order : List Entry) (status : Status)
+    → Says given file report before now tells order status → IsSound given file before now → IsDoneOrNoMemory status
+sound_is_done given file report before now tells order Done says sound = tt
+sound_is_done given file report before now tells order (Usage fault) says sound = says
+sound_is_done given file report before now tells order (BadJob fault) says sound =
+    ⊎_elim
+    (λ refused. job_sound sound.bytes sound.job fault sound.job_is (told_bytes (given file) sound.bytes (λ bytes. run_of bytes ≡ Err fault) sound.bytes_told refused))
+    (λ lacks.
+    let at = of_job given file before now (RefusesSource given fault) sound lacks in
+    source_sound sound.job.fields at.0 sound.vertices sound.edges sound.valid
+    (of_texts given file before now (LacksSource sound.job.fields at.0) sound at.2))
+    says.1
+  where
+    job_sound : (bytes : List ℕ) (job : JobSayings) (fault : JobFault) → run_of bytes ≡ Ok job → run_of bytes ≡ Err fault → ⊥
+    job_sound bytes job fault p q = contradicts (sym p ∙ q)
+      where
+        contradicts : {X E : Type 0} → {x : X} → {e : E} → Ok x ≡ Err e → ⊥
+        contradicts e = cc
+sound_is_done given file report before now tells order (BadGraph fault) says sound =
     ⊎_elim
     (λ first. lists_no_fault sound.vertices sound.valid.graph.ids fault sound.valid.told.vertex_lines
-    (told (given asked.vertices) sound.vertices (λ v. vertices_of v ≡ Err fault) sound.vertices_told first))
-    (λ second. edges_refused asked.source fault sound.vertices sound.edges sound.valid
-    (told_both given asked sound.vertices sound.edges (RefusesEdges fault) sound.vertices_told sound.edges_told second))
-    says
-sound_is_done given asked before now ReadFault says sound = sound.no_read_fault says
-sound_is_done given asked before now WriteFault says sound = sound.no_write_fault says.0
-sound_is_done given asked before now NoMemory says sound = tt
+    (told_bytes (given sound.job.fields.vertices) sound.vertices (λ v. vertices_of v ≡ Err fault) sound.vertices_told first))
+    (λ second. edges_sound sound.job.fields fault sound.vertices sound.edges sound.valid
+    (of_texts given file before now (RefusesEdges sound.job.fields fault) sound second))
+    (of_job given file before now (RefusesTexts given fault) sound says.1)
+sound_is_done given file report before now tells order ReadFault says sound = sound.no_read_fault says.1
+sound_is_done given file report before now tells order WriteFault says sound = sound.no_write_fault says.0
+sound_is_done given file report before now tells order (BudgetSpent left) says sound =
+    unspent sound.job.fields left order sound.vertices sound.edges sound.valid
+    (of_texts given file before now (SpendsBudget sound.job.fields left order) sound
+    (of_job given file before now (λ job. OfTexts given job (SpendsBudget job left order)) sound says))
+sound_is_done given file report before now tells order NoMemory says sound = tt

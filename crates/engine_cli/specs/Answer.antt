@@ -1,47 +1,77 @@
--- The printed answer.
-use Rattle.std.specs.Prelude.{◌≡◌, ℕ, ◌<◌, false, List, [], ◌∷◌, ◌++◌, decimal, slice_index, Err}
+-- The printed answer to a job.
+use Rattle.std.specs.Prelude.{◌≡◌, ℕ, ◌≤◌, Bool, true, false, if◌then◌else◌, List, [], length, Some, Err}
+use Rattle.gl_base.specs.declared.entries.Entry.{Entry}
+use Rattle.gl_base.specs.declared.numbers.Vertex.{Vertex}
+use Rattle.seq_run.specs.Orders.{IsFinished}
+use Rattle.seq_run.specs.StepBound.{step_bound}
+use Rattle.engine_cli.specs.Plays.{AreResults, HasStart, IsPlay, IsSpent, IsVertexOf, update_of}
+use Rattle.gl_base.specs.declared.jobs.Algorithm.{Algorithm}
+use Rattle.gl_base.specs.declared.jobs.Algorithm.TheVariants.{Levels, Components, Paths, Colours}
 use Rattle.gl_base.specs.declared.text_faults.TextFault.{TextFault}
-use Rattle.graph_core.specs.DataGraph.{DataGraph, size}
-use Rattle.graph_core.specs.Levels.{AreLevels}
+use Rattle.graph_core.specs.DataGraph.{DataGraph}
 use Rattle.graph_text.specs.Edges.{edges_of}
 use Rattle.graph_text.specs.Tells.{ListsIds, TellGraph}
+use Rattle.job_config.specs.Fields.{JobFields, needs_source}
+use Rattle.order_text.specs.Answers.{answer_text}
+use Rattle.order_text.specs.Reports.{report_text}
+use Rattle.sync_folds.specs.Folds.{fold_of}
 
--- a line for each identifier: the identifier, one blank, and the number at its place, in decimal, then LF
-abbrev pub answer_text : List ℕ → List ℕ → List ℕ
-answer_text (id ∷ ids) (x ∷ numbers) = decimal id ++ 32 ∷ decimal x ++ 10 ∷ answer_text ids numbers
-answer_text _ _ = []
+-- edges have weights for paths alone
+abbrev pub is_weighted : Algorithm → Bool
+is_weighted Levels = false
+is_weighted Components = false
+is_weighted Paths = true
+is_weighted Colours = false
 
--- v is the vertex with this identifier
-pub record IsVertexOf (g : DataGraph) (v id : ℕ) : Type 0 where
-  pub inside : v < size g
-  pub is : slice_index g.ids v ≡ id
+-- the two texts tell the graph that the job is about
+abbrev pub TellJobGraph : JobFields → List ℕ → List ℕ → DataGraph → Type 0
+TellJobGraph job vertices edges g = TellGraph job.directed (is_weighted job.algorithm) vertices edges g
 
--- The text is the answer: the levels, from the vertex with the identifier `source`, of the graph that the two texts tell
--- where edges have neither direction nor weight.
-pub record IsAnswer (source : ℕ) (vertices edges text : List ℕ) : Type 0 where
+-- the report of an answer, where it is asked for, and else nothing
+abbrev pub told_of : Bool → DataGraph → List ℕ → List ℕ → List ℕ
+told_of report g numbers answer = if report then report_text g (fold_of numbers) answer else []
+
+-- `text` is the answer to the job about the graph that the two texts tell, `told` is what is reported of it, and `order`
+-- is the order of the updates: it leaves no task, and its replay gives the numbers.
+pub record IsAnswer (job : JobFields) (report : Bool) (vertices edges text told : List ℕ) (order : List Entry) : Type 0 where
   pub graph : DataGraph
-  pub told : TellGraph false false vertices edges graph
-  pub start : ℕ
-  pub start_is : IsVertexOf graph start source
+  pub graph_is : TellJobGraph job vertices edges graph
   pub numbers : List ℕ
-  pub levels : AreLevels graph start numbers
-  pub spelled : text ≡ answer_text graph.ids numbers
+  pub play : IsPlay graph (update_of job.algorithm job.source) order numbers
+  pub few : length order ≤ job.budget
+  pub finished : IsFinished graph (update_of job.algorithm job.source) order
+  pub results : AreResults job.algorithm job.source graph numbers
+  pub spelled : text ≡ answer_text job.algorithm graph.ids numbers
+  pub reported : told ≡ told_of report graph numbers text
 
--- the two texts tell a graph in which no vertex has this identifier
-pub record LacksSource (source : ℕ) (vertices edges : List ℕ) : Type 0 where
+-- So many updates of the graph that the two texts tell were made as the budget has, in this order, and the vertex is a
+-- task all the same.
+pub record SpendsBudget (job : JobFields) (left : Vertex) (order : List Entry) (vertices edges : List ℕ) : Type 0 where
   pub graph : DataGraph
-  pub told : TellGraph false false vertices edges graph
+  pub graph_is : TellJobGraph job vertices edges graph
+  pub start : HasStart job.algorithm job.source graph
+  pub numbers : List ℕ
+  pub play : IsPlay graph (update_of job.algorithm job.source) order numbers
+  pub spent : IsSpent graph (update_of job.algorithm job.source) job.budget order left
+
+-- the algorithm needs a source, the job has this one, and the two texts tell a graph in which no vertex has this identifier
+pub record LacksSource (job : JobFields) (source : ℕ) (vertices edges : List ℕ) : Type 0 where
+  pub graph : DataGraph
+  pub told : TellJobGraph job vertices edges graph
+  pub needed : needs_source job.algorithm ≡ true
+  pub asked : job.source ≡ Some source
   pub lacks : (v : ℕ) → IsVertexOf graph v source → ⊥
 
 -- the vertex text lists identifiers, and over them the edge text has this first fault
-pub record RefusesEdges (fault : TextFault) (vertices edges : List ℕ) : Type 0 where
+pub record RefusesEdges (job : JobFields) (fault : TextFault) (vertices edges : List ℕ) : Type 0 where
   pub ids : List ℕ
   pub lists : ListsIds vertices ids
-  pub refused : edges_of ids false false edges ≡ Err fault
+  pub refused : edges_of ids job.directed (is_weighted job.algorithm) edges ≡ Err fault
 
--- the two texts tell a graph with such a vertex
-pub record IsValid (source : ℕ) (vertices edges : List ℕ) : Type 0 where
+-- The two texts tell a graph, where the algorithm needs the job's source it is one of the vertices, and the budget is no
+-- less than the step bound.
+pub record IsValid (job : JobFields) (vertices edges : List ℕ) : Type 0 where
   pub graph : DataGraph
-  pub told : TellGraph false false vertices edges graph
-  pub start : ℕ
-  pub start_is : IsVertexOf graph start source
+  pub told : TellJobGraph job vertices edges graph
+  pub source_there : needs_source job.algorithm ≡ true → (source : ℕ) → job.source ≡ Some source → (v : ℕ) × IsVertexOf graph v source
+  pub enough : (g : DataGraph) → TellJobGraph job vertices edges g → step_bound g job.algorithm ≤ job.budget

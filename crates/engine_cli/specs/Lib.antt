@@ -1,9 +1,12 @@
-pub mod Words
 pub mod Answer
 pub mod Printing
 pub mod Says
 pub mod Status
-pub mod Search
 pub mod Found
 pub mod Ended
-pub mod RunWords
+pub mod Runs
+pub mod Plays
+pub mod Notes
+pub mod Writes
+pub mod Made
+pub mod Prepares

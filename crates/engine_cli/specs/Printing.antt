@@ -1,20 +1,16 @@
--- What printing a text leaves.
-use Rattle.std.specs.Prelude.{◌≡◌, ◌++◌, ℕ, List, Option, Result, Ok, Err, take}
+-- What printing the answer leaves.
+use Rattle.std.specs.Prelude.{◌≡◌, ℕ, List, Option, Result, Ok, Err}
 use Rattle.std.specs.Io.KnownBytes.{Appends}
+use Rattle.std.specs.declared.alloc.Global.{Global}
+use Rattle.std.specs.declared.vec.Vec.{Vec}
 use Rattle.gl_outside.specs.Faults.{Rose}
-use Rattle.engine_cli.specs.declared.writing.Writing.{Writing}
-use Rattle.engine_cli.specs.declared.writing.Writing.TheVariants.{WriteFault, NoMemory}
+use Rattle.gl_outside.specs.Fronts.{AppendsFront}
+use Rattle.graph_text.specs.declared.making.Writing.{Writing}
+use Rattle.graph_text.specs.declared.making.Writing.TheVariants.{WriteFault, NoMemory}
 
--- told bytes grow by a front of the text
-abbrev pub AppendsFront : Option (List ℕ) → Option (List ℕ) → List ℕ → Type 0
-AppendsFront old new text = (count : ℕ) × Appends old new (take count text)
-
--- told bytes grow by what the piece had and has no longer at its front
-abbrev pub Moves : Option (List ℕ) → Option (List ℕ) → List ℕ → List ℕ → Type 0
-Moves old new piece_before piece_now = (moved : List ℕ) × Appends old new moved × (piece_before ≡ moved ++ piece_now)
-
--- the whole text was appended, or a front of it where the sink failed or memory ran out
-abbrev pub Prints : Result (Unit {0}) Writing → List ℕ → Option (List ℕ) → Option (List ℕ) → ℕ → ℕ → Type 0
-Prints (Ok done) text old new before now = Appends old new text
-Prints (Err WriteFault) text old new before now = Rose before now × AppendsFront old new text
-Prints (Err NoMemory) text old new before now = AppendsFront old new text
+-- the whole text was appended, and what is told of it is handed back; or a front of it was where the sink failed, and
+-- nothing where memory ran out
+abbrev pub Prints : Result (Vec ℕ Global) Writing → List ℕ → List ℕ → Option (List ℕ) → Option (List ℕ) → ℕ → ℕ → Type 0
+Prints (Ok bytes) text told old new before now = (bytes.items ≡ told) × Appends old new text
+Prints (Err WriteFault) text told old new before now = Rose before now × AppendsFront old new text
+Prints (Err NoMemory) text told old new before now = new ≡ old

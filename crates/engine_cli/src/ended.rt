@@ -12,7 +12,8 @@ pub struct SnapLine {
     pub max: u64,
 }
 
-/// How a call ended, and the order of its updates. Until runs keep their order, each list is empty.
+/// How a call ended, and the order of its updates. No update is lost, no failure fires and no snapshot is taken yet, so
+/// those lists are empty.
 #[derive(Debug, Drop)]
 pub struct Ended {
     pub status: Status,

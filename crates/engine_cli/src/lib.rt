@@ -2,15 +2,17 @@
 #![tactic(auto)]
 
 mod ended;
-mod levels;
+mod jobs;
+mod making;
+mod notes;
+mod playing;
 mod printing;
 mod reading;
-mod search;
+mod running;
 mod status;
 mod top;
-mod words;
-mod writing;
 
 pub use ended::{Ended, SnapLine};
+pub use making::files_only;
 pub use status::Status;
 pub use top::engine;

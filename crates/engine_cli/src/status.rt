@@ -1,8 +1,14 @@
 //! How a call ended.
 ghost use Rattle.std.specs.Prelude.{◌≡◌};
+ghost use Rattle.graph_text.specs.declared.lists.Reading.{Reading};
+ghost use Rattle.job_config.specs.declared.reading.JobReading.{JobReading};
 ghost use Rattle.engine_cli.specs.declared.status.Status.TheVariants.{NoMemory};
+ghost use Rattle.engine_cli.specs.Status.{status_of_reading, status_of_job, status_of_writing};
 
-use gl_base::{JobFault, TextFault, UsageFault};
+use gl_base::{JobFault, TextFault, UsageFault, Vertex};
+use graph_text::{Reading, Writing};
+use job_config::JobReading;
+use std::alloc::AllocError;
 
 /// How a call of the engine ended.
 #[derive(Debug, Drop)]
@@ -11,14 +17,16 @@ pub enum Status {
     Done,
     /// The words are not those of a command.
     Usage(UsageFault),
-    /// The job is refused: for the words of a run, its source is no vertex of the graph.
+    /// The job is refused: its bytes are no job, it asks for what is not built, or its source is no vertex of the graph.
     BadJob(JobFault),
     /// A graph text is refused.
     BadGraph(TextFault),
     /// A file could not be read.
     ReadFault,
-    /// The answer could not be written to its end.
+    /// The answer, or a file, could not be written to its end.
     WriteFault,
+    /// So many updates were made as the job's budget has, and this vertex is a task all the same.
+    BudgetSpent { left: Vertex },
     /// There was not enough memory.
     NoMemory,
 }
@@ -38,6 +46,7 @@ impl Status {
             Status::BadGraph(_) => 3,
             Status::ReadFault => 5,
             Status::WriteFault => 6,
+            Status::BudgetSpent { .. } => 9,
             Status::NoMemory => 11,
         }
     }
@@ -48,5 +57,47 @@ impl From<gl_base::NoMemory> for Status {
 
     fn from(_: gl_base::NoMemory) -> Self {
         Status::NoMemory
+    }
+}
+
+impl From<AllocError> for Status {
+    ghost from_gives = { λ _ status. status ≡ NoMemory };
+
+    fn from(_: AllocError) -> Self {
+        Status::NoMemory
+    }
+}
+
+impl From<Reading> for Status {
+    ghost from_gives = { λ reading status. status ≡ status_of_reading reading };
+
+    fn from(reading: Reading) -> Self {
+        match reading {
+            Reading::Text(fault) => Status::BadGraph(fault),
+            Reading::ReadFault => Status::ReadFault,
+            Reading::NoMemory => Status::NoMemory,
+        }
+    }
+}
+
+impl From<JobReading> for Status {
+    ghost from_gives = { λ reading status. status ≡ status_of_job reading };
+
+    fn from(reading: JobReading) -> Self {
+        match reading {
+            JobReading::Fault(fault) => Status::BadJob(fault),
+            JobReading::NoMemory => Status::NoMemory,
+        }
+    }
+}
+
+impl From<Writing> for Status {
+    ghost from_gives = { λ writing status. status ≡ status_of_writing writing };
+
+    fn from(writing: Writing) -> Self {
+        match writing {
+            Writing::WriteFault => Status::WriteFault,
+            Writing::NoMemory => Status::NoMemory,
+        }
     }
 }

@@ -1,29 +1,41 @@
 //! The top call.
-ghost use Rattle.std.specs.Prelude.{◌≡◌, ℕ, ◌≤◌, [], ◌∷◌, List};
-ghost use Rattle.gl_base.specs.declared.usage_faults.UsageFault.TheVariants.{Line};
-ghost use Rattle.engine_cli.specs.Words.{Asked, IsRun, IsNoRun, texts};
-ghost use Rattle.engine_cli.specs.Status.{IsBeforeWriting, IsDoneOrNoMemory};
-ghost use Rattle.engine_cli.specs.Found.{HandsOver};
+ghost use Rattle.std.specs.Prelude.{◌≡◌, ◌≢◌, ◌⊎◌, ℕ, ◌<◌, ◌≤◌, [], ◌∷◌, List, length, Bool, Err};
+ghost use Rattle.gl_base.specs.declared.jobs.MakePlan.{MakePlan};
+ghost use Rattle.gl_base.specs.declared.usage_faults.UsageFault.{UsageFault};
+ghost use Rattle.gl_outside.specs.Faults.{Rose};
+ghost use Rattle.gl_outside.specs.Frames.{KeepsSources};
+ghost use Rattle.job_words.specs.CommandLine.{IsCommandLine, command_line_of};
+ghost use Rattle.job_words.specs.Tokens.{texts};
+ghost use Rattle.job_words.specs.declared.words.Words.TheVariants.{Run, Make};
+ghost use Rattle.engine_cli.specs.declared.status.Status.TheVariants.{Done, Usage, NoMemory};
+ghost use Rattle.engine_cli.specs.Status.{IsBeforeWriting, IsDoneOrNoMemory, IsRefused};
+ghost use Rattle.engine_cli.specs.Found.{HandsFiles, HandsOver};
+ghost use Rattle.engine_cli.specs.Made.{IsAsked, LeavesFronts, Makes, edges_name, vertices_name};
+ghost use Rattle.engine_cli.specs.Notes.{Tells, note_of};
 ghost use Rattle.engine_cli.specs.Says.{Says, IsSound, moment};
-ghost use Rattle.engine_cli.specs.Ended.{HasNoLists};
-ghost use Rattle.engine_cli.specs.RunWords.{asked_by};
+ghost use Rattle.engine_cli.specs.Ended.{AreNone, Counts, HasNoLosses};
 
-use crate::levels::find_levels;
-use crate::printing::print_answer;
-use crate::reading::{graph_of, vertices_of};
-use crate::words::{RunWords, read_run};
-use crate::writing::Writing;
+use crate::making::files_only;
+use crate::notes::refuse;
+use crate::running::{RunEnd, run_job};
 use crate::{Ended, Status};
-use gl_base::UsageFault;
-use gl_outside::{Files, Gate, Sink};
+use gl_outside::{Files, Gate, Sink, write_all};
+use job_words::{Words, WordsReading, read_words};
 use std::alloc::Global;
 
-/// Does what the words after the program's name ask: `run levels SOURCE VERTEXFILE EDGEFILE` prints to `out`, for each
-/// vertex by ascending identifier, its identifier and its level from SOURCE, or 9223372036854775807 where no walk leads
-/// there.
+/// Does what the words after the program's name ask.
 ///
-/// The words are refused first, then the vertex file, the edge file, and a source that is no vertex; then `out` is
-/// written. Nothing is written to `note`, and `gate` is not passed: no update runs yet.
+/// `run JOB` reads the job in the file JOB and the graph that it names, runs the job's algorithm on it, and prints to
+/// `out`, for each vertex by ascending identifier, its identifier and its number: its level from the job's source, the
+/// least identifier in its component, its distance from the source, or a colour. With `--report` the report goes to
+/// `note`. `make PREFIX ..` writes a graph to the files PREFIX.v and PREFIX.e.
+///
+/// The words are refused first, then the job's file, what it says, what it asks for that is not built, the vertex file,
+/// the edge file, a source that is no vertex, and a run whose budget is spent; then `out` is written, and last one line to
+/// `note` for every status but `Done`. A fault of `note` is passed over. `gate` is not passed yet.
+///
+/// `order` holds the updates of the run and `done` how many there were, where the status is `Done`, `WriteFault` or
+/// `BudgetSpent`; the other lists are empty.
 pub fn engine<F: Files, K: Sink, N: Sink, G: Gate + Sync>(
     alloc: Global,
     words: &[String],
@@ -32,32 +44,177 @@ pub fn engine<F: Files, K: Sink, N: Sink, G: Gate + Sync>(
     note: &mut N,
     gate: &G,
 ) -> Ended
-    // What each status says of the words, the texts, the counts of faults and `out`.
-    ensures run { (asked : Asked) → IsRun (texts words.now) asked →
-        Says (F.given files.old) asked (moment (F.reads files.old) (K.faults out.old) (K.held out.old))
-        (moment (F.reads files.new) (K.faults out.new) (K.held out.new)) result.status }
-    ensures usage { IsNoRun (texts words.now) → (result.status ≡ Status.Usage UsageFault.Line) × (files.new ≡ files.old) }
+    requires { length words.now < 4294967295 }
 
-    // Valid words and texts are answered, where nothing failed and memory was enough.
-    ensures complete { (asked : Asked) → IsRun (texts words.now) asked →
-        IsSound (F.given files.old) asked (moment (F.reads files.old) (K.faults out.old) (K.held out.old))
+    // What each status of a run says of the files, the counts of faults, `out`, and what is reported to `note`.
+    ensures run { (file : List ℕ) (report : Bool) → IsCommandLine (texts words.now) (Run file report) →
+        Says (F.given files.old) file report (moment (F.reads files.old) (K.faults out.old) (K.held out.old))
+        (moment (F.reads files.new) (K.faults out.new) (K.held out.new))
+        (λ told. Tells told (N.held note.old) (N.held note.new) (N.faults note.old) (N.faults note.new)) result.order.items result.status }
+    ensures counts { (file : List ℕ) (report : Bool) → IsCommandLine (texts words.now) (Run file report) →
+        Counts result.order.items result.done.items result.status }
+    ensures complete { (file : List ℕ) (report : Bool) → IsCommandLine (texts words.now) (Run file report) →
+        IsSound (F.given files.old) file (moment (F.reads files.old) (K.faults out.old) (K.held out.old))
         (moment (F.reads files.new) (K.faults out.new) (K.held out.new)) → IsDoneOrNoMemory result.status }
+    ensures names { (file : List ℕ) (report : Bool) → IsCommandLine (texts words.now) (Run file report) →
+        HandsFiles (F.handed files.old) (F.handed files.new) (F.given files.old) file }
+    ensures given { (file : List ℕ) (report : Bool) → IsCommandLine (texts words.now) (Run file report) →
+        (name : List ℕ) → F.given files.new name ≡ F.given files.old name }
+    ensures made { (file : List ℕ) (report : Bool) → IsCommandLine (texts words.now) (Run file report) →
+        F.made files.new ≡ F.made files.old }
+
+    // What each status says of the files that are made.
+    ensures make { (prefix : List ℕ) (plan : MakePlan) → IsCommandLine (texts words.now) (Make prefix plan) →
+        Makes plan prefix (F.made files.old) (F.given files.new) (F.writes files.old) (F.writes files.new) result.status }
+    ensures made_fronts { (prefix : List ℕ) (plan : MakePlan) → IsCommandLine (texts words.now) (Make prefix plan) →
+        LeavesFronts plan prefix (F.made files.old) (F.given files.old) (F.given files.new) }
+    ensures made_names { (prefix : List ℕ) (plan : MakePlan) → IsCommandLine (texts words.now) (Make prefix plan) →
+        HandsOver (F.made files.old) (F.made files.new) (vertices_name prefix ∷ edges_name prefix ∷ []) }
+    ensures made_alone { (prefix : List ℕ) (plan : MakePlan) → IsCommandLine (texts words.now) (Make prefix plan) →
+        (name : List ℕ) → name ≢ vertices_name prefix → name ≢ edges_name prefix → F.given files.new name ≡ F.given files.old name }
+    ensures made_sources { (prefix : List ℕ) (plan : MakePlan) → IsCommandLine (texts words.now) (Make prefix plan) →
+        KeepsSources F.reads F.handed F.is_source F.left files.old files.new × (out.new ≡ out.old) }
+
+    ensures made_note { (prefix : List ℕ) (plan : MakePlan) → IsCommandLine (texts words.now) (Make prefix plan) →
+        result.status ≡ Done → note.new ≡ note.old }
+    ensures made_complete { (prefix : List ℕ) (plan : MakePlan) → IsCommandLine (texts words.now) (Make prefix plan) →
+        (Rose (F.writes files.old) (F.writes files.new) → ⊥) → IsDoneOrNoMemory result.status }
+
+    ensures made_lists { (prefix : List ℕ) (plan : MakePlan) → IsCommandLine (texts words.now) (Make prefix plan) →
+        AreNone result.order.items result.done.items }
+
+    // Other words.
+    ensures usage { (fault : UsageFault) → command_line_of (texts words.now) ≡ Err fault →
+        ((result.status ≡ Usage fault) ⊎ (result.status ≡ NoMemory)) × (files.new ≡ files.old) × (out.new ≡ out.old)
+        × AreNone result.order.items result.done.items }
+
+    // What is told of a refusal.
+    ensures note { IsRefused result.status → Tells (note_of result.status) (N.held note.old) (N.held note.new) (N.faults note.old) (N.faults note.new) }
 
     // What stays.
     ensures untouched { IsBeforeWriting result.status → out.new ≡ out.old }
-    ensures names { (asked : Asked) → IsRun (texts words.now) asked →
-        HandsOver (F.handed files.old) (F.handed files.new) (asked.vertices ∷ asked.edges ∷ []) }
-    ensures given { (name : List ℕ) → F.given files.new name ≡ F.given files.old name }
     ensures reads { F.reads files.old ≤ F.reads files.new }
     ensures writes { K.faults out.old ≤ K.faults out.new }
     ensures same { K.same out.old out.new }
-    ensures note { note.new ≡ note.old }
-    ensures lists { HasNoLists result }
+    ensures notes { N.faults note.old ≤ N.faults note.new }
+    ensures same_note { N.same note.old note.new }
+    ensures lists { HasNoLosses result }
 {
-    let status = match read_run(words) {
-        Some(run) => run_levels(alloc, &run, files, out),
-        None => Status::Usage(UsageFault::Line),
+    match read_words(alloc, words) {
+        Ok(asked) => do_command(alloc, &asked, files, out, note),
+        Err(WordsReading::Fault(fault)) => no_run(alloc, refuse(note, Status::Usage(fault))),
+        Err(WordsReading::NoMemory) => no_run(alloc, refuse(note, Status::NoMemory)),
+    }
+}
+
+/// Does what the command line asks.
+fn do_command<F: Files, K: Sink, N: Sink>(
+    alloc: Global,
+    asked: &Words,
+    files: &mut F,
+    out: &mut K,
+    note: &mut N,
+) -> Ended
+    requires { IsAsked asked.now }
+    ensures run { (file : List ℕ) (report : Bool) → asked.now ≡ Run file report →
+        Says (F.given files.old) file report (moment (F.reads files.old) (K.faults out.old) (K.held out.old))
+        (moment (F.reads files.new) (K.faults out.new) (K.held out.new))
+        (λ told. Tells told (N.held note.old) (N.held note.new) (N.faults note.old) (N.faults note.new)) result.order.items result.status }
+    ensures counts { (file : List ℕ) (report : Bool) → asked.now ≡ Run file report → Counts result.order.items result.done.items result.status }
+    ensures names { (file : List ℕ) (report : Bool) → asked.now ≡ Run file report →
+        HandsFiles (F.handed files.old) (F.handed files.new) (F.given files.old) file }
+    ensures given { (file : List ℕ) (report : Bool) → asked.now ≡ Run file report →
+        (name : List ℕ) → F.given files.new name ≡ F.given files.old name }
+    ensures made { (file : List ℕ) (report : Bool) → asked.now ≡ Run file report → F.made files.new ≡ F.made files.old }
+    ensures make { (prefix : List ℕ) (plan : MakePlan) → asked.now ≡ Make prefix plan →
+        Makes plan prefix (F.made files.old) (F.given files.new) (F.writes files.old) (F.writes files.new) result.status }
+    ensures made_fronts { (prefix : List ℕ) (plan : MakePlan) → asked.now ≡ Make prefix plan →
+        LeavesFronts plan prefix (F.made files.old) (F.given files.old) (F.given files.new) }
+    ensures made_names { (prefix : List ℕ) (plan : MakePlan) → asked.now ≡ Make prefix plan →
+        HandsOver (F.made files.old) (F.made files.new) (vertices_name prefix ∷ edges_name prefix ∷ []) }
+    ensures made_alone { (prefix : List ℕ) (plan : MakePlan) → asked.now ≡ Make prefix plan →
+        (name : List ℕ) → name ≢ vertices_name prefix → name ≢ edges_name prefix → F.given files.new name ≡ F.given files.old name }
+    ensures made_sources { (prefix : List ℕ) (plan : MakePlan) → asked.now ≡ Make prefix plan →
+        KeepsSources F.reads F.handed F.is_source F.left files.old files.new × (out.new ≡ out.old) }
+    ensures made_note { (prefix : List ℕ) (plan : MakePlan) → asked.now ≡ Make prefix plan → result.status ≡ Done → note.new ≡ note.old }
+    ensures made_lists { (prefix : List ℕ) (plan : MakePlan) → asked.now ≡ Make prefix plan → AreNone result.order.items result.done.items }
+    ensures note { IsRefused result.status → Tells (note_of result.status) (N.held note.old) (N.held note.new) (N.faults note.old) (N.faults note.new) }
+    ensures untouched { IsBeforeWriting result.status → out.new ≡ out.old }
+    ensures reads { F.reads files.old ≤ F.reads files.new }
+    ensures writes { K.faults out.old ≤ K.faults out.new }
+    ensures same { K.same out.old out.new }
+    ensures notes { N.faults note.old ≤ N.faults note.new }
+    ensures same_note { N.same note.old note.new }
+    ensures lists { HasNoLosses result }
+{
+    match asked {
+        Words::Run { file, report } => run_file(alloc, file.as_str(), *report, files, out, note),
+        Words::Make { .. } => no_run(alloc, files_only(alloc, asked, files, out, note)),
+    }
+}
+
+/// Runs the job in a file, and tells what is reported of it or why it was refused.
+fn run_file<F: Files, K: Sink, N: Sink>(
+    alloc: Global,
+    file: &str,
+    is_reported: bool,
+    files: &mut F,
+    out: &mut K,
+    note: &mut N,
+) -> Ended
+    ensures run { Says (F.given files.old) file.now is_reported (moment (F.reads files.old) (K.faults out.old) (K.held out.old))
+        (moment (F.reads files.new) (K.faults out.new) (K.held out.new))
+        (λ told. Tells told (N.held note.old) (N.held note.new) (N.faults note.old) (N.faults note.new)) result.order.items result.status }
+    ensures counts { Counts result.order.items result.done.items result.status }
+    ensures names { HandsFiles (F.handed files.old) (F.handed files.new) (F.given files.old) file.now }
+    ensures given { (name : List ℕ) → F.given files.new name ≡ F.given files.old name }
+    ensures made { F.made files.new ≡ F.made files.old }
+    ensures note { IsRefused result.status → Tells (note_of result.status) (N.held note.old) (N.held note.new) (N.faults note.old) (N.faults note.new) }
+    ensures untouched { IsBeforeWriting result.status → out.new ≡ out.old }
+    ensures reads { F.reads files.old ≤ F.reads files.new }
+    ensures writes { K.faults out.old ≤ K.faults out.new }
+    ensures same { K.same out.old out.new }
+    ensures notes { N.faults note.old ≤ N.faults note.new }
+    ensures same_note { N.same note.old note.new }
+    ensures lists { HasNoLosses result }
+{
+    let RunEnd {
+        status,
+        told,
+        order,
+        done,
+    } = run_job(alloc, file, is_reported, files, out);
+    let status = match status {
+        Status::Done => tell_report(note, &told),
+        status => refuse(note, status),
     };
+    Ended {
+        status,
+        order,
+        lost: Vec::new(alloc),
+        done,
+        fired: Vec::new(alloc),
+        snapshots: Vec::new(alloc),
+    }
+}
+
+/// Tells what is reported of an answer that was printed. A fault of `note` is passed over.
+fn tell_report<N: Sink>(note: &mut N, told: &[u8]) -> Status
+    ensures status { result ≡ Done }
+    ensures told { Tells told.now (N.held note.old) (N.held note.new) (N.faults note.old) (N.faults note.new) }
+    ensures later { N.faults note.old ≤ N.faults note.new }
+    ensures same { N.same note.old note.new }
+{
+    let _ = write_all(note, told);
+    Status::Done
+}
+
+/// What a call leaves that ended so and made no run.
+fn no_run(alloc: Global, status: Status) -> Ended
+    ensures status { result.status ≡ status }
+    ensures none { AreNone result.order.items result.done.items }
+    ensures lists { HasNoLosses result }
+{
     Ended {
         status,
         order: Vec::new(alloc),
@@ -65,40 +222,5 @@ pub fn engine<F: Files, K: Sink, N: Sink, G: Gate + Sync>(
         done: Vec::new(alloc),
         fired: Vec::new(alloc),
         snapshots: Vec::new(alloc),
-    }
-}
-
-/// Reads the graph, finds the levels and prints them.
-fn run_levels<F: Files, K: Sink>(
-    alloc: Global,
-    run: &RunWords<'_>,
-    files: &mut F,
-    out: &mut K,
-) -> Status
-    ensures says { Says (F.given files.old) (asked_by run.now) (moment (F.reads files.old) (K.faults out.old) (K.held out.old))
-        (moment (F.reads files.new) (K.faults out.new) (K.held out.new)) result }
-    ensures untouched { IsBeforeWriting result → out.new ≡ out.old }
-    ensures names { HandsOver (F.handed files.old) (F.handed files.new) (run.now.vertices.now ∷ run.now.edges.now ∷ []) }
-    ensures given { (name : List ℕ) → F.given files.new name ≡ F.given files.old name }
-    ensures reads { F.reads files.old ≤ F.reads files.new }
-    ensures writes { K.faults out.old ≤ K.faults out.new }
-    ensures same { K.same out.old out.new }
-{
-    let list = match vertices_of(alloc, files, run.vertices) {
-        Ok(list) => list,
-        Err(status) => return status,
-    };
-    let graph = match graph_of(alloc, files, run.edges, list) {
-        Ok(graph) => graph,
-        Err(status) => return status,
-    };
-    let numbers = match find_levels(alloc, &graph, run.source) {
-        Ok(numbers) => numbers,
-        Err(status) => return status,
-    };
-    match print_answer(alloc, out, &graph, &numbers) {
-        Ok(()) => Status::Done,
-        Err(Writing::WriteFault) => Status::WriteFault,
-        Err(Writing::NoMemory) => Status::NoMemory,
     }
 }

@@ -37,4 +37,6 @@ pub enum JobFault {
     /// The key's value is out of its range: the number itself, a text's length in bytes, or the place of
     /// the first faulty failure.
     OutOfRange(Key, u64),
+    /// The key's value asks for what is not built yet.
+    NotBuilt(Key),
 }

@@ -1,1 +1,3 @@
 mod StoredFiles
+mod Sinks
+pub mod Fronts

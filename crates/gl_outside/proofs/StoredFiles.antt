@@ -1,12 +1,12 @@
 -- Lemmas on files in memory, and on those that were opened.
-use Rattle.std.proofs.Common.{◌≡◌, ◌≢◌, ℕ, ◌<◌, Bool, true, false, List, [], ◌∷◌, ◌++◌, length, get_or, take, drop, map, Option, Some, None, refl, sym, ap, ◌∙◌, arith, length-append, length-set}
+use Rattle.std.proofs.Common.{◌≡◌, ◌≢◌, ℕ, ◌<◌, Bool, true, false, List, [], ◌∷◌, ◌++◌, ◌-◌, ◌+◌, ◌≤◌, length, get_or, take, drop, map, Option, Some, None, refl, sym, ap, ◌∙◌, arith, length-append, length-set}
 use Rattle.std.specs.Prelude.{bytes_eq, All, zero, suc, slice_get, slice_set, nat_lt, min, IsTrue}
 use Rattle.std.specs.Option.{option_map}
 use Rattle.std.specs.Io.KnownBytes.{Consumes, IsAtEnd}
 use Rattle.std.proofs.lemmas.Option.{slice_get-map, slice_get_read}
 use Rattle.std.proofs.lemmas.Bool.Decides.{nat_tests}
 use Rattle.gl_outside.specs.Frames.{ReadsOnly, OpensOnly}
-use Rattle.std.proofs.lemmas.List.{length-map, map-set, get_or_read, get_or_append_left}
+use Rattle.std.proofs.lemmas.List.{take_all, drop-take, take-append-drop, drop-drop, length-map, map-set, get_or_read, get_or_append_left}
 use Rattle.std.proofs.lemmas.List.Elements.{All-head, All-tail}
 use Rattle.std.proofs.lemmas.List.Sums.{fold-append}
 use Rattle.std.proofs.lemmas.Slice.Eq.{bytes_eq-Decides}
@@ -25,11 +25,13 @@ bytes_at-append files more place inside = ap (λ (f : NamedBytes). f.bytes) (get
 pub IsInside-append : (files more : List NamedBytes) (open_file : OpenFile) → IsInside files open_file → IsInside (files ++ more) open_file
 IsInside-append files more open_file inside = record {
   known = omega (arith, inside.known, length-append files more);
+  order = inside.order;
   within = omega (arith, inside.within, ap (length {A = ℕ}) (bytes_at-append files more open_file.place inside.known));
 }
 
 pub left_in-append : (files more : List NamedBytes) (open_file : OpenFile) → IsInside files open_file → left_in (files ++ more) open_file ≡ left_in files open_file
-left_in-append files more open_file inside = ap (drop open_file.at) (bytes_at-append files more open_file.place inside.known)
+left_in-append files more open_file inside =
+    ap (λ (bytes : List ℕ). drop open_file.at (take open_file.end bytes)) (bytes_at-append files more open_file.place inside.known)
 
 pub map-left_in-append : (files more : List NamedBytes) (opened : List OpenFile) → All (IsInside files) opened → map (left_in (files ++ more)) opened ≡ map (left_in files) opened
 map-left_in-append files more [] inside = refl
@@ -79,6 +81,23 @@ slice_get-set_other (x ∷ xs) zero (suc k) y apart = refl
 slice_get-set_other (x ∷ xs) (suc i) zero y apart = refl
 slice_get-set_other (x ∷ xs) (suc i) (suc k) y apart = slice_get-set_other xs i k y (λ e. apart (ap (λ (n : ℕ). suc n) e))
 
+-- a range of a list, as a slice has it
+pub drop-take_range : (at end : ℕ) (bytes : List ℕ) → at ≤ end → take (end - at) (drop at bytes) ≡ drop at (take end bytes)
+drop-take_range at end bytes order =
+    let e : at + (end - at) ≡ end = omega (arith, order) in
+    sym (drop-take at (end - at) bytes) ∙ ap (λ (n : ℕ). drop at (take n bytes)) e
+
+-- a range is its front, and then the rest
+pub range_next : (at end n : ℕ) (bytes buf : List ℕ) → at ≤ end → take n buf ≡ take n (take (end - at) (drop at bytes))
+    → drop at (take end bytes) ≡ take n buf ++ drop (at + n) (take end bytes)
+range_next at end n bytes buf order front =
+    let range = drop-take_range at end bytes order in
+    let rest = drop-drop n at (take end bytes) in
+    let split = take-append-drop n (drop at (take end bytes)) in
+    sym split
+    ∙ ap (λ (xs : List ℕ). xs ++ drop n (drop at (take end bytes))) (ap (take n) (sym range) ∙ sym front)
+    ∙ ap (λ (xs : List ℕ). take n buf ++ xs) rest
+
 -- an index into a list, seen through a function
 pub slice_get-map_read : {X Y : Type 0} (f : X → Y) (xs : List X) (i : ℕ) (x : X) → i < length xs → x ≡ get_or xs i x → slice_get (map f xs) i ≡ Some (f x)
 slice_get-map_read f xs i x inside read = slice_get-map f xs i ∙ ap (option_map f) (slice_get_read xs (length xs) i x refl inside read)
@@ -100,10 +119,13 @@ pub map-slice_set : {X Y : Type 0} (f : X → Y) (xs : List X) (i : ℕ) (y : X)
 map-slice_set f xs i y = map-set f xs i y
 
 -- a file that was opened has all of its bytes left
-pub left_in_new : (files : List NamedBytes) (opened now : List OpenFile) (new : OpenFile) (number : ℕ) → now ≡ opened ++ new ∷ [] → number ≡ length opened → slice_get (map (left_in files) now) number ≡ Some (left_in files new)
-left_in_new files opened now new number grown numbered =
+pub left_in_new : (files : List NamedBytes) (opened now : List OpenFile) (place end number : ℕ) → now ≡ opened ++ record { place = place; at = 0; end = end } ∷ []
+    → number ≡ length opened → end ≡ length (bytes_at files place) → slice_get (map (left_in files) now) number ≡ Some (bytes_at files place)
+left_in_new files opened now place end number grown numbered ended =
+    let new : OpenFile = record { place = place; at = 0; end = end } in
     rw (grown, numbered)
     (slice_get-map (left_in files) (opened ++ new ∷ []) (length opened) ∙ ap (option_map (left_in files)) (slice_get_pushed opened new))
+    ∙ ap (λ (bytes : List ℕ). Some bytes) (take_all end (bytes_at files place) (omega (arith, ended)))
 
 -- what a read of the next bytes tells
 pub reads_next : (old new : Option (List ℕ)) (before after buf : List ℕ) (count : ℕ) → old ≡ Some before → new ≡ Some after → before ≡ take count buf ++ after → count ≡ min (length before) (length buf) → Consumes old new (take count buf) × (count ≡ 0 → 0 < length buf → IsAtEnd new)

@@ -6,3 +6,5 @@ pub mod InMemory
 pub mod Store
 pub mod OpenFiles
 pub mod Host
+pub mod Fronts
+pub mod Told

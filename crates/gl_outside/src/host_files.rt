@@ -1,7 +1,8 @@
 //! The files of the system.
-ghost use Rattle.std.specs.Prelude.{◌≡◌, None, nat_lt};
+ghost use Rattle.std.specs.Prelude.{◌≡◌, None, nat_lt, refl};
 
 use crate::fault_count::FaultCount;
+use crate::writer_sink::write_through;
 use crate::{Failed, FileNo, Files, OpenFault};
 use std::alloc::Global;
 use std::fs::File;
@@ -14,8 +15,10 @@ use std::rt;
 #[derive(Drop)]
 pub struct HostFiles<R: rt::Files> {
     rt: R,
-    opened: Vec<R::File>,
-    faults: FaultCount,
+    sources: Vec<R::File>,
+    sinks: Vec<R::File>,
+    reads: FaultCount,
+    writes: FaultCount,
 }
 
 impl<R: rt::Files> Model for HostFiles<R> {
@@ -24,46 +27,82 @@ impl<R: rt::Files> Model for HostFiles<R> {
 
     ghost Value = { HostState };
 
-    ghost view = { λ s. record { opened = vec_len s.opened; faults = s.faults } };
+    ghost view = { λ s. record { sources = vec_len s.sources; sinks = vec_len s.sinks; reads = s.reads; writes = s.writes } };
 }
 
 impl<R: rt::Files> HostFiles<R> {
     /// The files of this runtime. Nothing is opened yet, and it takes no memory.
     pub fn new(alloc: Global, rt: R) -> Self
-        ensures { result ≡ record { opened = 0; faults = 0 } }
+        ensures { result ≡ record { sources = 0; sinks = 0; reads = 0; writes = 0 } }
     {
         HostFiles {
             rt,
-            opened: Vec::new(alloc),
-            faults: FaultCount::new(),
+            sources: Vec::new(alloc),
+            sinks: Vec::new(alloc),
+            reads: FaultCount::new(),
+            writes: FaultCount::new(),
         }
     }
 }
 
 impl<R: rt::Files> Files for HostFiles<R> {
-    ghost reads = { λ s. s.faults };
+    ghost reads = { λ s. s.reads };
+
+    ghost writes = { λ s. s.writes };
 
     ghost given = { λ s name. None };
 
     ghost handed = { λ s. None };
 
-    ghost is_source = { λ s file. nat_lt file s.opened };
+    ghost made = { λ s. None };
+
+    ghost is_source = { λ s file. nat_lt file s.sources };
+
+    ghost is_sink = { λ s file. nat_lt file s.sinks };
 
     ghost left = { λ s file. None };
 
+    ghost written = { λ s file. None };
+
+    ghost fills = { λ s file name. Unit {0} };
+
     fn open_source(&mut self, name: &str) -> Result<FileNo, OpenFault> {
-        let (Ok(file), Ok(number)) = (File::open(&self.rt, name), u32::try_from(self.opened.len()))
-        else {
-            return Err(self.faults.raise().into());
+        let (Ok(file), Ok(number)) = (
+            File::open(&self.rt, name),
+            u32::try_from(self.sources.len()),
+        ) else {
+            return Err(self.reads.raise().into());
         };
-        self.opened.push(file)?;
+        self.sources.push(file)?;
         Ok(FileNo(number))
     }
 
     fn read(&mut self, file: FileNo, buf: &mut [u8]) -> Result<usize, Failed> {
-        match self.opened[file.0 as usize].read(buf) {
+        match self.sources[file.0 as usize].read(buf) {
             Ok(count) => Ok(count),
-            Err(_) => Err(self.faults.raise()),
+            Err(_) => Err(self.reads.raise()),
         }
     }
+
+    fn open_sink(&mut self, name: &str) -> Result<FileNo, OpenFault> {
+        let Ok(number) = u32::try_from(self.sinks.len()) else {
+            return Err(self.writes.raise().into());
+        };
+        let Ok(file) = File::create(&self.rt, name) else {
+            return Err(self.writes.raise().into());
+        };
+        self.sinks.push(file)?;
+        Ok(FileNo(number))
+    }
+
+    fn write(&mut self, file: FileNo, piece: &[u8]) -> Result<usize, Failed> {
+        match write_through(&mut self.sinks[file.0 as usize], piece) {
+            Ok(count) if count > 0 || piece.is_empty() => Ok(count),
+            _ => Err(self.writes.raise()),
+        }
+    }
+
+    ghost tells = { λ files file opened. tt };
+
+    ghost filled = { λ files file name target. refl };
 }

@@ -33,6 +33,7 @@ impl MemSink {
     pub fn new(alloc: Global, failing: Vec<u64>, room: u64) -> Self
         ensures held { result.held ≡ [] }
         ensures room { result.room ≡ room }
+        ensures ready { result.ready ≡ 0 }
         ensures calls { result.calls ≡ no_calls failing.items }
     {
         MemSink {
@@ -77,6 +78,7 @@ impl Sink for MemSink {
             (NextFails self.old.calls ⊎ HasNoRoom self.old piece.now ⊎ WantsMemory self.old piece.now) }
         ensures all { IfOk result (λ count. count ≡ fitting self.old piece.now) }
         ensures room { self.new.room ≡ room_after self.old.room result }
+        ensures ready { self.old.ready ≤ self.new.ready }
         ensures calls { self.new.calls ≡ after_call self.old.calls result }
     {
         if self.calls.count() {

@@ -1,5 +1,9 @@
 //! The streams of the system as sinks.
-ghost use Rattle.std.specs.Prelude.{◌≡◌, ℕ, ◌≤◌, None, IfOk, length};
+ghost use Rattle.std.specs.Prelude.{◌≡◌, ℕ, ◌<◌, ◌≤◌, None, IfOk, length, take};
+ghost use Rattle.std.specs.Io.KnownBytes.{Appends, WriteAppends};
+ghost use Rattle.gl_outside.specs.Faults.{Counts, Rose};
+ghost use Rattle.gl_outside.specs.Fronts.{AppendsFront};
+ghost use Rattle.gl_outside.specs.Host.{faults_after};
 
 use crate::fault_count::FaultCount;
 use crate::{Failed, Sink};
@@ -21,17 +25,17 @@ pub type OutSink<W> = WriterSink<W>;
 pub type NoteSink<W> = WriterSink<W>;
 
 impl<W> Model for WriterSink<W> {
-    ghost use Rattle.std.specs.Prelude.{ℕ};
+    ghost use Rattle.gl_outside.specs.Host.{WriterState};
 
-    ghost Value = { ℕ };
+    ghost Value = { WriterState W };
 
-    ghost view = { λ s. s.faults };
+    ghost view = { λ s. record { writer = s.writer; faults = s.faults } };
 }
 
 impl<W> WriterSink<W> {
-    /// The sink over this writer. Contracts see its count of faults.
+    /// The sink over this writer. Contracts see the writer and the count of faults.
     pub fn new(writer: W) -> Self
-        ensures { result ≡ 0 }
+        ensures { result ≡ record { writer = writer; faults = 0 } }
     {
         WriterSink {
             writer,
@@ -41,7 +45,7 @@ impl<W> WriterSink<W> {
 }
 
 impl<W: io::Write> Sink for WriterSink<W> {
-    ghost faults = { λ s. s };
+    ghost faults = { λ s. s.faults };
 
     ghost held = { λ s. None };
 
@@ -51,7 +55,19 @@ impl<W: io::Write> Sink for WriterSink<W> {
 
     ghost same_trans = { λ a b c p q. tt };
 
-    fn write(&mut self, piece: &[u8]) -> Result<usize, Failed> {
+    /// Hands the piece to the writer, once.
+    fn write(&mut self, piece: &[u8]) -> Result<usize, Failed>
+        ensures bound { IfOk result (λ count. count ≤ length piece.now) }
+        ensures bytes { WriteAppends None None result piece.now }
+        ensures none_taken { IfOk result (λ count. count ≡ 0 → 0 < length piece.now → Rose self.old.faults self.new.faults) }
+        ensures same { Unit {0} }
+        ensures counts { Counts self.old.faults self.new.faults result }
+
+        ensures written { IfOk result
+            (λ count. Appends (W.contents self.old.writer) (W.contents self.new.writer) (take count piece.now)) }
+        ensures front { AppendsFront (W.contents self.old.writer) (W.contents self.new.writer) piece.now }
+        ensures counted { self.new.faults ≡ faults_after self.old.faults result }
+    {
         match write_through(&mut self.writer, piece) {
             Ok(count) if count > 0 || piece.is_empty() => Ok(count),
             _ => Err(self.faults.raise()),
@@ -59,8 +75,11 @@ impl<W: io::Write> Sink for WriterSink<W> {
     }
 }
 
-fn write_through<W: io::Write>(writer: &mut W, piece: &[u8]) -> io::Result<usize>
-    ensures { IfOk result (λ count. count ≤ length piece.now) }
+/// Writes what the writer takes of the piece, and flushes it.
+pub(crate) fn write_through<W: io::Write>(writer: &mut W, piece: &[u8]) -> io::Result<usize>
+    ensures bound { IfOk result (λ count. count ≤ length piece.now) }
+    ensures bytes { IfOk result (λ count. Appends (W.contents writer.old) (W.contents writer.new) (take count piece.now)) }
+    ensures front { AppendsFront (W.contents writer.old) (W.contents writer.new) piece.now }
 {
     let count = writer.write(piece)?;
     writer.flush()?;

@@ -8,9 +8,13 @@ use std::process::ExitCode;
 use std::rt::Env;
 use std::{env, io};
 
+/// As many words as no command has, and as the engine does not take.
+const TOO_MANY_WORDS: usize = 4294967295;
+
 fn main(rt: HostRuntime) -> ExitCode {
     let words = match words_of(&rt) {
-        Ok(words) => words,
+        Ok(words) if words.len() < TOO_MANY_WORDS => words,
+        Ok(_) => return ExitCode::from(Status::Usage(UsageFault::Line).number()),
         Err(status) => return ExitCode::from(status.number()),
     };
     let mut files = HostFiles::new(rt.alloc(), &rt);

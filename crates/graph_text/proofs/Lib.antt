@@ -7,3 +7,9 @@ pub mod FirstFaults
 pub mod RowLaws
 pub mod VertexTexts
 pub mod EdgeTexts
+pub mod Strides
+pub mod MadeTexts
+pub mod MadeLines
+pub mod MadeVertices
+pub mod MadeEdges
+pub mod MadeGraphs

@@ -12,3 +12,5 @@ pub mod Ids
 pub mod RowRules
 pub mod Answers
 pub mod EdgeAnswers
+pub mod Making
+pub mod Writes

@@ -3,7 +3,7 @@ ghost use Rattle.std.specs.Prelude.{◌≡◌, ◌≤◌, ◌*◌, Err, IfOk, Ma
 ghost use Rattle.gl_base.specs.declared.jobs.EngineKind.TheVariants.{Locking};
 ghost use Rattle.serde_json.specs.View.{view};
 ghost use Rattle.job_config.specs.Fields.{fields_of, order_of, source_of};
-ghost use Rattle.job_config.specs.Ranges.{HasNumbers};
+ghost use Rattle.job_config.specs.Ranges.{HasNumbers, HasSource};
 ghost use Rattle.job_config.specs.Told.{told_fields};
 ghost use Rattle.job_config.specs.Values.{algorithm_in, engine_in, flag_in, needed, or_default};
 
@@ -62,7 +62,8 @@ fn needed_directed(value: Option<&Value>) -> Result<bool, KeyFault>
 
 /// The source, which levels and paths need.
 fn read_source(algorithm: Algorithm, value: Option<&Value>) -> Result<Option<u64>, KeyFault>
-    ensures { result ≡ source_of algorithm (option_map (λ v. view v.now) value.entry) }
+    ensures value { result ≡ source_of algorithm (option_map (λ v. view v.now) value.entry) }
+    ensures source { IfOk result (HasSource algorithm) }
 {
     match (algorithm, value) {
         (Algorithm::Levels | Algorithm::Paths, None) => Err(KeyFault::Missing(Key::Source)),

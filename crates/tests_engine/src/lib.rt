@@ -2,4 +2,8 @@
 #![tactic(auto)]
 
 #[cfg(test)]
-mod levels;
+mod calls;
+#[cfg(test)]
+mod making;
+#[cfg(test)]
+mod runs;

@@ -1,7 +1,7 @@
 //! The objects in memory.
 use gl_outside::{
-    FileNo, Files, Gate, MemFiles, MemSink, MemSource, OpenFault, OpenGate, PlainSource, Sink,
-    Source, SourceOf,
+    Failed, FileNo, Files, Gate, MemFiles, MemSink, MemSource, OpenFault, OpenGate, PlainSource,
+    Sink, SinkOf, Source, SourceOf, write_all,
 };
 use std::alloc::{AllocError, Global};
 use std::test::Fail;
@@ -66,7 +66,7 @@ fn a_sink_takes_what_fits(rt: HostRuntime) -> Result<(), Fail> {
 #[test]
 fn files_are_known_by_name(rt: HostRuntime) -> Result<(), Fail> {
     let alloc = rt.alloc();
-    let mut files = MemFiles::new(alloc, vec![in alloc; 3, 5]?);
+    let mut files = MemFiles::new(alloc, vec![in alloc; 3, 5]?, Vec::new(alloc));
     assert_eq!(rt; files.put("a", bytes(alloc, "one")?).is_ok(), true);
     assert_eq!(rt; files.put("b", bytes(alloc, "two")?).is_ok(), true);
     assert_eq!(rt; files.open_source("c"), Err(OpenFault::Failed));
@@ -83,6 +83,113 @@ fn files_are_known_by_name(rt: HostRuntime) -> Result<(), Fail> {
     for (name, want) in [("a", Some("three")), ("b", Some("two")), ("c", None)] {
         let held = files.bytes(name);
         assert_eq!(rt; held == want.map(|text| text.as_bytes()), true, "at {name}");
+    }
+    Ok(())
+}
+
+// Opens the file and writes the pieces in turn, and answers how many bytes each call took, `None` for a fault.
+fn written(
+    alloc: Global,
+    files: &mut MemFiles,
+    name: &str,
+    pieces: &[&str],
+) -> Result<Vec<Option<usize>>, Fail> {
+    let mut seen = Vec::new(alloc);
+    let Ok(file) = files.open_sink(name) else {
+        seen.push(None)?;
+        return Ok(seen);
+    };
+    let mut sink = SinkOf::new(files, file);
+    for piece in pieces {
+        seen.push(sink.write(piece.as_bytes()).ok())?;
+    }
+    Ok(seen)
+}
+
+#[test]
+fn files_are_written_by_name(rt: HostRuntime) -> Result<(), Fail> {
+    let alloc = rt.alloc();
+    for (failing, seen, held) in [
+        (0, [Some(2), Some(0), Some(3)].as_slice(), Some("abcde")),
+        (1, [None].as_slice(), Some("old")),
+        (2, [None, Some(0), Some(3)].as_slice(), Some("cde")),
+        (4, [Some(2), Some(0), None].as_slice(), Some("ab")),
+    ] {
+        let mut files = MemFiles::new(alloc, vec![in alloc; 1, 2]?, vec![in alloc; failing]?);
+        assert_eq!(rt; files.put("a", bytes(alloc, "old")?).is_ok(), true);
+        let took = written(alloc, &mut files, "a", &["ab", "", "cde"])?;
+        assert_eq!(rt; took.as_slice(), seen, "with {failing}");
+        let left = files.bytes("a");
+        assert_eq!(rt;
+            left == held.map(|text| text.as_bytes()),
+            true,
+            "with {failing}"
+        );
+        assert_eq!(rt; files.bytes("b").is_none(), true);
+    }
+    Ok(())
+}
+
+#[test]
+fn files_are_written_side_by_side(rt: HostRuntime) -> Result<(), Fail> {
+    let alloc = rt.alloc();
+    let mut files = MemFiles::new(alloc, Vec::new(alloc), Vec::new(alloc));
+    let (Ok(a), Ok(b)) = (files.open_sink("a"), files.open_sink("b")) else {
+        panic!(rt; "the files were opened");
+    };
+    assert_eq!(rt; (a, b), (FileNo(0), FileNo(1)));
+    assert_eq!(rt; files.write(a, b"one"), Ok(3));
+    assert_eq!(rt; files.write(b, b""), Ok(0));
+    for (name, want) in [("a", Some("one")), ("b", Some("")), ("c", None)] {
+        let held = files.bytes(name);
+        assert_eq!(rt; held == want.map(|text| text.as_bytes()), true, "at {name}");
+    }
+    Ok(())
+}
+
+/// A source goes on with what the file had as it was opened.
+#[test]
+fn sources_keep_what_files_had(rt: HostRuntime) -> Result<(), Fail> {
+    let alloc = rt.alloc();
+    let mut files = MemFiles::new(alloc, Vec::new(alloc), Vec::new(alloc));
+    assert_eq!(rt; files.put("a", bytes(alloc, "before")?).is_ok(), true);
+    let (Ok(source), Ok(a)) = (files.open_source("a"), files.open_sink("a")) else {
+        panic!(rt; "the files were opened");
+    };
+    assert_eq!(rt; write_all(&mut SinkOf::new(&mut files, a), b"more"), Ok(()));
+    let mut seen = Vec::new(alloc);
+    read_in_twos(&mut SourceOf::new(&mut files, source), 4, &mut seen)?;
+    assert_eq!(rt; seen.as_slice(), b"be fo re  ".as_slice());
+    assert_eq!(rt; files.bytes("a") == Some(b"more".as_slice()), true);
+    Ok(())
+}
+
+/// A newer file takes the name, and the older one is written on.
+#[test]
+fn newer_files_take_the_name(rt: HostRuntime) -> Result<(), Fail> {
+    let alloc = rt.alloc();
+    let mut files = MemFiles::new(alloc, Vec::new(alloc), Vec::new(alloc));
+    let (Ok(old), Ok(new)) = (files.open_sink("a"), files.open_sink("a")) else {
+        panic!(rt; "the files were opened");
+    };
+    assert_eq!(rt; files.write(old, b"old"), Ok(3));
+    assert_eq!(rt; files.write(new, b"new"), Ok(3));
+    assert_eq!(rt; files.bytes("a") == Some(b"new".as_slice()), true);
+    Ok(())
+}
+
+#[test]
+fn texts_are_written_whole_or_to_a_fault(rt: HostRuntime) -> Result<(), Fail> {
+    let alloc = rt.alloc();
+    for (failing, room, want, held) in [
+        (0, 9, Ok(()), "a text"),
+        (0, 6, Ok(()), "a text"),
+        (0, 3, Err(Failed), "a t"),
+        (1, 9, Err(Failed), ""),
+    ] {
+        let mut sink = MemSink::new(alloc, vec![in alloc; failing]?, room);
+        assert_eq!(rt; write_all(&mut sink, b"a text"), want, "with {room}");
+        assert_eq!(rt; sink.bytes(), held.as_bytes(), "with {room}");
     }
     Ok(())
 }

@@ -29,6 +29,30 @@ fn files_are_read_by_path(rt: HostRuntime) -> Result<(), Fail> {
     Ok(())
 }
 
+#[test]
+fn files_are_written_by_path(rt: HostRuntime) -> Result<(), Fail> {
+    let folder = env::temp_dir(&rt)?;
+    let path = format!(in rt.alloc(); "{}/glab_tests_outside_written.txt", folder.as_str())?;
+    fs::write(
+        &rt,
+        path.as_str(),
+        b"a longer text that stood there".as_slice(),
+    )?;
+    let mut files = HostFiles::new(rt.alloc(), &rt);
+    let Ok(file) = files.open_sink(path.as_str()) else {
+        panic!(rt; "the file was opened");
+    };
+    assert_eq!(rt; file, FileNo(0));
+    assert_eq!(rt; files.write(file, b"one "), Ok(4));
+    assert_eq!(rt; files.write(file, b""), Ok(0));
+    assert_eq!(rt; files.write(file, b"line\n"), Ok(5));
+    let held = fs::read(&rt, path.as_str())?;
+    fs::remove_file(&rt, path.as_str())?;
+    assert_eq!(rt; held.as_slice(), b"one line\n".as_slice());
+    assert_eq!(rt; files.open_sink(folder.as_str()), Err(OpenFault::Failed));
+    Ok(())
+}
+
 // A writer that takes at most so many bytes of a piece, or none and an error, and whose flush may fail.
 #[derive(Drop)]
 struct Fake {

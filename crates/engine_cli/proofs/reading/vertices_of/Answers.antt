@@ -1,14 +1,8 @@
 use Rattle.std.proofs.Common.{rules}
 use Rattle.engine_cli.proofs.reading.vertices_of.Goals as goal
 
-pub returns-in-Ok-read_vertices-clause-names : goal.returns-in-Ok-read_vertices-clause-names
-returns-in-Ok-read_vertices-clause-names g c = (1, search rules)
+pub returns-in_err-read_vertices-clause-names : goal.returns-in_err-read_vertices-clause-names
+returns-in_err-read_vertices-clause-names g c = (1, search rules)
 
-pub returns-in-Err-Text-clause-names : goal.returns-in-Err-Text-clause-names
-returns-in-Err-Text-clause-names g c = (1, search rules)
-
-pub returns-in-Err-ReadFault-clause-names : goal.returns-in-Err-ReadFault-clause-names
-returns-in-Err-ReadFault-clause-names g c = (1, search rules)
-
-pub returns-in-Err-NoMemory-read_vertices-clause-names : goal.returns-in-Err-NoMemory-read_vertices-clause-names
-returns-in-Err-NoMemory-read_vertices-clause-names g c = (1, search rules)
+pub returns-clause-names : goal.returns-clause-names
+returns-clause-names g c = (1, search rules)

@@ -1,34 +1,32 @@
-use Rattle.std.proofs.Common.{subst}
-use Rattle.engine_cli.specs.Words.{Asked, texts}
-use Rattle.engine_cli.specs.Says.{Says, moment}
-use Rattle.engine_cli.specs.RunWords.{asked_by}
-use Rattle.engine_cli.proofs.OneGraph.{one_run, sound_is_done}
-use Rattle.engine_cli.proofs.top.engine.Goals.{in-Some, in-None}
+use Rattle.job_words.specs.Tokens.{texts}
+use Rattle.job_words.specs.declared.words.Words.TheVariants.{Run, Make}
+use Rattle.engine_cli.specs.Notes.{Tells}
+use Rattle.engine_cli.specs.Says.{moment}
+use Rattle.engine_cli.proofs.OneCommand.{one_command}
+use Rattle.engine_cli.proofs.OneGraph.{sound_is_done}
 use Rattle.engine_cli.proofs.top.engine.Goals as goal
 
-pub returns-clause-run : goal.returns-clause-run
-returns-clause-run g c asked run =
-    elim c.match-read_run.branch [
-      | in-Some w ↦
-          let same = one_run (texts c.args.words.now) (asked_by w.in-Some.run') asked w.in-Some.ensures.run run in
-          let P : Asked → Type 0 = λ a. Says (g.F.Files.given c.args.files.now) a
-          (moment (g.F.Files.reads c.args.files.now) (g.K.Sink.faults c.args.out.now) (g.K.Sink.held c.args.out.now))
-          (moment (g.F.Files.reads w.run_levels-status.new.files) (g.K.Sink.faults w.run_levels-status.new.out) (g.K.Sink.held w.run_levels-status.new.out))
-          w.run_levels-status.result in
-          rw (w.files-is, w.out-is, w.status-is) (subst P same w.run_levels-status.ensures.says)
-      | in-None w ↦ absurd (w.in-None.ensures.none asked run)
-    ]
-
-pub returns-clause-usage : goal.returns-clause-usage
-returns-clause-usage g c none =
-    elim c.match-read_run.branch [
-      | in-Some w ↦ absurd (none (asked_by w.in-Some.run') w.in-Some.ensures.run)
-      | in-None w ↦ (w.status-is, w.files-is)
-    ]
-
-pub returns-clause-complete : goal.returns-clause-complete
-returns-clause-complete g c asked run sound =
-    sound_is_done (g.F.Files.given c.args.files.now) asked
+pub returns-in-Ok-clause-complete : goal.returns-in-Ok-clause-complete
+returns-in-Ok-clause-complete g c file report is sound =
+    sound_is_done (g.F.Files.given c.args.files.now) file report
     (moment (g.F.Files.reads c.args.files.now) (g.K.Sink.faults c.args.out.now) (g.K.Sink.held c.args.out.now))
-    (moment (g.F.Files.reads c.match-read_run.files) (g.K.Sink.faults c.match-read_run.out) (g.K.Sink.held c.match-read_run.out))
-    c.match-read_run.status (returns-clause-run g c asked run) sound
+    (moment (g.F.Files.reads c.do_command.new.files) (g.K.Sink.faults c.do_command.new.out) (g.K.Sink.held c.do_command.new.out))
+    (λ told. Tells told (g.N.Sink.held c.args.note.now) (g.N.Sink.held c.do_command.new.note) (g.N.Sink.faults c.args.note.now) (g.N.Sink.faults c.do_command.new.note))
+    c.do_command.result.order.items c.do_command.result.status
+    (c.do_command.ensures.run file report (one_command (texts c.args.words.now) c.in-Ok.asked (Run file report) c.in-Ok.ensures.asked is)) sound
+
+pub returns-in-Ok-clause-names : goal.returns-in-Ok-clause-names
+returns-in-Ok-clause-names g c file report is =
+    c.do_command.ensures.names file report (one_command (texts c.args.words.now) c.in-Ok.asked (Run file report) c.in-Ok.ensures.asked is)
+
+pub returns-in-Ok-clause-given : goal.returns-in-Ok-clause-given
+returns-in-Ok-clause-given g c file report is name =
+    c.do_command.ensures.given file report (one_command (texts c.args.words.now) c.in-Ok.asked (Run file report) c.in-Ok.ensures.asked is) name
+
+pub returns-in-Ok-clause-made_alone : goal.returns-in-Ok-clause-made_alone
+returns-in-Ok-clause-made_alone g c prefix plan is name first second =
+    c.do_command.ensures.made_alone prefix plan (one_command (texts c.args.words.now) c.in-Ok.asked (Make prefix plan) c.in-Ok.ensures.asked is) name first second
+
+pub returns-in-Ok-clause-made_fronts : goal.returns-in-Ok-clause-made_fronts
+returns-in-Ok-clause-made_fronts g c prefix plan is text =
+    c.do_command.ensures.made_fronts prefix plan (one_command (texts c.args.words.now) c.in-Ok.asked (Make prefix plan) c.in-Ok.ensures.asked is) text

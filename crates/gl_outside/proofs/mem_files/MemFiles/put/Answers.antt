@@ -21,4 +21,4 @@ returns-clause-opened c =
     let file : NamedBytes = record { name = c.in_ok-name.name; bytes = c.args.bytes.items } in
     let grown : c.push.new.self.items ≡ c.self.inside.files.items ++ file ∷ [] = search rules in
     rw grown
-    (map-left_in-append c.self.inside.files.items (file ∷ []) c.self.inside.opened.items c.self.invariant ∙ ap (λ (s : StoreState). s.opened) c.self.view_is)
+    (map-left_in-append c.self.inside.files.items (file ∷ []) c.self.inside.opened.items c.self.invariant.0 ∙ ap (λ (s : StoreState). s.opened) c.self.view_is)

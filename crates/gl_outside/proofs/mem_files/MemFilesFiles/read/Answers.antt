@@ -2,6 +2,7 @@ use Rattle.std.proofs.Common.{◌≡◌, Some, slice_get, slice_set, ap, sym, �
 use Rattle.gl_outside.specs.Store.{StoreState}
 use Rattle.gl_outside.specs.OpenFiles.{left_in}
 use Rattle.gl_outside.proofs.StoredFiles.{slice_get-map_read, slice_get-map_set, reads_next, reads_only, map-slice_set, open_inside}
+use Rattle.gl_outside.proofs.Sinks.{keeps_sinks}
 use Rattle.gl_outside.proofs.mem_files.MemFilesFiles.read.Goals as goal
 
 pub returns-clause-bytes : goal.returns-clause-bytes
@@ -31,3 +32,8 @@ returns-clause-all c =
     let old : slice_get c.args.self.now.opened c.args.file.0 ≡ Some (left_in files c.index.result.now) =
     ap (λ (s : StoreState). slice_get s.opened c.args.file.0) (sym c.self.view_is) ∙ slice_get-map_read (left_in files) opened c.args.file.0 c.index.result.now inside c.index.ensures in
     rw old (search rules)
+
+pub returns-clause-sinks : goal.returns-clause-sinks
+returns-clause-sinks c =
+    keeps_sinks _ _ (ap (λ (s : StoreState). s.files) c.self.view_is) (ap (λ (s : StoreState). s.sinks) c.self.view_is)
+    (ap (λ (s : StoreState). s.made) c.self.view_is) (ap (λ (s : StoreState). s.writes) c.self.view_is)

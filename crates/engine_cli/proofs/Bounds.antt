@@ -1,0 +1,50 @@
+-- No run makes more updates than the step bound.
+use Rattle.std.proofs.Common.{◌≡◌, ◌≤◌, ◌+◌, ℕ, suc, true, List, [], ◌∷◌, ◌++◌, length, Option, refl, sym, ap, ◌∙◌, subst, arith}
+use Rattle.gl_base.specs.declared.entries.Entry.{Entry}
+use Rattle.gl_base.specs.declared.entries.Entry.TheVariants.{Go}
+use Rattle.gl_base.specs.declared.jobs.Algorithm.{Algorithm}
+use Rattle.gl_base.specs.declared.jobs.Algorithm.TheVariants.{Levels, Components, Paths, Colours}
+use Rattle.gl_base.specs.declared.numbers.Vertex.{Vertex}
+use Rattle.graph_core.specs.DataGraph.{DataGraph, IsDataGraph}
+use Rattle.seq_run.specs.Orders.{IsValidOrder, all_tasks, tasks_after}
+use Rattle.seq_run.specs.Runs.{IsUpdates, updates}
+use Rattle.seq_run.specs.States.{start_state}
+use Rattle.seq_run.specs.StepBound.{step_bound, updates_from, updates_since_restart}
+use Rattle.seq_run.proofs.GoingOn.{updates_from-push, valid_append}
+use Rattle.seq_run.proofs.StepBounds.{levels_bound, components_bound, paths_bound, colours_bound}
+use Rattle.update_api.specs.Updates.{Update, update_of_levels, update_of_paths}
+use Rattle.engine_cli.specs.Plays.{HasStart, update_of}
+use Rattle.engine_cli.proofs.Results.{named}
+
+-- the update of a task may come next
+pub one-more : (g : DataGraph) (p : Update) (order : List Entry) (left : Vertex) → IsValidOrder g p order → tasks_after g p order left.0 ≡ true
+    → IsValidOrder g p (order ++ Go 0 (record { 0 = 0 }) left ∷ [])
+one-more g p order left valid task =
+    valid_append g p (start_state g p) (all_tasks g) order (Go 0 (record { 0 = 0 }) left ∷ []) valid (task, tt)
+
+counted : (count ticket : ℕ) (vertices : List ℕ) → updates_from count (updates ticket vertices) ≡ count + length vertices
+counted count ticket [] = omega arith
+counted count ticket (v ∷ vs) = let rest = counted (count + 1) (suc ticket) vs in omega (arith, rest)
+
+length-updates : (ticket : ℕ) (vertices : List ℕ) → length (updates ticket vertices) ≡ length vertices
+length-updates ticket [] = refl
+length-updates ticket (v ∷ vs) = ap (λ n. suc n) (length-updates (suc ticket) vs)
+
+-- one update more behind updates alone
+pub since-one-more : (order : List Entry) (left : Vertex) → IsUpdates order
+    → updates_since_restart (order ++ Go 0 (record { 0 = 0 }) left ∷ []) ≡ length order + 1
+since-one-more order left made =
+    let count = counted 0 0 made.0 in
+    let before : updates_from 0 order ≡ length made.0 = ap (updates_from 0) made.1 ∙ omega (arith, count) in
+    let long : length order ≡ length made.0 = ap (λ (o : List Entry). length o) made.1 ∙ length-updates 0 made.0 in
+    updates_from-push 0 order 0 (record { 0 = 0 }) left ∙ ap (λ n. n + 1) (before ∙ sym long)
+
+-- the step bound of an algorithm
+pub bound-of : (algorithm : Algorithm) (source : Option ℕ) (g : DataGraph) (order : List Entry) → IsDataGraph g → HasStart algorithm source g
+    → IsValidOrder g (update_of algorithm source) order → updates_since_restart order ≤ step_bound g algorithm
+bound-of Levels source g order is start valid =
+    levels_bound g is start.0 start.3.inside order (subst (λ (p : Update). IsValidOrder g p order) (named update_of_levels g source start.0 start.1 start.2 start.3) valid)
+bound-of Components source g order is start valid = components_bound g is order valid
+bound-of Paths source g order is start valid =
+    paths_bound g is start.0 start.3.inside order (subst (λ (p : Update). IsValidOrder g p order) (named update_of_paths g source start.0 start.1 start.2 start.3) valid)
+bound-of Colours source g order is start valid = colours_bound g is order valid

@@ -1,0 +1,102 @@
+-- The plan of a command line is in its ranges.
+use Rattle.std.proofs.Common.{◌≡◌, ◌≤◌, ◌<◌, ◌^◌, ℕ, Bool, true, false, nat_lt, List, Option, None, Some, IfSome, Result, Ok, Err, cond, refl, subst, arith}
+use Rattle.std.specs.Option.{option_map_or}
+use Rattle.std.specs.Str.{bytes_eq}
+use Rattle.std.specs.Prelude.{codes}
+use Rattle.std.proofs.lemmas.Bool.{ltb-false}
+use Rattle.gl_base.specs.declared.jobs.MakePlan.{MakePlan}
+use Rattle.gl_base.specs.declared.limits.TheConstants.{MAX_VERTICES}
+use Rattle.gl_base.specs.declared.usage_faults.Opt.TheVariants as opt
+use Rattle.gl_base.specs.declared.usage_faults.UsageFault.{UsageFault}
+use Rattle.gl_base.specs.declared.usage_faults.UsageFault.TheVariants as fault
+use Rattle.graph_text.specs.Making.{IsInRanges}
+use Rattle.job_words.specs.CommandLine.{command_line_of, formed_means, line_means}
+use Rattle.job_words.specs.Lines.{Sayings, line_of}
+use Rattle.job_words.specs.Meanings.{and_next, has_option, in_ranges, made, meaning_of, most_edges, number_of, plan_of, weight_of}
+use Rattle.job_words.specs.Tokens.{Text, tokens_of, unformed}
+use Rattle.job_words.specs.declared.words.Words.TheVariants.{Run, Make}
+
+no_fault_ok : {X : Type 0} → {f : UsageFault} → {x : X} → Err f ≡ Ok x → ⊥
+no_fault_ok e = cc
+
+same_ok : {X : Type 0} → {x y : X} → (let r : Result X UsageFault = Ok x in r) ≡ Ok y → x ≡ y
+same_ok e = cc
+
+-- a step that came to an end had a value
+next-ok : {A B : Type 0} (r : Result A UsageFault) (next : A → Result B UsageFault) (y : B) → and_next r next ≡ Ok y → (x : A) × (next x ≡ Ok y)
+next-ok (Ok x) next y e = (x, e)
+next-ok (Err f) next y e = absurd (no_fault_ok e)
+
+weight-small : (weight : Option ℕ) → option_map_or (nat_lt 4294967295) weight false ≡ false → IfSome weight (λ most. most < 2 ^ 32)
+weight-small None e = tt
+weight-small (Some most) e = let small : most ≤ 4294967295 = ltb-false 4294967295 most e in omega (arith, small)
+
+-- numbers that pass the tests are in their ranges
+in-ranges : (number vertices edges : ℕ) (weight : Option ℕ) (plan : MakePlan) → in_ranges number vertices edges weight ≡ Ok plan → IsInRanges plan
+in-ranges number vertices edges weight plan e =
+    by_tests (nat_lt 4294967295 number) (nat_lt MAX_VERTICES vertices) (nat_lt (most_edges vertices) edges) (option_map_or (nat_lt 4294967295) weight false)
+    refl refl refl refl e
+  where
+    given : MakePlan
+    given = record { number = number; vertices = vertices; edges = edges; weight = weight }
+
+    by_tests : (a b c d : Bool) → nat_lt 4294967295 number ≡ a → nat_lt MAX_VERTICES vertices ≡ b → nat_lt (most_edges vertices) edges ≡ c
+        → option_map_or (nat_lt 4294967295) weight false ≡ d
+        → cond a (Err (fault.Range opt.Number)) (cond b (Err (fault.Range opt.Vertices)) (cond c (Err (fault.Range opt.Edges)) (cond d (Err (fault.Range opt.Weight)) (Ok given)))) ≡ Ok plan
+        → IsInRanges plan
+    by_tests true b c d p q r s e = absurd (no_fault_ok e)
+    by_tests false true c d p q r s e = absurd (no_fault_ok e)
+    by_tests false false true d p q r s e = absurd (no_fault_ok e)
+    by_tests false false false true p q r s e = absurd (no_fault_ok e)
+    by_tests false false false false p q r s e =
+        let small : number ≤ 4294967295 = ltb-false 4294967295 number p in
+        let few : edges ≤ most_edges vertices = ltb-false (most_edges vertices) edges r in
+        let ranges : IsInRanges given = record {
+          number = omega (arith, small);
+          vertices = ltb-false MAX_VERTICES vertices q;
+          edges = omega (arith, few);
+          offsets = omega (arith, few);
+          weight = weight-small weight s;
+        } in
+        subst IsInRanges (same_ok e) ranges
+
+plan-in-ranges : (number vertices edges weight : Option Text) (plan : MakePlan) → plan_of number vertices edges weight ≡ Ok plan → IsInRanges plan
+plan-in-ranges (Some number) (Some vertices) (Some edges) weight plan e =
+    let n = next-ok (number_of opt.Number number) _ plan e in
+    let v = next-ok (number_of opt.Vertices vertices) _ plan n.1 in
+    let m = next-ok (number_of opt.Edges edges) _ plan v.1 in
+    let w = next-ok (weight_of weight) _ plan m.1 in
+    in-ranges n.0 v.0 m.0 w.0 plan w.1
+plan-in-ranges None vertices edges weight plan e = absurd (no_fault_ok e)
+plan-in-ranges (Some number) None edges weight plan e = absurd (no_fault_ok e)
+plan-in-ranges (Some number) (Some vertices) None weight plan e = absurd (no_fault_ok e)
+
+made-in-ranges : (prefix name : Text) (r : Result MakePlan UsageFault) (plan : MakePlan) → made prefix r ≡ Ok (Make name plan) → r ≡ Ok plan
+made-in-ranges prefix name (Ok given) plan e = cc
+made-in-ranges prefix name (Err f) plan e = absurd (no_fault_ok e)
+
+meaning-in-ranges : (s : Sayings) (name : Text) (plan : MakePlan) → meaning_of s ≡ Ok (Make name plan) → IsInRanges plan
+meaning-in-ranges s name plan e = by_tests (bytes_eq s.verb (codes "run")) (bytes_eq s.verb (codes "make")) (has_option s) s.report e
+  where
+    by_tests : (a b c d : Bool)
+        → cond a (cond c (Err fault.NotHere) (Ok (Run s.file s.report)))
+        (cond b (cond d (Err fault.NotHere) (made s.file (plan_of s.number s.vertices s.edges s.weight))) (Err fault.Verb)) ≡ Ok (Make name plan)
+        → IsInRanges plan
+    by_tests true b true d e = absurd (no_fault_ok e)
+    by_tests true b false d e = absurd cc
+    by_tests false true c true e = absurd (no_fault_ok e)
+    by_tests false true c false e =
+        plan-in-ranges s.number s.vertices s.edges s.weight plan (made-in-ranges s.file name (plan_of s.number s.vertices s.edges s.weight) plan e)
+    by_tests false false c d e = absurd (no_fault_ok e)
+
+-- the plan of a command line is in its ranges
+pub asked-in-ranges : (words : List Text) (name : Text) (plan : MakePlan) → command_line_of words ≡ Ok (Make name plan) → IsInRanges plan
+asked-in-ranges words name plan e = formed (unformed words) e
+  where
+    lined : (l : Option Sayings) → line_means l ≡ Ok (Make name plan) → IsInRanges plan
+    lined None e = absurd (no_fault_ok e)
+    lined (Some s) e = meaning-in-ranges s name plan e
+
+    formed : (place : Option ℕ) → formed_means place words ≡ Ok (Make name plan) → IsInRanges plan
+    formed None e = lined (line_of (tokens_of words)) e
+    formed (Some place) e = absurd (no_fault_ok e)

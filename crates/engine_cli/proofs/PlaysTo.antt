@@ -1,0 +1,57 @@
+-- What a run of a program comes to.
+use Rattle.std.proofs.Common.{◌≡◌, ◌≤◌, ◌<◌, ℕ, suc, true, List, [], ◌∷◌, ◌++◌, length, Option, None, Some, IfSome, refl, sym, ap, ◌∙◌, subst, arith}
+use Rattle.std.specs.Prelude.{MatchOption}
+use Rattle.gl_base.specs.declared.entries.Entry.{Entry}
+use Rattle.gl_base.specs.declared.numbers.Vertex.{Vertex}
+use Rattle.graph_core.specs.DataGraph.{DataGraph, size}
+use Rattle.seq_run.specs.Orders.{IsFinished, IsValidOrder, replay}
+use Rattle.seq_run.specs.Runs.{AreNumbers, HasNoTask, IsUpdates, RunView, WentOn, tasks_left, updates}
+use Rattle.update_api.specs.Updates.{Update}
+use Rattle.engine_cli.specs.Plays.{IsSpent, RunsTo}
+
+length-updates : (ticket : ℕ) (vertices : List ℕ) → length (updates ticket vertices) ≡ length vertices
+length-updates ticket [] = refl
+length-updates ticket (v ∷ vs) = ap (λ n. suc n) (length-updates (suc ticket) vs)
+
+module _ {P : Type 0} (meaning : P → Update) where
+  -- a run from the start has an entry for each step
+  length-order : (start run : RunView P) (steps : ℕ) → start.order ≡ [] → WentOn start run steps → length run.order ≡ steps
+  length-order start run steps none went =
+      ap (λ (r : RunView P). length r.order) went.2
+      ∙ ap (λ (order : List Entry). length (order ++ updates (length order) went.0)) none
+      ∙ length-updates 0 went.0 ∙ went.1
+
+  -- a vertex that waits when the budget is spent
+  pub spent-left : (start run : RunView P) (budget : ℕ) (left : Option Vertex) → start.order ≡ [] → WentOn start run budget
+      → IfSome left (λ v. v.0 < size run.graph) → MatchOption left (HasNoTask meaning run) (λ v. tasks_left meaning run v.0 ≡ true)
+      → MatchOption left (IsFinished run.graph (meaning run.program) run.order) (IsSpent run.graph (meaning run.program) budget run.order)
+  spent-left start run budget None none went inside task = task
+  spent-left start run budget (Some v) none went inside task =
+      record { spent = length-order start run budget none went; inside = inside; task = task }
+
+  abbrev Claim : DataGraph → P → ℕ → List Entry → List ℕ → Option Vertex → Type 0
+  Claim g program budget order values left =
+      IsValidOrder g (meaning program) order → IsUpdates order → AreNumbers (size g) (replay g (meaning program) order).vertex values
+      → MatchOption left (IsFinished g (meaning program) order) (IsSpent g (meaning program) budget order) → length order ≤ budget
+      → RunsTo g (meaning program) budget order values left
+
+  claimed : (g : DataGraph) (program : P) (budget : ℕ) (order : List Entry) (values : List ℕ) (left : Option Vertex) → Claim g program budget order values left
+  claimed g program budget order values left valid made numbers ended few =
+      record { play = record { valid = valid; updates = made; numbers_are = numbers }; few = few; ended = ended }
+
+  -- a run from the start that went on for as many steps as the budget has at most
+  pub plays-to : (start run : RunView P) (g : DataGraph) (program : P) (budget : ℕ) (order : List Entry) (values : List ℕ) (left : Option Vertex)
+      → start.graph ≡ g → start.program ≡ program → start.order ≡ [] → ((steps : ℕ) × (steps ≤ budget) × WentOn start run steps) → order ≡ run.order
+      → IsValidOrder run.graph (meaning run.program) run.order → IsUpdates run.order
+      → AreNumbers (size run.graph) (replay run.graph (meaning run.program) run.order).vertex values
+      → MatchOption left (IsFinished run.graph (meaning run.program) run.order) (IsSpent run.graph (meaning run.program) budget run.order)
+      → RunsTo g (meaning program) budget order values left
+  plays-to start run g program budget order values left graph_is program_is none went order_is valid made numbers ended =
+      let few : length run.order ≤ budget = omega (arith, length-order start run went.0 none went.2, went.1) in
+      let same_graph : run.graph ≡ g = ap (λ (r : RunView P). r.graph) went.2.2 ∙ graph_is in
+      let same_program : run.program ≡ program = ap (λ (r : RunView P). r.program) went.2.2 ∙ program_is in
+      let there : RunsTo run.graph (meaning run.program) budget run.order values left =
+      claimed run.graph run.program budget run.order values left valid made numbers ended few in
+      subst (λ (o : List Entry). RunsTo g (meaning program) budget o values left) (sym order_is)
+      (subst (λ (p : P). RunsTo g (meaning p) budget run.order values left) same_program
+      (subst (λ (x : DataGraph). RunsTo x (meaning run.program) budget run.order values left) same_graph there))

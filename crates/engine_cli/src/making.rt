@@ -1,0 +1,149 @@
+//! The verbs that do their work on files alone: `make` writes a graph.
+ghost use Rattle.std.specs.Prelude.{◌≡◌, ◌≢◌, ◌++◌, ℕ, ◌≤◌, [], ◌∷◌, List, IfOk, IfErr, IfSome, OnOk, string_bytes};
+ghost use Rattle.std.specs.Io.KnownBytes.{Appends};
+ghost use Rattle.gl_base.specs.declared.jobs.MakePlan.{MakePlan};
+ghost use Rattle.gl_base.specs.declared.text_faults.TextFile.TheVariants.{Vertices, Edges};
+ghost use Rattle.gl_outside.specs.declared.files.OpenFault.TheVariants.{Failed, NoMemory as NoMemoryAtOpen};
+ghost use Rattle.gl_outside.specs.Frames.{KeepsSources};
+ghost use Rattle.gl_outside.specs.Names.{AppendsNames};
+ghost use Rattle.graph_text.specs.Making.{IsInRanges};
+ghost use Rattle.job_words.specs.declared.words.Words.TheVariants.{Make};
+ghost use Rattle.engine_cli.specs.declared.status.Status.TheVariants.{Done, WriteFault, NoMemory as NoMemoryStatus};
+ghost use Rattle.engine_cli.specs.Status.{IsRefused};
+ghost use Rattle.engine_cli.specs.Found.{HandsOver};
+ghost use Rattle.engine_cli.specs.Made.{Gives, IsAsked, IsFault, IsMade, IsMadeFront, IsOfFiles, LeavesFront, LeavesFronts, Makes, edges_name, ending_of, vertices_name};
+ghost use Rattle.engine_cli.specs.Notes.{Tells, note_of};
+
+use crate::Status;
+use crate::notes::refuse;
+use gl_base::{MakePlan, NoMemory, TextFile, UsageFault};
+use gl_outside::{Files, OpenFault, Sink, SinkOf};
+use graph_text::{make_edges, make_vertices};
+use job_words::Words;
+use std::alloc::Global;
+
+/// Does what a command line asks whose verb is not `run`, as `engine` does it, and writes nothing to `out`. `make`
+/// writes the vertex text and the edge text of the plan's graph to the files PREFIX.v and PREFIX.e. Where it is refused
+/// each of these files is what it was, or holds a front of its text.
+pub fn files_only<F: Files, K: Sink, N: Sink>(
+    alloc: Global,
+    words: &Words,
+    files: &mut F,
+    out: &mut K,
+    note: &mut N,
+) -> Status
+    requires asked { IsAsked words.now }
+    requires verb { IsOfFiles words.now }
+    ensures make { (prefix : List ℕ) (plan : MakePlan) → words.now ≡ Make prefix plan →
+        Makes plan prefix (F.made files.old) (F.given files.new) (F.writes files.old) (F.writes files.new) result }
+    ensures fronts { (prefix : List ℕ) (plan : MakePlan) → words.now ≡ Make prefix plan →
+        LeavesFronts plan prefix (F.made files.old) (F.given files.old) (F.given files.new) }
+    ensures made_names { (prefix : List ℕ) (plan : MakePlan) → words.now ≡ Make prefix plan →
+        HandsOver (F.made files.old) (F.made files.new) (vertices_name prefix ∷ edges_name prefix ∷ []) }
+    ensures made_alone { (prefix : List ℕ) (plan : MakePlan) → words.now ≡ Make prefix plan →
+        (name : List ℕ) → name ≢ vertices_name prefix → name ≢ edges_name prefix → F.given files.new name ≡ F.given files.old name }
+    ensures sources { KeepsSources F.reads F.handed F.is_source F.left files.old files.new }
+    ensures untouched { out.new ≡ out.old }
+    ensures note { IsRefused result → Tells (note_of result) (N.held note.old) (N.held note.new) (N.faults note.old) (N.faults note.new) }
+    ensures done { result ≡ Done → note.new ≡ note.old }
+    ensures notes { N.faults note.old ≤ N.faults note.new }
+    ensures same_note { N.same note.old note.new }
+{
+    match words {
+        Words::Run { .. } => refuse(note, Status::Usage(UsageFault::Verb)),
+        Words::Make { prefix, plan } => match make_files(alloc, files, prefix.as_str(), plan) {
+            Ok(()) => Status::Done,
+            Err(status) => refuse(note, status),
+        },
+    }
+}
+
+/// Writes both texts of the plan's graph.
+fn make_files<F: Files>(
+    alloc: Global,
+    files: &mut F,
+    prefix: &str,
+    plan: &MakePlan,
+) -> Result<(), Status>
+    requires { IsInRanges plan.now }
+    ensures vertices { OnOk result (IfSome (F.made files.old) (λ told. Gives (F.given files.new (vertices_name prefix.now)) (IsMade plan.now Vertices))) }
+    ensures edges { OnOk result (IfSome (F.made files.old) (λ told. Gives (F.given files.new (edges_name prefix.now)) (IsMade plan.now Edges))) }
+    ensures fronts { LeavesFronts plan.now prefix.now (F.made files.old) (F.given files.old) (F.given files.new) }
+    ensures fault { IfErr result (λ status. IsFault status (F.writes files.old) (F.writes files.new)) }
+    ensures names { HandsOver (F.made files.old) (F.made files.new) (vertices_name prefix.now ∷ edges_name prefix.now ∷ []) }
+    ensures others { (name : List ℕ) → name ≢ vertices_name prefix.now → name ≢ edges_name prefix.now → F.given files.new name ≡ F.given files.old name }
+    ensures sources { KeepsSources F.reads F.handed F.is_source F.left files.old files.new }
+{
+    make_file(alloc, files, prefix, TextFile::Vertices, plan)?;
+    make_file(alloc, files, prefix, TextFile::Edges, plan)
+}
+
+/// Writes one text of the plan's graph to the file of its name.
+fn make_file<F: Files>(
+    alloc: Global,
+    files: &mut F,
+    prefix: &str,
+    text: TextFile,
+    plan: &MakePlan,
+) -> Result<(), Status>
+    requires { IsInRanges plan.now }
+    ensures made { OnOk result (IfSome (F.made files.old) (λ told. Gives (F.given files.new (prefix.now ++ ending_of text)) (IsMade plan.now text))) }
+    ensures front { LeavesFront plan.now text (F.made files.old) (F.given files.old (prefix.now ++ ending_of text)) (F.given files.new (prefix.now ++ ending_of text)) }
+    ensures fault { IfErr result (λ status. IsFault status (F.writes files.old) (F.writes files.new)) }
+    ensures names { HandsOver (F.made files.old) (F.made files.new) ((prefix.now ++ ending_of text) ∷ []) }
+    ensures handed { OnOk result (AppendsNames (F.made files.old) (F.made files.new) ((prefix.now ++ ending_of text) ∷ [])) }
+    ensures others { (name : List ℕ) → name ≢ prefix.now ++ ending_of text → F.given files.new name ≡ F.given files.old name }
+    ensures later { F.writes files.old ≤ F.writes files.new }
+    ensures sources { KeepsSources F.reads F.handed F.is_source F.left files.old files.new }
+{
+    let name = file_name(alloc, prefix, text)?;
+    let file = match files.open_sink(name.as_str()) {
+        Ok(file) => file,
+        Err(fault) => return Err(not_made(fault)),
+    };
+    write_text(alloc, &mut SinkOf::new(files, file), text, plan)
+}
+
+/// Writes one text of the plan's graph.
+fn write_text<K: Sink>(
+    alloc: Global,
+    sink: &mut K,
+    text: TextFile,
+    plan: &MakePlan,
+) -> Result<(), Status>
+    requires { IsInRanges plan.now }
+    ensures made { OnOk result ((bytes : List ℕ) × IsMade plan.now text bytes × Appends (K.held sink.old) (K.held sink.new) bytes) }
+    ensures front { (bytes : List ℕ) × IsMadeFront plan.now text bytes × Appends (K.held sink.old) (K.held sink.new) bytes }
+    ensures fault { IfErr result (λ status. IsFault status (K.faults sink.old) (K.faults sink.new)) }
+    ensures later { K.faults sink.old ≤ K.faults sink.new }
+    ensures same { K.same sink.old sink.new }
+{
+    match text {
+        TextFile::Vertices => make_vertices(alloc, sink, plan)?,
+        TextFile::Edges => make_edges(alloc, sink, plan)?,
+    }
+    Ok(())
+}
+
+/// The name of one text's file.
+fn file_name(alloc: Global, prefix: &str, text: TextFile) -> Result<String, NoMemory>
+    ensures { IfOk result (λ name. string_bytes name ≡ prefix.now ++ ending_of text) }
+{
+    let mut name = String::from_str(alloc, prefix)?;
+    match text {
+        TextFile::Vertices => name.push_str(".v")?,
+        TextFile::Edges => name.push_str(".e")?,
+    }
+    Ok(name)
+}
+
+/// What a call ends with whose file was not opened for writing.
+fn not_made(fault: OpenFault) -> Status
+    ensures failed { fault ≡ Failed → result ≡ WriteFault }
+    ensures no_memory { fault ≡ NoMemoryAtOpen → result ≡ NoMemoryStatus }
+{
+    match fault {
+        OpenFault::Failed => Status::WriteFault,
+        OpenFault::NoMemory => Status::NoMemory,
+    }
+}

@@ -1,0 +1,184 @@
+//! Tells on standard error why a call was refused.
+ghost use Rattle.std.specs.Prelude.{◌≡◌, ◌≤◌, [], ◌∷◌, codes, map};
+ghost use Rattle.gl_base.specs.declared.job_faults.JobFault.TheVariants.{OutOfRange};
+ghost use Rattle.engine_cli.specs.Notes.{Tells, file_name, graph_note, job_note, key_name, kind_name, note_of};
+ghost use Rattle.engine_cli.specs.Writes.{WritesAll, joined};
+
+use crate::Status;
+use gl_base::{JobFault, Key, TextFault, TextFile, TextKind};
+use gl_outside::{Failed, Sink, write_all};
+use itoa::Buffer;
+
+/// The verbs and their words.
+const USAGE: &str =
+    "usage: glab run|resume|init|cut JOB\nusage: glab make PREFIX --number N --vertices N --edges N [--weight N]\n";
+
+/// Tells why a call was refused, and hands on the status. A fault of `note` is passed over.
+pub fn refuse<N: Sink>(note: &mut N, status: Status) -> Status
+    ensures status { result ≡ status }
+    ensures told { Tells (note_of result) (N.held note.old) (N.held note.new) (N.faults note.old) (N.faults note.new) }
+    ensures later { N.faults note.old ≤ N.faults note.new }
+    ensures same { N.same note.old note.new }
+{
+    let _ = tell(note, &status);
+    status
+}
+
+/// Writes one line for the status, and nothing for `Done`.
+fn tell<N: Sink>(note: &mut N, status: &Status) -> Result<(), Failed>
+    ensures told { WritesAll result (note_of status.now) (N.held note.old) (N.held note.new) (N.faults note.old) (N.faults note.new) }
+    ensures later { N.faults note.old ≤ N.faults note.new }
+    ensures same { N.same note.old note.new }
+{
+    match status {
+        Status::Done => Ok(()),
+        Status::Usage(_) => write_text(note, USAGE),
+        Status::BadJob(fault) => tell_job(note, fault),
+        Status::BadGraph(fault) => tell_graph(note, *fault),
+        Status::ReadFault => write_text(note, "read fault\n"),
+        Status::WriteFault => write_text(note, "write fault\n"),
+        Status::BudgetSpent { .. } => write_text(note, "budget spent\n"),
+        Status::NoMemory => write_text(note, "out of memory\n"),
+    }
+}
+
+/// Writes why a job was refused.
+fn tell_job<N: Sink>(note: &mut N, fault: &JobFault) -> Result<(), Failed>
+    ensures told { WritesAll result (job_note fault.now) (N.held note.old) (N.held note.new) (N.faults note.old) (N.faults note.new) }
+    ensures later { N.faults note.old ≤ N.faults note.new }
+    ensures same { N.same note.old note.new }
+{
+    match fault {
+        JobFault::NotJson => write_text(note, "job: not json\n"),
+        JobFault::TooLong => write_text(note, "job: too long\n"),
+        JobFault::UnknownKey(name) => write_line(note, "job: unknown key ", name.as_str()),
+        JobFault::Missing(key) => tell_key(note, "job: missing key ", *key),
+        JobFault::WrongKind(key) => tell_key(note, "job: wrong kind ", *key),
+        JobFault::OutOfRange(key, value) => tell_range(note, *key, *value),
+        JobFault::NotBuilt(key) => tell_key(note, "job: not built ", *key),
+    }
+}
+
+/// Writes a text and the key that it is about.
+fn tell_key<N: Sink>(note: &mut N, text: &str, key: Key) -> Result<(), Failed>
+    ensures told { WritesAll result (joined (text.now ∷ key_name key ∷ codes "\n" ∷ [])) (N.held note.old) (N.held note.new) (N.faults note.old) (N.faults note.new) }
+    ensures later { N.faults note.old ≤ N.faults note.new }
+    ensures same { N.same note.old note.new }
+{
+    write_line(note, text, key_name(key))
+}
+
+/// Writes which key's value is out of its range.
+fn tell_range<N: Sink>(note: &mut N, key: Key, value: u64) -> Result<(), Failed>
+    ensures told { WritesAll result (job_note (OutOfRange key value)) (N.held note.old) (N.held note.new) (N.faults note.old) (N.faults note.new) }
+    ensures later { N.faults note.old ≤ N.faults note.new }
+    ensures same { N.same note.old note.new }
+{
+    let mut digits = Buffer::new();
+    let value = digits.format(value);
+    write_texts(
+        note,
+        &["job: out of range ", key_name(key), " ", value, "\n"],
+    )
+}
+
+/// Writes why a graph text was refused, and where.
+fn tell_graph<N: Sink>(note: &mut N, fault: TextFault) -> Result<(), Failed>
+    ensures told { WritesAll result (graph_note fault) (N.held note.old) (N.held note.new) (N.faults note.old) (N.faults note.new) }
+    ensures later { N.faults note.old ≤ N.faults note.new }
+    ensures same { N.same note.old note.new }
+{
+    let mut digits = Buffer::new();
+    let line = digits.format(fault.line);
+    let kind = kind_name(fault.kind);
+    write_texts(
+        note,
+        &[
+            "graph: ",
+            file_name(fault.file),
+            ":",
+            line,
+            ": ",
+            kind,
+            "\n",
+        ],
+    )
+}
+
+/// Writes a text.
+fn write_text<N: Sink>(note: &mut N, text: &str) -> Result<(), Failed>
+    ensures told { WritesAll result text.now (N.held note.old) (N.held note.new) (N.faults note.old) (N.faults note.new) }
+    ensures later { N.faults note.old ≤ N.faults note.new }
+    ensures same { N.same note.old note.new }
+{
+    write_all(note, text.as_bytes())?;
+    Ok(())
+}
+
+/// Writes a line of two texts.
+fn write_line<N: Sink>(note: &mut N, text: &str, word: &str) -> Result<(), Failed>
+    ensures told { WritesAll result (joined (text.now ∷ word.now ∷ codes "\n" ∷ [])) (N.held note.old) (N.held note.new) (N.faults note.old) (N.faults note.new) }
+    ensures later { N.faults note.old ≤ N.faults note.new }
+    ensures same { N.same note.old note.new }
+{
+    write_texts(note, &[text, word, "\n"])
+}
+
+/// Writes these texts, one after another.
+fn write_texts<N: Sink>(note: &mut N, texts: &[&str]) -> Result<(), Failed>
+    ensures told { WritesAll result (joined (map (λ t. t.now) texts.now)) (N.held note.old) (N.held note.new) (N.faults note.old) (N.faults note.new) }
+    ensures later { N.faults note.old ≤ N.faults note.new }
+    ensures same { N.same note.old note.new }
+{
+    for text in texts {
+        write_all(note, text.as_bytes())?;
+    }
+    Ok(())
+}
+
+fn file_name(file: TextFile) -> &'static str
+    ensures { result.now ≡ file_name file }
+{
+    match file {
+        TextFile::Vertices => "vertices",
+        TextFile::Edges => "edges",
+    }
+}
+
+fn kind_name(kind: TextKind) -> &'static str
+    ensures { result.now ≡ kind_name kind }
+{
+    match kind {
+        TextKind::Fields => "fields",
+        TextKind::Number => "number",
+        TextKind::TooLarge => "too large",
+        TextKind::Double => "double",
+        TextKind::TooMany => "too many",
+        TextKind::Unknown => "unknown",
+        TextKind::SelfLoop => "self-loop",
+        TextKind::NoWeight => "no weight",
+        TextKind::TooLong => "too long",
+    }
+}
+
+fn key_name(key: Key) -> &'static str
+    ensures { result.now ≡ key_name key }
+{
+    match key {
+        Key::Vertices => "vertices",
+        Key::Edges => "edges",
+        Key::Directed => "directed",
+        Key::Algorithm => "algorithm",
+        Key::Source => "source",
+        Key::Engine => "engine",
+        Key::Machines => "machines",
+        Key::Atoms => "atoms",
+        Key::Pipeline => "pipeline",
+        Key::Budget => "budget",
+        Key::Window => "window",
+        Key::Store => "store",
+        Key::AtomsAt => "atoms_at",
+        Key::Order => "order",
+        Key::Failures => "failures",
+    }
+}

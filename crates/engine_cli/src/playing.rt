@@ -1,0 +1,80 @@
+//! Runs the job's algorithm on its graph.
+ghost use Rattle.std.specs.Prelude.{◌≡◌, IfOk, is_some, true};
+ghost use Rattle.job_config.specs.Fields.{needs_source};
+ghost use Rattle.job_config.specs.Told.{told_job};
+ghost use Rattle.engine_cli.specs.Found.{FindsRun, FindsSource, IsReady};
+ghost use Rattle.engine_cli.specs.Plays.{RunsTo};
+
+use crate::Status;
+use gl_base::{Algorithm, Entry, Job, JobFault, Key, NoMemory, Vertex};
+use graph_core::Graph;
+use prog_colours::Colours;
+use prog_labels::{Components, Levels};
+use prog_paths::Paths;
+use seq_run::{Played, RunFault, SeqRun};
+use std::alloc::Global;
+use update_api::Program;
+
+/// A run that was made: the order of its updates, the numbers of the vertices, and where its budget was spent a vertex
+/// that is a task all the same.
+#[derive(Drop)]
+pub struct Run {
+    pub order: Vec<Entry>,
+    pub numbers: Vec<u64>,
+    pub left: Option<Vertex>,
+}
+
+/// Runs the job's algorithm until no task is left or the job's budget is spent. It is refused where the algorithm needs
+/// a source and no vertex has its identifier.
+pub fn run_on(alloc: Global, graph: &Graph, job: &Job) -> Result<Run, Status>
+    requires { IsReady (told_job job.now) }
+    ensures { FindsRun (told_job job.now).fields graph.now result }
+{
+    let budget = job.budget;
+    let run = match job.algorithm {
+        Algorithm::Levels => {
+            let source = source_of(graph, job)?;
+            play(alloc, graph, Levels { source }, budget)
+        }
+        Algorithm::Components => play(alloc, graph, Components, budget),
+        Algorithm::Paths => {
+            let source = source_of(graph, job)?;
+            play(alloc, graph, Paths { source }, budget)
+        }
+        Algorithm::Colours => play(alloc, graph, Colours, budget),
+    };
+    Ok(run?)
+}
+
+/// The identifier of the job's source, where it is that of a vertex.
+fn source_of(graph: &Graph, job: &Job) -> Result<u64, Status>
+    requires needed { needs_source (told_job job.now).fields.algorithm ≡ true }
+    requires source { is_some (told_job job.now).fields.source ≡ true }
+    ensures { FindsSource (told_job job.now).fields graph.now result }
+{
+    let Some(source) = job.source else {
+        return Err(Status::BadJob(JobFault::Missing(Key::Source)));
+    };
+    match graph.find(source) {
+        Some(_) => Ok(source),
+        None => Err(Status::BadJob(JobFault::OutOfRange(Key::Source, source))),
+    }
+}
+
+/// Runs a program until no task is left or the budget is spent.
+fn play<P: Program>(alloc: Global, graph: &Graph, program: P, budget: u64) -> Result<Run, NoMemory>
+    ensures { IfOk result (λ run. RunsTo graph.now (P.meaning program) budget run.order.items run.numbers.items run.left) }
+{
+    let mut run = SeqRun::new(alloc, graph, program)?;
+    let left = match run.run(budget) {
+        Ok(()) => None,
+        Err(RunFault::Spent) => run.waiting(),
+        Err(RunFault::NoMemory) => return Err(NoMemory),
+    };
+    let Played { order, values, .. } = run.finish();
+    Ok(Run {
+        order,
+        numbers: values,
+        left,
+    })
+}
