@@ -10,4 +10,5 @@ pub mod PlaysTo
 pub mod Results
 pub mod RunsSay
 pub mod Bounds
+pub mod EntriesInside
 pub mod OneGraph

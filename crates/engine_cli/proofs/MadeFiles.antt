@@ -12,7 +12,8 @@ use Rattle.graph_text.specs.Making.{made_edges, made_vertices}
 use Rattle.graph_text.specs.Writes.{Writes, WritesEdges}
 use Rattle.graph_text.specs.declared.making.Writing.{Writing}
 use Rattle.graph_text.specs.declared.making.Writing.TheVariants as out
-use Rattle.engine_cli.specs.Made.{Gives, IsMadeFront, LeavesFront, LeavesFronts, Makes, edges_name, vertices_name}
+use Rattle.engine_cli.specs.Leaves.{Gives}
+use Rattle.engine_cli.specs.Made.{IsMadeFront, LeavesFront, LeavesFronts, Makes, edges_name, vertices_name}
 use Rattle.engine_cli.specs.Status.{IsDoneOrNoMemory}
 use Rattle.engine_cli.specs.declared.status.Status.{Status}
 use Rattle.engine_cli.specs.declared.status.Status.TheVariants.{Done, Usage, BadJob, BadGraph, ReadFault, WriteFault, BudgetSpent, NoMemory}

@@ -1,11 +1,13 @@
 -- Names that are handed on one after another.
-use Rattle.std.proofs.Common.{◌≡◌, ℕ, zero, suc, List, [], ◌∷◌, ◌++◌, Option, None, Some, Result, Ok, Err, OnOk, IfSome, take, ap, refl, sym, ◌∙◌, subst, ⊎_elim, append-nil, append_assoc}
+use Rattle.std.proofs.Common.{◌≡◌, ◌≢◌, ◌⊎◌, inl, inr, Bool, true, false, ℕ, zero, suc, List, [], ◌∷◌, ◌++◌, Option, None, Some, Result, Ok, Err, OnOk, IfSome, take, ap, refl, sym, ◌∙◌, subst, ⊎_elim, append-nil, append_assoc}
+use Rattle.std.proofs.lemmas.Slice.Eq.{bytes_eq-Decides}
+use Rattle.std.specs.Prelude.{bytes_eq}
 use Rattle.gl_outside.specs.declared.files.OpenFault.{OpenFault}
 use Rattle.gl_outside.specs.declared.files.OpenFault.TheVariants.{Failed, NoMemory}
 use Rattle.gl_outside.specs.Names.{AppendsNames, NotesName}
 use Rattle.gl_base.specs.declared.text_faults.TextFault.{TextFault}
 use Rattle.graph_text.specs.Tells.{ListsIds}
-use Rattle.engine_cli.specs.Found.{HandsOver, edges_after, edges_behind}
+use Rattle.engine_cli.specs.Found.{HandsOver, edges_after, edges_behind, names_in}
 
 AppendsNames-trans : (a b c : Option (List (List ℕ))) (xs ys : List (List ℕ)) → AppendsNames a b xs → AppendsNames b c ys → AppendsNames a c (xs ++ ys)
 AppendsNames-trans None b c xs ys p q = tt
@@ -73,3 +75,23 @@ OnOk-of (Err e) P p = tt
 -- nothing was handed on
 pub HandsOver-none : (a : Option (List (List ℕ))) (names : List (List ℕ)) → HandsOver a a names
 HandsOver-none a names = (0, AppendsNames-nil a)
+
+-- at most the one name that is given was handed on
+pub HandsOver-named : (a b : Option (List (List ℕ))) (order : Option (List ℕ)) (name : List ℕ) → order ≡ Some name
+    → HandsOver a b (name ∷ []) → HandsOver a b (names_in order)
+HandsOver-named a b order name named hands = subst (λ (o : Option (List ℕ)). HandsOver a b (names_in o)) (sym named) hands
+
+-- one name and all others give what they gave
+pub all-kept : (old new : List ℕ → Option (List ℕ)) (name : List ℕ) → new name ≡ old name → ((other : List ℕ) → other ≢ name → new other ≡ old other)
+    → (other : List ℕ) → new other ≡ old other
+all-kept old new name kept others other = elim (decide (bytes_eq other name)) [
+  | inl same ↦ subst (λ (n : List ℕ). new n ≡ old n) (sym ((bytes_eq-Decides other name).0 same)) kept
+  | inr isnt ↦ others other (λ e. differs isnt ((bytes_eq-Decides other name).1 e))
+]
+  where
+    decide : (b : Bool) → (b ≡ true) ⊎ (b ≡ false)
+    decide true = inl refl
+    decide false = inr refl
+
+    differs : {b : Bool} → b ≡ false → b ≡ true → ⊥
+    differs p q = cc

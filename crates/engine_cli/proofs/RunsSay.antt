@@ -1,5 +1,5 @@
 -- What a run says at each place where it ends.
-use Rattle.std.proofs.Common.{◌≡◌, ◌≤◌, inl, inr, ℕ, Bool, List, [], ◌∷◌, Option, None, Some, IfSome, Result, Ok, Err, refl, sym, subst, ⊎_elim}
+use Rattle.std.proofs.Common.{◌≡◌, ◌≤◌, ◌⊎◌, inl, inr, ℕ, Bool, List, [], ◌∷◌, Option, None, Some, IfSome, Result, Ok, Err, take, refl, sym, ◌∙◌, subst, ⊎_elim}
 use Rattle.std.specs.Prelude.{MatchOption}
 use Rattle.std.specs.declared.alloc.Global.{Global}
 use Rattle.std.specs.declared.vec.Vec.{Vec}
@@ -7,6 +7,9 @@ use Rattle.gl_base.specs.declared.entries.Entry.{Entry}
 use Rattle.gl_base.specs.declared.job_faults.JobFault.{JobFault}
 use Rattle.gl_base.specs.declared.numbers.Vertex.{Vertex}
 use Rattle.gl_base.specs.declared.text_faults.TextFault.{TextFault}
+use Rattle.std.specs.Io.KnownBytes.{Appends}
+use Rattle.gl_outside.specs.Faults.{Rose}
+use Rattle.gl_outside.specs.Fronts.{AppendsFront}
 use Rattle.gl_outside.specs.Names.{AppendsNames}
 use Rattle.gl_outside.proofs.Fronts.{Rose-later}
 use Rattle.graph_core.specs.DataGraph.{DataGraph}
@@ -14,34 +17,34 @@ use Rattle.graph_text.specs.Vertices.{vertices_of}
 use Rattle.job_config.specs.Fields.{JobFields}
 use Rattle.job_config.specs.Jobs.{JobSayings}
 use Rattle.job_config.specs.Told.{told_job}
-use Rattle.order_text.specs.Answers.{answer_text}
 use Rattle.seq_run.specs.Orders.{IsFinished}
 use Rattle.engine_cli.specs.declared.running.Prepared.{Prepared}
 use Rattle.engine_cli.specs.declared.status.Status.{Status}
 use Rattle.engine_cli.specs.declared.status.Status.TheVariants.{Done, Usage, BadJob, BadGraph, ReadFault, WriteFault, BudgetSpent, NoMemory}
-use Rattle.engine_cli.specs.Answer.{IsAnswer, LacksSource, RefusesEdges, SpendsBudget, TellJobGraph, told_of}
+use Rattle.engine_cli.specs.Answer.{IsAnswer, LacksSource, Printed, RefusesEdges, SpendsBudget, TellJobGraph}
 use Rattle.engine_cli.specs.Ended.{Counts}
-use Rattle.engine_cli.specs.Found.{TakesJob, TakesGraph, FindsRun, HandsOver, HandsFiles, edges_after, graph_names, names_of}
+use Rattle.engine_cli.specs.Found.{TakesJob, TakesGraph, FindsRun, HandsOver, HandsFiles, HandsOrder, edges_after, graph_names, names_in, names_of, orders_of}
 use Rattle.engine_cli.specs.Plays.{IsSpent, update_of}
 use Rattle.engine_cli.specs.Prepares.{IsMadeOf}
-use Rattle.engine_cli.specs.Printing.{Prints}
+use Rattle.engine_cli.specs.Leaves.{KeepsOrGives}
+use Rattle.engine_cli.specs.Printing.{Prints, printed_of}
 use Rattle.graph_text.specs.declared.making.Writing.TheVariants.{WriteFault as WriteFaultAtOut}
 use Rattle.engine_cli.specs.Runs.{run_of}
-use Rattle.engine_cli.specs.Says.{Moment, Refuses, Says, OfJob, OfTexts, TellsJob, RefusesTexts}
+use Rattle.engine_cli.specs.Says.{FailsAtOrder, FailsAtOut, LeavesOrder, Moment, OfTexts, PrintsAnswer, Refuses, RefusesTexts, Says, TellsJob}
 use Rattle.engine_cli.proofs.NamesHanded.{AppendsNames-nil, HandsOver-first, HandsOver-then}
 use Rattle.engine_cli.proofs.Results.{results-of}
 
 -- the job's file was not read, or says no job that can be run
-pub job-refuses : (given : List ℕ → Option (List ℕ)) (file : List ℕ) (report : Bool) (before now : Moment) (status : Status)
-    → TakesJob (given file) before.reads now.reads (Err status) → Refuses given file report before now [] status
-job-refuses given file report before now Done takes = takes
-job-refuses given file report before now (Usage fault) takes = takes
-job-refuses given file report before now (BadJob fault) takes = (refl, inl takes)
-job-refuses given file report before now (BadGraph fault) takes = absurd takes
-job-refuses given file report before now ReadFault takes = (refl, takes)
-job-refuses given file report before now WriteFault takes = absurd takes
-job-refuses given file report before now (BudgetSpent left) takes = absurd takes
-job-refuses given file report before now NoMemory takes = refl
+pub job-refuses : (given : List ℕ → Option (List ℕ)) (file : List ℕ) (before now : ℕ) (status : Status)
+    → TakesJob (given file) before now (Err status) → Refuses given file before now [] status
+job-refuses given file before now Done takes = takes
+job-refuses given file before now (Usage fault) takes = takes
+job-refuses given file before now (BadJob fault) takes = (refl, inl takes)
+job-refuses given file before now (BadGraph fault) takes = absurd takes
+job-refuses given file before now ReadFault takes = (refl, takes)
+job-refuses given file before now WriteFault takes = absurd takes
+job-refuses given file before now (BudgetSpent left) takes = absurd takes
+job-refuses given file before now NoMemory takes = refl
 
 -- what is said of two texts is said of what their names give
 pub same-texts : (given then : List ℕ → Option (List ℕ)) (job : JobFields) (P : List ℕ → List ℕ → Type 0)
@@ -58,18 +61,18 @@ same-refusal given then fault job same h =
     ⊎_elim (λ first. inl (subst V (same job.vertices) first)) (λ second. inr (same-texts given then job (RefusesEdges job fault) same second)) h
 
 -- the graph's files were not read, or a text is refused
-pub graph-refuses : (given then : List ℕ → Option (List ℕ)) (file : List ℕ) (report : Bool) (job : JobSayings) (before now : Moment) (mid : ℕ) (status : Status)
-    → ((name : List ℕ) → then name ≡ given name) → before.reads ≤ mid → TellsJob (given file) job
-    → TakesGraph then job.fields mid now.reads (Err status) → Refuses given file report before now [] status
-graph-refuses given then file report job before now mid Done same later told takes = takes
-graph-refuses given then file report job before now mid (Usage fault) same later told takes = takes
-graph-refuses given then file report job before now mid (BadJob fault) same later told takes = absurd takes
-graph-refuses given then file report job before now mid (BadGraph fault) same later told takes =
+pub graph-refuses : (given then : List ℕ → Option (List ℕ)) (file : List ℕ) (job : JobSayings) (before mid now : ℕ) (status : Status)
+    → ((name : List ℕ) → then name ≡ given name) → before ≤ mid → TellsJob (given file) job
+    → TakesGraph then job.fields mid now (Err status) → Refuses given file before now [] status
+graph-refuses given then file job before mid now Done same later told takes = takes
+graph-refuses given then file job before mid now (Usage fault) same later told takes = takes
+graph-refuses given then file job before mid now (BadJob fault) same later told takes = absurd takes
+graph-refuses given then file job before mid now (BadGraph fault) same later told takes =
     (refl, (job, told, same-refusal given then fault job.fields same takes))
-graph-refuses given then file report job before now mid ReadFault same later told takes = (refl, Rose-later before.reads mid now.reads later takes)
-graph-refuses given then file report job before now mid WriteFault same later told takes = absurd takes
-graph-refuses given then file report job before now mid (BudgetSpent left) same later told takes = absurd takes
-graph-refuses given then file report job before now mid NoMemory same later told takes = refl
+graph-refuses given then file job before mid now ReadFault same later told takes = (refl, Rose-later before mid now later takes)
+graph-refuses given then file job before mid now WriteFault same later told takes = absurd takes
+graph-refuses given then file job before mid now (BudgetSpent left) same later told takes = absurd takes
+graph-refuses given then file job before mid now NoMemory same later told takes = refl
 
 mapped-texts : (given : List ℕ → Option (List ℕ)) (job : JobFields) (P Q : List ℕ → List ℕ → Type 0) → ((x y : List ℕ) → P x y → Q x y)
     → OfTexts given job P → OfTexts given job Q
@@ -81,12 +84,12 @@ mapped-texts given job P Q go h = both (given job.vertices) (given job.edges) h
     both (Some x) (Some y) h = go x y h
 
 -- no run on the graph was made
-pub run-refuses : (given : List ℕ → Option (List ℕ)) (file : List ℕ) (report : Bool) (job : JobSayings) (g : DataGraph) (before now : Moment) (status : Status)
+pub run-refuses : (given : List ℕ → Option (List ℕ)) (file : List ℕ) (job : JobSayings) (g : DataGraph) (before now : ℕ) (status : Status)
     → TellsJob (given file) job → OfTexts given job.fields (λ vertices edges. TellJobGraph job.fields vertices edges g)
-    → FindsRun job.fields g (Err status) → Refuses given file report before now [] status
-run-refuses given file report job g before now Done told texts found = found
-run-refuses given file report job g before now (Usage fault) told texts found = found
-run-refuses given file report job g before now (BadJob fault) told texts found = (
+    → FindsRun job.fields g (Err status) → Refuses given file before now [] status
+run-refuses given file job g before now Done told texts found = found
+run-refuses given file job g before now (Usage fault) told texts found = found
+run-refuses given file job g before now (BadJob fault) told texts found = (
   refl,
   inr (
     job,
@@ -99,63 +102,115 @@ run-refuses given file report job g before now (BadJob fault) told texts found =
     ),
   ),
 )
-run-refuses given file report job g before now (BadGraph fault) told texts found = absurd found
-run-refuses given file report job g before now ReadFault told texts found = absurd found
-run-refuses given file report job g before now WriteFault told texts found = absurd found
-run-refuses given file report job g before now (BudgetSpent left) told texts found = absurd found
-run-refuses given file report job g before now NoMemory told texts found = refl
+run-refuses given file job g before now (BadGraph fault) told texts found = absurd found
+run-refuses given file job g before now ReadFault told texts found = absurd found
+run-refuses given file job g before now WriteFault told texts found = absurd found
+run-refuses given file job g before now (BudgetSpent left) told texts found = absurd found
+run-refuses given file job g before now NoMemory told texts found = refl
 
--- what a run that left no task says of its text
-answers : (given : List ℕ → Option (List ℕ)) (file : List ℕ) (report : Bool) (made : Prepared) (text told : List ℕ) → IsMadeOf given file made → made.run.left ≡ None
-    → text ≡ answer_text made.job.algorithm made.graph.ids made.run.numbers.items → told ≡ told_of report made.graph made.run.numbers.items text
-    → OfJob given file (λ job. OfTexts given job (λ vertices edges. IsAnswer job report vertices edges text told made.run.order.items))
-answers given file report made text told is none spelled reported =
+-- what a run that left no task says of what it prints
+answers : (given : List ℕ → Option (List ℕ)) (file : List ℕ) (report : Bool) (made : Prepared) (holds : Option (List ℕ) → Printed → Type 0)
+    → IsMadeOf given file made → made.run.left ≡ None → holds (told_job made.job).fields.order (printed_of report made)
+    → PrintsAnswer given file report made.run.order.items holds
+answers given file report made holds is none kept =
     let job = told_job made.job in
     let p = update_of made.job.algorithm made.job.source in
+    let printed = printed_of report made in
     let ended : MatchOption made.run.left (IsFinished made.graph p made.run.order.items) (IsSpent made.graph p made.job.budget made.run.order.items) = is.run.ended in
     let finished : IsFinished made.graph p made.run.order.items =
     subst (λ (left : Option Vertex). MatchOption left (IsFinished made.graph p made.run.order.items) (IsSpent made.graph p made.job.budget made.run.order.items)) none ended in (
-      job,
-      is.job,
-      mapped-texts given job.fields (λ vertices edges. TellJobGraph job.fields vertices edges made.graph)
-          (λ vertices edges. IsAnswer job.fields report vertices edges text told made.run.order.items)
-          (λ v e t. record {
-            graph = made.graph;
-            graph_is = t;
-            numbers = made.run.numbers.items;
-            play = is.run.play;
-            few = is.run.few;
-            finished = finished;
-            results = results-of made.job.algorithm made.job.source made.graph made.run.order.items made.run.numbers.items is.graph is.start is.run.play finished;
-            spelled = spelled;
-            reported = reported;
-          }) is.texts,
+      printed,
+      (
+        job,
+        is.job,
+        (
+          kept,
+          mapped-texts given job.fields (λ vertices edges. TellJobGraph job.fields vertices edges made.graph)
+              (λ vertices edges. IsAnswer job.fields report vertices edges printed made.run.order.items)
+              (λ v e t. record {
+                graph = made.graph;
+                graph_is = t;
+                numbers = made.run.numbers.items;
+                play = is.run.play;
+                few = is.run.few;
+                finished = finished;
+                results = results-of made.job.algorithm made.job.source made.graph made.run.order.items made.run.numbers.items is.graph is.start is.run.play finished;
+                spelled = refl;
+                reported = refl;
+                listed = refl;
+              }) is.texts,
+        ),
+      ),
     )
 
--- what a run says whose numbers were printed
-pub print-says : (given : List ℕ → Option (List ℕ)) (file : List ℕ) (report : Bool) (made : Prepared) (before now : Moment) (bytes : Vec ℕ Global)
-    → IsMadeOf given file made → made.run.left ≡ None
-    → (let text = answer_text made.job.algorithm made.graph.ids made.run.numbers.items in
-    Prints (Ok bytes) text (told_of report made.graph made.run.numbers.items text) before.held now.held before.writes now.writes)
-    → Says given file report before now (λ told. bytes.items ≡ told) made.run.order.items Done
-print-says given file report made before now bytes is none prints =
-    let text = answer_text made.job.algorithm made.graph.ids made.run.numbers.items in
-    (text, told_of report made.graph made.run.numbers.items text, (prints.1, prints.0), answers given file report made text _ is none refl refl)
+-- the moment before printing is that of the call's start, but for the count of faults of reading
+LeavesOrder-since : (order : Option (List ℕ)) (before mid now : Moment) (lines : List ℕ) → mid.made ≡ before.made
+    → LeavesOrder order mid now lines → LeavesOrder order before now lines
+LeavesOrder-since order before mid now lines same h =
+    subst (λ (made : Option (List (List ℕ))). IfSome order (λ name. IfSome made (λ told. now.given name ≡ Some lines))) same h
 
--- what it says where the sink failed
-pub print-fails : (given : List ℕ → Option (List ℕ)) (file : List ℕ) (report : Bool) (made : Prepared) (before now : Moment)
-    → IsMadeOf given file made → made.run.left ≡ None
-    → (let text = answer_text made.job.algorithm made.graph.ids made.run.numbers.items in
-    Prints (Err WriteFaultAtOut) text (told_of report made.graph made.run.numbers.items text) before.held now.held before.writes now.writes)
-    → Refuses given file report before now made.run.order.items WriteFault
-print-fails given file report made before now is none prints =
-    let text = answer_text made.job.algorithm made.graph.ids made.run.numbers.items in
-    (prints.0, (text, told_of report made.graph made.run.numbers.items text, prints.1, answers given file report made text _ is none refl refl))
+FailsAtOrder-since : (order : Option (List ℕ)) (before mid now : Moment) (printed : Printed) → mid.made ≡ before.made → mid.writes ≡ before.writes
+    → mid.held ≡ before.held → ((name : List ℕ) → mid.given name ≡ before.given name) → FailsAtOrder order mid now printed → FailsAtOrder order before now printed
+FailsAtOrder-since order before mid now printed made writes held given h =
+    let P : List ℕ → Type 0 = λ bytes. (count : ℕ) × (bytes ≡ take count printed.lines) in
+    let M : Option (List (List ℕ)) → Type 0 = λ m. KeepsOrGives m (mid.given h.name) (now.given h.name) P in
+    let G : Option (List ℕ) → Type 0 = λ old. KeepsOrGives before.made old (now.given h.name) P in
+    record {
+      name = h.name;
+      named = h.named;
+      rose = subst (λ (count : ℕ). Rose count now.writes) writes h.rose;
+      left = subst G (given h.name) (subst M made h.left);
+      same = h.same ∙ held;
+    }
+
+FailsAtOut-since : (order : Option (List ℕ)) (before mid now : Moment) (printed : Printed) → mid.made ≡ before.made → mid.faults ≡ before.faults
+    → mid.held ≡ before.held → FailsAtOut order mid now printed → FailsAtOut order before now printed
+FailsAtOut-since order before mid now printed made faults held h = record {
+  rose = subst (λ (count : ℕ). Rose count now.faults) faults h.rose;
+  front = subst (λ (old : Option (List ℕ)). AppendsFront old now.held printed.answer) held h.front;
+  ordered = LeavesOrder-since order before mid now printed.lines made h.ordered;
+}
+
+-- What reading leaves alone: names, counts of faults of writing, and `out`.
+pub record IsSince (before mid : Moment) : Type 0 where
+  pub given : (name : List ℕ) → mid.given name ≡ before.given name
+  pub made : mid.made ≡ before.made
+  pub writes : mid.writes ≡ before.writes
+  pub faults : mid.faults ≡ before.faults
+  pub held : mid.held ≡ before.held
+
+-- what a run says whose numbers were printed
+pub print-says : (file : List ℕ) (report : Bool) (made : Prepared) (before mid now : Moment) (bytes : Vec ℕ Global)
+    → IsMadeOf before.given file made → made.run.left ≡ None → IsSince before mid
+    → Prints (Ok bytes) (told_job made.job).fields.order (printed_of report made) mid now
+    → Says file report before now (λ told. bytes.items ≡ told) made.run.order.items Done
+print-says file report made before mid now bytes is none since prints =
+    let order = (told_job made.job).fields.order in
+    answers before.given file report made
+    (λ name printed. Appends before.held now.held printed.answer × (bytes.items ≡ printed.told) × LeavesOrder name before now printed.lines) is none (
+      subst (λ (old : Option (List ℕ)). Appends old now.held (printed_of report made).answer) since.held prints.1,
+      prints.0,
+      LeavesOrder-since order before mid now (printed_of report made).lines since.made prints.2,
+    )
+
+-- what it says where the order's file or the sink failed
+pub print-fails : (file : List ℕ) (report : Bool) (made : Prepared) (before mid now : Moment) (tells : List ℕ → Type 0)
+    → IsMadeOf before.given file made → made.run.left ≡ None → IsSince before mid
+    → Prints (Err WriteFaultAtOut) (told_job made.job).fields.order (printed_of report made) mid now
+    → Says file report before now tells made.run.order.items WriteFault
+print-fails file report made before mid now tells is none since prints =
+    let order = (told_job made.job).fields.order in
+    let printed = printed_of report made in
+    answers before.given file report made (λ name printed. FailsAtOrder name before now printed ⊎ FailsAtOut name before now printed) is none
+    (⊎_elim
+    (λ first. inl (FailsAtOrder-since order before mid now printed since.made since.writes since.held since.given first))
+    (λ second. inr (FailsAtOut-since order before mid now printed since.made since.faults since.held second))
+    prints)
 
 -- what a run says whose budget is spent
-pub spent-says : (given : List ℕ → Option (List ℕ)) (file : List ℕ) (report : Bool) (made : Prepared) (before now : Moment) (left : Vertex)
-    → IsMadeOf given file made → made.run.left ≡ Some left → Refuses given file report before now made.run.order.items (BudgetSpent left)
-spent-says given file report made before now v is some =
+pub spent-says : (given : List ℕ → Option (List ℕ)) (file : List ℕ) (made : Prepared) (before now : ℕ) (left : Vertex)
+    → IsMadeOf given file made → made.run.left ≡ Some left → Refuses given file before now made.run.order.items (BudgetSpent left)
+spent-says given file made before now v is some =
     let job = told_job made.job in
     let p = update_of made.job.algorithm made.job.source in
     let spent : IsSpent made.graph p made.job.budget made.run.order.items v =
@@ -167,29 +222,36 @@ spent-says given file report made before now v is some =
     )
 
 -- a refusal says the same whatever is told of an answer
-pub refusal-says : (given : List ℕ → Option (List ℕ)) (file : List ℕ) (report : Bool) (before now : Moment) (tells : List ℕ → Type 0) (order : List Entry) (status : Status)
-    → Refuses given file report before now order status → Says given file report before now tells order status
-refusal-says given file report before now tells order Done says = absurd says
-refusal-says given file report before now tells order (Usage fault) says = says
-refusal-says given file report before now tells order (BadJob fault) says = says
-refusal-says given file report before now tells order (BadGraph fault) says = says
-refusal-says given file report before now tells order ReadFault says = says
-refusal-says given file report before now tells order WriteFault says = says
-refusal-says given file report before now tells order (BudgetSpent left) says = says
-refusal-says given file report before now tells order NoMemory says = says
+pub refusal-says : (file : List ℕ) (report : Bool) (before now : Moment) (tells : List ℕ → Type 0) (order : List Entry) (status : Status)
+    → Refuses before.given file before.reads now.reads order status → Says file report before now tells order status
+refusal-says file report before now tells order Done says = absurd says
+refusal-says file report before now tells order (Usage fault) says = says
+refusal-says file report before now tells order (BadJob fault) says = says
+refusal-says file report before now tells order (BadGraph fault) says = says
+refusal-says file report before now tells order ReadFault says = says
+refusal-says file report before now tells order WriteFault says = absurd says
+refusal-says file report before now tells order (BudgetSpent left) says = says
+refusal-says file report before now tells order NoMemory says = says
 
 -- what is told of an answer may be said in another way
-pub told-says : (given : List ℕ → Option (List ℕ)) (file : List ℕ) (report : Bool) (before now : Moment) (tells retells : List ℕ → Type 0) (order : List Entry) (status : Status)
+pub told-says : (file : List ℕ) (report : Bool) (before now : Moment) (tells retells : List ℕ → Type 0) (order : List Entry) (status : Status)
     → (status ≡ Done → (told : List ℕ) → tells told → retells told)
-    → Says given file report before now tells order status → Says given file report before now retells order status
-told-says given file report before now tells retells order Done same says = (says.0, says.1, (says.2.0, same refl says.1 says.2.1), says.3)
-told-says given file report before now tells retells order (Usage fault) same says = says
-told-says given file report before now tells retells order (BadJob fault) same says = says
-told-says given file report before now tells retells order (BadGraph fault) same says = says
-told-says given file report before now tells retells order ReadFault same says = says
-told-says given file report before now tells retells order WriteFault same says = says
-told-says given file report before now tells retells order (BudgetSpent left) same says = says
-told-says given file report before now tells retells order NoMemory same says = says
+    → Says file report before now tells order status → Says file report before now retells order status
+told-says file report before now tells retells order Done same says =
+    (says.0, (says.1.0, says.1.1, ((says.1.2.0.0, same refl says.0.told says.1.2.0.1, says.1.2.0.2), says.1.2.1)))
+told-says file report before now tells retells order (Usage fault) same says = says
+told-says file report before now tells retells order (BadJob fault) same says = says
+told-says file report before now tells retells order (BadGraph fault) same says = says
+told-says file report before now tells retells order ReadFault same says = says
+told-says file report before now tells retells order WriteFault same says = says
+told-says file report before now tells retells order (BudgetSpent left) same says = says
+told-says file report before now tells retells order NoMemory same says = says
+
+-- what was printed is told
+pub done-says : (file : List ℕ) (report : Bool) (before now : Moment) (tells retells : List ℕ → Type 0) (order : List Entry) (status : Status) → status ≡ Done
+    → ((told : List ℕ) → tells told → retells told) → Says file report before now tells order status → Says file report before now retells order Done
+done-says file report before now tells retells order status is same says =
+    told-says file report before now tells retells order Done (λ done. same) (subst (λ (s : Status). Says file report before now tells order s) is says)
 
 -- the job's file was handed on at most
 pub hands-file : (a b : Option (List (List ℕ))) (given : List ℕ → Option (List ℕ)) (file : List ℕ) → HandsOver a b (file ∷ []) → HandsFiles a b given file
@@ -258,3 +320,20 @@ run-counts job g ReadFault found = (refl, refl)
 run-counts job g WriteFault found = absurd found
 run-counts job g (BudgetSpent left) found = absurd found
 run-counts job g NoMemory found = (refl, refl)
+
+-- the name of the job's file for the order was handed on at most
+pub hands-order : (a b : Option (List (List ℕ))) (given : List ℕ → Option (List ℕ)) (file : List ℕ) (job : JobSayings) → TellsJob (given file) job
+    → HandsOver a b (names_in job.fields.order) → HandsOrder a b given file
+hands-order a b given file job told hands = with_text (given file) told
+  where
+    with_text : (text : Option (List ℕ)) → TellsJob text job → IfSome text (λ bytes. HandsOver a b (orders_of (run_of bytes)))
+    with_text None is = tt
+    with_text (Some bytes) is = subst (λ (r : Result JobSayings JobFault). HandsOver a b (orders_of r)) (sym is) hands
+
+-- no name was handed on
+pub hands-no-order : (a b : Option (List (List ℕ))) (given : List ℕ → Option (List ℕ)) (file : List ℕ) → b ≡ a → HandsOrder a b given file
+hands-no-order a b given file same = subst (λ (x : Option (List (List ℕ))). HandsOrder a x given file) (sym same) (with_text (given file))
+  where
+    with_text : (text : Option (List ℕ)) → IfSome text (λ bytes. HandsOver a a (orders_of (run_of bytes)))
+    with_text None = tt
+    with_text (Some bytes) = (0, AppendsNames-nil a)

@@ -1,4 +1,4 @@
--- The printed answer to a job.
+-- What a run of a job prints.
 use Rattle.std.specs.Prelude.{◌≡◌, ℕ, ◌≤◌, Bool, true, false, if◌then◌else◌, List, [], length, Some, Err}
 use Rattle.gl_base.specs.declared.entries.Entry.{Entry}
 use Rattle.gl_base.specs.declared.numbers.Vertex.{Vertex}
@@ -13,6 +13,7 @@ use Rattle.graph_text.specs.Edges.{edges_of}
 use Rattle.graph_text.specs.Tells.{ListsIds, TellGraph}
 use Rattle.job_config.specs.Fields.{JobFields, needs_source}
 use Rattle.order_text.specs.Answers.{answer_text}
+use Rattle.order_text.specs.Orders.{order_text}
 use Rattle.order_text.specs.Reports.{report_text}
 use Rattle.sync_folds.specs.Folds.{fold_of}
 
@@ -31,9 +32,15 @@ TellJobGraph job vertices edges g = TellGraph job.directed (is_weighted job.algo
 abbrev pub told_of : Bool → DataGraph → List ℕ → List ℕ → List ℕ
 told_of report g numbers answer = if report then report_text g (fold_of numbers) answer else []
 
--- `text` is the answer to the job about the graph that the two texts tell, `told` is what is reported of it, and `order`
--- is the order of the updates: it leaves no task, and its replay gives the numbers.
-pub record IsAnswer (job : JobFields) (report : Bool) (vertices edges text told : List ℕ) (order : List Entry) : Type 0 where
+-- What a run prints: the answer, what is reported of it, and the lines of the order.
+pub record Printed : Type 0 where
+  pub answer : List ℕ
+  pub told : List ℕ
+  pub lines : List ℕ
+
+-- The answer to the job about the graph that the two texts tell, with what is reported of it and the lines of `order`,
+-- which is the order of the updates: it leaves no task, and its replay gives the numbers.
+pub record IsAnswer (job : JobFields) (report : Bool) (vertices edges : List ℕ) (printed : Printed) (order : List Entry) : Type 0 where
   pub graph : DataGraph
   pub graph_is : TellJobGraph job vertices edges graph
   pub numbers : List ℕ
@@ -41,8 +48,9 @@ pub record IsAnswer (job : JobFields) (report : Bool) (vertices edges text told 
   pub few : length order ≤ job.budget
   pub finished : IsFinished graph (update_of job.algorithm job.source) order
   pub results : AreResults job.algorithm job.source graph numbers
-  pub spelled : text ≡ answer_text job.algorithm graph.ids numbers
-  pub reported : told ≡ told_of report graph numbers text
+  pub spelled : printed.answer ≡ answer_text job.algorithm graph.ids numbers
+  pub reported : printed.told ≡ told_of report graph numbers printed.answer
+  pub listed : printed.lines ≡ order_text graph.ids order
 
 -- So many updates of the graph that the two texts tell were made as the budget has, in this order, and the vertex is a
 -- task all the same.

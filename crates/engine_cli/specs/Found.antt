@@ -27,7 +27,7 @@ use Rattle.engine_cli.specs.Answer.{TellJobGraph}
 use Rattle.engine_cli.specs.Plays.{HasStart, IsVertexOf, RunsTo, update_of}
 use Rattle.engine_cli.specs.declared.playing.Run.{Run}
 use Rattle.engine_cli.specs.Runs.{not_built, run_of}
-use Rattle.engine_cli.specs.Says.{OfTexts, RefusesTexts, TellsJob}
+use Rattle.engine_cli.specs.Says.{OfJob, OfTexts, RefusesTexts, TellsJob}
 
 -- a job that can be run: all that it asks for is built, and it has the source that it needs
 pub record IsReady (job : JobSayings) : Type 0 where
@@ -162,3 +162,21 @@ names_of given file (Err fault) = file ∷ []
 -- the names that were handed on are a front of those of the run
 abbrev pub HandsFiles : Option (List (List ℕ)) → Option (List (List ℕ)) → (List ℕ → Option (List ℕ)) → List ℕ → Type 0
 HandsFiles old new given file = IfSome (given file) (λ bytes. HandsOver old new (names_of given file (run_of bytes)))
+
+-- a name, or none
+abbrev pub names_in : Option (List ℕ) → List (List ℕ)
+names_in None = []
+names_in (Some name) = name ∷ []
+
+-- the file that a run writes: the one that the job names for the order
+abbrev pub orders_of : Result JobSayings JobFault → List (List ℕ)
+orders_of (Ok job) = names_in job.fields.order
+orders_of (Err fault) = []
+
+-- the names that files were made under are at most the one that the job gives for the order
+abbrev pub HandsOrder : Option (List (List ℕ)) → Option (List (List ℕ)) → (List ℕ → Option (List ℕ)) → List ℕ → Type 0
+HandsOrder old new given file = IfSome (given file) (λ bytes. HandsOver old new (orders_of (run_of bytes)))
+
+-- the job names this file for the order
+abbrev pub IsOrderName : (List ℕ → Option (List ℕ)) → List ℕ → List ℕ → Type 0
+IsOrderName given file name = OfJob given file (λ job. job.order ≡ Some name)

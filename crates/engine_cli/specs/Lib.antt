@@ -8,5 +8,6 @@ pub mod Runs
 pub mod Plays
 pub mod Notes
 pub mod Writes
+pub mod Leaves
 pub mod Made
 pub mod Prepares

@@ -1,5 +1,5 @@
 -- What `make` leaves.
-use Rattle.std.specs.Prelude.{◌≡◌, ℕ, ◌++◌, ◌⊎◌, List, ⊤, Option, Some, IfSome, codes, take}
+use Rattle.std.specs.Prelude.{◌≡◌, ℕ, ◌++◌, List, ⊤, Option, IfSome, codes, take}
 use Rattle.gl_base.specs.declared.jobs.MakePlan.{MakePlan}
 use Rattle.gl_base.specs.declared.text_faults.TextFile.{TextFile}
 use Rattle.gl_base.specs.declared.text_faults.TextFile.TheVariants.{Vertices, Edges}
@@ -9,6 +9,7 @@ use Rattle.job_words.specs.CommandLine.{IsCommandLine}
 use Rattle.job_words.specs.Tokens.{Text}
 use Rattle.job_words.specs.declared.words.Words.{Words}
 use Rattle.job_words.specs.declared.words.Words.TheVariants.{Run, Make}
+use Rattle.engine_cli.specs.Leaves.{Gives, KeepsOrGives}
 use Rattle.engine_cli.specs.declared.status.Status.{Status}
 use Rattle.engine_cli.specs.declared.status.Status.TheVariants.{Done, Usage, BadJob, BadGraph, ReadFault, WriteFault, BudgetSpent, NoMemory}
 
@@ -41,13 +42,9 @@ IsMade plan Edges bytes = (stride : ℕ) × IsStride (half_of plan.vertices) str
 abbrev pub IsMadeFront : MakePlan → TextFile → List ℕ → Type 0
 IsMadeFront plan text bytes = (whole : List ℕ) × IsMade plan text whole × (count : ℕ) × (bytes ≡ take count whole)
 
--- a name gives bytes of which this holds
-abbrev pub Gives : Option (List ℕ) → (List ℕ → Type 0) → Type 0
-Gives given P = (bytes : List ℕ) × (given ≡ Some bytes) × P bytes
-
 -- a name gives what it gave, or, where names are told, a front of this text of the plan's graph
 abbrev pub LeavesFront : MakePlan → TextFile → Option (List (List ℕ)) → Option (List ℕ) → Option (List ℕ) → Type 0
-LeavesFront plan text names old new = (new ≡ old) ⊎ IfSome names (λ told. Gives new (IsMadeFront plan text))
+LeavesFront plan text names old new = KeepsOrGives names old new (IsMadeFront plan text)
 
 -- the same of each of the two names
 abbrev pub LeavesFronts : MakePlan → List ℕ → Option (List (List ℕ)) → (List ℕ → Option (List ℕ)) → (List ℕ → Option (List ℕ)) → Type 0

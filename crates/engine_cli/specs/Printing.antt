@@ -1,16 +1,29 @@
--- What printing the answer leaves.
-use Rattle.std.specs.Prelude.{◌≡◌, ℕ, List, Option, Result, Ok, Err}
+-- What printing the answer and the order leaves.
+use Rattle.std.specs.Prelude.{◌≡◌, ◌⊎◌, ℕ, Bool, List, ⊤, Option, Result, Ok, Err}
 use Rattle.std.specs.Io.KnownBytes.{Appends}
 use Rattle.std.specs.declared.alloc.Global.{Global}
 use Rattle.std.specs.declared.vec.Vec.{Vec}
-use Rattle.gl_outside.specs.Faults.{Rose}
-use Rattle.gl_outside.specs.Fronts.{AppendsFront}
 use Rattle.graph_text.specs.declared.making.Writing.{Writing}
 use Rattle.graph_text.specs.declared.making.Writing.TheVariants.{WriteFault, NoMemory}
+use Rattle.order_text.specs.Answers.{answer_text}
+use Rattle.order_text.specs.Orders.{order_text}
+use Rattle.engine_cli.specs.declared.running.Prepared.{Prepared}
+use Rattle.engine_cli.specs.Answer.{Printed, told_of}
+use Rattle.engine_cli.specs.Says.{FailsAtOrder, FailsAtOut, LeavesOrder, Moment}
 
--- the whole text was appended, and what is told of it is handed back; or a front of it was where the sink failed, and
--- nothing where memory ran out
-abbrev pub Prints : Result (Vec ℕ Global) Writing → List ℕ → List ℕ → Option (List ℕ) → Option (List ℕ) → ℕ → ℕ → Type 0
-Prints (Ok bytes) text told old new before now = (bytes.items ≡ told) × Appends old new text
-Prints (Err WriteFault) text told old new before now = Rose before now × AppendsFront old new text
-Prints (Err NoMemory) text told old new before now = new ≡ old
+-- what is printed of a run
+abbrev pub printed_of : Bool → Prepared → Printed
+printed_of report made =
+    let text = answer_text made.job.algorithm made.graph.ids made.run.numbers.items in
+    record {
+      answer = text;
+      told = told_of report made.graph made.run.numbers.items text;
+      lines = order_text made.graph.ids made.run.order.items;
+    }
+
+-- all was printed, and what is reported is handed back; or the order's file or `out` failed
+abbrev pub Prints : Result (Vec ℕ Global) Writing → Option (List ℕ) → Printed → Moment → Moment → Type 0
+Prints (Ok bytes) order printed before now =
+    (bytes.items ≡ printed.told) × Appends before.held now.held printed.answer × LeavesOrder order before now printed.lines
+Prints (Err WriteFault) order printed before now = FailsAtOrder order before now printed ⊎ FailsAtOut order before now printed
+Prints (Err NoMemory) order printed before now = ⊤

@@ -19,9 +19,8 @@ not_built job =
     else (if nat_lt 1 job.fields.machines then Some key.Machines
     else (if is_some job.fields.store then Some key.Store
     else (if is_some job.fields.atoms_at then Some key.AtomsAt
-    else (if is_some job.fields.order then Some key.Order
     else (if nat_lt 0 (length job.failures) then Some key.Failures
-    else None)))))
+    else None))))
 
 -- the job, where such a key is not there
 abbrev pub if_built : JobSayings → Option Key → Result JobSayings JobFault

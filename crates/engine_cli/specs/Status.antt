@@ -31,6 +31,17 @@ IsBeforeWriting WriteFault = ⊥
 IsBeforeWriting (BudgetSpent left) = ⊤
 IsBeforeWriting NoMemory = ⊤
 
+-- the statuses at which no file was begun
+abbrev pub IsBeforeMaking : Status → Type 0
+IsBeforeMaking Done = ⊥
+IsBeforeMaking (Usage fault) = ⊤
+IsBeforeMaking (BadJob fault) = ⊤
+IsBeforeMaking (BadGraph fault) = ⊤
+IsBeforeMaking ReadFault = ⊤
+IsBeforeMaking WriteFault = ⊥
+IsBeforeMaking (BudgetSpent left) = ⊤
+IsBeforeMaking NoMemory = ⊥
+
 -- the statuses that valid words and texts come to where nothing failed
 abbrev pub IsDoneOrNoMemory : Status → Type 0
 IsDoneOrNoMemory Done = ⊤

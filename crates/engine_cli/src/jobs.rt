@@ -18,6 +18,7 @@ pub fn job_of<F: Files>(alloc: Global, files: &mut F, name: &str) -> Result<Job,
     ensures answer { TakesJob (F.given files.old name.now) (F.reads files.old) (F.reads files.new) result }
     ensures given { (other : List ℕ) → F.given files.new other ≡ F.given files.old other }
     ensures made { F.made files.new ≡ F.made files.old }
+    ensures writes { F.writes files.new ≡ F.writes files.old }
     ensures later { F.reads files.old ≤ F.reads files.new }
     ensures names { HandsOver (F.handed files.old) (F.handed files.new) (name.now ∷ []) }
     ensures handed { OnOk result (AppendsNames (F.handed files.old) (F.handed files.new) (name.now ∷ [])) }
@@ -45,9 +46,6 @@ fn not_built(job: &Job) -> Option<Key>
     }
     if job.atoms_at.is_some() {
         return Some(Key::AtomsAt);
-    }
-    if job.order.is_some() {
-        return Some(Key::Order);
     }
     if !job.failures.is_empty() {
         return Some(Key::Failures);

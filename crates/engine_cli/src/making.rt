@@ -7,18 +7,20 @@ ghost use Rattle.gl_outside.specs.declared.files.OpenFault.TheVariants.{Failed, 
 ghost use Rattle.gl_outside.specs.Frames.{KeepsSources};
 ghost use Rattle.gl_outside.specs.Names.{AppendsNames};
 ghost use Rattle.graph_text.specs.Making.{IsInRanges};
+ghost use Rattle.graph_text.specs.declared.making.Writing.{Writing};
 ghost use Rattle.job_words.specs.declared.words.Words.TheVariants.{Make};
-ghost use Rattle.engine_cli.specs.declared.status.Status.TheVariants.{Done, WriteFault, NoMemory as NoMemoryStatus};
+ghost use Rattle.engine_cli.specs.declared.status.Status.TheVariants.{Done};
 ghost use Rattle.engine_cli.specs.Status.{IsRefused};
 ghost use Rattle.engine_cli.specs.Found.{HandsOver};
-ghost use Rattle.engine_cli.specs.Made.{Gives, IsAsked, IsFault, IsMade, IsMadeFront, IsOfFiles, LeavesFront, LeavesFronts, Makes, edges_name, ending_of, vertices_name};
+ghost use Rattle.engine_cli.specs.Leaves.{Gives};
+ghost use Rattle.engine_cli.specs.Made.{IsAsked, IsFault, IsMade, IsMadeFront, IsOfFiles, LeavesFront, LeavesFronts, Makes, edges_name, ending_of, vertices_name};
 ghost use Rattle.engine_cli.specs.Notes.{Tells, note_of};
 
 use crate::Status;
 use crate::notes::refuse;
 use gl_base::{MakePlan, NoMemory, TextFile, UsageFault};
 use gl_outside::{Files, OpenFault, Sink, SinkOf};
-use graph_text::{make_edges, make_vertices};
+use graph_text::{Writing, make_edges, make_vertices};
 use job_words::Words;
 use std::alloc::Global;
 
@@ -42,6 +44,7 @@ pub fn files_only<F: Files, K: Sink, N: Sink>(
         HandsOver (F.made files.old) (F.made files.new) (vertices_name prefix ∷ edges_name prefix ∷ []) }
     ensures made_alone { (prefix : List ℕ) (plan : MakePlan) → words.now ≡ Make prefix plan →
         (name : List ℕ) → name ≢ vertices_name prefix → name ≢ edges_name prefix → F.given files.new name ≡ F.given files.old name }
+    ensures later { F.writes files.old ≤ F.writes files.new }
     ensures sources { KeepsSources F.reads F.handed F.is_source F.left files.old files.new }
     ensures untouched { out.new ≡ out.old }
     ensures note { IsRefused result → Tells (note_of result) (N.held note.old) (N.held note.new) (N.faults note.old) (N.faults note.new) }
@@ -72,6 +75,7 @@ fn make_files<F: Files>(
     ensures fault { IfErr result (λ status. IsFault status (F.writes files.old) (F.writes files.new)) }
     ensures names { HandsOver (F.made files.old) (F.made files.new) (vertices_name prefix.now ∷ edges_name prefix.now ∷ []) }
     ensures others { (name : List ℕ) → name ≢ vertices_name prefix.now → name ≢ edges_name prefix.now → F.given files.new name ≡ F.given files.old name }
+    ensures later { F.writes files.old ≤ F.writes files.new }
     ensures sources { KeepsSources F.reads F.handed F.is_source F.left files.old files.new }
 {
     make_file(alloc, files, prefix, TextFile::Vertices, plan)?;
@@ -99,7 +103,7 @@ fn make_file<F: Files>(
     let name = file_name(alloc, prefix, text)?;
     let file = match files.open_sink(name.as_str()) {
         Ok(file) => file,
-        Err(fault) => return Err(not_made(fault)),
+        Err(fault) => return Err(not_made(fault).into()),
     };
     write_text(alloc, &mut SinkOf::new(files, file), text, plan)
 }
@@ -137,13 +141,13 @@ fn file_name(alloc: Global, prefix: &str, text: TextFile) -> Result<String, NoMe
     Ok(name)
 }
 
-/// What a call ends with whose file was not opened for writing.
-fn not_made(fault: OpenFault) -> Status
-    ensures failed { fault ≡ Failed → result ≡ WriteFault }
-    ensures no_memory { fault ≡ NoMemoryAtOpen → result ≡ NoMemoryStatus }
+/// Why a file was not written that was not opened.
+pub(crate) fn not_made(fault: OpenFault) -> Writing
+    ensures failed { fault ≡ Failed → result ≡ Writing.WriteFault }
+    ensures no_memory { fault ≡ NoMemoryAtOpen → result ≡ Writing.NoMemory }
 {
     match fault {
-        OpenFault::Failed => Status::WriteFault,
-        OpenFault::NoMemory => Status::NoMemory,
+        OpenFault::Failed => Writing::WriteFault,
+        OpenFault::NoMemory => Writing::NoMemory,
     }
 }

@@ -1,38 +1,59 @@
-//! Prints the answer.
-ghost use Rattle.std.specs.Prelude.{◌≡◌, ◌≤◌, length, Err, IfOk};
+//! Prints what a run left: its order, where the job names a file for it, and the answer.
+ghost use Rattle.std.specs.Prelude.{◌≡◌, ◌≢◌, ℕ, ◌≤◌, [], ◌∷◌, List, length, take, All, Some, Err, IfOk, IfSome, OnOk, OnErr};
+ghost use Rattle.std.specs.Io.KnownBytes.{Appends};
+ghost use Rattle.gl_outside.specs.Faults.{Rose};
+ghost use Rattle.gl_outside.specs.Fronts.{AppendsFront};
+ghost use Rattle.gl_outside.specs.Frames.{KeepsSources};
 ghost use Rattle.graph_core.specs.DataGraph.{size};
-ghost use Rattle.order_text.specs.Answers.{answer_text};
-ghost use Rattle.graph_text.specs.declared.making.Writing.{Writing};
+ghost use Rattle.graph_text.specs.declared.making.Writing.TheVariants.{WriteFault, NoMemory as NoMemoryAtOut};
+ghost use Rattle.job_config.specs.Told.{told_job};
+ghost use Rattle.order_text.specs.Orders.{IsEntryOf};
 ghost use Rattle.engine_cli.specs.Answer.{told_of};
-ghost use Rattle.engine_cli.specs.Printing.{Prints};
+ghost use Rattle.engine_cli.specs.Found.{HandsOver, names_in};
+ghost use Rattle.engine_cli.specs.Leaves.{KeepsOrGives};
+ghost use Rattle.engine_cli.specs.Printing.{Prints, printed_of};
+ghost use Rattle.engine_cli.specs.Says.{moment};
 
-use gl_base::{Algorithm, NoMemory};
-use gl_outside::{Sink, write_all};
+use crate::making::not_made;
+use crate::running::Prepared;
+use gl_base::NoMemory;
+use gl_outside::{Files, Sink, SinkOf, write_all};
 use graph_core::Graph;
 use graph_text::Writing;
-use order_text::{answer, report};
+use order_text::{answer, order_bytes, report};
 use std::alloc::Global;
 use sync_folds::Fold;
 
-/// Prints a line for each vertex: its identifier and the number at its place. What is to be told of the answer is handed
-/// back. Where the sink fails it holds a front of the lines, and where memory runs out nothing was printed.
-pub fn print_answer<K: Sink>(
+/// Writes the order of a run to the file that the job names for it, and then prints a line for each vertex: its identifier
+/// and the number at its place. What is to be told of the answer is handed back. All memory is taken before anything is
+/// written, so that want of it leaves files and `out` as they were.
+pub fn print_run<F: Files, K: Sink>(
     alloc: Global,
+    files: &mut F,
     out: &mut K,
-    graph: &Graph,
-    numbers: &[u64],
-    kind: Algorithm,
+    made: &Prepared,
     is_reported: bool,
 ) -> Result<Vec<u8>, Writing>
-    requires { length numbers.now ≡ size graph.now }
-    ensures printed { let text = answer_text kind graph.now.ids numbers.now in
-        Prints result text (told_of is_reported graph.now numbers.now text) (K.held out.old) (K.held out.new) (K.faults out.old) (K.faults out.new) }
-    ensures no_memory { result ≡ Err Writing.NoMemory → out.new ≡ out.old }
-    ensures later { K.faults out.old ≤ K.faults out.new }
+    requires numbers { length made.now.run.numbers.items ≡ size made.now.graph }
+    requires entries { All (IsEntryOf made.now.graph) made.now.run.order.items }
+    ensures printed { Prints result (told_job made.now.job).fields.order (printed_of is_reported made.now)
+        (moment F.given F.made F.reads F.writes files.old (K.faults out.old) (K.held out.old))
+        (moment F.given F.made F.reads F.writes files.new (K.faults out.new) (K.held out.new)) }
+    ensures no_memory { result ≡ Err NoMemoryAtOut → (out.new ≡ out.old) × ((name : List ℕ) → F.given files.new name ≡ F.given files.old name) }
+    ensures names { HandsOver (F.made files.old) (F.made files.new) (names_in (told_job made.now.job).fields.order) }
+    ensures others { (name : List ℕ) → ((told_job made.now.job).fields.order ≡ Some name → ⊥) → F.given files.new name ≡ F.given files.old name }
+    ensures sources { KeepsSources F.reads F.handed F.is_source F.left files.old files.new }
+    ensures later { F.writes files.old ≤ F.writes files.new }
+    ensures faults { K.faults out.old ≤ K.faults out.new }
     ensures same { K.same out.old out.new }
 {
-    let text = answer(alloc, graph, numbers, kind)?;
-    let told = told_of(alloc, graph, numbers, &text, is_reported)?;
+    let Prepared { job, graph, run } = made;
+    let text = answer(alloc, graph, &run.numbers, job.algorithm)?;
+    let told = told_of(alloc, graph, &run.numbers, &text, is_reported)?;
+    if let Some(name) = &job.order {
+        let lines = order_bytes(alloc, graph, &run.order)?;
+        write_order(files, name.as_str(), &lines)?;
+    }
     write_all(out, &text)?;
     Ok(told)
 }
@@ -51,4 +72,36 @@ fn told_of(
         return Ok(Vec::new(alloc));
     }
     report(alloc, graph, &Fold::of(numbers), text)
+}
+
+/// Makes the file of this name, or empties it, and writes the lines. Where it fails the file is what it was, or has a front
+/// of the lines.
+fn write_order<F: Files>(files: &mut F, name: &str, lines: &[u8]) -> Result<(), Writing>
+    ensures written { OnOk result (IfSome (F.made files.old) (λ told. F.given files.new name.now ≡ Some lines.now)) }
+    ensures front { KeepsOrGives (F.made files.old) (F.given files.old name.now) (F.given files.new name.now) (λ bytes. (count : ℕ) × (bytes ≡ take count lines.now)) }
+    ensures fault { result ≡ Err WriteFault → Rose (F.writes files.old) (F.writes files.new) }
+    ensures no_memory { result ≡ Err NoMemoryAtOut → (other : List ℕ) → F.given files.new other ≡ F.given files.old other }
+    ensures names { HandsOver (F.made files.old) (F.made files.new) (name.now ∷ []) }
+    ensures others { (other : List ℕ) → other ≢ name.now → F.given files.new other ≡ F.given files.old other }
+    ensures sources { KeepsSources F.reads F.handed F.is_source F.left files.old files.new }
+    ensures later { F.writes files.old ≤ F.writes files.new }
+{
+    let file = match files.open_sink(name) {
+        Ok(file) => file,
+        Err(fault) => return Err(not_made(fault)),
+    };
+    write_lines(&mut SinkOf::new(files, file), lines)
+}
+
+/// Writes the lines.
+fn write_lines<K: Sink>(sink: &mut K, lines: &[u8]) -> Result<(), Writing>
+    ensures written { OnOk result (Appends (K.held sink.old) (K.held sink.new) lines.now) }
+    ensures front { AppendsFront (K.held sink.old) (K.held sink.new) lines.now }
+    ensures fault { result ≡ Err WriteFault → Rose (K.faults sink.old) (K.faults sink.new) }
+    ensures memory { result ≡ Err NoMemoryAtOut → ⊥ }
+    ensures later { K.faults sink.old ≤ K.faults sink.new }
+    ensures same { K.same sink.old sink.new }
+{
+    write_all(sink, lines)?;
+    Ok(())
 }

@@ -28,6 +28,7 @@ pub fn front_of<F: Files>(
     ensures answer { TakesFront most (F.given files.old name.now) (F.reads files.old) (F.reads files.new) result }
     ensures given { (other : List ℕ) → F.given files.new other ≡ F.given files.old other }
     ensures made { F.made files.new ≡ F.made files.old }
+    ensures writes { F.writes files.new ≡ F.writes files.old }
     ensures later { F.reads files.old ≤ F.reads files.new }
     ensures names { HandsOver (F.handed files.old) (F.handed files.new) (name.now ∷ []) }
     ensures handed { OnOk result (AppendsNames (F.handed files.old) (F.handed files.new) (name.now ∷ [])) }
@@ -62,6 +63,7 @@ pub fn graph_of<F: Files>(alloc: Global, files: &mut F, job: &Job) -> Result<Gra
     ensures answer { TakesGraph (F.given files.old) (told_job job.now).fields (F.reads files.old) (F.reads files.new) result }
     ensures given { (other : List ℕ) → F.given files.new other ≡ F.given files.old other }
     ensures made { F.made files.new ≡ F.made files.old }
+    ensures writes { F.writes files.new ≡ F.writes files.old }
     ensures later { F.reads files.old ≤ F.reads files.new }
     ensures names { HandsOver (F.handed files.old) (F.handed files.new) (graph_names (F.given files.old) (told_job job.now).fields) }
     ensures handed { OnOk result (AppendsNames (F.handed files.old) (F.handed files.new) (job.now.vertices ∷ job.now.edges ∷ [])) }
@@ -90,6 +92,7 @@ fn vertices_of<F: Files>(alloc: Global, files: &mut F, name: &str) -> Result<Ver
     ensures answer { TakesVertices (F.given files.old name.now) (F.reads files.old) (F.reads files.new) result }
     ensures given { (other : List ℕ) → F.given files.new other ≡ F.given files.old other }
     ensures made { F.made files.new ≡ F.made files.old }
+    ensures writes { F.writes files.new ≡ F.writes files.old }
     ensures later { F.reads files.old ≤ F.reads files.new }
     ensures names { HandsOver (F.handed files.old) (F.handed files.new) (name.now ∷ []) }
     ensures handed { OnOk result (AppendsNames (F.handed files.old) (F.handed files.new) (name.now ∷ [])) }
@@ -113,6 +116,7 @@ fn edges_of<F: Files>(
     ensures answer { TakesEdges directed weighted list.ids.items (F.given files.old name.now) (F.reads files.old) (F.reads files.new) result }
     ensures given { (other : List ℕ) → F.given files.new other ≡ F.given files.old other }
     ensures made { F.made files.new ≡ F.made files.old }
+    ensures writes { F.writes files.new ≡ F.writes files.old }
     ensures later { F.reads files.old ≤ F.reads files.new }
     ensures names { HandsOver (F.handed files.old) (F.handed files.new) (name.now ∷ []) }
     ensures handed { OnOk result (AppendsNames (F.handed files.old) (F.handed files.new) (name.now ∷ [])) }

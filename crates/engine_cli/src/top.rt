@@ -8,8 +8,8 @@ ghost use Rattle.job_words.specs.CommandLine.{IsCommandLine, command_line_of};
 ghost use Rattle.job_words.specs.Tokens.{texts};
 ghost use Rattle.job_words.specs.declared.words.Words.TheVariants.{Run, Make};
 ghost use Rattle.engine_cli.specs.declared.status.Status.TheVariants.{Done, Usage, NoMemory};
-ghost use Rattle.engine_cli.specs.Status.{IsBeforeWriting, IsDoneOrNoMemory, IsRefused};
-ghost use Rattle.engine_cli.specs.Found.{HandsFiles, HandsOver};
+ghost use Rattle.engine_cli.specs.Status.{IsBeforeMaking, IsBeforeWriting, IsDoneOrNoMemory, IsRefused};
+ghost use Rattle.engine_cli.specs.Found.{HandsFiles, HandsOrder, HandsOver, IsOrderName};
 ghost use Rattle.engine_cli.specs.Made.{IsAsked, LeavesFronts, Makes, edges_name, vertices_name};
 ghost use Rattle.engine_cli.specs.Notes.{Tells, note_of};
 ghost use Rattle.engine_cli.specs.Says.{Says, IsSound, moment};
@@ -27,12 +27,13 @@ use std::alloc::Global;
 ///
 /// `run JOB` reads the job in the file JOB and the graph that it names, runs the job's algorithm on it, and prints to
 /// `out`, for each vertex by ascending identifier, its identifier and its number: its level from the job's source, the
-/// least identifier in its component, its distance from the source, or a colour. With `--report` the report goes to
-/// `note`. `make PREFIX ..` writes a graph to the files PREFIX.v and PREFIX.e.
+/// least identifier in its component, its distance from the source, or a colour. Where the job names a file for the order
+/// of the updates, that is written before `out`. With `--report` the report goes to `note`. `make PREFIX ..` writes a graph
+/// to the files PREFIX.v and PREFIX.e.
 ///
 /// The words are refused first, then the job's file, what it says, what it asks for that is not built, the vertex file,
-/// the edge file, a source that is no vertex, and a run whose budget is spent; then `out` is written, and last one line to
-/// `note` for every status but `Done`. A fault of `note` is passed over. `gate` is not passed yet.
+/// the edge file, a source that is no vertex, and a run whose budget is spent; then the order's file and `out` are written,
+/// and last one line to `note` for every status but `Done`. A fault of `note` is passed over. `gate` is not passed yet.
 ///
 /// `order` holds the updates of the run and `done` how many there were, where the status is `Done`, `WriteFault` or
 /// `BudgetSpent`; the other lists are empty.
@@ -48,20 +49,24 @@ pub fn engine<F: Files, K: Sink, N: Sink, G: Gate + Sync>(
 
     // What each status of a run says of the files, the counts of faults, `out`, and what is reported to `note`.
     ensures run { (file : List ℕ) (report : Bool) → IsCommandLine (texts words.now) (Run file report) →
-        Says (F.given files.old) file report (moment (F.reads files.old) (K.faults out.old) (K.held out.old))
-        (moment (F.reads files.new) (K.faults out.new) (K.held out.new))
+        Says file report (moment F.given F.made F.reads F.writes files.old (K.faults out.old) (K.held out.old))
+        (moment F.given F.made F.reads F.writes files.new (K.faults out.new) (K.held out.new))
         (λ told. Tells told (N.held note.old) (N.held note.new) (N.faults note.old) (N.faults note.new)) result.order.items result.status }
     ensures counts { (file : List ℕ) (report : Bool) → IsCommandLine (texts words.now) (Run file report) →
         Counts result.order.items result.done.items result.status }
     ensures complete { (file : List ℕ) (report : Bool) → IsCommandLine (texts words.now) (Run file report) →
-        IsSound (F.given files.old) file (moment (F.reads files.old) (K.faults out.old) (K.held out.old))
-        (moment (F.reads files.new) (K.faults out.new) (K.held out.new)) → IsDoneOrNoMemory result.status }
+        IsSound file (moment F.given F.made F.reads F.writes files.old (K.faults out.old) (K.held out.old))
+        (moment F.given F.made F.reads F.writes files.new (K.faults out.new) (K.held out.new)) → IsDoneOrNoMemory result.status }
     ensures names { (file : List ℕ) (report : Bool) → IsCommandLine (texts words.now) (Run file report) →
         HandsFiles (F.handed files.old) (F.handed files.new) (F.given files.old) file }
-    ensures given { (file : List ℕ) (report : Bool) → IsCommandLine (texts words.now) (Run file report) →
-        (name : List ℕ) → F.given files.new name ≡ F.given files.old name }
     ensures made { (file : List ℕ) (report : Bool) → IsCommandLine (texts words.now) (Run file report) →
-        F.made files.new ≡ F.made files.old }
+        HandsOrder (F.made files.old) (F.made files.new) (F.given files.old) file }
+    ensures unmade { (file : List ℕ) (report : Bool) → IsCommandLine (texts words.now) (Run file report) →
+        IsBeforeMaking result.status → F.made files.new ≡ F.made files.old }
+    ensures others { (file : List ℕ) (report : Bool) → IsCommandLine (texts words.now) (Run file report) →
+        (name : List ℕ) → (IsOrderName (F.given files.old) file name → ⊥) → F.given files.new name ≡ F.given files.old name }
+    ensures kept { (file : List ℕ) (report : Bool) → IsCommandLine (texts words.now) (Run file report) →
+        IsBeforeWriting result.status → (name : List ℕ) → F.given files.new name ≡ F.given files.old name }
 
     // What each status says of the files that are made.
     ensures make { (prefix : List ℕ) (plan : MakePlan) → IsCommandLine (texts words.now) (Make prefix plan) →
@@ -94,7 +99,8 @@ pub fn engine<F: Files, K: Sink, N: Sink, G: Gate + Sync>(
     // What stays.
     ensures untouched { IsBeforeWriting result.status → out.new ≡ out.old }
     ensures reads { F.reads files.old ≤ F.reads files.new }
-    ensures writes { K.faults out.old ≤ K.faults out.new }
+    ensures writes { F.writes files.old ≤ F.writes files.new }
+    ensures faults { K.faults out.old ≤ K.faults out.new }
     ensures same { K.same out.old out.new }
     ensures notes { N.faults note.old ≤ N.faults note.new }
     ensures same_note { N.same note.old note.new }
@@ -117,15 +123,19 @@ fn do_command<F: Files, K: Sink, N: Sink>(
 ) -> Ended
     requires { IsAsked asked.now }
     ensures run { (file : List ℕ) (report : Bool) → asked.now ≡ Run file report →
-        Says (F.given files.old) file report (moment (F.reads files.old) (K.faults out.old) (K.held out.old))
-        (moment (F.reads files.new) (K.faults out.new) (K.held out.new))
+        Says file report (moment F.given F.made F.reads F.writes files.old (K.faults out.old) (K.held out.old))
+        (moment F.given F.made F.reads F.writes files.new (K.faults out.new) (K.held out.new))
         (λ told. Tells told (N.held note.old) (N.held note.new) (N.faults note.old) (N.faults note.new)) result.order.items result.status }
     ensures counts { (file : List ℕ) (report : Bool) → asked.now ≡ Run file report → Counts result.order.items result.done.items result.status }
     ensures names { (file : List ℕ) (report : Bool) → asked.now ≡ Run file report →
         HandsFiles (F.handed files.old) (F.handed files.new) (F.given files.old) file }
-    ensures given { (file : List ℕ) (report : Bool) → asked.now ≡ Run file report →
-        (name : List ℕ) → F.given files.new name ≡ F.given files.old name }
-    ensures made { (file : List ℕ) (report : Bool) → asked.now ≡ Run file report → F.made files.new ≡ F.made files.old }
+    ensures made { (file : List ℕ) (report : Bool) → asked.now ≡ Run file report →
+        HandsOrder (F.made files.old) (F.made files.new) (F.given files.old) file }
+    ensures unmade { (file : List ℕ) (report : Bool) → asked.now ≡ Run file report → IsBeforeMaking result.status → F.made files.new ≡ F.made files.old }
+    ensures others { (file : List ℕ) (report : Bool) → asked.now ≡ Run file report →
+        (name : List ℕ) → (IsOrderName (F.given files.old) file name → ⊥) → F.given files.new name ≡ F.given files.old name }
+    ensures kept { (file : List ℕ) (report : Bool) → asked.now ≡ Run file report →
+        IsBeforeWriting result.status → (name : List ℕ) → F.given files.new name ≡ F.given files.old name }
     ensures make { (prefix : List ℕ) (plan : MakePlan) → asked.now ≡ Make prefix plan →
         Makes plan prefix (F.made files.old) (F.given files.new) (F.writes files.old) (F.writes files.new) result.status }
     ensures made_fronts { (prefix : List ℕ) (plan : MakePlan) → asked.now ≡ Make prefix plan →
@@ -141,7 +151,8 @@ fn do_command<F: Files, K: Sink, N: Sink>(
     ensures note { IsRefused result.status → Tells (note_of result.status) (N.held note.old) (N.held note.new) (N.faults note.old) (N.faults note.new) }
     ensures untouched { IsBeforeWriting result.status → out.new ≡ out.old }
     ensures reads { F.reads files.old ≤ F.reads files.new }
-    ensures writes { K.faults out.old ≤ K.faults out.new }
+    ensures writes { F.writes files.old ≤ F.writes files.new }
+    ensures faults { K.faults out.old ≤ K.faults out.new }
     ensures same { K.same out.old out.new }
     ensures notes { N.faults note.old ≤ N.faults note.new }
     ensures same_note { N.same note.old note.new }
@@ -162,17 +173,20 @@ fn run_file<F: Files, K: Sink, N: Sink>(
     out: &mut K,
     note: &mut N,
 ) -> Ended
-    ensures run { Says (F.given files.old) file.now is_reported (moment (F.reads files.old) (K.faults out.old) (K.held out.old))
-        (moment (F.reads files.new) (K.faults out.new) (K.held out.new))
+    ensures run { Says file.now is_reported (moment F.given F.made F.reads F.writes files.old (K.faults out.old) (K.held out.old))
+        (moment F.given F.made F.reads F.writes files.new (K.faults out.new) (K.held out.new))
         (λ told. Tells told (N.held note.old) (N.held note.new) (N.faults note.old) (N.faults note.new)) result.order.items result.status }
     ensures counts { Counts result.order.items result.done.items result.status }
     ensures names { HandsFiles (F.handed files.old) (F.handed files.new) (F.given files.old) file.now }
-    ensures given { (name : List ℕ) → F.given files.new name ≡ F.given files.old name }
-    ensures made { F.made files.new ≡ F.made files.old }
+    ensures made { HandsOrder (F.made files.old) (F.made files.new) (F.given files.old) file.now }
+    ensures unmade { IsBeforeMaking result.status → F.made files.new ≡ F.made files.old }
+    ensures others { (name : List ℕ) → (IsOrderName (F.given files.old) file.now name → ⊥) → F.given files.new name ≡ F.given files.old name }
+    ensures kept { IsBeforeWriting result.status → (name : List ℕ) → F.given files.new name ≡ F.given files.old name }
     ensures note { IsRefused result.status → Tells (note_of result.status) (N.held note.old) (N.held note.new) (N.faults note.old) (N.faults note.new) }
     ensures untouched { IsBeforeWriting result.status → out.new ≡ out.old }
     ensures reads { F.reads files.old ≤ F.reads files.new }
-    ensures writes { K.faults out.old ≤ K.faults out.new }
+    ensures writes { F.writes files.old ≤ F.writes files.new }
+    ensures faults { K.faults out.old ≤ K.faults out.new }
     ensures same { K.same out.old out.new }
     ensures notes { N.faults note.old ≤ N.faults note.new }
     ensures same_note { N.same note.old note.new }

@@ -6,4 +6,6 @@ mod calls;
 #[cfg(test)]
 mod making;
 #[cfg(test)]
+mod orders;
+#[cfg(test)]
 mod runs;

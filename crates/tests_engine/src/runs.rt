@@ -565,7 +565,7 @@ fn what_is_not_built_is_refused(rt: HostRuntime) -> Result<(), Fail> {
         ),
         (
             ",\"failures\":[{\"machine\":0,\"after\":1}],\"order\":\"o\"",
-            "job: not built order\n",
+            "job: not built failures\n",
         ),
         (
             ",\"failures\":[{\"machine\":0,\"after\":1}]",

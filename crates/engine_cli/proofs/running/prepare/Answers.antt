@@ -1,7 +1,7 @@
 use Rattle.std.proofs.lemmas.Result.{err_from_is_err_and}
 use Rattle.job_config.specs.Told.{told_job}
 use Rattle.engine_cli.specs.Answer.{TellJobGraph}
-use Rattle.engine_cli.specs.Says.{OfTexts, moment}
+use Rattle.engine_cli.specs.Says.{OfTexts}
 use Rattle.engine_cli.proofs.RunsSay.{run-refuses, run-counts, same-texts, hands-file, hands-files}
 use Rattle.engine_cli.proofs.running.prepare.Goals as goal
 
@@ -34,7 +34,6 @@ returns-in_err-run-clause-answer g c =
     c.in_ok-job.ensures.given c.in_ok-graph.ensures.answer.1 in
     rw (exit.1, exit.2) (
       run-counts job.fields graph c.in_err-run.field-0.0 c.in_err-run.ensures,
-      λ report writes held. run-refuses given c.args.file.now report job graph
-          (moment (g.F.Files.reads c.args.files.now) writes held) (moment (g.F.Files.reads c.graph_of.new.files) writes held)
+      run-refuses given c.args.file.now job graph (g.F.Files.reads c.args.files.now) (g.F.Files.reads c.graph_of.new.files)
           c.in_err-run.field-0.0 c.in_ok-job.ensures.answer.1 texts c.in_err-run.ensures,
     )
