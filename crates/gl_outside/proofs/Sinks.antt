@@ -111,20 +111,20 @@ set-replaced (f ∷ fs) (suc place) new name a same not =
     set-replaced fs place new name (newer name a f) same (λ is. not (newest-next f fs place name is))
 
 -- the names stay as a piece is added to a file
-name_at-appended : (files : List NamedBytes) (place k : ℕ) (piece : List ℕ) → place < length files → name_at (appended files place piece) k ≡ name_at files k
-name_at-appended files place k piece inside = elim (cases_eq k place) [
+name_at-appended : (files : List NamedBytes) (place k : ℕ) (piece : List ℕ) (ready : ℕ) → place < length files → name_at (appended files place piece ready) k ≡ name_at files k
+name_at-appended files place k piece ready inside = elim (cases_eq k place) [
   | inl e ↦ rw e (ap (λ (f : NamedBytes). f.name) (get_or-set_same files place _ _ inside))
   | inr apart ↦ ap (λ (f : NamedBytes). f.name) (get_or-set_other files place k _ _ apart)
 ]
 
-pub bytes_at-appended : (files : List NamedBytes) (place : ℕ) (piece : List ℕ) → place < length files → bytes_at (appended files place piece) place ≡ bytes_at files place ++ piece
-bytes_at-appended files place piece inside = ap (λ (f : NamedBytes). f.bytes) (get_or-set_same files place _ _ inside)
+pub bytes_at-appended : (files : List NamedBytes) (place : ℕ) (piece : List ℕ) (ready : ℕ) → place < length files → bytes_at (appended files place piece ready) place ≡ bytes_at files place ++ piece
+bytes_at-appended files place piece ready inside = ap (λ (f : NamedBytes). f.bytes) (get_or-set_same files place _ _ inside)
 
-pub bytes_at-appended_other : (files : List NamedBytes) (place k : ℕ) (piece : List ℕ) → k ≢ place → bytes_at (appended files place piece) k ≡ bytes_at files k
-bytes_at-appended_other files place k piece apart = ap (λ (f : NamedBytes). f.bytes) (get_or-set_other files place k _ _ apart)
+pub bytes_at-appended_other : (files : List NamedBytes) (place k : ℕ) (piece : List ℕ) (ready : ℕ) → k ≢ place → bytes_at (appended files place piece ready) k ≡ bytes_at files k
+bytes_at-appended_other files place k piece ready apart = ap (λ (f : NamedBytes). f.bytes) (get_or-set_other files place k _ _ apart)
 
-pub length-appended : (files : List NamedBytes) (place : ℕ) (piece : List ℕ) → length (appended files place piece) ≡ length files
-length-appended files place piece = length-set files place _
+pub length-appended : (files : List NamedBytes) (place : ℕ) (piece : List ℕ) (ready : ℕ) → length (appended files place piece ready) ≡ length files
+length-appended files place piece ready = length-set files place _
 
 -- files of the same names have the same newest ones
 newest-by_names : (a b : List NamedBytes) (place : ℕ) (name : List ℕ) → length b ≡ length a → ((k : ℕ) → name_at b k ≡ name_at a k) → IsNewest a place name → IsNewest b place name
@@ -288,28 +288,28 @@ sinks_apart files sinks i j p q are at_i at_j apart same =
           omega (arith, are.ascending j i below i_in, pi, qj, same)
     ]
 
-written_other : (files : List NamedBytes) (sinks : List ℕ) (file place k : ℕ) (piece : List ℕ) → AreSinks files sinks → slice_get sinks file ≡ Some place → k ≢ file
-    → option_map (bytes_at (appended files place piece)) (slice_get sinks k) ≡ option_map (bytes_at files) (slice_get sinks k)
-written_other files sinks file place k piece are is apart = elim ((slice_get_cases sinks k).1) [
+written_other : (files : List NamedBytes) (sinks : List ℕ) (file place k : ℕ) (piece : List ℕ) (ready : ℕ) → AreSinks files sinks → slice_get sinks file ≡ Some place → k ≢ file
+    → option_map (bytes_at (appended files place piece ready)) (slice_get sinks k) ≡ option_map (bytes_at files) (slice_get sinks k)
+written_other files sinks file place k piece ready are is apart = elim ((slice_get_cases sinks k).1) [
   | inl (q, inside, at_k, read) ↦
-      ap (option_map (bytes_at (appended files place piece))) at_k
-      ∙ ap (λ (bytes : List ℕ). Some bytes) (bytes_at-appended_other files place q piece (sinks_apart files sinks k file q place are at_k is apart))
+      ap (option_map (bytes_at (appended files place piece ready))) at_k
+      ∙ ap (λ (bytes : List ℕ). Some bytes) (bytes_at-appended_other files place q piece ready (sinks_apart files sinks k file q place are at_k is apart))
       ∙ sym (ap (option_map (bytes_at files)) at_k)
-  | inr (past, none) ↦ ap (option_map (bytes_at (appended files place piece))) none ∙ sym (ap (option_map (bytes_at files)) none)
+  | inr (past, none) ↦ ap (option_map (bytes_at (appended files place piece ready))) none ∙ sym (ap (option_map (bytes_at files)) none)
 ]
 
-pub writes_only : (old new : StoreState) (file place : ℕ) (piece : List ℕ) → slice_get old.sinks file ≡ Some place → place < length old.files → AreSinks old.files old.sinks
-    → new.files ≡ appended old.files place piece → new.sinks ≡ old.sinks → new.made ≡ old.made
+pub writes_only : (old new : StoreState) (file place : ℕ) (piece : List ℕ) (ready : ℕ) → slice_get old.sinks file ≡ Some place → place < length old.files → AreSinks old.files old.sinks
+    → new.files ≡ appended old.files place piece ready → new.sinks ≡ old.sinks → new.made ≡ old.made
     → WritesOnly given_by (λ (s : StoreState). Some s.made) is_made written_by IsFilledBy file old new
-writes_only old new file place piece is inside are files sinks made = record {
+writes_only old new file place piece ready is inside are files sinks made = record {
   gives = gives;
   apart = λ own name fills apart. gives name (λ other. apart (one_name own name fills other));
   names = ap (λ (names : List (List ℕ)). Some names) made;
   open_files = λ k. ap (λ (ss : List ℕ). nat_lt k (length ss)) sinks;
   others = λ k apart.
       ap (λ (fs : List NamedBytes). option_map (bytes_at fs) (slice_get new.sinks k)) files
-      ∙ ap (λ (ss : List ℕ). option_map (bytes_at (appended old.files place piece)) (slice_get ss k)) sinks
-      ∙ written_other old.files old.sinks file place k piece are is apart;
+      ∙ ap (λ (ss : List ℕ). option_map (bytes_at (appended old.files place piece ready)) (slice_get ss k)) sinks
+      ∙ written_other old.files old.sinks file place k piece ready are is apart;
   targets = λ k name. (
     λ fills. filled_by new k fills.place name (ap (λ (ss : List ℕ). slice_get ss k) sinks ∙ fills.is) (newest-by_names old.files new.files fills.place name long names_same fills.newest),
     λ fills. filled_by old k fills.place name (ap (λ (ss : List ℕ). slice_get ss k) (sym sinks) ∙ fills.is) (newest-by_names new.files old.files fills.place name (sym long) (λ m. sym (names_same m)) fills.newest),
@@ -319,7 +319,7 @@ writes_only old new file place piece is inside are files sinks made = record {
     gives : (name : List ℕ) → (IsFilledBy old file name → ⊥) → given_by new name ≡ given_by old name
     gives name not =
         ap (λ (fs : List NamedBytes). bytes_of fs name) files
-        ∙ set-replaced old.files place (record { name = name_at old.files place; bytes = bytes_at old.files place ++ piece }) name None refl (λ newest. not (filled_by old file place name is newest))
+        ∙ set-replaced old.files place (record { name = name_at old.files place; bytes = bytes_at old.files place ++ piece; ready = ready }) name None refl (λ newest. not (filled_by old file place name is newest))
 
     one_name : (own name : List ℕ) → IsFilledBy old file own → IsFilledBy old file name → name ≡ own
     one_name own name a b =
@@ -328,10 +328,10 @@ writes_only old new file place piece is inside are files sinks made = record {
         sym b.newest.named ∙ sym (ap (name_at old.files) same) ∙ a.newest.named
 
     long : length new.files ≡ length old.files
-    long = ap (length {A = NamedBytes}) files ∙ length-appended old.files place piece
+    long = ap (length {A = NamedBytes}) files ∙ length-appended old.files place piece ready
 
     names_same : (m : ℕ) → name_at new.files m ≡ name_at old.files m
-    names_same m = ap (λ (fs : List NamedBytes). name_at fs m) files ∙ name_at-appended old.files place m piece inside
+    names_same m = ap (λ (fs : List NamedBytes). name_at fs m) files ∙ name_at-appended old.files place m piece ready inside
 
 -- a write that failed
 pub writes_none : (old new : StoreState) (file : ℕ) → new.files ≡ old.files → new.sinks ≡ old.sinks → new.made ≡ old.made
@@ -346,58 +346,58 @@ writes_none old new file files sinks made = record {
 }
 
 -- what a write of the whole piece tells
-pub writes_next : (files now : List NamedBytes) (sinks sinks_now : List ℕ) (file place count : ℕ) (piece : List ℕ) → slice_get sinks file ≡ Some place → place < length files
-    → now ≡ appended files place piece → sinks_now ≡ sinks → count ≡ length piece
+pub writes_next : (files now : List NamedBytes) (sinks sinks_now : List ℕ) (file place count : ℕ) (piece : List ℕ) (ready : ℕ) → slice_get sinks file ≡ Some place → place < length files
+    → now ≡ appended files place piece ready → sinks_now ≡ sinks → count ≡ length piece
     → Appends (option_map (bytes_at files) (slice_get sinks file)) (option_map (bytes_at now) (slice_get sinks_now file)) (take count piece)
-writes_next files now sinks sinks_now file place count piece is inside grown same all =
+writes_next files now sinks sinks_now file place count piece ready is inside grown same all =
     let before : option_map (bytes_at files) (slice_get sinks file) ≡ Some (bytes_at files place) = ap (option_map (bytes_at files)) is in
     let after : option_map (bytes_at now) (slice_get sinks_now file) ≡ Some (bytes_at files place ++ piece) =
     ap (option_map (bytes_at now)) (ap (λ (ss : List ℕ). slice_get ss file) same ∙ is)
-    ∙ ap (λ (bytes : List ℕ). Some bytes) (ap (λ (fs : List NamedBytes). bytes_at fs place) grown ∙ bytes_at-appended files place piece inside) in
+    ∙ ap (λ (bytes : List ℕ). Some bytes) (ap (λ (fs : List NamedBytes). bytes_at fs place) grown ∙ bytes_at-appended files place piece ready inside) in
     let whole : take count piece ≡ piece = take_all count piece (omega (arith, all)) in
     rw (before, after, whole) refl
 
 -- and leaves what is read
-left_in-appended : (files : List NamedBytes) (place : ℕ) (piece : List ℕ) (o : OpenFile) → place < length files → IsInside files o → left_in (appended files place piece) o ≡ left_in files o
-left_in-appended files place piece o inside is = elim (cases_eq o.place place) [
+left_in-appended : (files : List NamedBytes) (place : ℕ) (piece : List ℕ) (ready : ℕ) (o : OpenFile) → place < length files → IsInside files o → left_in (appended files place piece ready) o ≡ left_in files o
+left_in-appended files place piece ready o inside is = elim (cases_eq o.place place) [
   | inl e ↦
-      let same : bytes_at (appended files place piece) o.place ≡ bytes_at files o.place ++ piece =
-      ap (bytes_at (appended files place piece)) e ∙ bytes_at-appended files place piece inside ∙ ap (λ (k : ℕ). bytes_at files k ++ piece) (sym e) in
+      let same : bytes_at (appended files place piece ready) o.place ≡ bytes_at files o.place ++ piece =
+      ap (bytes_at (appended files place piece ready)) e ∙ bytes_at-appended files place piece ready inside ∙ ap (λ (k : ℕ). bytes_at files k ++ piece) (sym e) in
       ap (λ (bytes : List ℕ). drop o.at (take o.end bytes)) same ∙ ap (drop o.at) (take-append-le o.end (bytes_at files o.place) piece is.within)
-  | inr apart ↦ ap (λ (bytes : List ℕ). drop o.at (take o.end bytes)) (bytes_at-appended_other files place o.place piece apart)
+  | inr apart ↦ ap (λ (bytes : List ℕ). drop o.at (take o.end bytes)) (bytes_at-appended_other files place o.place piece ready apart)
 ]
 
-pub map-left_in-appended : (files : List NamedBytes) (place : ℕ) (piece : List ℕ) (opened : List OpenFile) → place < length files → All (IsInside files) opened
-    → map (left_in (appended files place piece)) opened ≡ map (left_in files) opened
-map-left_in-appended files place piece [] inside are = refl
-map-left_in-appended files place piece (o ∷ os) inside are =
-    let first = left_in-appended files place piece o inside (All-head (IsInside files) o os are) in
-    let rest = map-left_in-appended files place piece os inside (All-tail (IsInside files) o os are) in
+pub map-left_in-appended : (files : List NamedBytes) (place : ℕ) (piece : List ℕ) (ready : ℕ) (opened : List OpenFile) → place < length files → All (IsInside files) opened
+    → map (left_in (appended files place piece ready)) opened ≡ map (left_in files) opened
+map-left_in-appended files place piece ready [] inside are = refl
+map-left_in-appended files place piece ready (o ∷ os) inside are =
+    let first = left_in-appended files place piece ready o inside (All-head (IsInside files) o os are) in
+    let rest = map-left_in-appended files place piece ready os inside (All-tail (IsInside files) o os are) in
     cc
 
-inside-appended : (files : List NamedBytes) (place : ℕ) (piece : List ℕ) (o : OpenFile) → place < length files → IsInside files o → IsInside (appended files place piece) o
-inside-appended files place piece o inside is = record {
-  known = omega (arith, is.known, length-appended files place piece);
+inside-appended : (files : List NamedBytes) (place : ℕ) (piece : List ℕ) (ready : ℕ) (o : OpenFile) → place < length files → IsInside files o → IsInside (appended files place piece ready) o
+inside-appended files place piece ready o inside is = record {
+  known = omega (arith, is.known, length-appended files place piece ready);
   order = is.order;
   within = elim (cases_eq o.place place) [
     | inl e ↦
-        let same : bytes_at (appended files place piece) o.place ≡ bytes_at files o.place ++ piece =
-        ap (bytes_at (appended files place piece)) e ∙ bytes_at-appended files place piece inside ∙ ap (λ (k : ℕ). bytes_at files k ++ piece) (sym e) in
+        let same : bytes_at (appended files place piece ready) o.place ≡ bytes_at files o.place ++ piece =
+        ap (bytes_at (appended files place piece ready)) e ∙ bytes_at-appended files place piece ready inside ∙ ap (λ (k : ℕ). bytes_at files k ++ piece) (sym e) in
         omega (arith, is.within, ap (length {A = ℕ}) same, length-append (bytes_at files o.place) piece)
-    | inr apart ↦ omega (arith, is.within, ap (length {A = ℕ}) (bytes_at-appended_other files place o.place piece apart))
+    | inr apart ↦ omega (arith, is.within, ap (length {A = ℕ}) (bytes_at-appended_other files place o.place piece ready apart))
   ];
 }
 
-pub all_inside-appended : (files now : List NamedBytes) (place : ℕ) (piece : List ℕ) (opened : List OpenFile) → now ≡ appended files place piece → place < length files → All (IsInside files) opened → All (IsInside now) opened
-all_inside-appended files now place piece opened e inside are =
+pub all_inside-appended : (files now : List NamedBytes) (place : ℕ) (piece : List ℕ) (ready : ℕ) (opened : List OpenFile) → now ≡ appended files place piece ready → place < length files → All (IsInside files) opened → All (IsInside now) opened
+all_inside-appended files now place piece ready opened e inside are =
     subst (λ (fs : List NamedBytes). All (IsInside fs) opened) (sym e) (go opened are)
   where
-    go : (os : List OpenFile) → All (IsInside files) os → All (IsInside (appended files place piece)) os
-    go os all = λ k d below. inside-appended files place piece (get_or os k d) inside (all k d below)
+    go : (os : List OpenFile) → All (IsInside files) os → All (IsInside (appended files place piece ready)) os
+    go os all = λ k d below. inside-appended files place piece ready (get_or os k d) inside (all k d below)
 
-pub are_sinks-appended : (files now : List NamedBytes) (sinks : List ℕ) (place : ℕ) (piece : List ℕ) → now ≡ appended files place piece → AreSinks files sinks → AreSinks now sinks
-are_sinks-appended files now sinks place piece e are =
-    let long : length now ≡ length files = ap (length {A = NamedBytes}) e ∙ length-appended files place piece in
+pub are_sinks-appended : (files now : List NamedBytes) (sinks : List ℕ) (place : ℕ) (piece : List ℕ) (ready : ℕ) → now ≡ appended files place piece ready → AreSinks files sinks → AreSinks now sinks
+are_sinks-appended files now sinks place piece ready e are =
+    let long : length now ≡ length files = ap (length {A = NamedBytes}) e ∙ length-appended files place piece ready in
     record { known = subst (λ (n : ℕ). All (λ p. p < n) sinks) (sym long) are.known; ascending = are.ascending }
 
 -- more files leave each open one as it is

@@ -1,13 +1,26 @@
--- What callers see of the objects over the system. Content is not told.
-use Rattle.std.specs.Prelude.{ℕ, Result, Ok, Err}
+-- What callers see of the objects over the system. Content is told as far as the system's own files and writers tell it.
+use Rattle.std.specs.Prelude.{◌≡◌, ℕ, List, ◌∷◌, [], ◌++◌, Option, Some, length, nat_lt, Bool, slice_get, slice_set, take, Result, Ok, Err}
+use Rattle.std.specs.Io.KnownBytes.{Appends}
 use Rattle.gl_outside.specs.Calls.{raised}
+use Rattle.gl_outside.specs.Fronts.{AppendsFront}
+use Rattle.gl_outside.specs.declared.files.FileNo.{FileNo}
+use Rattle.gl_outside.specs.declared.files.OpenFault.{OpenFault}
+use Rattle.gl_outside.specs.declared.files.OpenFault.TheVariants.{Failed, NoMemory}
 
--- files: how many were opened for reading and for writing, and how many faults of each there were
-pub record HostState : Type 0 where
-  pub sources : ℕ
-  pub sinks : ℕ
+-- files: those that were opened for reading and for writing, by their numbers, and how many faults of each there were
+pub record HostState (F : Type 0) : Type 0 where
+  pub sources : List F
+  pub sinks : List F
   pub reads : ℕ
   pub writes : ℕ
+
+-- whether the number is that of a file that was opened for reading
+abbrev pub is_read : {F : Type 0} → HostState F → ℕ → Bool
+is_read host file = nat_lt file (length host.sources)
+
+-- whether the number is that of a file that was opened for writing
+abbrev pub is_written : {F : Type 0} → HostState F → ℕ → Bool
+is_written host file = nat_lt file (length host.sinks)
 
 -- a writer as a sink: the writer, and how many faults there were
 pub record WriterState (W : Type 0) : Type 0 where
@@ -18,3 +31,27 @@ pub record WriterState (W : Type 0) : Type 0 where
 abbrev pub faults_after : {T E : Type 0} → ℕ → Result T E → ℕ
 faults_after faults (Ok value) = faults
 faults_after faults (Err fault) = raised faults
+
+-- one fault more where the open failed, and none where there was no memory for it
+abbrev pub faults_after_open : {T : Type 0} → ℕ → Result T OpenFault → ℕ
+faults_after_open faults (Ok file) = faults
+faults_after_open faults (Err Failed) = raised faults
+faults_after_open faults (Err NoMemory) = faults
+
+-- of the open files that of this number alone changes
+pub record ChangesAt {F : Type 0} (file : ℕ) (old new : List F) (Change : F → F → Type 0) : Type 0 where
+  pub was : F
+  pub now : F
+  pub open_file : slice_get old file ≡ Some was
+  pub others : new ≡ slice_set old file now
+  pub change : Change was now
+
+-- a writer took the front of the piece that it tells as taken; where it failed it took a front of the piece or nothing
+abbrev pub TakesFront : {E : Type 0} → Option (List ℕ) → Option (List ℕ) → Result ℕ E → List ℕ → Type 0
+TakesFront old new (Ok count) piece = Appends old new (take count piece)
+TakesFront old new (Err fault) piece = AppendsFront old new piece
+
+-- an open adds one file behind those that are open, whose number is next, and none where it fails
+abbrev pub OpensOne : {F : Type 0} → List F → List F → Result FileNo OpenFault → Type 0
+OpensOne {F} old new (Ok file) = (opened : F) × (new ≡ old ++ opened ∷ []) × (file.0 ≡ length old)
+OpensOne old new (Err fault) = new ≡ old

@@ -18,6 +18,6 @@ pub record AreSinks (files : List NamedBytes) (sinks : List ℕ) : Type 0 where
   pub known : All (λ place. place < length files) sinks
   pub ascending : (i j : ℕ) → i < j → j < length sinks → slice_index sinks i < slice_index sinks j
 
--- the piece behind the bytes of the file at this place
-abbrev pub appended : List NamedBytes → ℕ → List ℕ → List NamedBytes
-appended files place piece = slice_set files place (record { name = name_at files place; bytes = bytes_at files place ++ piece })
+-- the piece behind the bytes of the file at this place, which can hold so many then before it takes memory
+abbrev pub appended : List NamedBytes → ℕ → List ℕ → ℕ → List NamedBytes
+appended files place piece ready = slice_set files place (record { name = name_at files place; bytes = bytes_at files place ++ piece; ready = ready })

@@ -1,14 +1,15 @@
 -- Files in memory, as their callers see them.
-use Rattle.std.specs.Prelude.{◌≡◌, ◌≢◌, ℕ, ◌^◌, ◌<◌, ◌≤◌, Bool, nat_lt, List, [], length, slice_get, Option, None, Some, Result, Ok, Err, bytes_eq, fold, slice_index_or, if◌then◌else◌}
+use Rattle.std.specs.Prelude.{◌≡◌, ◌≢◌, ℕ, ◌+◌, ◌^◌, ◌<◌, ◌≤◌, Bool, nat_lt, List, [], length, slice_get, Option, None, Some, Result, Ok, Err, bytes_eq, fold, slice_index, slice_index_or, if◌then◌else◌}
 use Rattle.std.specs.Option.{option_map}
 use Rattle.gl_outside.specs.Calls.{CallCounts, called, faulted}
 use Rattle.gl_outside.specs.declared.files.OpenFault.{OpenFault}
 use Rattle.gl_outside.specs.declared.files.OpenFault.TheVariants.{Failed, NoMemory}
 
--- a file: its name and its bytes
+-- a file: its name, its bytes, and how many it can hold before it takes memory
 pub record NamedBytes : Type 0 where
   pub name : List ℕ
   pub bytes : List ℕ
+  pub ready : ℕ
 
 -- The files, in the order in which they were put or made. Of reading: the names that were handed to `open_source`, what
 -- each file that was opened has left, by its number, and the calls. Of writing: the names that were handed to
@@ -32,7 +33,7 @@ bytes_of files name = fold (newer name) None files
 
 -- the file at this place, an empty one past the last
 abbrev pub file_at : List NamedBytes → ℕ → NamedBytes
-file_at files place = slice_index_or files place (record { name = []; bytes = [] })
+file_at files place = slice_index_or files place (record { name = []; bytes = []; ready = 0 })
 
 -- its bytes
 abbrev pub bytes_at : List NamedBytes → ℕ → List ℕ
@@ -41,6 +42,10 @@ bytes_at files place = (file_at files place).bytes
 -- its name
 abbrev pub name_at : List NamedBytes → ℕ → List ℕ
 name_at files place = (file_at files place).name
+
+-- how many it can hold before it takes memory
+abbrev pub ready_at : List NamedBytes → ℕ → ℕ
+ready_at files place = (file_at files place).ready
 
 -- the file at this place is the newest of this name
 pub record IsNewest (files : List NamedBytes) (place : ℕ) (name : List ℕ) : Type 0 where
@@ -67,6 +72,18 @@ is_made store file = nat_lt file (length store.sinks)
 -- what was written to it
 abbrev pub written_by : StoreState → ℕ → Option (List ℕ)
 written_by store file = option_map (bytes_at store.files) (slice_get store.sinks file)
+
+-- how many bytes the file of this number that was opened for writing can hold before it takes memory
+abbrev pub ready_in : StoreState → ℕ → ℕ
+ready_in store file = ready_at store.files (slice_index store.sinks file)
+
+-- the piece behind the bytes of the file at this place asks for memory
+abbrev pub WantsMemoryAt : List NamedBytes → ℕ → List ℕ → Type 0
+WantsMemoryAt files place piece = ready_at files place < length (bytes_at files place) + length piece
+
+-- the piece behind what was written to this file asks for memory
+abbrev pub WantsMemoryIn : StoreState → ℕ → List ℕ → Type 0
+WantsMemoryIn store file piece = WantsMemoryAt store.files (slice_index store.sinks file) piece
 
 -- it is the newest file of this name, and so what was written to it is what the name gives
 pub record IsFilledBy (store : StoreState) (file : ℕ) (name : List ℕ) : Type 0 where

@@ -6,7 +6,7 @@ ghost use Rattle.gl_outside.specs.Faults.{Counts, Rose};
 ghost use Rattle.gl_outside.specs.Frames.{ReadsOnly, OpensOnly, KeepsSources, KeepsSinks, WritesOnly, MakesOnly};
 ghost use Rattle.gl_outside.specs.Names.{NotesName};
 ghost use Rattle.gl_outside.specs.Calls.{no_calls, NextFails, after_call};
-ghost use Rattle.gl_outside.specs.Store.{bytes_of, bytes_at, after_open, given_by, is_open, is_made, left_by, written_by, IsFilledBy, IsMissing, HasNoNumber, HasNoSinkNumber};
+ghost use Rattle.gl_outside.specs.Store.{bytes_of, bytes_at, after_open, given_by, is_open, is_made, left_by, written_by, IsFilledBy, IsMissing, HasNoNumber, HasNoSinkNumber, ready_at, ready_in, WantsMemoryAt, WantsMemoryIn};
 ghost use Rattle.gl_outside.specs.OpenFiles.{left_in, IsInside, appended};
 ghost use Rattle.std.proofs.Common.{◌∙◌, sym, ap};
 ghost use Rattle.gl_outside.specs.Told.{made_is_told};
@@ -25,11 +25,12 @@ struct StoredFile {
 }
 
 impl Model for StoredFile {
+    ghost use Rattle.std.specs.Prelude.{vec_capacity};
     ghost use Rattle.gl_outside.specs.Store.{NamedBytes};
 
     ghost Value = { NamedBytes };
 
-    ghost view = { λ f. record { name = f.name; bytes = f.bytes.items } };
+    ghost view = { λ f. record { name = f.name; bytes = f.bytes.items; ready = vec_capacity f.bytes } };
 }
 
 /// A file that is open for reading: its place among the files, how far it was read, and where it ended as it was opened.
@@ -259,7 +260,9 @@ impl Files for MemFiles {
         ensures counts { Counts self.old.writes.faults self.new.writes.faults result }
 
         ensures listed { NextFails self.old.writes → IsErr result }
+        ensures only { OnErr result (NextFails self.old.writes ⊎ WantsMemoryIn self.old file.0 piece.now) }
         ensures all { IfOk result (λ count. count ≡ length piece.now) }
+        ensures ready { ready_in self.old file.0 ≤ ready_in self.new file.0 }
         ensures refused { OnErr result (self.new.files ≡ self.old.files) }
         ensures calls { self.new.writes ≡ after_call self.old.writes result }
         ensures reads { self.new.reads ≡ self.old.reads }
@@ -333,8 +336,13 @@ fn make(
 /// Adds the piece to the file at this place. Where there is no memory, all stays as it was.
 fn append(files: &mut Vec<StoredFile>, place: usize, piece: &[u8]) -> Result<(), AllocError>
     requires { place < length files.old.items }
-    ensures ok { OnOk result (files.new.items ≡ appended files.old.items place piece.now) }
+    ensures ok { OnOk result
+        (files.new.items ≡ appended files.old.items place piece.now (ready_at files.new.items place)) }
     ensures err { OnErr result (files.new.items ≡ files.old.items) }
+    ensures full { OnErr result (WantsMemoryAt files.old.items place piece.now) }
+    ensures ready { ready_at files.old.items place ≤ ready_at files.new.items place }
 {
-    files[place].bytes.extend_from_slice(piece)
+    let bytes = &mut files[place].bytes;
+    bytes.reserve(piece.len())?;
+    bytes.extend_from_slice(piece)
 }

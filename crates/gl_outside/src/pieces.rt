@@ -1,5 +1,5 @@
 //! Texts that are written in pieces.
-ghost use Rattle.std.specs.Prelude.{◌≤◌, OnOk, OnErr};
+ghost use Rattle.std.specs.Prelude.{◌≡◌, ◌+◌, ◌<◌, ◌≤◌, [], IsOk, OnOk, OnErr, length};
 ghost use Rattle.std.specs.Io.KnownBytes.{Appends};
 ghost use Rattle.gl_outside.specs.Faults.{Rose};
 ghost use Rattle.gl_outside.specs.Fronts.{AppendsFront, Moves};
@@ -29,7 +29,7 @@ pub fn write_all<K: Sink>(sink: &mut K, bytes: &[u8]) -> Result<(), Failed>
 }
 
 /// Writes the gathered bytes and empties the list, where with as many as `line` bytes more it would be longer than a
-/// piece.
+/// piece. Else nothing is written, and all stays as it was. Where it fails the list stays as it was.
 pub fn write_when_full<K: Sink>(
     sink: &mut K,
     piece: &mut Vec<u8>,
@@ -38,6 +38,10 @@ pub fn write_when_full<K: Sink>(
     ensures ok { OnOk result (Moves (K.held sink.old) (K.held sink.new) piece.old.items piece.new.items) }
     ensures fault { OnErr result (Rose (K.faults sink.old) (K.faults sink.new)) }
     ensures front { OnErr result (AppendsFront (K.held sink.old) (K.held sink.new) piece.old.items) }
+    ensures waits { length piece.old.items + line ≤ PIECE →
+        IsOk result × (sink.new ≡ sink.old) × (piece.new ≡ piece.old) }
+    ensures empties { PIECE < length piece.old.items + line → OnOk result (piece.new.items ≡ []) }
+    ensures kept { OnErr result (piece.new.items ≡ piece.old.items) }
     ensures later { K.faults sink.old ≤ K.faults sink.new }
     ensures same { K.same sink.old sink.new }
 {

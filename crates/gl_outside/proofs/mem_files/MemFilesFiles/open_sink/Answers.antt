@@ -1,5 +1,6 @@
 use Rattle.std.proofs.Common.{◌≡◌, ℕ, [], ◌∷◌, ◌++◌, List, length, map, Some, ap, ◌∙◌, subst, rules}
 use Rattle.gl_outside.specs.Store.{NamedBytes, StoreState}
+use Rattle.std.specs.Prelude.{vec_capacity}
 use Rattle.gl_outside.specs.OpenFiles.{left_in, AreSinks}
 use Rattle.gl_outside.proofs.StoredFiles.{bytes_of_put, map-left_in-append}
 use Rattle.gl_outside.proofs.Sinks.{all_inside-append, sinks_pushed, makes_only, fills_pushed, empty_pushed, keeps_sources}
@@ -8,7 +9,7 @@ use Rattle.gl_outside.proofs.mem_files.MemFilesFiles.open_sink.Goals as goal
 pub invariant_of-self-2 : goal.invariant_of-self-2
 invariant_of-self-2 c =
     let files = c.self.inside.files.items in
-    let file : NamedBytes = record { name = c.in_ok-copied_name-2.field-0; bytes = c.new.result.items } in
+    let file : NamedBytes = record { name = c.in_ok-copied_name-2.field-0; bytes = c.new.result.items; ready = vec_capacity c.new.result } in
     let grown : c.make.new.files.items ≡ files ++ file ∷ [] = c.in_ok-make.ensures.files in
     let sinks = c.self.inside.sinks.items in
     let sunk : c.make.new.sinks.items ≡ sinks ++ length files ∷ [] = c.in_ok-make.ensures.sinks in (
@@ -19,7 +20,7 @@ invariant_of-self-2 c =
 pub returns-clause-empty : goal.returns-clause-empty
 returns-clause-empty c =
     let files = c.self.inside.files.items in
-    let file : NamedBytes = record { name = c.in_ok-copied_name-2.field-0; bytes = c.new.result.items } in
+    let file : NamedBytes = record { name = c.in_ok-copied_name-2.field-0; bytes = c.new.result.items; ready = vec_capacity c.new.result } in
     let grown : c.make.new.files.items ≡ files ++ file ∷ [] = c.in_ok-make.ensures.files in
     let sinks = c.self.inside.sinks.items in
     let sunk : c.make.new.sinks.items ≡ sinks ++ length files ∷ [] = c.in_ok-make.ensures.sinks in
@@ -29,7 +30,7 @@ returns-clause-empty c =
 pub returns-clause-target : goal.returns-clause-target
 returns-clause-target c =
     let files = c.self.inside.files.items in
-    let file : NamedBytes = record { name = c.in_ok-copied_name-2.field-0; bytes = c.new.result.items } in
+    let file : NamedBytes = record { name = c.in_ok-copied_name-2.field-0; bytes = c.new.result.items; ready = vec_capacity c.new.result } in
     let grown : c.make.new.files.items ≡ files ++ file ∷ [] = c.in_ok-make.ensures.files in
     let sinks = c.self.inside.sinks.items in
     let sunk : c.make.new.sinks.items ≡ sinks ++ length files ∷ [] = c.in_ok-make.ensures.sinks in
@@ -41,7 +42,7 @@ returns-clause-target c =
 pub returns-clause-frame : goal.returns-clause-frame
 returns-clause-frame c =
     let files = c.self.inside.files.items in
-    let file : NamedBytes = record { name = c.in_ok-copied_name-2.field-0; bytes = c.new.result.items } in
+    let file : NamedBytes = record { name = c.in_ok-copied_name-2.field-0; bytes = c.new.result.items; ready = vec_capacity c.new.result } in
     let grown : c.make.new.files.items ≡ files ++ file ∷ [] = c.in_ok-make.ensures.files in
     let sinks = c.self.inside.sinks.items in
     let sunk : c.make.new.sinks.items ≡ sinks ++ length files ∷ [] = c.in_ok-make.ensures.sinks in
@@ -53,7 +54,7 @@ returns-clause-frame c =
 pub returns-clause-sources : goal.returns-clause-sources
 returns-clause-sources c =
     let files = c.self.inside.files.items in
-    let file : NamedBytes = record { name = c.in_ok-copied_name-2.field-0; bytes = c.new.result.items } in
+    let file : NamedBytes = record { name = c.in_ok-copied_name-2.field-0; bytes = c.new.result.items; ready = vec_capacity c.new.result } in
     let grown : c.make.new.files.items ≡ files ++ file ∷ [] = c.in_ok-make.ensures.files in
     let opened = c.self.inside.opened.items in
     keeps_sources _ _ (ap (λ (s : StoreState). s.reads) c.self.view_is) (ap (λ (s : StoreState). s.handed) c.self.view_is)
@@ -64,6 +65,6 @@ returns-clause-sources c =
 pub returns-clause-gives : goal.returns-clause-gives
 returns-clause-gives c =
     let files = c.self.inside.files.items in
-    let file : NamedBytes = record { name = c.in_ok-copied_name-2.field-0; bytes = c.new.result.items } in
+    let file : NamedBytes = record { name = c.in_ok-copied_name-2.field-0; bytes = c.new.result.items; ready = vec_capacity c.new.result } in
     let grown : c.make.new.files.items ≡ files ++ file ∷ [] = c.in_ok-make.ensures.files in
     bytes_of_put files c.make.new.files.items file c.args.name.now grown c.in_ok-copied_name-2.ensures ∙ ap (λ (bytes : List ℕ). Some bytes) c.new.ensures.items
