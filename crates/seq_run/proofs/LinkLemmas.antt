@@ -1,9 +1,8 @@
 -- Links of the half-edges at each vertex: how their rows grow, and that they fit a scope.
-use Rattle.std.proofs.Common.{◌≡◌, ℕ, suc, ◌+◌, ◌^◌, ◌<◌, ◌||◌, true, List, [], ◌∷◌, ◌++◌, length, map, take, sum_by, slice_index_or, All, AllPairs, refl, sym, ap, ◌∙◌, subst, ⊎_elim, add-one, arith, length-append}
+use Rattle.std.proofs.Common.{◌≡◌, ℕ, ◌+◌, ◌<◌, ◌||◌, true, List, [], ◌∷◌, ◌++◌, length, map, take, slice_index_or, All, AllPairs, sym, ap, ◌∙◌, subst, ⊎_elim, arith}
 use Rattle.std.specs.List.{AllByRecursion}
-use Rattle.std.proofs.lemmas.Bool.{cases_eq, or_left, or_right}
-use Rattle.std.proofs.lemmas.List.{get_or-map, get_or_append_left, get_or_push, take_more, map-append, length-map}
-use Rattle.std.proofs.lemmas.List.Sums.{sum_by_push}
+use Rattle.std.proofs.lemmas.Bool.{or_left, or_right}
+use Rattle.std.proofs.lemmas.List.{get_or-map, take_more, map-append, length-map}
 use Rattle.graph_core.specs.declared.halves.Half.{Half}
 use Rattle.graph_core.specs.DataGraph.{DataGraph, size, IsDataGraph}
 use Rattle.graph_core.specs.Halves.{DataHalf, halves_of}
@@ -12,32 +11,16 @@ use Rattle.graph_core.proofs.HalvesLaws.{each-weaker, half_out, half_into, IsHal
 use Rattle.graph_core.proofs.VertexLaws.{halves_ascend}
 use Rattle.update_api.specs.declared.links.Link.{Link}
 use Rattle.update_api.specs.Links.{AreLinks}
-use Rattle.seq_run.specs.LinkRows.{half_of, AreLinkRows}
+use Rattle.seq_run.specs.ListedLinks.{half_of}
 use Rattle.seq_run.proofs.EachOf.{each_is}
-use Rattle.seq_run.proofs.FallingRanks.{halves_few}
 use Rattle.seq_run.proofs.Neighbours.{each-unmap}
-use Rattle.seq_run.proofs.Sums.{sum_below}
 
 -- one link more
 pub links_more : (row : List Link) (link : Link) (halves : List Half) (i : ℕ) (d : Half) → i < length halves → half_of link ≡ data_half (slice_index_or halves i d) → map half_of row ≡ map data_half (take i halves) → map half_of (row ++ link ∷ []) ≡ map data_half (take (i + 1) halves)
 links_more row link halves i d within is before =
     map-append half_of row (link ∷ []) ∙ (rw (before, is) (sym (map-append data_half (take i halves) (slice_index_or halves i d ∷ [])))) ∙ ap (map data_half) (sym (take_more halves i d within))
 
--- the rows of the vertices below v
-pub record AreLinkRowsBelow (g : DataGraph) (v : ℕ) (rows : List (List Link)) : Type 0 where
-  pub count : length rows ≡ v
-  pub total : sum_by length rows ≡ sum_below (λ u. length (halves_of g u)) v
-  pub each : (u : ℕ) → u < v → map half_of (slice_index_or rows u []) ≡ halves_of g u
-
 module _ (g : DataGraph) (is : IsDataGraph g) where
-  pub rows_fit : (v : ℕ) (rows : List (List Link)) (row : List Link) → AreLinkRowsBelow g v rows → map half_of row ≡ halves_of g v → sum_by length rows + length row < 2 ^ 32
-  rows_fit v rows row below here =
-      let few = halves_few g.directed 0 (suc v) g.edges in
-      let edges = is.few_edges in
-      let total = below.total in
-      let long : length row ≡ length (halves_of g v) = sym (length-map row half_of) ∙ ap length here in
-      omega arith
-
   -- each half leads one way at least
   pub halves_lead : (v : ℕ) (halves : List Half) → map data_half halves ≡ halves_of g v → All (λ half. (half.out || half.into) ≡ true) halves
   halves_lead v halves same =
@@ -50,10 +33,8 @@ module _ (g : DataGraph) (is : IsDataGraph g) where
       half.end) (halves_of g v) (halves_are g is v))))
 
   -- the links of a vertex fit its scope
-  pub links_fit : (v : ℕ) (rows : List (List Link)) → AreLinkRows g rows → v < size g → AreLinks (slice_index_or rows v []) v (size g) (length g.edges)
-  links_fit v rows are within =
-      let links = slice_index_or rows v [] in
-      let same = are.each v within in
+  pub links_fit : (v : ℕ) (links : List Link) → map half_of links ≡ halves_of g v → AreLinks links v (size g) (length g.edges)
+  links_fit v links same =
       let halves = each_is (λ link. IsHalfAt g is v (half_of link)) links (each-unmap (IsHalfAt g is v) half_of links (subst (AllByRecursion (IsHalfAt g is v)) (sym same) (halves_are g is v))) in
       let ascend = subst (AllPairs (λ (one other : DataHalf). one.edge < other.edge)) (sym same) (halves_ascend g.directed v 0 g.edges) in
       record {
@@ -69,20 +50,3 @@ module _ (g : DataGraph) (is : IsDataGraph g) where
             let other_edge = ap (λ (x : DataHalf). x.edge) other in
             absurd (omega (arith, less, one_edge, other_edge, alike));
       }
-
-pub rows_more : (g : DataGraph) (v : ℕ) (rows : List (List Link)) (row : List Link) → AreLinkRowsBelow g v rows → map half_of row ≡ halves_of g v → AreLinkRowsBelow g (v + 1) (rows ++ row ∷ [])
-rows_more g v rows row below here =
-    let count = below.count in
-    record {
-      count = let more = length-append rows (row ∷ []) in omega arith;
-      total =
-          let more = sum_by_push length rows row in
-          let total = below.total in
-          let long : length row ≡ length (halves_of g v) = sym (length-map row half_of) ∙ ap length here in
-          let sum : sum_below (λ u. length (halves_of g u)) (v + 1) ≡ length (halves_of g v) + sum_below (λ u. length (halves_of g u)) v = rw add-one refl in
-          omega arith;
-      each = λ u low. ⊎_elim
-          (λ (same : u ≡ v). ap (map half_of) (get_or_push rows row [] u (count ∙ sym same)) ∙ here ∙ ap (halves_of g) (sym same))
-          (λ (other : u ≡ v → ⊥). ap (map half_of) (get_or_append_left rows (row ∷ []) [] u (omega arith)) ∙ below.each u (omega arith))
-          (cases_eq u v);
-    }

@@ -15,7 +15,7 @@ use Rattle.update_api.specs.declared.woken.Woken.{Woken}
 use Rattle.update_api.specs.Links.{AreLinks, near_at, nears_at}
 use Rattle.update_api.specs.Marks.{AreMarked}
 use Rattle.update_api.specs.Updates.{Update}
-use Rattle.seq_run.specs.LinkRows.{half_of}
+use Rattle.seq_run.specs.ListedLinks.{half_of}
 use Rattle.seq_run.specs.States.{GraphState, start_state, near_of, new_number, with_number, with_marks, after_update, is_woken, wakes}
 use Rattle.seq_run.specs.Orders.{replay, all_tasks, tasks_after, tasks_after_entry}
 use Rattle.seq_run.specs.Runs.{RunView, HasTask, HasNoTask, updates, with_updates, WentOn, AreNumbers}
@@ -118,28 +118,24 @@ unless true false = refl
 unless false true = refl
 unless false false = refl
 
-module _ (g : DataGraph) (p : Update) (order : List Entry) (rows : List (List Link)) (values edges : List ℕ) (flags : List Bool) (is : IsPlayed g p order rows values edges flags) (v : Vertex) (task : tasks_after g p order v.0 ≡ true) where
+module _ (g : DataGraph) (p : Update) (order : List Entry) (values edges : List ℕ) (flags : List Bool) (is : IsPlayed g p order values edges flags) (v : Vertex) (task : tasks_after g p order v.0 ≡ true) (links : List Link) (row : map half_of links ≡ halves_of g v.0) where
   pub task_within : v.0 < size g
   task_within = tasks_within g p is.graph order v.0 task
 
-  pub its_links_fit : AreLinks (slice_index_or rows v.0 []) v.0 (length values) (length edges)
-  its_links_fit = rw (is.values.count, is.edges.count) (links_fit g is.graph v.0 rows is.rows task_within)
-
-  abbrev links : List Link
-  links = slice_index_or rows v.0 []
+  pub its_links_fit : AreLinks links v.0 (length values) (length edges)
+  its_links_fit = rw (is.values.count, is.edges.count) (links_fit g is.graph v.0 links row)
 
   abbrev old : GraphState
   old = replay g p order
 
   fit : AreLinks links v.0 (size g) (length g.edges)
-  fit = links_fit g is.graph v.0 rows is.rows task_within
+  fit = links_fit g is.graph v.0 links row
 
   number_is : p.number (slice_index values v.0) (nears_at values edges links) ≡ new_number g p old v.0
   number_is =
       let own : slice_index values v.0 ≡ old.vertex v.0 = is.values.each v.0 task_within in
       let nears : nears_at values edges links ≡ map (near_of old) (map half_of links) =
       nears_same (size g) (length g.edges) old values edges links is.values is.edges (all_is (λ link. link.near < size g) links fit.near) (all_is (λ link. link.edge < length g.edges) links fit.edge) in
-      let row : map half_of links ≡ halves_of g v.0 = is.rows.each v.0 task_within in
       let same : nears_at values edges links ≡ map (near_of old) (halves_of g v.0) = nears ∙ ap (map (near_of old)) row in
       rw (own, same) refl
 
@@ -171,7 +167,7 @@ module _ (g : DataGraph) (p : Update) (order : List Entry) (rows : List (List Li
           each = λ e within.
               marks_same p old own new_edges e links (all_is (λ link. slice_index new_edges link.edge ≡ p.mark own (near_of old (half_of link))) links marks)
               (λ apart. marked.others e (each_is (λ link. link.edge ≢ e) links apart) ∙ is.edges.each e within)
-              ∙ ap (λ halves. with_marks p old own halves e) (is.rows.each v.0 task_within);
+              ∙ ap (λ halves. with_marks p old own halves e) row;
         }
 
     tasks_then : (woken : Woken) → woken ≡ p.woken (slice_index values v.0) (slice_index new_values v.0) → (new_flags : List Bool) → ((u : ℕ) → flag new_flags u ≡ (is_woken woken (map half_of links) u || flag (slice_set flags v.0 false) u)) →
@@ -182,23 +178,22 @@ module _ (g : DataGraph) (p : Update) (order : List Entry) (rows : List (List Li
         let others : flag (slice_set flags v.0 false) u ≡ (tasks_after g p order u && not (u == v.0)) =
         flag-set flags v.0 u false (omega arith) ∙ unless (flag flags u) (u == v.0) ∙ ap (λ b. b && not (u == v.0)) (is.tasks.each u) in
         are u ∙ ap (λ b. is_woken woken (map half_of links) u || b) others
-        ∙ ap (λ b. b || (tasks_after g p order u && not (u == v.0))) (ap (λ w. is_woken w (map half_of links) u) whom ∙ ap (λ halves. is_woken (p.woken (old.vertex v.0) (new_number g p old v.0)) halves u) (is.rows.each v.0 task_within))
+        ∙ ap (λ b. b || (tasks_after g p order u && not (u == v.0))) (ap (λ w. is_woken w (map half_of links) u) whom ∙ ap (λ halves. is_woken (p.woken (old.vertex v.0) (new_number g p old v.0)) halves u) row)
 
     pub played_after : (new_order : List Entry) → new_order ≡ order ++ Go (length order) (record { 0 = 0 }) v ∷ [] →
         (new_edges : List ℕ) → AreMarked (p.mark (slice_index new_values v.0)) values edges links new_edges →
         (woken : Woken) → woken ≡ p.woken (slice_index values v.0) (slice_index new_values v.0) →
         (new_flags : List Bool) → length new_flags ≡ length flags → ((u : ℕ) → flag new_flags u ≡ (is_woken woken (map half_of links) u || flag (slice_set flags v.0 false) u)) →
-        IsPlayed g p new_order rows new_values new_edges new_flags
+        IsPlayed g p new_order new_values new_edges new_flags
     played_after new_order grown new_edges marked woken answer new_flags long are =
         let entry = Go (length order) (record { 0 = 0 }) v in
         let state : replay g p (order ++ entry ∷ []) ≡ after_update g p old v.0 = replay_from-append g p (start_state g p) order (entry ∷ []) in
         let tasks : tasks_after g p (order ++ entry ∷ []) ≡ tasks_after_entry g p old (tasks_after g p order) entry = tasks_from-append g p (start_state g p) (all_tasks g) order (entry ∷ []) in
         let vertices = is.alone.0 in
         let ticket : 0 + length vertices ≡ length order = let counts = length-updates 0 vertices in let whole = ap length is.alone.1 in omega arith in
-        subst (λ xs. IsPlayed g p xs rows new_values new_edges new_flags) (sym grown)
+        subst (λ xs. IsPlayed g p xs new_values new_edges new_flags) (sym grown)
         (record {
           graph = is.graph;
-          rows = is.rows;
           valid = valid_append g p (start_state g p) (all_tasks g) order (entry ∷ []) is.valid (task, tt);
           alone = (vertices ++ v.0 ∷ [], ap (λ xs. xs ++ entry ∷ []) is.alone.1 ∙ updates_more 0 (length order) vertices v.0 ticket);
           values = subst (λ (s : GraphState). AreNumbers (size g) s.vertex new_values) (sym state) values_after;

@@ -9,7 +9,7 @@ use Rattle.update_api.specs.declared.links.Link.{Link}
 use Rattle.update_api.specs.declared.woken.Woken.{Woken}
 use Rattle.update_api.specs.declared.woken.Woken.TheVariants.{Nobody, Ahead, Around}
 use Rattle.update_api.specs.Directions.{leads_out}
-use Rattle.seq_run.specs.LinkRows.{half_of}
+use Rattle.seq_run.specs.ListedLinks.{half_of}
 use Rattle.seq_run.specs.States.{is_woken}
 use Rattle.seq_run.specs.TaskQueues.{flag}
 use Rattle.seq_run.specs.Waking.{is_woken_along}

@@ -6,7 +6,7 @@ pub mod FirstColours
 pub mod CoreNumbers
 pub mod Examples
 pub mod TaskQueues
-pub mod LinkRows
+pub mod ListedLinks
 pub mod Runs
 pub mod Played
 pub mod Waking

@@ -4,7 +4,7 @@
 mod examples;
 mod faults;
 mod laws;
-mod link_rows;
+mod listed_links;
 mod runs;
 mod steps;
 mod task_queue;

@@ -6,12 +6,12 @@ ghost use Rattle.seq_run.specs.Runs.{replayed, tasks_left, with_updates, HasTask
 ghost use Rattle.seq_run.specs.States.{start_state};
 
 use crate::faults::{RunFault, StepFault};
-use crate::link_rows::link_rows;
+use crate::listed_links::list_links;
 use crate::steps::update_vertex;
 use crate::task_queue::TaskQueue;
 use crate::woken_tasks::wake;
 use gl_base::{Entry, MachineNo, NoMemory, Vertex};
-use graph_core::{Graph, Rows};
+use graph_core::Graph;
 use std::alloc::Global;
 use std::marker::Model;
 use update_api::{Link, Program};
@@ -22,7 +22,7 @@ use update_api::{Link, Program};
 pub struct SeqRun<'a, P: Program> {
     graph: &'a Graph,
     program: P,
-    links: Rows<Link>,
+    links: Vec<Link>,
     values: Vec<u64>,
     edges: Vec<u64>,
     order: Vec<Entry>,
@@ -37,7 +37,7 @@ impl<'a, P: Program> Model for SeqRun<'a, P> {
 
     ghost view = { λ r. record { graph = r.graph.now; program = r.program; order = r.order.items } };
 
-    ghost invariant = { λ r. IsPlayed r.graph.now (P.meaning r.program) r.order.items r.links r.values.items r.edges.items r.tasks };
+    ghost invariant = { λ r. IsPlayed r.graph.now (P.meaning r.program) r.order.items r.values.items r.edges.items r.tasks };
 }
 
 /// What a run leaves: the order of its updates, and the numbers of the vertices and of the edges.
@@ -58,7 +58,7 @@ impl<'a, P: Program> SeqRun<'a, P> {
         Ok(SeqRun {
             graph,
             program,
-            links: link_rows(alloc, graph)?,
+            links: Vec::new(alloc),
             values: start_values(alloc, graph, &program)?,
             edges: Vec::from_elem(alloc, 0, graph.m() as usize)?,
             order: Vec::new(alloc),
@@ -163,6 +163,7 @@ impl<'a, P: Program> SeqRun<'a, P> {
         ensures updated { OnOk result (self.new ≡ with_updates self.old (vertex.0 ∷ [])) }
         ensures unchanged { OnErr result (self.new ≡ self.old) }
     {
+        list_links(&mut self.links, self.graph.halves(vertex))?;
         let ticket = self.order.len() as u64;
         let machine = MachineNo(0);
         self.order.push(Entry::Go {
@@ -172,7 +173,7 @@ impl<'a, P: Program> SeqRun<'a, P> {
         })?;
         let id = self.graph.id(vertex);
         let place = vertex.0 as usize;
-        let links = self.links.row(place);
+        let links = self.links.as_slice();
         let values = self.values.as_mut_slice();
         let edges = self.edges.as_mut_slice();
         let woken = update_vertex(&self.program, place, id, links, values, edges);

@@ -1,6 +1,6 @@
 //! Waking: which tasks an update adds.
 ghost use Rattle.std.specs.Prelude.{◌≡◌, ℕ, ◌<◌, ◌||◌, length, map, All};
-ghost use Rattle.seq_run.specs.LinkRows.{half_of};
+ghost use Rattle.seq_run.specs.ListedLinks.{half_of};
 ghost use Rattle.seq_run.specs.States.{is_woken};
 ghost use Rattle.seq_run.specs.TaskQueues.{flag};
 ghost use Rattle.seq_run.specs.Waking.{is_woken_along};

@@ -8,11 +8,10 @@ invariant_of-result g c =
     let zeros : c.in_ok-from_elem.field-0.items ≡ replicate c.m.result 0 = c.in_ok-from_elem.ensures.items_if_clones_equal (λ y clone. clone) in
     record {
       graph = c.m.ensures.graph;
-      rows = c.in_ok-link_rows.ensures;
-      valid = rw c.new.ensures.items tt;
-      alone = ([], c.new.ensures.items);
-      values = rw c.new.ensures.items c.in_ok-start_values.ensures;
-      edges = rw (c.new.ensures.items, zeros)
+      valid = rw c.new-2.ensures.items tt;
+      alone = ([], c.new-2.ensures.items);
+      values = rw c.new-2.ensures.items c.in_ok-start_values.ensures;
+      edges = rw (c.new-2.ensures.items, zeros)
           (record { count = length-replicate c.m.result 0 ∙ c.m.ensures.count; each = λ k within. get_or-replicate c.m.result k 0 0 (subst (λ n. k < n) (sym c.m.ensures.count) within) });
-      tasks = rw c.new.ensures.items (record { count = c.in_ok-all.ensures.count ∙ c.n.ensures.count; each = λ u. c.in_ok-all.ensures.all u ∙ ap (nat_lt u) c.n.ensures.count });
+      tasks = rw c.new-2.ensures.items (record { count = c.in_ok-all.ensures.count ∙ c.n.ensures.count; each = λ u. c.in_ok-all.ensures.all u ∙ ap (nat_lt u) c.n.ensures.count });
     }

@@ -1,28 +1,14 @@
-//! The links of each vertex, in one flat list.
-ghost use Rattle.std.specs.Prelude.{◌≡◌, ◌||◌, true, map, All, IfOk, OnOk};
+//! The links of a vertex, which its scope lends.
+ghost use Rattle.std.specs.Prelude.{◌≡◌, ◌||◌, true, map, All, OnOk};
 ghost use Rattle.graph_core.specs.HalfRows.{data_half};
-ghost use Rattle.seq_run.specs.LinkRows.{half_of, AreLinkRows};
+ghost use Rattle.seq_run.specs.ListedLinks.{half_of};
 
-use gl_base::{NoMemory, Vertex};
-use graph_core::{Graph, Half, Rows};
-use std::alloc::Global;
+use gl_base::NoMemory;
+use graph_core::Half;
 use update_api::{Direction, Link};
 
-/// For each vertex a link for each of its half-edges, in their order.
-pub fn link_rows(alloc: Global, graph: &Graph) -> Result<Rows<Link>, NoMemory>
-    ensures { IfOk result (AreLinkRows graph.now) }
-{
-    let mut rows = Rows::with_room(alloc, graph.n() as usize, 2 * graph.m() as usize)?;
-    let mut row = Vec::new(alloc);
-    for v in 0..graph.n() {
-        list_links(&mut row, graph.halves(Vertex(v)))?;
-        rows.push(&row)?;
-    }
-    Ok(rows)
-}
-
 /// The links in the order of the half-edges.
-fn list_links(row: &mut Vec<Link>, halves: &[Half]) -> Result<(), NoMemory>
+pub fn list_links(row: &mut Vec<Link>, halves: &[Half]) -> Result<(), NoMemory>
     requires { All (λ half. (half.out || half.into) ≡ true) halves.now }
     ensures { OnOk result (map half_of row.new.items ≡ map data_half halves.now) }
 {

@@ -1,5 +1,5 @@
 use Rattle.seq_run.proofs.LinkLemmas.{links_more}
-use Rattle.seq_run.proofs.link_rows.list_links.Goals as goal
+use Rattle.seq_run.proofs.listed_links.list_links.Goals as goal
 
 pub loop-half-preserved : goal.loop-half-preserved
 loop-half-preserved c =
