@@ -18,9 +18,9 @@ use Rattle.engine_cli.proofs.Results.{named}
 
 -- the update of a task may come next
 pub one-more : (g : DataGraph) (p : Update) (order : List Entry) (left : Vertex) → IsValidOrder g p order → tasks_after g p order left.0 ≡ true
-    → IsValidOrder g p (order ++ Go 0 (record { 0 = 0 }) left ∷ [])
+    → IsValidOrder g p (order ++ Go (record { 0 = 0 }) left 0 ∷ [])
 one-more g p order left valid task =
-    valid_append g p (start_state g p) (all_tasks g) order (Go 0 (record { 0 = 0 }) left ∷ []) valid (task, tt)
+    valid_append g p (start_state g p) (all_tasks g) order (Go (record { 0 = 0 }) left 0 ∷ []) valid (task, tt)
 
 counted : (count ticket : ℕ) (vertices : List ℕ) → updates_from count (updates ticket vertices) ≡ count + length vertices
 counted count ticket [] = omega arith
@@ -32,7 +32,7 @@ length-updates ticket (v ∷ vs) = ap (λ n. suc n) (length-updates (suc ticket)
 
 -- one update more behind updates alone
 pub since-one-more : (order : List Entry) (left : Vertex) → IsUpdates order
-    → updates_since_restart (order ++ Go 0 (record { 0 = 0 }) left ∷ []) ≡ length order + 1
+    → updates_since_restart (order ++ Go (record { 0 = 0 }) left 0 ∷ []) ≡ length order + 1
 since-one-more order left made =
     let count = counted 0 0 made.0 in
     let before : updates_from 0 order ≡ length made.0 = ap (updates_from 0) made.1 ∙ omega (arith, count) in

@@ -14,7 +14,7 @@ use Rattle.update_api.specs.Updates.{Update}
 module _ (g : DataGraph) (p : Update) (is : IsDataGraph g) where
   -- an entry that may come after an order
   comes-inside : (order : List Entry) (entry : Entry) → MayCome (tasks_after g p order) entry → IsEntryOf g entry
-  comes-inside order (Go ticket machine vertex) may = tasks_within g p is order vertex.0 may
+  comes-inside order (Go machine vertex ticket) may = tasks_within g p is order vertex.0 may
   comes-inside order (Restart ticket) may = tt
 
   entries-behind : (order more : List Entry) → IsValidOrder g p (order ++ more) → AllByRecursion (IsEntryOf g) more

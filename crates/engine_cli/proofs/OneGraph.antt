@@ -86,7 +86,7 @@ unspent : (job : JobFields) (left : Vertex) (order : List Entry) (vertices edges
 unspent job left order vertices edges valid bad =
     let p = update_of job.algorithm job.source in
     let is : IsDataGraph bad.graph = bad.graph_is.graph.graph in
-    let next : Entry = Go 0 (record { 0 = 0 }) left in
+    let next : Entry = Go (record { 0 = 0 }) left 0 in
     let longer : IsValidOrder bad.graph p (order ++ next ∷ []) = one-more bad.graph p order left bad.play.valid bad.spent.task in
     let few = bound-of job.algorithm job.source bad.graph (order ++ next ∷ []) is bad.start longer in
     omega (arith, few, bad.spent.spent, valid.enough bad.graph bad.graph_is, since-one-more order left bad.play.updates)

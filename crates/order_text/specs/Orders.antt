@@ -7,7 +7,7 @@ use Rattle.graph_core.specs.DataGraph.{DataGraph, size}
 
 -- an update is of a vertex of the graph
 abbrev pub IsEntryOf : DataGraph → Entry → Type 0
-IsEntryOf g (Go ticket machine vertex) = vertex.0 < size g
+IsEntryOf g (Go machine vertex ticket) = vertex.0 < size g
 IsEntryOf g (Restart ticket) = Unit {0}
 
 -- ticket, machine and identifier, one blank between, LF
@@ -20,7 +20,7 @@ restart_line ticket = decimal ticket ++ 32 ∷ codes "restart" ++ 10 ∷ []
 
 -- the line of an entry, where vertex v has the v-th identifier
 abbrev pub entry_line : List ℕ → Entry → List ℕ
-entry_line ids (Go ticket machine vertex) = update_line ticket machine.0 (slice_index ids vertex.0)
+entry_line ids (Go machine vertex ticket) = update_line ticket machine.0 (slice_index ids vertex.0)
 entry_line ids (Restart ticket) = restart_line ticket
 
 -- the lines of the entries, in turn

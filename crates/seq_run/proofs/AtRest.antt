@@ -27,7 +27,7 @@ module _ (g : DataGraph) (is : IsDataGraph g) (p : Update) (Good : GraphState �
 
   pub step : (s : GraphState) (tasks : ℕ → Bool) (entry : Entry) → MayCome tasks entry → Stands s tasks → Stands (after_entry g p s entry) (tasks_after_entry g p s tasks entry)
   step s tasks (Restart ticket) may st = all_stand s st.good
-  step s tasks (Go ticket machine vertex) may st =
+  step s tasks (Go machine vertex ticket) may st =
       let v = vertex.0 in
       let within = st.within v may in
       record {

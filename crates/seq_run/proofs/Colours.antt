@@ -167,7 +167,7 @@ module _ (g : DataGraph) (is : IsDataGraph g) where
     machine : MachineNo
     vertex : Vertex
     after : List Entry
-    place : order ≡ before ++ Go ticket machine vertex ∷ after
+    place : order ≡ before ++ Go machine vertex ticket ∷ after
     of_v : vertex.0 ≡ v
     none : (replay_from g update_of_colours s before).vertex v ≡ 0
     given : (replay_from g update_of_colours s order).vertex v ≡ least_free (nears_at (replay_from g update_of_colours s before) v)
@@ -175,7 +175,7 @@ module _ (g : DataGraph) (is : IsDataGraph g) where
   stays_coloured : (s : GraphState) (order : List Entry) (v : ℕ) → s.vertex v ≢ 0 → (replay_from g update_of_colours s order).vertex v ≡ s.vertex v
   stays_coloured s [] v coloured = refl
   stays_coloured s (Restart ticket ∷ order) v coloured = stays_coloured s order v coloured
-  stays_coloured s (Go ticket machine vertex ∷ order) v coloured =
+  stays_coloured s (Go machine vertex ticket ∷ order) v coloured =
       let next = after_update g update_of_colours s vertex.0 in
       let same : next.vertex v ≡ s.vertex v =
       with_number-holds (λ u y. y ≡ s.vertex u) s.vertex vertex.0 (new_number g update_of_colours s vertex.0) v
@@ -197,7 +197,7 @@ module _ (g : DataGraph) (is : IsDataGraph g) where
         none = rest.none;
         given = rest.given;
       }
-  given_colour s (Go ticket machine vertex ∷ order) v none some =
+  given_colour s (Go machine vertex ticket ∷ order) v none some =
       let next = after_update g update_of_colours s vertex.0 in ⊎_elim
       (λ (here : vertex.0 ≡ v).
       let new : next.vertex v ≡ least_free (nears_at s v) =
@@ -219,12 +219,12 @@ module _ (g : DataGraph) (is : IsDataGraph g) where
       let same : next.vertex v ≡ s.vertex v = with_number-other s.vertex vertex.0 (new_number g update_of_colours s vertex.0) v (λ here. away (sym here)) in
       let rest = given_colour next order v (same ∙ none) some in
       record {
-        before = Go ticket machine vertex ∷ rest.before;
+        before = Go machine vertex ticket ∷ rest.before;
         ticket = rest.ticket;
         machine = rest.machine;
         vertex = rest.vertex;
         after = rest.after;
-        place = ap (λ (l : List Entry). Go ticket machine vertex ∷ l) rest.place;
+        place = ap (λ (l : List Entry). Go machine vertex ticket ∷ l) rest.place;
         of_v = rest.of_v;
         none = rest.none;
         given = rest.given;

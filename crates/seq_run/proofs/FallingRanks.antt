@@ -123,10 +123,10 @@ module _ (g : DataGraph) (is : IsDataGraph g) (p : Update) (Good : GraphState �
       bound_from 0 s (all_tasks g) order valid.1
       (step g is p Good AnySettled goes (λ s v within good. tt) (λ s v w v_within w_within good other asleep settled. tt) s tasks (Restart ticket) valid.0 stands)
       (let all = all_low s in omega arith)
-  bound_from count s tasks (Go ticket machine vertex ∷ order) valid stands low =
+  bound_from count s tasks (Go machine vertex ticket ∷ order) valid stands low =
       let lower = update_lowers s tasks vertex.0 (stands.within vertex.0 valid.0) stands.good valid.0 in
-      bound_from (count + 1) (after_update g p s vertex.0) (tasks_after_entry g p s tasks (Go ticket machine vertex)) order valid.1
-      (step g is p Good AnySettled goes (λ s v within good. tt) (λ s v w v_within w_within good other asleep settled. tt) s tasks (Go ticket machine vertex) valid.0 stands)
+      bound_from (count + 1) (after_update g p s vertex.0) (tasks_after_entry g p s tasks (Go machine vertex ticket)) order valid.1
+      (step g is p Good AnySettled goes (λ s v within good. tt) (λ s v w v_within w_within good other asleep settled. tt) s tasks (Go machine vertex ticket) valid.0 stands)
       (omega arith)
 
   pub bounded : (order : List Entry) → IsValidOrder g p order → Good (start_state g p) → updates_since_restart order ≤ steps_at_most g most

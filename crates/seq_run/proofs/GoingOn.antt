@@ -37,8 +37,8 @@ module _ (g : DataGraph) (p : Update) where
   tasks_from-within : IsDataGraph g → (s : GraphState) (tasks : ℕ → Bool) (order : List Entry) → ((u : ℕ) → tasks u ≡ true → u < size g) → (u : ℕ) → tasks_from g p s tasks order u ≡ true → u < size g
   tasks_from-within is s tasks [] within u task = within u task
   tasks_from-within is s tasks (Restart ticket ∷ order) within u task = tasks_from-within is s (all_tasks g) order (λ u task. ltb-true u (size g) task) u task
-  tasks_from-within is s tasks (Go ticket machine vertex ∷ order) within u task =
-      tasks_from-within is (after_entry g p s (Go ticket machine vertex)) (tasks_after_entry g p s tasks (Go ticket machine vertex)) order
+  tasks_from-within is s tasks (Go machine vertex ticket ∷ order) within u task =
+      tasks_from-within is (after_entry g p s (Go machine vertex ticket)) (tasks_after_entry g p s tasks (Go machine vertex ticket)) order
       (λ u task. ⊎_elim
       (λ (woken : wakes g p s vertex.0 u ≡ true). wakes-within g is p s vertex.0 u woken)
       (λ (was : (tasks u && not (u == vertex.0)) ≡ true). within u (and_parts (tasks u) (not (u == vertex.0)) was).0)
@@ -48,12 +48,12 @@ module _ (g : DataGraph) (p : Update) where
   pub tasks_within : IsDataGraph g → (order : List Entry) (u : ℕ) → tasks_after g p order u ≡ true → u < size g
   tasks_within is order u task = tasks_from-within is (start_state g p) (all_tasks g) order (λ u task. ltb-true u (size g) task) u task
 
-pub updates_from-push : (count : ℕ) (order : List Entry) (ticket : ℕ) (machine : MachineNo) (vertex : Vertex) → updates_from count (order ++ Go ticket machine vertex ∷ []) ≡ updates_from count order + 1
+pub updates_from-push : (count : ℕ) (order : List Entry) (ticket : ℕ) (machine : MachineNo) (vertex : Vertex) → updates_from count (order ++ Go machine vertex ticket ∷ []) ≡ updates_from count order + 1
 updates_from-push count [] ticket machine vertex = refl
 updates_from-push count (Restart other ∷ order) ticket machine vertex = updates_from-push 0 order ticket machine vertex
-updates_from-push count (Go other its_machine its_vertex ∷ order) ticket machine vertex = updates_from-push (count + 1) order ticket machine vertex
+updates_from-push count (Go its_machine its_vertex other ∷ order) ticket machine vertex = updates_from-push (count + 1) order ticket machine vertex
 
 pub updates_from-restart : (count : ℕ) (order : List Entry) (ticket : ℕ) → updates_from count (order ++ Restart ticket ∷ []) ≡ 0
 updates_from-restart count [] ticket = refl
 updates_from-restart count (Restart other ∷ order) ticket = updates_from-restart 0 order ticket
-updates_from-restart count (Go other its_machine its_vertex ∷ order) ticket = updates_from-restart (count + 1) order ticket
+updates_from-restart count (Go its_machine its_vertex other ∷ order) ticket = updates_from-restart (count + 1) order ticket

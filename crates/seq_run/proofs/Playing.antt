@@ -52,10 +52,10 @@ pub length-updates : (ticket : ℕ) (vertices : List ℕ) → length (updates ti
 length-updates ticket [] = refl
 length-updates ticket (v ∷ vertices) = let rest = length-updates (suc ticket) vertices in omega arith
 
-pub updates_more : (ticket next : ℕ) (vertices : List ℕ) (v : ℕ) → ticket + length vertices ≡ next → updates ticket vertices ++ Go next (record { 0 = 0 }) (record { 0 = v }) ∷ [] ≡ updates ticket (vertices ++ v ∷ [])
+pub updates_more : (ticket next : ℕ) (vertices : List ℕ) (v : ℕ) → ticket + length vertices ≡ next → updates ticket vertices ++ Go (record { 0 = 0 }) (record { 0 = v }) next ∷ [] ≡ updates ticket (vertices ++ v ∷ [])
 updates_more ticket next [] v after = let same : next ≡ ticket = omega arith in rw same
 updates_more ticket next (u ∷ vertices) v after =
-    ap (λ order. Go ticket (record { 0 = 0 }) (record { 0 = u }) ∷ order) (updates_more (suc ticket) next vertices v (omega arith))
+    ap (λ order. Go (record { 0 = 0 }) (record { 0 = u }) ticket ∷ order) (updates_more (suc ticket) next vertices v (omega arith))
 
 -- one step more
 pub went_on_more : {P : Type 0} (old mid new : RunView P) (steps v : ℕ) → WentOn old mid steps → new ≡ with_updates mid (v ∷ []) → WentOn old new (steps + 1)
@@ -180,13 +180,13 @@ module _ (g : DataGraph) (p : Update) (order : List Entry) (values edges : List 
         are u ∙ ap (λ b. is_woken woken (map half_of links) u || b) others
         ∙ ap (λ b. b || (tasks_after g p order u && not (u == v.0))) (ap (λ w. is_woken w (map half_of links) u) whom ∙ ap (λ halves. is_woken (p.woken (old.vertex v.0) (new_number g p old v.0)) halves u) row)
 
-    pub played_after : (new_order : List Entry) → new_order ≡ order ++ Go (length order) (record { 0 = 0 }) v ∷ [] →
+    pub played_after : (new_order : List Entry) → new_order ≡ order ++ Go (record { 0 = 0 }) v (length order) ∷ [] →
         (new_edges : List ℕ) → AreMarked (p.mark (slice_index new_values v.0)) values edges links new_edges →
         (woken : Woken) → woken ≡ p.woken (slice_index values v.0) (slice_index new_values v.0) →
         (new_flags : List Bool) → length new_flags ≡ length flags → ((u : ℕ) → flag new_flags u ≡ (is_woken woken (map half_of links) u || flag (slice_set flags v.0 false) u)) →
         IsPlayed g p new_order new_values new_edges new_flags
     played_after new_order grown new_edges marked woken answer new_flags long are =
-        let entry = Go (length order) (record { 0 = 0 }) v in
+        let entry = Go (record { 0 = 0 }) v (length order) in
         let state : replay g p (order ++ entry ∷ []) ≡ after_update g p old v.0 = replay_from-append g p (start_state g p) order (entry ∷ []) in
         let tasks : tasks_after g p (order ++ entry ∷ []) ≡ tasks_after_entry g p old (tasks_after g p order) entry = tasks_from-append g p (start_state g p) (all_tasks g) order (entry ∷ []) in
         let vertices = is.alone.0 in

@@ -27,7 +27,7 @@ pub record WasLeastFree (g : DataGraph) (order : List Entry) (v k : ℕ) : Type 
   pub machine : MachineNo
   pub vertex : Vertex
   pub after : List Entry
-  pub place : order ≡ before ++ Go ticket machine vertex ∷ after
+  pub place : order ≡ before ++ Go machine vertex ticket ∷ after
   pub of_v : vertex.0 ≡ v
   pub none : (replay g update_of_colours before).vertex v ≡ 0
   pub least : IsLeastFreeColour g (replay g update_of_colours before).vertex v k

@@ -8,7 +8,7 @@ use Rattle.seq_run.specs.States.{GraphState, start_state, after_update, wakes}
 
 -- an update changes the numbers, and a restart changes none
 abbrev pub after_entry : DataGraph → Update → GraphState → Entry → GraphState
-after_entry g p s (Go ticket machine vertex) = after_update g p s vertex.0
+after_entry g p s (Go machine vertex ticket) = after_update g p s vertex.0
 after_entry g p s (Restart ticket) = s
 
 -- the numbers after the entries, one after another
@@ -26,7 +26,7 @@ all_tasks g u = nat_lt u (size g)
 
 -- an update takes its vertex out of the tasks and adds those that it wakes; a restart makes every vertex a task
 abbrev pub tasks_after_entry : DataGraph → Update → GraphState → (ℕ → Bool) → Entry → ℕ → Bool
-tasks_after_entry g p s tasks (Go ticket machine vertex) u = wakes g p s vertex.0 u || (tasks u && not (u == vertex.0))
+tasks_after_entry g p s tasks (Go machine vertex ticket) u = wakes g p s vertex.0 u || (tasks u && not (u == vertex.0))
 tasks_after_entry g p s tasks (Restart ticket) u = all_tasks g u
 
 -- the tasks after the entries, one after another
@@ -44,7 +44,7 @@ IsFinished g p order = (u : ℕ) → u < size g → tasks_after g p order u ≡ 
 
 -- an update needs its vertex among the tasks, and a restart may always come
 abbrev pub MayCome : (ℕ → Bool) → Entry → Type 0
-MayCome tasks (Go ticket machine vertex) = tasks vertex.0 ≡ true
+MayCome tasks (Go machine vertex ticket) = tasks vertex.0 ≡ true
 MayCome tasks (Restart ticket) = ⊤
 
 -- each entry may come where it stands

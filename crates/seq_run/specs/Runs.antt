@@ -32,7 +32,7 @@ HasNoTask meaning run = IsFinished run.graph (meaning run.program) run.order
 -- updates of these vertices by machine 0, with tickets from this one on
 abbrev pub updates : ℕ → List ℕ → List Entry
 updates ticket [] = []
-updates ticket (v ∷ vs) = Go ticket (record { 0 = 0 }) (record { 0 = v }) ∷ updates (suc ticket) vs
+updates ticket (v ∷ vs) = Go (record { 0 = 0 }) (record { 0 = v }) ticket ∷ updates (suc ticket) vs
 
 -- the order has updates by machine 0 alone, with tickets 0, 1, 2 and so on
 abbrev pub IsUpdates : List Entry → Type 0

@@ -9,7 +9,7 @@ use Rattle.graph_core.specs.DataGraph.{DataEdge, DataGraph, size}
 -- a restart begins the count anew
 abbrev pub updates_from : ℕ → List Entry → ℕ
 updates_from count [] = count
-updates_from count (Go ticket machine vertex ∷ order) = updates_from (count + 1) order
+updates_from count (Go machine vertex ticket ∷ order) = updates_from (count + 1) order
 updates_from count (Restart ticket ∷ order) = updates_from 0 order
 
 -- how many updates stand after the last restart, or in all where there is none

@@ -28,7 +28,7 @@ pub fn orders_go_on()
         (IsValidOrder g p (order ++ entry ∷ []))
         ↔ (IsValidOrder g p order × MayCome (tasks_after g p order) entry) }
     ensures update { (order : List Entry) (ticket : ℕ) (machine : MachineNo) (vertex : Vertex) →
-        let longer = order ++ Go ticket machine vertex ∷ [] in
+        let longer = order ++ Go machine vertex ticket ∷ [] in
         updates_since_restart longer ≡ updates_since_restart order + 1 }
     ensures restart { (order : List Entry) (ticket : ℕ) →
         updates_since_restart (order ++ Restart ticket ∷ []) ≡ 0 }

@@ -56,7 +56,7 @@ invariant_of-self-2 g c =
     let whom = rw (c.as_slice-links.ensures.value, c.remove.ensures) at c.wake.ensures.tasks in
     let flags : length c.wake.new.tasks ≡ length in_run.tasks = c.wake.ensures.count ∙ ap length c.remove.ensures ∙ length-set in_run.tasks v.0 false in
     let ticket : c.len-ticket.result ≡ length order = let long = in_run.order.ok in omega (arith, c.len-ticket.ensures, long) in
-    let grown : c.push.new.self.items ≡ order ++ Go (length order) (record { 0 = 0 }) v ∷ [] = c.in_ok-push.ensures.items ∙ ap (λ t. order ++ Go t (record { 0 = 0 }) v ∷ []) ticket in
+    let grown : c.push.new.self.items ≡ order ++ Go (record { 0 = 0 }) v (length order) ∷ [] = c.in_ok-push.ensures.items ∙ ap (λ t. order ++ Go (record { 0 = 0 }) v t ∷ []) ticket in
     let long_values : length new_values ≡ in_run.values.len = let long = in_run.values.ok in let same = length_written new_values values v.0 _ number in omega (arith, long, same) in
     let long_edges : length new_edges ≡ in_run.edges.len = let long = in_run.edges.ok in let same = marks.as_many in omega (arith, long, same) in
     let there_values : length values ≡ in_run.values.len = let long = in_run.values.ok in omega (arith, long) in
