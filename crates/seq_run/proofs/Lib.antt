@@ -15,6 +15,7 @@ pub mod StepBounds
 pub mod GoingOn
 pub mod InPieces
 pub mod Queueing
+pub mod Standings
 pub mod EachOf
 pub mod LinkLemmas
 pub mod WokenTasks

@@ -28,7 +28,7 @@ use Rattle.seq_run.proofs.Queueing.{flag-set}
 use Rattle.seq_run.proofs.Waking.{with_number-same, with_number-other}
 
 -- a list that was lent and written as a whole
-pub written_back : (n : ℕ) (new old : List ℕ) → length new ≡ n → length old ≡ n → take n (new ++ drop (length new) old) ≡ new
+pub written_back : {T : Type 0} (n : ℕ) (new old : List T) → length new ≡ n → length old ≡ n → take n (new ++ drop (length new) old) ≡ new
 written_back n new old long there = subst (λ k. take k (new ++ drop (length new) old) ≡ new) long (take-append_seam new (drop (length new) old))
 
 pub length_written : (new old : List ℕ) (v x : ℕ) → new ≡ slice_set old v x → length new ≡ length old

@@ -157,7 +157,7 @@ none_waits tasks queued [] none is u = ⊎_elim
     (λ (no_task : flag tasks u ≡ false). no_task)
     (cases_Bool (flag tasks u))
 
-flags_down : (n u : ℕ) → flag (replicate n false) u ≡ false
+pub flags_down : (n u : ℕ) → flag (replicate n false) u ≡ false
 flags_down n u = ⊎_elim
     (λ (within : u < n). get_or-replicate n u false false within)
     (λ (past : n ≤ u). get_or_past (replicate n false) u false (rw length-replicate past))

@@ -1,10 +1,24 @@
 -- A queue of tasks: flags that say which vertices are tasks, and the vertices in the order in which they became so.
 use Rattle.std.specs.Prelude.{◌≡◌, ℕ, ◌<◌, ◌≤◌, Bool, true, false, if◌then◌else◌, ◌==◌, List, length, slice_index_or, sum_by}
 use Rattle.gl_base.specs.declared.numbers.Vertex.{Vertex}
+use Rattle.seq_run.specs.declared.task_queue.Standing.{Standing}
+use Rattle.seq_run.specs.declared.task_queue.Standing.TheVariants.{Outside, Done, Waiting}
 
 -- the flag at this place, and false where there is none
 abbrev pub flag : List Bool → ℕ → Bool
 flag flags u = slice_index_or flags u false
+
+-- whether a vertex that stands so is a task
+abbrev pub is_task : Standing → Bool
+is_task Outside = false
+is_task Done = false
+is_task Waiting = true
+
+-- whether a vertex that stands so is in the queue
+abbrev pub is_queued : Standing → Bool
+is_queued Outside = false
+is_queued Done = true
+is_queued Waiting = true
 
 -- 1 for true
 abbrev pub bit : Bool → ℕ

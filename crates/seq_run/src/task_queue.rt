@@ -1,7 +1,7 @@
 //! The tasks of a run, first in, first out.
-ghost use Rattle.std.specs.Prelude.{◌≡◌, ℕ, ◌<◌, true, false, length, slice_set, nat_lt, IfOk, MatchOption};
+ghost use Rattle.std.specs.Prelude.{◌≡◌, ℕ, ◌<◌, true, false, length, map, slice_set, nat_lt, IfOk, MatchOption};
 ghost use Rattle.std.specs.VecDeque.{deque_capacity};
-ghost use Rattle.seq_run.specs.TaskQueues.{flag, IsQueueOf, IsTaskFirst};
+ghost use Rattle.seq_run.specs.TaskQueues.{flag, is_task, is_queued, IsQueueOf, IsTaskFirst};
 
 use gl_base::{NoMemory, Vertex};
 use std::alloc::Global;
@@ -13,20 +13,30 @@ use std::marker::Model;
 /// see a flag for each vertex.
 #[derive(Drop)]
 pub struct TaskQueue {
-    tasks: Vec<bool>,
-    queued: Vec<bool>,
+    standings: Vec<Standing>,
     queue: VecDeque<Vertex>,
 }
 
+/// How a vertex stands to the queue.
+#[derive(Clone, Copy)]
+enum Standing {
+    /// It is no task, and is not in the queue.
+    Outside,
+    /// It is no task any more, and is still in the queue.
+    Done,
+    /// It is a task, and is in the queue.
+    Waiting,
+}
+
 impl Model for TaskQueue {
-    ghost use Rattle.std.specs.Prelude.{List, Bool};
-    ghost use Rattle.seq_run.specs.TaskQueues.{IsKept};
+    ghost use Rattle.std.specs.Prelude.{List, Bool, map};
+    ghost use Rattle.seq_run.specs.TaskQueues.{is_task, is_queued, IsKept};
 
     ghost Value = { List Bool };
 
-    ghost view = { λ q. q.tasks.items };
+    ghost view = { λ q. map is_task q.standings.items };
 
-    ghost invariant = { λ q. IsKept q.tasks.items q.queued.items q.queue.items q.queue.cap };
+    ghost invariant = { λ q. IsKept (map is_task q.standings.items) (map is_queued q.standings.items) q.queue.items q.queue.cap };
 }
 
 impl TaskQueue {
@@ -49,8 +59,7 @@ impl TaskQueue {
     {
         let count = count as usize;
         Ok(TaskQueue {
-            tasks: Vec::from_elem(alloc, false, count)?,
-            queued: Vec::from_elem(alloc, false, count)?,
+            standings: Vec::from_elem(alloc, Standing::Outside, count)?,
             queue: VecDeque::with_capacity(alloc, count)?,
         })
     }
@@ -59,7 +68,10 @@ impl TaskQueue {
     pub fn contains(&self, vertex: Vertex) -> bool
         ensures { result ≡ flag self.now vertex.0 }
     {
-        self.tasks.get(vertex.0 as usize).copied().unwrap_or(false)
+        match self.standings.get(vertex.0 as usize) {
+            Some(standing) => standing.is_task(),
+            None => false,
+        }
     }
 
     /// The first task of the queue, and `None` where there is no task.
@@ -75,9 +87,9 @@ impl TaskQueue {
         ensures { self.new ≡ slice_set self.old vertex.0 true }
     {
         let place = vertex.0 as usize;
-        self.tasks[place] = true;
-        if !self.queued[place] {
-            self.queued[place] = true;
+        let queued = self.standings[place].is_queued();
+        self.standings[place] = Standing::Waiting;
+        if !queued {
             self.queue.push_back_reserved(vertex);
         }
     }
@@ -87,24 +99,51 @@ impl TaskQueue {
         requires { vertex.0 < length self.old }
         ensures { self.new ≡ slice_set self.old vertex.0 false }
     {
-        self.tasks[vertex.0 as usize] = false;
-        drop_done(&self.tasks, &mut self.queued, &mut self.queue);
+        let place = vertex.0 as usize;
+        self.standings[place] = self.standings[place].done();
+        drop_done(&mut self.standings, &mut self.queue);
+    }
+}
+
+impl Standing {
+    fn is_task(self) -> bool
+        ensures { result ≡ is_task self }
+    {
+        matches!(self, Standing::Waiting)
+    }
+
+    fn is_queued(self) -> bool
+        ensures { result ≡ is_queued self }
+    {
+        !matches!(self, Standing::Outside)
+    }
+
+    /// How a vertex stands once it is no task any more.
+    fn done(self) -> Standing
+        ensures task { is_task result ≡ false }
+        ensures queued { is_queued result ≡ is_queued self }
+    {
+        match self {
+            Standing::Outside => Standing::Outside,
+            Standing::Done | Standing::Waiting => Standing::Done,
+        }
     }
 }
 
 /// Takes vertices that are no tasks any more off the front of the queue.
-fn drop_done(tasks: &[bool], queued: &mut [bool], queue: &mut VecDeque<Vertex>)
-    requires { IsQueueOf tasks.now queued.old queue.old.items }
-    ensures queue { IsQueueOf tasks.now queued.new queue.new.items }
-    ensures first { IsTaskFirst tasks.now queue.new.items }
+fn drop_done(standings: &mut [Standing], queue: &mut VecDeque<Vertex>)
+    requires { IsQueueOf (map is_task standings.old) (map is_queued standings.old) queue.old.items }
+    ensures tasks { map is_task standings.new ≡ map is_task standings.old }
+    ensures queue { IsQueueOf (map is_task standings.new) (map is_queued standings.new) queue.new.items }
+    ensures first { IsTaskFirst (map is_task standings.new) queue.new.items }
     ensures room { deque_capacity queue.new ≡ deque_capacity queue.old }
 {
     while let Some(first) = queue.front() {
         let place = first.0 as usize;
-        if tasks[place] {
+        if standings[place].is_task() {
             return;
         }
-        queued[place] = false;
+        standings[place] = Standing::Outside;
         queue.pop_front();
     }
 }

@@ -1,26 +1,28 @@
-use Rattle.std.proofs.Common.{◌<◌, ◌∙◌, refl, length, arith}
-use Rattle.seq_run.proofs.Queueing.{first_within, first_dropped}
+use Rattle.std.proofs.Common.{◌<◌, ◌≡◌, ◌∙◌, false, refl, sym, length, slice_index_or, arith}
+use Rattle.seq_run.specs.declared.task_queue.Standing.TheVariants.{Outside}
+use Rattle.seq_run.specs.TaskQueues.{is_task}
+use Rattle.seq_run.proofs.Standings.{first_stands, first_out, same_tasks}
 use Rattle.seq_run.proofs.task_queue.drop_done.Goals as goal
 
-pub bounds-tasks-place : goal.bounds-tasks-place
-bounds-tasks-place c =
+pub slice_copy_out-is_task : goal.slice_copy_out-is_task
+slice_copy_out-is_task c =
     let queue = c.loop-first.queue.items in
     let some : 0 < length queue = let long = c.loop-first.queue.ok in omega (arith, long, c.in-Some.ensures.variant.0 refl) in
-    let within = first_within c.args.tasks.now c.loop-first.queued queue c.in-Some.first.now some c.in-Some.ensures.lookup c.loop-first.invariant.queue in
-    let many = c.loop-first.invariant.queue.as_many in
-    omega (arith, within, many)
+    first_stands c.loop-first.standings queue c.in-Some.first.now some c.in-Some.ensures.lookup c.loop-first.invariant.queue
 
-pub bounds-queued-place : goal.bounds-queued-place
-bounds-queued-place c =
+pub bounds-standings-place : goal.bounds-standings-place
+bounds-standings-place c =
     let queue = c.loop-first.queue.items in
     let some : 0 < length queue = let long = c.loop-first.queue.ok in omega (arith, long, c.in-Some.ensures.variant.0 refl) in
-    first_within c.args.tasks.now c.loop-first.queued queue c.in-Some.first.now some c.in-Some.ensures.lookup c.loop-first.invariant.queue
+    first_stands c.loop-first.standings queue c.in-Some.first.now some c.in-Some.ensures.lookup c.loop-first.invariant.queue
 
 pub loop-first-preserved : goal.loop-first-preserved
 loop-first-preserved c =
     let queue = c.loop-first.queue.items in
     let some : 0 < length queue = let long = c.loop-first.queue.ok in omega (arith, long, c.in-Some.ensures.variant.0 refl) in
+    let done : is_task (slice_index_or c.loop-first.standings c.in-Some.first.now.0 Outside) ≡ false = sym c.is_task.ensures ∙ c.if-is_task.false in
     record {
-      queue = rw c.pop_front.ensures.rest (first_dropped c.args.tasks.now c.loop-first.queued queue c.in-Some.first.now some c.in-Some.ensures.lookup c.if-tasks-place.false c.loop-first.invariant.queue);
+      tasks = same_tasks c.loop-first.standings c.in-Some.first.now.0 done ∙ c.loop-first.invariant.tasks;
+      queue = rw c.pop_front.ensures.rest (first_out c.loop-first.standings queue c.in-Some.first.now some c.in-Some.ensures.lookup done c.loop-first.invariant.queue);
       room = c.pop_front.ensures.capacity ∙ c.loop-first.invariant.room;
     }

@@ -1,19 +1,46 @@
-use Rattle.std.proofs.Common.{◌≡◌, ◌<◌, ◌∙◌, sym, ap, false, length, arith}
-use Rattle.std.proofs.lemmas.List.{get_or_default}
-use Rattle.seq_run.specs.TaskQueues.{flag}
+use Rattle.std.proofs.Common.{◌≡◌, ◌<◌, ◌∙◌, sym, ap, true, false, length, map, slice_set, arith}
+use Rattle.std.proofs.lemmas.List.{length-map, map-set}
+use Rattle.seq_run.specs.declared.task_queue.Standing.TheVariants.{Waiting}
+use Rattle.seq_run.specs.TaskQueues.{is_task, is_queued}
 use Rattle.seq_run.proofs.Queueing.{room_for_one}
+use Rattle.seq_run.proofs.Standings.{flag_read, joined, rejoined}
 use Rattle.seq_run.proofs.task_queue.TaskQueue.add.Goals as goal
 
 pub push_back_reserved-requires : goal.push_back_reserved-requires
 push_back_reserved-requires c =
-    let tasks = c.self.inside.tasks.items in
-    let queued = c.self.inside.queued.items in
-    let many = c.self.invariant.queue.as_many in
+    let standings = c.self.inside.standings.items in
+    let queued = map is_queued standings in
+    let many : length queued ≡ length standings = length-map standings is_queued in
+    let tasks : length (map is_task standings) ≡ length standings = length-map standings is_task in
     let few = c.self.invariant.queue.few in
     let room = c.self.invariant.room in
-    let seen : length tasks ≡ length c.args.self.now = ap length c.self.view_is in
-    let inside : c.args.vertex.0 < length queued = omega (arith, c.requires, seen, many) in
-    let down : flag queued c.args.vertex.0 ≡ false = sym (get_or_default queued c.args.vertex.0 c.index.result.now false inside) ∙ sym c.index.ensures ∙ c.if-not-index.true in
-    let less = room_for_one queued c.args.vertex.0 inside down in
+    let seen : length (map is_task standings) ≡ length c.args.self.now = ap length c.self.view_is in
+    let within : c.args.vertex.0 < length standings = omega (arith, c.requires, seen, tasks) in
+    let inside : c.args.vertex.0 < length queued = omega (arith, within, many) in
+    let out : is_queued c.index.result.now ≡ false = sym c.is_queued-queued.ensures ∙ c.if-not-queued.true in
+    let less = room_for_one queued c.args.vertex.0 inside (flag_read is_queued standings c.args.vertex.0 c.index.result.now within c.index.ensures ∙ out) in
     let long = c.self.inside.queue.ok in
-    omega (arith, less, few, many, room, long)
+    omega (arith, less, few, many, tasks, room, long)
+
+pub invariant_of-self : goal.invariant_of-self
+invariant_of-self c =
+    let standings = c.self.inside.standings.items in
+    let seen : length (map is_task standings) ≡ length c.args.self.now = ap length c.self.view_is in
+    let within : c.args.vertex.0 < length standings = let tasks = length-map standings is_task in omega (arith, c.requires, seen, tasks) in
+    rw (c.push_back_reserved.ensures.items, c.push_back_reserved.ensures.capacity)
+    (joined standings c.self.inside.queue.items c.self.inside.queue.cap c.args.vertex c.index.result.now within c.index.ensures (sym c.is_queued-queued.ensures ∙ c.if-not-queued.true) c.self.invariant)
+
+pub invariant_of-self-else-not-queued : goal.invariant_of-self-else-not-queued
+invariant_of-self-else-not-queued c =
+    let standings = c.self.inside.standings.items in
+    let seen : length (map is_task standings) ≡ length c.args.self.now = ap length c.self.view_is in
+    let within : c.args.vertex.0 < length standings = let tasks = length-map standings is_task in omega (arith, c.requires, seen, tasks) in
+    rejoined standings c.self.inside.queue.items c.self.inside.queue.cap c.args.vertex c.index.result.now within c.index.ensures (sym c.is_queued-queued.ensures ∙ c.if-not-queued.false) c.self.invariant
+
+pub returns-then-not-queued : goal.returns-then-not-queued
+returns-then-not-queued c =
+    map-set is_task c.self.inside.standings.items c.args.vertex.0 Waiting ∙ ap (λ tasks. slice_set tasks c.args.vertex.0 true) c.self.view_is
+
+pub returns-else-not-queued : goal.returns-else-not-queued
+returns-else-not-queued c =
+    map-set is_task c.self.inside.standings.items c.args.vertex.0 Waiting ∙ ap (λ tasks. slice_set tasks c.args.vertex.0 true) c.self.view_is
