@@ -20,3 +20,18 @@ pub const MAX_JOB_BYTES: usize = 1048576;
 
 /// How many bytes the name of a file may have. It has one at least.
 pub const MAX_NAME_BYTES: usize = 255;
+
+/// How many machines a cluster may have. It has one at least.
+pub const MAX_MACHINES: u16 = 16;
+
+/// How many atoms a cut may have. It has one at least.
+pub const MAX_ATOMS: u16 = 1024;
+
+/// How many bytes the file of an index or an atom may have.
+pub const MAX_ATOM_BYTES: u64 = 134217728;
+
+/// How many snapshots a store may have.
+pub const MAX_SNAPSHOTS: u32 = 4096;
+
+/// How many bytes a store may have.
+pub const MAX_STORE_BYTES: u64 = 1073741824;
