@@ -2,7 +2,7 @@
 use Rattle.std.proofs.Common.{◌≡◌, List, Result, Ok, Err, sym, ◌∙◌}
 use Rattle.gl_base.specs.declared.usage_faults.UsageFault.{UsageFault}
 use Rattle.job_words.specs.CommandLine.{command_line_of}
-use Rattle.job_words.specs.Tokens.{Text}
+use Rattle.gl_base.specs.Texts.{Text}
 use Rattle.job_words.specs.declared.words.Words.{Words}
 
 pub one_command : (words : List Text) (a b : Words) → command_line_of words ≡ Ok a → command_line_of words ≡ Ok b → a ≡ b

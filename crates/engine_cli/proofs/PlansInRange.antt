@@ -12,8 +12,10 @@ use Rattle.gl_base.specs.declared.usage_faults.UsageFault.TheVariants as fault
 use Rattle.graph_text.specs.Making.{IsInRanges}
 use Rattle.job_words.specs.CommandLine.{command_line_of, formed_means, line_means}
 use Rattle.job_words.specs.Lines.{Sayings, line_of}
-use Rattle.job_words.specs.Meanings.{and_next, has_option, in_ranges, made, meaning_of, most_edges, number_of, plan_of, weight_of}
-use Rattle.job_words.specs.Tokens.{Text, tokens_of, unformed}
+use Rattle.gl_base.specs.Results.{and_then}
+use Rattle.job_words.specs.Meanings.{has_option, plan_in_range, make_words, meaning_of, most_edges, option_number, plan_of, option_weight}
+use Rattle.gl_base.specs.Texts.{Text}
+use Rattle.job_words.specs.Tokens.{tokens_of, first_unformed}
 use Rattle.job_words.specs.declared.words.Words.TheVariants.{Run, Make}
 
 no_fault_ok : {X : Type 0} → {f : UsageFault} → {x : X} → Err f ≡ Ok x → ⊥
@@ -23,7 +25,7 @@ same_ok : {X : Type 0} → {x y : X} → (let r : Result X UsageFault = Ok x in 
 same_ok e = cc
 
 -- a step that came to an end had a value
-next-ok : {A B : Type 0} (r : Result A UsageFault) (next : A → Result B UsageFault) (y : B) → and_next r next ≡ Ok y → (x : A) × (next x ≡ Ok y)
+next-ok : {A B : Type 0} (r : Result A UsageFault) (next : A → Result B UsageFault) (y : B) → and_then r next ≡ Ok y → (x : A) × (next x ≡ Ok y)
 next-ok (Ok x) next y e = (x, e)
 next-ok (Err f) next y e = absurd (no_fault_ok e)
 
@@ -32,7 +34,7 @@ weight-small None e = tt
 weight-small (Some most) e = let small : most ≤ 4294967295 = ltb-false 4294967295 most e in omega (arith, small)
 
 -- numbers that pass the tests are in their ranges
-in-ranges : (number vertices edges : ℕ) (weight : Option ℕ) (plan : MakePlan) → in_ranges number vertices edges weight ≡ Ok plan → IsInRanges plan
+in-ranges : (number vertices edges : ℕ) (weight : Option ℕ) (plan : MakePlan) → plan_in_range number vertices edges weight ≡ Ok plan → IsInRanges plan
 in-ranges number vertices edges weight plan e =
     by_tests (nat_lt 4294967295 number) (nat_lt MAX_VERTICES vertices) (nat_lt (most_edges vertices) edges) (option_map_or (nat_lt 4294967295) weight false)
     refl refl refl refl e
@@ -62,36 +64,36 @@ in-ranges number vertices edges weight plan e =
 
 plan-in-ranges : (number vertices edges weight : Option Text) (plan : MakePlan) → plan_of number vertices edges weight ≡ Ok plan → IsInRanges plan
 plan-in-ranges (Some number) (Some vertices) (Some edges) weight plan e =
-    let n = next-ok (number_of opt.Number number) _ plan e in
-    let v = next-ok (number_of opt.Vertices vertices) _ plan n.1 in
-    let m = next-ok (number_of opt.Edges edges) _ plan v.1 in
-    let w = next-ok (weight_of weight) _ plan m.1 in
+    let n = next-ok (option_number opt.Number number) _ plan e in
+    let v = next-ok (option_number opt.Vertices vertices) _ plan n.1 in
+    let m = next-ok (option_number opt.Edges edges) _ plan v.1 in
+    let w = next-ok (option_weight weight) _ plan m.1 in
     in-ranges n.0 v.0 m.0 w.0 plan w.1
 plan-in-ranges None vertices edges weight plan e = absurd (no_fault_ok e)
 plan-in-ranges (Some number) None edges weight plan e = absurd (no_fault_ok e)
 plan-in-ranges (Some number) (Some vertices) None weight plan e = absurd (no_fault_ok e)
 
-made-in-ranges : (prefix name : Text) (r : Result MakePlan UsageFault) (plan : MakePlan) → made prefix r ≡ Ok (Make name plan) → r ≡ Ok plan
-made-in-ranges prefix name (Ok given) plan e = cc
-made-in-ranges prefix name (Err f) plan e = absurd (no_fault_ok e)
+make_words-in-ranges : (prefix name : Text) (r : Result MakePlan UsageFault) (plan : MakePlan) → make_words prefix r ≡ Ok (Make name plan) → r ≡ Ok plan
+make_words-in-ranges prefix name (Ok given) plan e = cc
+make_words-in-ranges prefix name (Err f) plan e = absurd (no_fault_ok e)
 
 meaning-in-ranges : (s : Sayings) (name : Text) (plan : MakePlan) → meaning_of s ≡ Ok (Make name plan) → IsInRanges plan
 meaning-in-ranges s name plan e = by_tests (bytes_eq s.verb (codes "run")) (bytes_eq s.verb (codes "make")) (has_option s) s.report e
   where
     by_tests : (a b c d : Bool)
         → cond a (cond c (Err fault.NotHere) (Ok (Run s.file s.report)))
-        (cond b (cond d (Err fault.NotHere) (made s.file (plan_of s.number s.vertices s.edges s.weight))) (Err fault.Verb)) ≡ Ok (Make name plan)
+        (cond b (cond d (Err fault.NotHere) (make_words s.file (plan_of s.number s.vertices s.edges s.weight))) (Err fault.Verb)) ≡ Ok (Make name plan)
         → IsInRanges plan
     by_tests true b true d e = absurd (no_fault_ok e)
     by_tests true b false d e = absurd cc
     by_tests false true c true e = absurd (no_fault_ok e)
     by_tests false true c false e =
-        plan-in-ranges s.number s.vertices s.edges s.weight plan (made-in-ranges s.file name (plan_of s.number s.vertices s.edges s.weight) plan e)
+        plan-in-ranges s.number s.vertices s.edges s.weight plan (make_words-in-ranges s.file name (plan_of s.number s.vertices s.edges s.weight) plan e)
     by_tests false false c d e = absurd (no_fault_ok e)
 
 -- the plan of a command line is in its ranges
 pub asked-in-ranges : (words : List Text) (name : Text) (plan : MakePlan) → command_line_of words ≡ Ok (Make name plan) → IsInRanges plan
-asked-in-ranges words name plan e = formed (unformed words) e
+asked-in-ranges words name plan e = formed (first_unformed words) e
   where
     lined : (l : Option Sayings) → line_means l ≡ Ok (Make name plan) → IsInRanges plan
     lined None e = absurd (no_fault_ok e)

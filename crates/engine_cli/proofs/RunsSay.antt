@@ -16,7 +16,7 @@ use Rattle.graph_core.specs.DataGraph.{DataGraph}
 use Rattle.graph_text.specs.Vertices.{vertices_of}
 use Rattle.job_config.specs.Fields.{JobFields}
 use Rattle.job_config.specs.Jobs.{JobSayings}
-use Rattle.job_config.specs.Told.{told_job}
+use Rattle.job_config.specs.Views.{job_view}
 use Rattle.seq_run.specs.Orders.{IsFinished}
 use Rattle.engine_cli.specs.declared.running.Prepared.{Prepared}
 use Rattle.engine_cli.specs.declared.status.Status.{Status}
@@ -110,10 +110,10 @@ run-refuses given file job g before now NoMemory told texts found = refl
 
 -- what a run that left no task says of what it prints
 answers : (given : List ℕ → Option (List ℕ)) (file : List ℕ) (report : Bool) (made : Prepared) (holds : Option (List ℕ) → Printed → Type 0)
-    → IsMadeOf given file made → made.run.left ≡ None → holds (told_job made.job).fields.order (printed_of report made)
+    → IsMadeOf given file made → made.run.left ≡ None → holds (job_view made.job).fields.order (printed_of report made)
     → PrintsAnswer given file report made.run.order.items holds
 answers given file report made holds is none kept =
-    let job = told_job made.job in
+    let job = job_view made.job in
     let p = update_of made.job.algorithm made.job.source in
     let printed = printed_of report made in
     let ended : MatchOption made.run.left (IsFinished made.graph p made.run.order.items) (IsSpent made.graph p made.job.budget made.run.order.items) = is.run.ended in
@@ -182,10 +182,10 @@ pub record IsSince (before mid : Moment) : Type 0 where
 -- what a run says whose numbers were printed
 pub print-says : (file : List ℕ) (report : Bool) (made : Prepared) (before mid now : Moment) (bytes : Vec ℕ Global)
     → IsMadeOf before.given file made → made.run.left ≡ None → IsSince before mid
-    → Prints (Ok bytes) (told_job made.job).fields.order (printed_of report made) mid now
+    → Prints (Ok bytes) (job_view made.job).fields.order (printed_of report made) mid now
     → Says file report before now (λ told. bytes.items ≡ told) made.run.order.items Done
 print-says file report made before mid now bytes is none since prints =
-    let order = (told_job made.job).fields.order in
+    let order = (job_view made.job).fields.order in
     answers before.given file report made
     (λ name printed. Appends before.held now.held printed.answer × (bytes.items ≡ printed.told) × LeavesOrder name before now printed.lines) is none (
       subst (λ (old : Option (List ℕ)). Appends old now.held (printed_of report made).answer) since.held prints.1,
@@ -196,10 +196,10 @@ print-says file report made before mid now bytes is none since prints =
 -- what it says where the order's file or the sink failed
 pub print-fails : (file : List ℕ) (report : Bool) (made : Prepared) (before mid now : Moment) (tells : List ℕ → Type 0)
     → IsMadeOf before.given file made → made.run.left ≡ None → IsSince before mid
-    → Prints (Err WriteFaultAtOut) (told_job made.job).fields.order (printed_of report made) mid now
+    → Prints (Err WriteFaultAtOut) (job_view made.job).fields.order (printed_of report made) mid now
     → Says file report before now tells made.run.order.items WriteFault
 print-fails file report made before mid now tells is none since prints =
-    let order = (told_job made.job).fields.order in
+    let order = (job_view made.job).fields.order in
     let printed = printed_of report made in
     answers before.given file report made (λ name printed. FailsAtOrder name before now printed ⊎ FailsAtOut name before now printed) is none
     (⊎_elim
@@ -211,7 +211,7 @@ print-fails file report made before mid now tells is none since prints =
 pub spent-says : (given : List ℕ → Option (List ℕ)) (file : List ℕ) (made : Prepared) (before now : ℕ) (left : Vertex)
     → IsMadeOf given file made → made.run.left ≡ Some left → Refuses given file before now made.run.order.items (BudgetSpent left)
 spent-says given file made before now v is some =
-    let job = told_job made.job in
+    let job = job_view made.job in
     let p = update_of made.job.algorithm made.job.source in
     let spent : IsSpent made.graph p made.job.budget made.run.order.items v =
     subst (λ (left : Option Vertex). MatchOption left (IsFinished made.graph p made.run.order.items) (IsSpent made.graph p made.job.budget made.run.order.items)) some is.run.ended in (

@@ -20,7 +20,7 @@ use Rattle.graph_text.specs.declared.lists.VertexList.{VertexList}
 use Rattle.job_config.specs.Fields.{JobFields, needs_source}
 use Rattle.job_config.specs.Jobs.{JobSayings}
 use Rattle.job_config.specs.Ranges.{HasSource}
-use Rattle.job_config.specs.Told.{told_job}
+use Rattle.job_config.specs.Views.{job_view}
 use Rattle.engine_cli.specs.declared.status.Status.{Status}
 use Rattle.engine_cli.specs.declared.status.Status.TheVariants.{Done, Usage, BadJob, BadGraph, ReadFault, WriteFault, BudgetSpent, NoMemory}
 use Rattle.engine_cli.specs.Answer.{TellJobGraph}
@@ -53,7 +53,7 @@ TakesFront most text before now (Err NoMemory) = ⊤
 
 -- what reading the job's file answers
 abbrev pub TakesJob : Option (List ℕ) → ℕ → ℕ → Result Job Status → Type 0
-TakesJob text before now (Ok job) = IsReady (told_job job) × TellsJob text (told_job job)
+TakesJob text before now (Ok job) = IsReady (job_view job) × TellsJob text (job_view job)
 TakesJob text before now (Err Done) = ⊥
 TakesJob text before now (Err (Usage fault)) = ⊥
 TakesJob text before now (Err (BadJob fault)) = IfSome text (λ bytes. run_of bytes ≡ Err fault)

@@ -6,7 +6,7 @@ use Rattle.gl_base.specs.declared.text_faults.TextFile.TheVariants.{Vertices, Ed
 use Rattle.gl_outside.specs.Faults.{Rose}
 use Rattle.graph_text.specs.Making.{IsStride, half_of, made_edges, made_vertices}
 use Rattle.job_words.specs.CommandLine.{IsCommandLine}
-use Rattle.job_words.specs.Tokens.{Text}
+use Rattle.gl_base.specs.Texts.{Text}
 use Rattle.job_words.specs.declared.words.Words.{Words}
 use Rattle.job_words.specs.declared.words.Words.TheVariants.{Run, Make}
 use Rattle.engine_cli.specs.Leaves.{Gives, KeepsOrGives}

@@ -2,8 +2,9 @@
 use Rattle.std.specs.Prelude.{ℕ, ⊤}
 use Rattle.graph_text.specs.declared.lists.Reading.{Reading}
 use Rattle.graph_text.specs.declared.lists.Reading.TheVariants as text
-use Rattle.job_config.specs.declared.reading.JobReading.{JobReading}
-use Rattle.job_config.specs.declared.reading.JobReading.TheVariants as job
+use Rattle.gl_base.specs.declared.job_faults.JobFault.{JobFault}
+use Rattle.gl_base.specs.declared.memory.OrNoMemory.{OrNoMemory}
+use Rattle.gl_base.specs.declared.memory.OrNoMemory.TheVariants as job
 use Rattle.graph_text.specs.declared.making.Writing.{Writing}
 use Rattle.graph_text.specs.declared.making.Writing.TheVariants as out
 use Rattle.engine_cli.specs.declared.status.Status.{Status}
@@ -71,7 +72,7 @@ status_of_reading text.ReadFault = ReadFault
 status_of_reading text.NoMemory = NoMemory
 
 -- what a run ends with that could not read a job
-abbrev pub status_of_job : JobReading → Status
+abbrev pub status_of_job : OrNoMemory JobFault → Status
 status_of_job (job.Fault fault) = BadJob fault
 status_of_job job.NoMemory = NoMemory
 

@@ -1,7 +1,7 @@
 //! The job of a run.
 ghost use Rattle.std.specs.Prelude.{◌≡◌, ℕ, ◌≤◌, [], ◌∷◌, List, OnOk};
 ghost use Rattle.gl_outside.specs.Names.{AppendsNames};
-ghost use Rattle.job_config.specs.Told.{told_job};
+ghost use Rattle.job_config.specs.Views.{job_view};
 ghost use Rattle.engine_cli.specs.Found.{TakesJob, HandsOver};
 ghost use Rattle.engine_cli.specs.Runs.{not_built};
 
@@ -33,7 +33,7 @@ pub fn job_of<F: Files>(alloc: Global, files: &mut F, name: &str) -> Result<Job,
 
 /// The first key of the job whose value asks for what is not built yet.
 fn not_built(job: &Job) -> Option<Key>
-    ensures { result ≡ not_built (told_job job.now) }
+    ensures { result ≡ not_built (job_view job.now) }
 {
     if job.engine != EngineKind::Locking {
         return Some(Key::Engine);

@@ -1,7 +1,7 @@
 //! Runs the job's algorithm on its graph.
 ghost use Rattle.std.specs.Prelude.{◌≡◌, IfOk, is_some, true};
 ghost use Rattle.job_config.specs.Fields.{needs_source};
-ghost use Rattle.job_config.specs.Told.{told_job};
+ghost use Rattle.job_config.specs.Views.{job_view};
 ghost use Rattle.engine_cli.specs.Found.{FindsRun, FindsSource, IsReady};
 ghost use Rattle.engine_cli.specs.Plays.{RunsTo};
 
@@ -27,8 +27,8 @@ pub struct Run {
 /// Runs the job's algorithm until no task is left or the job's budget is spent. It is refused where the algorithm needs
 /// a source and no vertex has its identifier.
 pub fn run_on(alloc: Global, graph: &Graph, job: &Job) -> Result<Run, Status>
-    requires { IsReady (told_job job.now) }
-    ensures { FindsRun (told_job job.now).fields graph.now result }
+    requires { IsReady (job_view job.now) }
+    ensures { FindsRun (job_view job.now).fields graph.now result }
 {
     let budget = job.budget;
     let run = match job.algorithm {
@@ -48,9 +48,9 @@ pub fn run_on(alloc: Global, graph: &Graph, job: &Job) -> Result<Run, Status>
 
 /// The identifier of the job's source, where it is that of a vertex.
 fn source_of(graph: &Graph, job: &Job) -> Result<u64, Status>
-    requires needed { needs_source (told_job job.now).fields.algorithm ≡ true }
-    requires source { is_some (told_job job.now).fields.source ≡ true }
-    ensures { FindsSource (told_job job.now).fields graph.now result }
+    requires needed { needs_source (job_view job.now).fields.algorithm ≡ true }
+    requires source { is_some (job_view job.now).fields.source ≡ true }
+    ensures { FindsSource (job_view job.now).fields graph.now result }
 {
     let Some(source) = job.source else {
         return Err(Status::BadJob(JobFault::Missing(Key::Source)));

@@ -6,7 +6,7 @@ ghost use Rattle.gl_outside.specs.Fronts.{AppendsFront};
 ghost use Rattle.gl_outside.specs.Frames.{KeepsSources};
 ghost use Rattle.graph_core.specs.DataGraph.{size};
 ghost use Rattle.graph_text.specs.declared.making.Writing.TheVariants.{WriteFault, NoMemory as NoMemoryAtOut};
-ghost use Rattle.job_config.specs.Told.{told_job};
+ghost use Rattle.job_config.specs.Views.{job_view};
 ghost use Rattle.order_text.specs.Orders.{IsEntryOf};
 ghost use Rattle.engine_cli.specs.Answer.{told_of};
 ghost use Rattle.engine_cli.specs.Found.{HandsOver, names_in};
@@ -36,12 +36,12 @@ pub fn print_run<F: Files, K: Sink>(
 ) -> Result<Vec<u8>, Writing>
     requires numbers { length made.now.run.numbers.items ≡ size made.now.graph }
     requires entries { All (IsEntryOf made.now.graph) made.now.run.order.items }
-    ensures printed { Prints result (told_job made.now.job).fields.order (printed_of is_reported made.now)
+    ensures printed { Prints result (job_view made.now.job).fields.order (printed_of is_reported made.now)
         (moment F.given F.made F.reads F.writes files.old (K.faults out.old) (K.held out.old))
         (moment F.given F.made F.reads F.writes files.new (K.faults out.new) (K.held out.new)) }
     ensures no_memory { result ≡ Err NoMemoryAtOut → (out.new ≡ out.old) × ((name : List ℕ) → F.given files.new name ≡ F.given files.old name) }
-    ensures names { HandsOver (F.made files.old) (F.made files.new) (names_in (told_job made.now.job).fields.order) }
-    ensures others { (name : List ℕ) → ((told_job made.now.job).fields.order ≡ Some name → ⊥) → F.given files.new name ≡ F.given files.old name }
+    ensures names { HandsOver (F.made files.old) (F.made files.new) (names_in (job_view made.now.job).fields.order) }
+    ensures others { (name : List ℕ) → ((job_view made.now.job).fields.order ≡ Some name → ⊥) → F.given files.new name ≡ F.given files.old name }
     ensures sources { KeepsSources F.reads F.handed F.is_source F.left files.old files.new }
     ensures later { F.writes files.old ≤ F.writes files.new }
     ensures faults { K.faults out.old ≤ K.faults out.new }

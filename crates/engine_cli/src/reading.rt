@@ -3,7 +3,7 @@ ghost use Rattle.std.specs.Prelude.{◌≡◌, ℕ, ◌≤◌, [], ◌∷◌, Li
 ghost use Rattle.std.specs.Io.KnownBytes.{Consumes};
 ghost use Rattle.gl_outside.specs.declared.files.OpenFault.TheVariants.{Failed, NoMemory as NoMemoryAtOpen};
 ghost use Rattle.gl_outside.specs.Names.{AppendsNames};
-ghost use Rattle.job_config.specs.Told.{told_job};
+ghost use Rattle.job_config.specs.Views.{job_view};
 ghost use Rattle.engine_cli.specs.declared.status.Status.TheVariants.{ReadFault, NoMemory};
 ghost use Rattle.engine_cli.specs.Answer.{is_weighted};
 ghost use Rattle.engine_cli.specs.Found.{TakesFront, TakesVertices, TakesEdges, TakesGraph, HandsOver, graph_names};
@@ -60,12 +60,12 @@ fn read_front<S: Source>(alloc: Global, source: &mut S, most: usize) -> Result<V
 
 /// The graph of the job's two files.
 pub fn graph_of<F: Files>(alloc: Global, files: &mut F, job: &Job) -> Result<Graph, Status>
-    ensures answer { TakesGraph (F.given files.old) (told_job job.now).fields (F.reads files.old) (F.reads files.new) result }
+    ensures answer { TakesGraph (F.given files.old) (job_view job.now).fields (F.reads files.old) (F.reads files.new) result }
     ensures given { (other : List ℕ) → F.given files.new other ≡ F.given files.old other }
     ensures made { F.made files.new ≡ F.made files.old }
     ensures writes { F.writes files.new ≡ F.writes files.old }
     ensures later { F.reads files.old ≤ F.reads files.new }
-    ensures names { HandsOver (F.handed files.old) (F.handed files.new) (graph_names (F.given files.old) (told_job job.now).fields) }
+    ensures names { HandsOver (F.handed files.old) (F.handed files.new) (graph_names (F.given files.old) (job_view job.now).fields) }
     ensures handed { OnOk result (AppendsNames (F.handed files.old) (F.handed files.new) (job.now.vertices ∷ job.now.edges ∷ [])) }
 {
     let list = vertices_of(alloc, files, job.vertices.as_str())?;

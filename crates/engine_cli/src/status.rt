@@ -1,7 +1,7 @@
 //! How a call ended.
 ghost use Rattle.std.specs.Prelude.{◌≡◌};
 ghost use Rattle.graph_text.specs.declared.lists.Reading.{Reading};
-ghost use Rattle.job_config.specs.declared.reading.JobReading.{JobReading};
+ghost use Rattle.gl_base.specs.declared.memory.OrNoMemory.{OrNoMemory};
 ghost use Rattle.engine_cli.specs.declared.status.Status.TheVariants.{NoMemory};
 ghost use Rattle.engine_cli.specs.Status.{status_of_reading, status_of_job, status_of_writing};
 

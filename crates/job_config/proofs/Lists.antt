@@ -14,14 +14,14 @@ use Rattle.gl_base.specs.declared.jobs.FailureAt.{FailureAt}
 use Rattle.serde_json.specs.Data.{Data, Members}
 use Rattle.serde_json.specs.View.{items_of, items_view, members_view, view}
 use Rattle.serde_json.specs.declared.value.Value.{Value}
-use Rattle.job_config.specs.Failures.{failure, failure_in, failures_in, failures_of, first_faulty, is_faulty, listed_failures, names_in, unless_faulty, values_in}
+use Rattle.job_config.specs.Failures.{failure, failure_in, failures_in, failures_of, first_faulty, is_faulty, listed_failures, keys_in, unless_faulty, values_in}
 
 -- the keys of a map's members
-pub names-keys : (es : List (String Global × Value)) → names_in (members_view es) ≡ map string_bytes (keys_of es)
+pub names-keys : (es : List (String Global × Value)) → keys_in (members_view es) ≡ map string_bytes (keys_of es)
 names-keys [] = refl
 names-keys (e ∷ es) = ap (λ ks. string_bytes e.0 ∷ ks) (names-keys es)
 
-pub length-names : (es : List (String Global × Value)) → length (names_in (members_view es)) ≡ length es
+pub length-names : (es : List (String Global × Value)) → length (keys_in (members_view es)) ≡ length es
 length-names [] = refl
 length-names (e ∷ es) = ap suc (length-names es)
 
@@ -61,13 +61,13 @@ abbrev two_numbers : Data → Option FailureAt
 two_numbers d = option_and_then (λ machine. option_map (failure machine)
     (option_and_then whole_number (get (codes "after") d))) (option_and_then whole_number (get (codes "machine") d))
 
-object_is : (d : Data) (ms : Members) → Some ms ≡ as_object d → failure_in d ≡ cond (length (names_in ms) == 2) (two_numbers d) None
-object_is d ms e = ap (option_and_then (λ (xs : Members). cond (length (names_in xs) == 2) (two_numbers d) None)) (sym e)
+object_is : (d : Data) (ms : Members) → Some ms ≡ as_object d → failure_in d ≡ cond (length (keys_in ms) == 2) (two_numbers d) None
+object_is d ms e = ap (option_and_then (λ (xs : Members). cond (length (keys_in xs) == 2) (two_numbers d) None)) (sym e)
 
-pub other_object : (d : Data) (ms : Members) → Some ms ≡ as_object d → (length (names_in ms) == 2) ≡ false → failure_in d ≡ None
+pub other_object : (d : Data) (ms : Members) → Some ms ≡ as_object d → (length (keys_in ms) == 2) ≡ false → failure_in d ≡ None
 other_object d ms e other = object_is d ms e ∙ ap (λ b. cond b (two_numbers d) None) other
 
-pub two_members : (d : Data) (ms : Members) (m a : ℕ) → Some ms ≡ as_object d → (length (names_in ms) == 2) ≡ true
+pub two_members : (d : Data) (ms : Members) (m a : ℕ) → Some ms ≡ as_object d → (length (keys_in ms) == 2) ≡ true
     → option_and_then whole_number (get (codes "machine") d) ≡ Some m → option_and_then whole_number (get (codes "after") d) ≡ Some a → failure_in d ≡ Some (failure m a)
 two_members d ms m a e two machine after = object_is d ms e ∙ ap (λ b. cond b (two_numbers d) None) two
     ∙ ap (option_and_then (λ machine. option_map (failure machine) (option_and_then whole_number (get (codes "after") d)))) machine ∙ ap (option_map (failure m)) after

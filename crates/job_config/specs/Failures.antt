@@ -7,12 +7,13 @@ use Rattle.serde_json.specs.Data.{Data, Items, Members, no_items, item, no_membe
 use Rattle.serde_json.specs.Find.{as_array, as_object, get}
 use Rattle.job_config.specs.declared.values.KeyFault.{KeyFault}
 use Rattle.job_config.specs.declared.values.KeyFault.TheVariants.{OutOfRange, WrongKind}
-use Rattle.job_config.specs.Values.{Text, whole_number}
+use Rattle.gl_base.specs.Texts.{Text}
+use Rattle.job_config.specs.Values.{whole_number}
 
 -- the keys of an object
-abbrev pub names_in : Members → List Text
-names_in no_members = []
-names_in (member k d ms) = k ∷ names_in ms
+abbrev pub keys_in : Members → List Text
+keys_in no_members = []
+keys_in (member k d ms) = k ∷ keys_in ms
 
 -- the values of a list
 abbrev pub values_in : Items → List Data
@@ -25,7 +26,7 @@ failure machine after = record { machine = record { 0 = min machine 65535 }; aft
 
 -- an object with exactly the two keys, both whole numbers
 abbrev pub failure_in : Data → Option FailureAt
-failure_in d = option_and_then (λ ms. if length (names_in ms) == 2
+failure_in d = option_and_then (λ ms. if length (keys_in ms) == 2
     then option_and_then (λ machine. option_map (failure machine)
     (option_and_then whole_number (get (codes "after") d)))
     (option_and_then whole_number (get (codes "machine") d))

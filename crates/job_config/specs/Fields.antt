@@ -12,7 +12,9 @@ use Rattle.serde_json.specs.Data.{Data}
 use Rattle.serde_json.specs.Find.{get}
 use Rattle.job_config.specs.declared.values.KeyFault.{KeyFault}
 use Rattle.job_config.specs.declared.values.KeyFault.TheVariants.{Missing, OutOfRange}
-use Rattle.job_config.specs.Values.{Text, algorithm_in, and_next, engine_in, flag_in, given, needed, number_in, or_default, text_in}
+use Rattle.gl_base.specs.Results.{and_then}
+use Rattle.gl_base.specs.Texts.{Text}
+use Rattle.job_config.specs.Values.{algorithm_in, engine_in, flag_in, number_in, optional, or_default, required, text_in}
 
 pub record JobFields : Type 0 where
   pub vertices : Text
@@ -40,34 +42,34 @@ needs_source Colours = false
 abbrev pub source_of : Algorithm → Option Data → Result (Option ℕ) KeyFault
 source_of algorithm None =
     if needs_source algorithm then Err (Missing key.Source) else Ok None
-source_of algorithm (Some d) = and_next (number_in key.Source 0 MAX_ID d) (λ n. Ok (Some n))
+source_of algorithm (Some d) = and_then (number_in key.Source 0 MAX_ID d) (λ n. Ok (Some n))
 
 -- the order is not written over the store
-abbrev pub apart : Option Text → Option Text → Result (Option Text) KeyFault
-apart store None = Ok None
-apart store (Some order) = if option_map_or (bytes_eq order) store false
+abbrev pub apart_from_store : Option Text → Option Text → Result (Option Text) KeyFault
+apart_from_store store None = Ok None
+apart_from_store store (Some order) = if option_map_or (bytes_eq order) store false
     then Err (OutOfRange key.Order (length order)) else Ok (Some order)
 
 abbrev pub order_of : Option Text → Option Data → Result (Option Text) KeyFault
-order_of store o = and_next (given (text_in key.Order MAX_NAME_BYTES) o) (apart store)
+order_of store o = and_then (optional (text_in key.Order MAX_NAME_BYTES) o) (apart_from_store store)
 
 -- the values, or the first fault
 abbrev pub fields_of : Data → Result JobFields KeyFault
 fields_of d =
-    and_next (needed key.Vertices (text_in key.Vertices MAX_NAME_BYTES) (get (codes "vertices") d)) (λ vertices.
-    and_next (needed key.Edges (text_in key.Edges MAX_NAME_BYTES) (get (codes "edges") d)) (λ edges.
-    and_next (needed key.Directed (flag_in key.Directed) (get (codes "directed") d)) (λ directed.
-    and_next (needed key.Algorithm algorithm_in (get (codes "algorithm") d)) (λ algorithm.
-    and_next (source_of algorithm (get (codes "source") d)) (λ source.
-    and_next (or_default Locking engine_in (get (codes "engine") d)) (λ engine.
-    and_next (or_default 1 (number_in key.Machines 1 16) (get (codes "machines") d)) (λ machines.
-    and_next (or_default (4 * machines) (number_in key.Atoms 1 1024) (get (codes "atoms") d)) (λ atoms.
-    and_next (or_default 16 (number_in key.Pipeline 1 256) (get (codes "pipeline") d)) (λ pipeline.
-    and_next (or_default 16777216 (number_in key.Budget 1 16777216) (get (codes "budget") d)) (λ budget.
-    and_next (or_default 1048576 (number_in key.Window 1 16777216) (get (codes "window") d)) (λ window.
-    and_next (given (text_in key.Store MAX_NAME_BYTES) (get (codes "store") d)) (λ store.
-    and_next (given (text_in key.AtomsAt 200) (get (codes "atoms_at") d)) (λ atoms_at.
-    and_next (order_of store (get (codes "order") d)) (λ order.
+    and_then (required key.Vertices (text_in key.Vertices MAX_NAME_BYTES) (get (codes "vertices") d)) (λ vertices.
+    and_then (required key.Edges (text_in key.Edges MAX_NAME_BYTES) (get (codes "edges") d)) (λ edges.
+    and_then (required key.Directed (flag_in key.Directed) (get (codes "directed") d)) (λ directed.
+    and_then (required key.Algorithm algorithm_in (get (codes "algorithm") d)) (λ algorithm.
+    and_then (source_of algorithm (get (codes "source") d)) (λ source.
+    and_then (or_default Locking engine_in (get (codes "engine") d)) (λ engine.
+    and_then (or_default 1 (number_in key.Machines 1 16) (get (codes "machines") d)) (λ machines.
+    and_then (or_default (4 * machines) (number_in key.Atoms 1 1024) (get (codes "atoms") d)) (λ atoms.
+    and_then (or_default 16 (number_in key.Pipeline 1 256) (get (codes "pipeline") d)) (λ pipeline.
+    and_then (or_default 16777216 (number_in key.Budget 1 16777216) (get (codes "budget") d)) (λ budget.
+    and_then (or_default 1048576 (number_in key.Window 1 16777216) (get (codes "window") d)) (λ window.
+    and_then (optional (text_in key.Store MAX_NAME_BYTES) (get (codes "store") d)) (λ store.
+    and_then (optional (text_in key.AtomsAt 200) (get (codes "atoms_at") d)) (λ atoms_at.
+    and_then (order_of store (get (codes "order") d)) (λ order.
     Ok (record {
       vertices = vertices;
       edges = edges;

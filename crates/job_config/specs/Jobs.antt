@@ -10,10 +10,11 @@ use Rattle.serde_json.specs.Find.{as_object, get}
 use Rattle.serde_json.specs.Read.{read}
 use Rattle.job_config.specs.declared.values.KeyFault.{KeyFault}
 use Rattle.job_config.specs.declared.values.KeyFault.TheVariants.{Missing, WrongKind, OutOfRange}
-use Rattle.job_config.specs.Failures.{failures_of, names_in}
+use Rattle.job_config.specs.Failures.{failures_of, keys_in}
 use Rattle.job_config.specs.Fields.{JobFields, fields_of}
 use Rattle.job_config.specs.Keys.{least_unknown}
-use Rattle.job_config.specs.Values.{Text, and_next}
+use Rattle.gl_base.specs.Results.{and_then}
+use Rattle.gl_base.specs.Texts.{Text}
 
 -- what a job says
 pub record JobSayings : Type 0 where
@@ -31,31 +32,31 @@ as_job (Err f) = Err (job_fault f)
 
 -- the values key by key, the failures last
 abbrev pub sayings_of : Data → Result JobSayings KeyFault
-sayings_of d = and_next (fields_of d) (λ fields.
-    and_next (failures_of fields.machines (get (codes "failures") d)) (λ failures.
+sayings_of d = and_then (fields_of d) (λ fields.
+    and_then (failures_of fields.machines (get (codes "failures") d)) (λ failures.
     Ok (record { fields = fields; failures = failures })))
 
 -- the least key that is none of a job comes first
-abbrev pub with_keys : Option Text → Data → Result JobSayings JobFault
-with_keys (Some k) d = Err (fault.UnknownKey k)
-with_keys None d = as_job (sayings_of d)
+abbrev pub job_with_keys : Option Text → Data → Result JobSayings JobFault
+job_with_keys (Some k) d = Err (fault.UnknownKey k)
+job_with_keys None d = as_job (sayings_of d)
 
-abbrev pub of_object : Option Members → Data → Result JobSayings JobFault
-of_object None d = Err fault.NotJson
-of_object (Some ms) d = with_keys (least_unknown (names_in ms)) d
+abbrev pub job_of_object : Option Members → Data → Result JobSayings JobFault
+job_of_object None d = Err fault.NotJson
+job_of_object (Some ms) d = job_with_keys (least_unknown (keys_in ms)) d
 
-abbrev pub of_value : Option Data → Result JobSayings JobFault
-of_value None = Err fault.NotJson
-of_value (Some d) = of_object (as_object d) d
+abbrev pub job_of_json : Option Data → Result JobSayings JobFault
+job_of_json None = Err fault.NotJson
+job_of_json (Some d) = job_of_object (as_object d) d
 
 -- what the bytes are as JSON, as `serde_json` reads them
-abbrev pub value_of : List ℕ → Option Data
-value_of bytes = if is_utf8 bytes then read bytes else None
+abbrev pub json_of : List ℕ → Option Data
+json_of bytes = if is_utf8 bytes then read bytes else None
 
 -- what the bytes say as a job, or else their first fault
 abbrev pub job_of : List ℕ → Result JobSayings JobFault
 job_of bytes =
-    if nat_lt MAX_JOB_BYTES (length bytes) then Err fault.TooLong else of_value (value_of bytes)
+    if nat_lt MAX_JOB_BYTES (length bytes) then Err fault.TooLong else job_of_json (json_of bytes)
 
 abbrev pub IsJob : List ℕ → JobSayings → Type 0
 IsJob bytes said = job_of bytes ≡ Ok said

@@ -3,7 +3,7 @@ use Rattle.std.specs.Prelude.{◌∷◌, ◌||◌, [], Bool, List, Option, Some,
 use Rattle.std.specs.Cmp.Lexicographic.{slice_cmp}
 use Rattle.std.specs.Ordering.{match_ordering, nat_cmp}
 use Rattle.std.specs.Str.{bytes_eq}
-use Rattle.job_config.specs.Values.{Text}
+use Rattle.gl_base.specs.Texts.{Text}
 
 -- what is computed, and of which graph
 abbrev pub is_graph_key : Text → Bool
@@ -26,17 +26,17 @@ abbrev pub is_known : Text → Bool
 is_known k = is_graph_key k || (is_run_key k || is_file_key k)
 
 -- the lesser in byte order
-abbrev pub lesser : Text → Option Text → Option Text
-lesser k None = Some k
-lesser k (Some l) = match_ordering (slice_cmp nat_cmp k l) (Some k) (Some k) (Some l)
+abbrev pub lesser_key : Text → Option Text → Option Text
+lesser_key k None = Some k
+lesser_key k (Some l) = match_ordering (slice_cmp nat_cmp k l) (Some k) (Some k) (Some l)
 
 -- the least in byte order
-abbrev pub least : List Text → Option Text
-least [] = None
-least (k ∷ ks) = lesser k (least ks)
+abbrev pub least_key : List Text → Option Text
+least_key [] = None
+least_key (k ∷ ks) = lesser_key k (least_key ks)
 
 abbrev pub is_unknown : Text → Bool
 is_unknown k = not (is_known k)
 
 abbrev pub least_unknown : List Text → Option Text
-least_unknown names = least (filter is_unknown names)
+least_unknown names = least_key (filter is_unknown names)

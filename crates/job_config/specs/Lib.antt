@@ -3,5 +3,5 @@ pub mod Fields
 pub mod Failures
 pub mod Keys
 pub mod Jobs
-pub mod Told
+pub mod Views
 pub mod Ranges

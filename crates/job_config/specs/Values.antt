@@ -1,6 +1,8 @@
 -- One value of a job.
-use Rattle.std.specs.Prelude.{◌&&◌, ℕ, Bool, List, Option, Some, None, Result, Ok, Err, codes, if◌then◌else◌, length, nat_le, nat_lt, option_and_then}
+use Rattle.std.specs.Prelude.{◌&&◌, ℕ, Bool, Option, Some, None, Result, Ok, Err, codes, if◌then◌else◌, length, nat_le, nat_lt, option_and_then}
 use Rattle.std.specs.Str.{bytes_eq}
+use Rattle.gl_base.specs.Results.{and_then}
+use Rattle.gl_base.specs.Texts.{Text}
 use Rattle.gl_base.specs.declared.job_faults.Key.{Key}
 use Rattle.gl_base.specs.declared.job_faults.Key.TheVariants as key
 use Rattle.gl_base.specs.declared.jobs.Algorithm.{Algorithm}
@@ -11,14 +13,6 @@ use Rattle.serde_json.specs.Data.{Data}
 use Rattle.serde_json.specs.Find.{as_bool, as_number, as_str, as_u64}
 use Rattle.job_config.specs.declared.values.KeyFault.{KeyFault}
 use Rattle.job_config.specs.declared.values.KeyFault.TheVariants.{Missing, WrongKind, OutOfRange}
-
-abbrev pub Text : Type 0
-Text = List ℕ
-
--- the next step, where there was no fault
-abbrev pub and_next : {A B F : Type 0} → Result A F → (A → Result B F) → Result B F
-and_next (Ok x) next = next x
-and_next (Err f) next = Err f
 
 -- a text of one byte to `most`
 abbrev pub text_at : Key → ℕ → Option Text → Result Text KeyFault
@@ -53,9 +47,9 @@ chosen k size None = Err (OutOfRange k size)
 chosen k size (Some x) = Ok x
 
 -- one of a few names
-abbrev pub name_at : {A : Type 0} → Key → (Text → Option A) → Option Text → Result A KeyFault
-name_at k named None = Err (WrongKind k)
-name_at k named (Some s) = chosen k (length s) (named s)
+abbrev pub choice_at : {A : Type 0} → Key → (Text → Option A) → Option Text → Result A KeyFault
+choice_at k named None = Err (WrongKind k)
+choice_at k named (Some s) = chosen k (length s) (named s)
 
 abbrev pub algorithm_named : Text → Option Algorithm
 algorithm_named s = if bytes_eq s (codes "levels") then Some Levels
@@ -64,25 +58,26 @@ algorithm_named s = if bytes_eq s (codes "levels") then Some Levels
     else (if bytes_eq s (codes "colours") then Some Colours else None)))
 
 abbrev pub algorithm_in : Data → Result Algorithm KeyFault
-algorithm_in d = name_at key.Algorithm algorithm_named (as_str d)
+algorithm_in d = choice_at key.Algorithm algorithm_named (as_str d)
 
 abbrev pub engine_named : Text → Option EngineKind
 engine_named s = if bytes_eq s (codes "locking") then Some Locking
     else (if bytes_eq s (codes "chromatic") then Some Chromatic else None)
 
 abbrev pub engine_in : Data → Result EngineKind KeyFault
-engine_in d = name_at key.Engine engine_named (as_str d)
+engine_in d = choice_at key.Engine engine_named (as_str d)
 
--- ---- where the key is absent
+-- a key that has to be there
+abbrev pub required : {A : Type 0} → Key → (Data → Result A KeyFault) → Option Data → Result A KeyFault
+required k read None = Err (Missing k)
+required k read (Some d) = read d
 
-abbrev pub needed : {A : Type 0} → Key → (Data → Result A KeyFault) → Option Data → Result A KeyFault
-needed k read None = Err (Missing k)
-needed k read (Some d) = read d
+-- a key that may be absent
+abbrev pub optional : {A : Type 0} → (Data → Result A KeyFault) → Option Data → Result (Option A) KeyFault
+optional read None = Ok None
+optional read (Some d) = and_then (read d) (λ x. Ok (Some x))
 
-abbrev pub given : {A : Type 0} → (Data → Result A KeyFault) → Option Data → Result (Option A) KeyFault
-given read None = Ok None
-given read (Some d) = and_next (read d) (λ x. Ok (Some x))
-
+-- a key that stands for this value where it is absent
 abbrev pub or_default : {A : Type 0} → A → (Data → Result A KeyFault) → Option Data → Result A KeyFault
 or_default value read None = Ok value
 or_default value read (Some d) = read d

@@ -1,12 +1,13 @@
 //! The failures that a job orders.
 ghost use Rattle.std.specs.Prelude.{◌≡◌, [], Err, IfOk, None, Ok, Some, filter_map, if◌then◌else◌, is_some, map, option_map};
 ghost use Rattle.std.specs.List.{list_all};
+ghost use Rattle.gl_base.specs.declared.memory.OrNoMemory.{OrNoMemory};
 ghost use Rattle.job_config.specs.declared.values.KeyFault.{KeyFault};
 ghost use Rattle.serde_json.specs.View.{view};
 ghost use Rattle.job_config.specs.Failures.{failure_in, failures_of, first_faulty, is_faulty};
 
 use crate::values::KeyFault;
-use gl_base::{FailureAt, Key, MachineNo};
+use gl_base::{FailureAt, Key, MachineNo, OrNoMemory};
 use serde_json::Value;
 use std::alloc::{AllocError, Global};
 
@@ -15,25 +16,6 @@ const MAX_FAILURES: usize = 64;
 
 /// The greatest count of updates after which a machine may fail.
 const MAX_AFTER: u64 = 16777216;
-
-/// Why the failures were not read.
-#[derive(Clone, Copy)]
-pub enum FailuresFault {
-    /// They are none, and this is why.
-    Key(KeyFault),
-    /// There was not enough memory.
-    NoMemory,
-}
-
-impl From<AllocError> for FailuresFault {
-    ghost use Rattle.job_config.specs.declared.failures.FailuresFault.TheVariants.{NoMemory};
-
-    ghost from_gives = { λ _ e. e ≡ NoMemory };
-
-    fn from(_: AllocError) -> Self {
-        FailuresFault::NoMemory
-    }
-}
 
 /// An object of exactly the two keys, each a whole number. A machine above the greatest `u16` is out of
 /// each range, and counts as it.
@@ -96,17 +78,17 @@ pub fn read_failures(
     alloc: Global,
     machines: u16,
     value: Option<&Value>,
-) -> Result<Vec<FailureAt>, FailuresFault>
+) -> Result<Vec<FailureAt>, OrNoMemory<KeyFault>>
     ensures ok { IfOk result
         (λ v. failures_of machines (option_map (λ x. view x.now) value.entry) ≡ Ok v.items) }
     ensures ranges { IfOk result (λ v. first_faulty machines [] v.items ≡ None) }
-    ensures fault { (f : KeyFault) → result ≡ Err (FailuresFault.Key f)
+    ensures fault { (f : KeyFault) → result ≡ Err (OrNoMemory.Fault f)
         → failures_of machines (option_map (λ x. view x.now) value.entry) ≡ Err f }
 {
     let Some(value) = value else {
         return Ok(Vec::new(alloc));
     };
-    let wrong = FailuresFault::Key(KeyFault::WrongKind(Key::Failures));
+    let wrong = OrNoMemory::Fault(KeyFault::WrongKind(Key::Failures));
     let Some(values) = value.as_array() else {
         return Err(wrong);
     };
@@ -115,6 +97,6 @@ pub fn read_failures(
     };
     match first_out_of_range(machines, &failures) {
         None => Ok(failures),
-        Some(place) => Err(FailuresFault::Key(KeyFault::OutOfRange(Key::Failures, place as u64))),
+        Some(place) => Err(OrNoMemory::Fault(KeyFault::OutOfRange(Key::Failures, place as u64))),
     }
 }

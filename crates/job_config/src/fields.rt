@@ -4,12 +4,12 @@ ghost use Rattle.gl_base.specs.declared.jobs.EngineKind.TheVariants.{Locking};
 ghost use Rattle.serde_json.specs.View.{view};
 ghost use Rattle.job_config.specs.Fields.{fields_of, order_of, source_of};
 ghost use Rattle.job_config.specs.Ranges.{HasNumbers, HasSource};
-ghost use Rattle.job_config.specs.Told.{told_fields};
-ghost use Rattle.job_config.specs.Values.{algorithm_in, engine_in, flag_in, needed, or_default};
+ghost use Rattle.job_config.specs.Views.{fields_view};
+ghost use Rattle.job_config.specs.Values.{algorithm_in, engine_in, flag_in, required, or_default};
 
 use crate::values::{
-    KeyFault, given_text, needed_text, number_or, read_algorithm, read_engine, read_flag,
-    read_number,
+    KeyFault, number_or, optional_text, read_algorithm, read_engine, read_flag, read_number,
+    required_text,
 };
 use gl_base::{Algorithm, EngineKind, Key, MAX_ID, MAX_NAME_BYTES};
 use serde_json::Value;
@@ -40,8 +40,8 @@ pub struct Fields<'a> {
 }
 
 /// The algorithm, which is needed.
-fn needed_algorithm(value: Option<&Value>) -> Result<Algorithm, KeyFault>
-    ensures { result ≡ needed Key.Algorithm algorithm_in (option_map (λ v. view v.now) value.entry) }
+fn required_algorithm(value: Option<&Value>) -> Result<Algorithm, KeyFault>
+    ensures { result ≡ required Key.Algorithm algorithm_in (option_map (λ v. view v.now) value.entry) }
 {
     match value {
         None => Err(KeyFault::Missing(Key::Algorithm)),
@@ -50,8 +50,8 @@ fn needed_algorithm(value: Option<&Value>) -> Result<Algorithm, KeyFault>
 }
 
 /// Whether edges go one way, which is needed.
-fn needed_directed(value: Option<&Value>) -> Result<bool, KeyFault>
-    ensures { result ≡ needed Key.Directed (flag_in Key.Directed)
+fn required_directed(value: Option<&Value>) -> Result<bool, KeyFault>
+    ensures { result ≡ required Key.Directed (flag_in Key.Directed)
         (option_map (λ v. view v.now) value.entry) }
 {
     match value {
@@ -92,7 +92,7 @@ fn read_order<'a>(
         (λ e. order_of (option_map (λ t. t.now) store.entry)
         (option_map (λ v. view v.now) value.entry) ≡ Err e) }
 {
-    let order = given_text(Key::Order, MAX_NAME_BYTES, value)?;
+    let order = optional_text(Key::Order, MAX_NAME_BYTES, value)?;
     match (store, order) {
         (Some(store), Some(order)) if order == store => {
             Err(KeyFault::OutOfRange(Key::Order, order.len() as u64))
@@ -103,14 +103,14 @@ fn read_order<'a>(
 
 /// The values key by key, or the first fault.
 pub fn read_fields(job: &Value) -> Result<Fields<'_>, KeyFault>
-    ensures value { MatchResult result (λ f. fields_of (view job.entry.now) ≡ Ok (told_fields f))
+    ensures value { MatchResult result (λ f. fields_of (view job.entry.now) ≡ Ok (fields_view f))
         (λ e. fields_of (view job.entry.now) ≡ Err e) }
-    ensures ranges { IfOk result (λ f. HasNumbers (told_fields f)) }
+    ensures ranges { IfOk result (λ f. HasNumbers (fields_view f)) }
 {
-    let vertices = needed_text(Key::Vertices, MAX_NAME_BYTES, job.get("vertices"))?;
-    let edges = needed_text(Key::Edges, MAX_NAME_BYTES, job.get("edges"))?;
-    let directed = needed_directed(job.get("directed"))?;
-    let algorithm = needed_algorithm(job.get("algorithm"))?;
+    let vertices = required_text(Key::Vertices, MAX_NAME_BYTES, job.get("vertices"))?;
+    let edges = required_text(Key::Edges, MAX_NAME_BYTES, job.get("edges"))?;
+    let directed = required_directed(job.get("directed"))?;
+    let algorithm = required_algorithm(job.get("algorithm"))?;
     let source = read_source(algorithm, job.get("source"))?;
     let engine = engine_or_locking(job.get("engine"))?;
     let machines = number_or(Key::Machines, 1, 16, 1, job.get("machines"))?;
@@ -118,8 +118,8 @@ pub fn read_fields(job: &Value) -> Result<Fields<'_>, KeyFault>
     let pipeline = number_or(Key::Pipeline, 1, 256, 16, job.get("pipeline"))?;
     let budget = number_or(Key::Budget, 1, MAX_UPDATES, MAX_UPDATES, job.get("budget"))?;
     let window = number_or(Key::Window, 1, MAX_UPDATES, 1048576, job.get("window"))?;
-    let store = given_text(Key::Store, MAX_NAME_BYTES, job.get("store"))?;
-    let atoms_at = given_text(Key::AtomsAt, MAX_ATOM_NAME_BYTES, job.get("atoms_at"))?;
+    let store = optional_text(Key::Store, MAX_NAME_BYTES, job.get("store"))?;
+    let atoms_at = optional_text(Key::AtomsAt, MAX_ATOM_NAME_BYTES, job.get("atoms_at"))?;
     let order = read_order(store, job.get("order"))?;
     Ok(Fields {
         vertices,

@@ -1,7 +1,7 @@
 //! The keys that a job may have.
 ghost use Rattle.std.specs.Prelude.{◌≡◌, option_map, string_bytes};
 ghost use Rattle.serde_json.specs.View.{members_view};
-ghost use Rattle.job_config.specs.Failures.{names_in};
+ghost use Rattle.job_config.specs.Failures.{keys_in};
 ghost use Rattle.job_config.specs.Keys.{is_file_key, is_graph_key, is_known, is_run_key, least_unknown};
 
 use serde_json::{Map, Value};
@@ -43,7 +43,7 @@ fn is_known(key: &str) -> bool
 /// The least key in byte order that no job may have.
 pub fn least_unknown(members: &Map<String, Value>) -> Option<&String>
     ensures { option_map (λ k. string_bytes k.now) result
-        ≡ least_unknown (names_in (members_view members.entry.now.entries)) }
+        ≡ least_unknown (keys_in (members_view members.entry.now.entries)) }
 {
     for name in members.keys() {
         if !is_known(name.as_str()) {

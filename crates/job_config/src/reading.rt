@@ -1,38 +1,23 @@
 //! The public call, and what it answers.
 ghost use Rattle.std.specs.Prelude.{◌≡◌, Err, IfOk, Ok, Some, option_map};
 ghost use Rattle.gl_base.specs.declared.job_faults.JobFault.{JobFault};
+ghost use Rattle.gl_base.specs.declared.memory.OrNoMemory.{OrNoMemory};
 ghost use Rattle.serde_json.specs.View.{view};
-ghost use Rattle.job_config.specs.Jobs.{IsJob, job_fault, job_of, of_value};
+ghost use Rattle.job_config.specs.Jobs.{IsJob, job_fault, job_of, job_of_json};
 ghost use Rattle.job_config.specs.Ranges.{IsInRanges};
-ghost use Rattle.job_config.specs.Told.{told_fields, told_job};
+ghost use Rattle.job_config.specs.Views.{fields_view, job_view};
 
-use crate::failures::{FailuresFault, read_failures};
+use crate::failures::read_failures;
 use crate::fields::{Fields, read_fields};
 use crate::keys::least_unknown;
 use crate::values::KeyFault;
-use gl_base::{FailureAt, Job, JobFault, MAX_JOB_BYTES, Name};
+use gl_base::{FailureAt, Job, JobFault, MAX_JOB_BYTES, Name, OrNoMemory};
 use serde_json::Value;
 use std::alloc::{AllocError, Global};
 use std::str;
 
-/// Why no job was read.
-#[derive(Debug, Drop)]
-pub enum JobReading {
-    /// The bytes are no job, and this is their first fault.
-    Fault(JobFault),
-    /// There was not enough memory.
-    NoMemory,
-}
-
-impl From<AllocError> for JobReading {
-    ghost use Rattle.job_config.specs.declared.reading.JobReading.TheVariants.{NoMemory};
-
-    ghost from_gives = { λ _ e. e ≡ NoMemory };
-
-    fn from(_: AllocError) -> Self {
-        JobReading::NoMemory
-    }
-}
+/// Why no job was read: the first fault of the bytes, which are no job, or want of memory.
+pub type JobReading = OrNoMemory<JobFault>;
 
 /// A key's fault, as a fault of the job.
 fn fault_of(fault: KeyFault) -> JobFault
@@ -46,30 +31,30 @@ fn fault_of(fault: KeyFault) -> JobFault
 }
 
 /// A name of its own that a text spells.
-fn copied(alloc: Global, text: &str) -> Result<Name, AllocError>
+fn own_name(alloc: Global, text: &str) -> Result<Name, AllocError>
     ensures { IfOk result (λ name. name ≡ text.now) }
 {
     Ok(Name::new(String::from_str(alloc, text)?))
 }
 
 /// The same of a text that may be absent.
-fn copied_given(alloc: Global, text: Option<&str>) -> Result<Option<Name>, AllocError>
+fn own_optional_name(alloc: Global, text: Option<&str>) -> Result<Option<Name>, AllocError>
     ensures { IfOk result (λ name. name ≡ option_map (λ s. s.now) text.entry) }
 {
     match text {
         None => Ok(None),
-        Some(text) => Ok(Some(copied(alloc, text)?)),
+        Some(text) => Ok(Some(own_name(alloc, text)?)),
     }
 }
 
 /// The job of its values.
 fn build(alloc: Global, fields: &Fields, failures: Vec<FailureAt>) -> Result<Job, AllocError>
-    ensures { IfOk result (λ j. told_job j
-        ≡ record { fields = told_fields fields.now; failures = failures.items }) }
+    ensures { IfOk result (λ j. job_view j
+        ≡ record { fields = fields_view fields.now; failures = failures.items }) }
 {
     Ok(Job {
-        vertices: copied(alloc, fields.vertices)?,
-        edges: copied(alloc, fields.edges)?,
+        vertices: own_name(alloc, fields.vertices)?,
+        edges: own_name(alloc, fields.edges)?,
         directed: fields.directed,
         algorithm: fields.algorithm,
         source: fields.source,
@@ -79,25 +64,25 @@ fn build(alloc: Global, fields: &Fields, failures: Vec<FailureAt>) -> Result<Job
         pipeline: fields.pipeline,
         budget: fields.budget,
         window: fields.window,
-        store: copied_given(alloc, fields.store)?,
-        atoms_at: copied_given(alloc, fields.atoms_at)?,
-        order: copied_given(alloc, fields.order)?,
+        store: own_optional_name(alloc, fields.store)?,
+        atoms_at: own_optional_name(alloc, fields.atoms_at)?,
+        order: own_optional_name(alloc, fields.order)?,
         failures,
     })
 }
 
 /// The job that a value says.
 fn read_value(alloc: Global, value: &Value) -> Result<Job, JobReading>
-    ensures job { IfOk result (λ j. of_value (Some (view value.now)) ≡ Ok (told_job j)) }
-    ensures ranges { IfOk result (λ j. IsInRanges (told_job j)) }
-    ensures fault { (f : JobFault) → result ≡ Err (JobReading.Fault f)
-        → of_value (Some (view value.now)) ≡ Err f }
+    ensures job { IfOk result (λ j. job_of_json (Some (view value.now)) ≡ Ok (job_view j)) }
+    ensures ranges { IfOk result (λ j. IsInRanges (job_view j)) }
+    ensures fault { (f : JobFault) → result ≡ Err (OrNoMemory.Fault f)
+        → job_of_json (Some (view value.now)) ≡ Err f }
 {
     let Some(members) = value.as_object() else {
         return Err(JobReading::Fault(JobFault::NotJson));
     };
     if let Some(key) = least_unknown(members) {
-        let name = copied(alloc, key.as_str())?;
+        let name = own_name(alloc, key.as_str())?;
         return Err(JobReading::Fault(JobFault::UnknownKey(name)));
     }
     let fields = match read_fields(value) {
@@ -106,8 +91,8 @@ fn read_value(alloc: Global, value: &Value) -> Result<Job, JobReading>
     };
     match read_failures(alloc, fields.machines, value.get("failures")) {
         Ok(failures) => Ok(build(alloc, &fields, failures)?),
-        Err(FailuresFault::Key(fault)) => Err(JobReading::Fault(fault_of(fault))),
-        Err(FailuresFault::NoMemory) => Err(JobReading::NoMemory),
+        Err(OrNoMemory::Fault(fault)) => Err(JobReading::Fault(fault_of(fault))),
+        Err(OrNoMemory::NoMemory) => Err(JobReading::NoMemory),
     }
 }
 
@@ -118,9 +103,9 @@ fn read_value(alloc: Global, value: &Value) -> Result<Job, JobReading>
 /// kind or out of its range. `serde_json` says what is JSON; of a key that stands twice it keeps the last
 /// value.
 pub fn read_job(alloc: Global, bytes: &[u8]) -> Result<Job, JobReading>
-    ensures job { IfOk result (λ j. IsJob bytes.now (told_job j)) }
-    ensures ranges { IfOk result (λ j. IsInRanges (told_job j)) }
-    ensures fault { (f : JobFault) → result ≡ Err (JobReading.Fault f) → job_of bytes.now ≡ Err f }
+    ensures job { IfOk result (λ j. IsJob bytes.now (job_view j)) }
+    ensures ranges { IfOk result (λ j. IsInRanges (job_view j)) }
+    ensures fault { (f : JobFault) → result ≡ Err (OrNoMemory.Fault f) → job_of bytes.now ≡ Err f }
 {
     if bytes.len() > MAX_JOB_BYTES {
         return Err(JobReading::Fault(JobFault::TooLong));

@@ -2,7 +2,7 @@
 ghost use Rattle.std.specs.Prelude.{◌≡◌, ◌≤◌, Err, IfOk, MatchResult, Ok, option_map};
 ghost use Rattle.serde_json.specs.View.{view};
 ghost use Rattle.job_config.specs.Ranges.{IsWithin};
-ghost use Rattle.job_config.specs.Values.{algorithm_in, engine_in, flag_in, given, needed, number_in, or_default, text_in};
+ghost use Rattle.job_config.specs.Values.{algorithm_in, engine_in, flag_in, optional, required, number_in, or_default, text_in};
 
 use gl_base::{Algorithm, EngineKind, Key};
 use serde_json::Value;
@@ -84,10 +84,14 @@ pub fn read_engine(value: &Value) -> Result<EngineKind, KeyFault>
 }
 
 /// A text that is needed.
-pub fn needed_text<'a>(key: Key, most: usize, value: Option<&'a Value>) -> Result<&'a str, KeyFault>
-    ensures { MatchResult result (λ s. needed key (text_in key most)
+pub fn required_text<'a>(
+    key: Key,
+    most: usize,
+    value: Option<&'a Value>,
+) -> Result<&'a str, KeyFault>
+    ensures { MatchResult result (λ s. required key (text_in key most)
         (option_map (λ v. view v.now) value.entry) ≡ Ok s.now)
-        (λ e. needed key (text_in key most) (option_map (λ v. view v.now) value.entry) ≡ Err e) }
+        (λ e. required key (text_in key most) (option_map (λ v. view v.now) value.entry) ≡ Err e) }
 {
     match value {
         None => Err(KeyFault::Missing(key)),
@@ -96,14 +100,14 @@ pub fn needed_text<'a>(key: Key, most: usize, value: Option<&'a Value>) -> Resul
 }
 
 /// A text that may be absent.
-pub fn given_text<'a>(
+pub fn optional_text<'a>(
     key: Key,
     most: usize,
     value: Option<&'a Value>,
 ) -> Result<Option<&'a str>, KeyFault>
-    ensures { MatchResult result (λ s. given (text_in key most)
+    ensures { MatchResult result (λ s. optional (text_in key most)
         (option_map (λ v. view v.now) value.entry) ≡ Ok (option_map (λ t. t.now) s))
-        (λ e. given (text_in key most) (option_map (λ v. view v.now) value.entry) ≡ Err e) }
+        (λ e. optional (text_in key most) (option_map (λ v. view v.now) value.entry) ≡ Err e) }
 {
     match value {
         None => Ok(None),

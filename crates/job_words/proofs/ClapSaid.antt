@@ -15,7 +15,7 @@ use Rattle.clap.specs.Simple.{App, is_simple, matches_of}
 use Rattle.clap.specs.Takes.{is_given}
 use Rattle.clap.specs.Walk.{Row, Text, finished, first_of, has_row, one_of, row_text}
 use Rattle.job_words.specs.Glab.{glab}
-use Rattle.job_words.specs.Lines.{Part, Sayings, alone, flagged, has_flag, is_again, line_of, parts_of, said_by, said_with, stands_once, value_in, valued, words_in}
+use Rattle.job_words.specs.Lines.{Part, Sayings, alone, flagged, has_flag, repeats, line_of, parts_of, line_of_parts, line_with, stands_once, value_in, valued, words_in}
 use Rattle.job_words.specs.Tokens.{Spells, Token, is_text, word_of}
 use Rattle.job_words.proofs.ClapWalk.{held, id_of, is_early, is_nil, row_of, rules_in}
 use Rattle.job_words.proofs.ClapLine.{count_from, count_from-push, more, reads, rows_from, so_far, walks}
@@ -32,7 +32,7 @@ bounded (suc (suc (suc n))) = false
 
 -- one of the parts is the same option or the flag
 abbrev again : List Part → Part → Bool
-again us p = list_any (λ u. is_again u p) us
+again us p = list_any (λ u. repeats u p) us
 
 flag-again : (us : List Part) (n : ℕ) → has_row (codes "report") (rows_from n us) ≡ again us flagged
 flag-again [] n = refl
@@ -46,7 +46,7 @@ option-again o v (alone t ∷ us) n = rw (other_word n o) (option-again o v us (
 option-again o v (flagged ∷ us) n = rw (other_flag o) (option-again o v us n)
 option-again o v (valued q w ∷ us) n = ap₂ (λ (a b : Bool). a || b) (id-same q o) (option-again o v us n)
 
-never_again : (t : Text) (ps : List Part) → list_any (is_again (alone t)) ps ≡ false
+never_again : (t : Text) (ps : List Part) → list_any (repeats (alone t)) ps ≡ false
 never_again t [] = refl
 never_again t (p ∷ ps) = never_again t ps
 
@@ -71,11 +71,11 @@ split false true false y = refl
 split false false x y = refl
 
 all-push : (us : List Part) (p : Part) (ps : List Part)
-    → list_all (λ q. not (again (us ++ p ∷ []) q)) ps ≡ (list_all (λ q. not (again us q)) ps && not (list_any (is_again p) ps))
+    → list_all (λ q. not (again (us ++ p ∷ []) q)) ps ≡ (list_all (λ q. not (again us q)) ps && not (list_any (repeats p) ps))
 all-push us p [] = refl
 all-push us p (q ∷ ps) =
-    ap₂ (λ (a b : Bool). not a && b) (any-push (λ u. is_again u q) us p) (all-push us p ps)
-    ∙ split (again us q) (is_again p q) (list_all (λ r. not (again us r)) ps) (list_any (is_again p) ps)
+    ap₂ (λ (a b : Bool). not a && b) (any-push (λ u. repeats u q) us p) (all-push us p ps)
+    ∙ split (again us q) (repeats p q) (list_all (λ r. not (again us r)) ps) (list_any (repeats p) ps)
 
 late_count : (ps : List Part) (m : ℕ) → bounded (count_from (suc (suc (suc m))) ps) ≡ false
 late_count [] m = refl
@@ -100,9 +100,9 @@ one_more : (us : List Part) (p : Part) (ps : List Part) → cond (again us p) No
 one_more us p ps =
     ap₂ (λ (n : ℕ) (a : Bool). cond (again us p) None (cond (bounded (count_from n ps) && (a && stands_once ps)) (so_far ((us ++ p ∷ []) ++ ps) []) None))
     (count_from-push us 0 p) (all-push us p ps)
-    ∙ ap (λ ws. cond (again us p) None (cond (bounded (count_from (more (count_from 0 us) p) ps) && ((list_all (λ q. not (again us q)) ps && not (list_any (is_again p) ps)) && stands_once ps)) (so_far ws []) None))
+    ∙ ap (λ ws. cond (again us p) None (cond (bounded (count_from (more (count_from 0 us) p) ps) && ((list_all (λ q. not (again us q)) ps && not (list_any (repeats p) ps)) && stands_once ps)) (so_far ws []) None))
     (append_assoc us (p ∷ []) ps)
-    ∙ sym (shuffle (bounded (count_from (more (count_from 0 us) p) ps)) (again us p) (list_all (λ q. not (again us q)) ps) (list_any (is_again p) ps) (stands_once ps) (so_far (us ++ p ∷ ps) []))
+    ∙ sym (shuffle (bounded (count_from (more (count_from 0 us) p) ps)) (again us p) (list_all (λ q. not (again us q)) ps) (list_any (repeats p) ps) (stands_once ps) (so_far (us ++ p ∷ ps) []))
 
 early_more : (n : ℕ) → is_early n ≡ true → bounded (suc n) ≡ true
 early_more zero e = refl
@@ -227,13 +227,13 @@ map_conds true false rows = refl
 map_conds false d rows = refl
 
 by_words : (ws : List Text) (ps : List Part) (once : Bool) → cond (bounded (length ws) && once) (cond (is_some (slice_get ws 0) && is_some (slice_get ws 1)) (Some (told_by ws ps)) None) None
-    ≡ cond once (said_with ws ps) None
+    ≡ cond once (line_with ws ps) None
 by_words [] ps once = refl
 by_words (a ∷ []) ps once = refl
 by_words (a ∷ b ∷ []) ps once = refl
 by_words (a ∷ b ∷ c ∷ ws) ps once = sym (cond_same once None)
 
-said : (ps : List Part) → option_map told_rows (reads [] ps) ≡ said_by ps
+said : (ps : List Part) → option_map told_rows (reads [] ps) ≡ line_of_parts ps
 said ps =
     let ws = words_in ps in
     let fit : fits [] ps ≡ (bounded (length ws) && stands_once ps) =
@@ -246,7 +246,7 @@ said ps =
     ∙ ap₂ (λ (d : Bool) (t : Sayings). cond (bounded (length ws) && stands_once ps) (cond d (Some t) None) None) given (told_rows-is ps)
     ∙ by_words ws ps (stands_once ps)
 
-said_all : (o : Option (List Part)) → option_map told_rows (option_and_then (reads []) o) ≡ option_and_then said_by o
+said_all : (o : Option (List Part)) → option_map told_rows (option_and_then (reads []) o) ≡ option_and_then line_of_parts o
 said_all None = refl
 said_all (Some ps) = said ps
 

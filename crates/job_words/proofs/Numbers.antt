@@ -6,7 +6,7 @@ use Rattle.std.specs.Result.{OkIff, result_unwrap_or}
 use Rattle.std.specs.Str.Parse.{ParsesUnsigned, digits_value}
 use Rattle.std.proofs.lemmas.Bool.{cases_lt}
 use Rattle.std.proofs.lemmas.Str.Parse.{IsDigitsTest, numerals_by_value, parse_digits}
-use Rattle.job_words.specs.Meanings.{is_number, number_of}
+use Rattle.job_words.specs.Meanings.{is_number, option_number}
 use Rattle.gl_base.specs.declared.usage_faults.Opt.{Opt}
 use Rattle.gl_base.specs.declared.usage_faults.UsageFault.TheVariants.{Number}
 
@@ -35,5 +35,5 @@ parsed text r h number =
     let parts = both (not (length text == 0)) (list_all is_ascii_digit text) number in
     cut_off r (digits_value 10 text) (length text) (parse_digits (numerals_by_value (λ ds. list_all is_ascii_digit ds ≡ true) digits) 64 text r h parts.1) (positive (length text) parts.0)
 
-pub number_is : (o : Opt) (text : List ℕ) (v : ℕ) → is_number text ≡ true → v ≡ min (digits_value 10 text) 18446744073709551615 → Ok v ≡ number_of o text
+pub number_is : (o : Opt) (text : List ℕ) (v : ℕ) → is_number text ≡ true → v ≡ min (digits_value 10 text) 18446744073709551615 → Ok v ≡ option_number o text
 number_is o text v number e = ap Ok e ∙ sym (ap (λ b. cond b (Ok (min (digits_value 10 text) 18446744073709551615)) (Err (Number o))) number)

@@ -9,14 +9,15 @@ use Rattle.std.specs.Str.{bytes_eq}
 use Rattle.std.proofs.lemmas.Slice.Eq.{bytes_eq-Decides}
 use Rattle.std.proofs.lemmas.List.{take-append-drop}
 use Rattle.gl_base.specs.declared.usage_faults.Opt.{Opt}
-use Rattle.job_words.specs.Tokens.{Spells, Text, Token, bare, dashed_token, is_formed, is_text, joined, name_of, option_at, option_token, or_else, plain, report, some_option, token_of, tokens_of, unformed, word_of}
+use Rattle.gl_base.specs.Texts.{Text}
+use Rattle.job_words.specs.Tokens.{Spells, Token, bare, dashed_token, is_formed, is_text, joined, option_name, option_at, option_token, or_else, plain, report, any_option, token_of, tokens_of, first_unformed, word_of}
 
 is_some-or_else : (a b : Option Token) → is_some (or_else a b) ≡ (is_some a || is_some b)
 is_some-or_else None b = refl
 is_some-or_else (Some t) b = refl
 
 -- one of the options, by tests
-pub is_option : (word : Text) → is_some (some_option word)
+pub is_option : (word : Text) → is_some (any_option word)
     ≡ (is_some (option_at Number word) || (is_some (option_at Vertices word)
     || (is_some (option_at Edges word) || is_some (option_at Weight word))))
 is_option word = rw (is_some-or_else, is_some-or_else, is_some-or_else) refl
@@ -59,31 +60,31 @@ none≢some x e = true≢false (ap is_some (sym e))
 some_same : {X : Type 0} (x y : X) → Some x ≡ Some y → x ≡ y
 some_same x y e = ap (λ o. unwrap_or o x) e
 
-rest-word : (o : Opt) (word rest : Text) (t : Token) → word ≡ name_of o ++ rest → option_token o rest ≡ Some t → IsWordOf word t
-rest-word o word [] t is e = subst (IsWordOf word) (some_same (bare o) t e) (refl, sym (is ∙ append-nil (name_of o)))
+rest-word : (o : Opt) (word rest : Text) (t : Token) → word ≡ option_name o ++ rest → option_token o rest ≡ Some t → IsWordOf word t
+rest-word o word [] t is e = subst (IsWordOf word) (some_same (bare o) t e) (refl, sym (is ∙ append-nil (option_name o)))
 rest-word o word (c ∷ []) t is e = absurd (none≢some t e)
 rest-word o word (c ∷ x ∷ xs) t is e = go (c == 61) refl e
   where
     go : (b : Bool) → (c == 61) ≡ b → cond b (Some (joined o (x ∷ xs))) None ≡ Some t → IsWordOf word t
     go true same h = subst (IsWordOf word) (some_same (joined o (x ∷ xs)) t h)
-        (refl, ap (λ d. name_of o ++ d ∷ x ∷ xs) (sym (eqb-true c 61 same)) ∙ sym is)
+        (refl, ap (λ d. option_name o ++ d ∷ x ∷ xs) (sym (eqb-true c 61 same)) ∙ sym is)
     go false same h = absurd (none≢some t h)
 
 option-word : (o : Opt) (word : Text) (t : Token) → option_at o word ≡ Some t → IsWordOf word t
-option-word o word t e = go (bytes_eq (take (length (name_of o)) word) (name_of o)) refl e
+option-word o word t e = go (bytes_eq (take (length (option_name o)) word) (option_name o)) refl e
   where
-    go : (b : Bool) → bytes_eq (take (length (name_of o)) word) (name_of o) ≡ b
-        → option_and_then (option_token o) (cond b (Some (drop (length (name_of o)) word)) None) ≡ Some t → IsWordOf word t
-    go true same h = rest-word o word (drop (length (name_of o)) word) t
-        (sym (take-append-drop (length (name_of o)) word) ∙ ap (λ front. front ++ drop (length (name_of o)) word) (eq-bytes _ _ same)) h
+    go : (b : Bool) → bytes_eq (take (length (option_name o)) word) (option_name o) ≡ b
+        → option_and_then (option_token o) (cond b (Some (drop (length (option_name o)) word)) None) ≡ Some t → IsWordOf word t
+    go true same h = rest-word o word (drop (length (option_name o)) word) t
+        (sym (take-append-drop (length (option_name o)) word) ∙ ap (λ front. front ++ drop (length (option_name o)) word) (eq-bytes _ _ same)) h
     go false same h = absurd (none≢some t h)
 
 or_else-cases : (a b : Option Token) (t : Token) → or_else a b ≡ Some t → (a ≡ Some t) ⊎ (b ≡ Some t)
 or_else-cases None b t e = inr e
 or_else-cases (Some s) b t e = inl e
 
-some_option-word : (word : Text) (t : Token) → some_option word ≡ Some t → IsWordOf word t
-some_option-word word t e = elim (or_else-cases (option_at Number word) _ t e) [
+any_option-word : (word : Text) (t : Token) → any_option word ≡ Some t → IsWordOf word t
+any_option-word word t e = elim (or_else-cases (option_at Number word) _ t e) [
   | inl h ↦ option-word Number word t h
   | inr rest ↦ elim (or_else-cases (option_at Vertices word) _ t rest) [
     | inl h ↦ option-word Vertices word t h
@@ -97,9 +98,9 @@ some_option-word word t e = elim (or_else-cases (option_at Number word) _ t e) [
 dashed-word : (word : Text) (t : Token) → dashed_token word ≡ Some t → IsWordOf word t
 dashed-word word t e = go (bytes_eq word (codes "--report")) refl e
   where
-    go : (b : Bool) → bytes_eq word (codes "--report") ≡ b → cond b (Some report) (some_option word) ≡ Some t → IsWordOf word t
+    go : (b : Bool) → bytes_eq word (codes "--report") ≡ b → cond b (Some report) (any_option word) ≡ Some t → IsWordOf word t
     go true same h = subst (IsWordOf word) (some_same report t h) (refl, sym (eq-bytes word (codes "--report") same))
-    go false same h = some_option-word word t h
+    go false same h = any_option-word word t h
 
 token-word : (word : Text) (t : Token) → token_of word ≡ Some t → IsWordOf word t
 token-word [] t e = absurd (none≢some t e)
@@ -122,7 +123,7 @@ spells_all (w ∷ ws) h = go (token_of w) refl h (spells_all ws)
         record { formed = rw here.0 tail.formed; spelled = ap₂ (λ (a : Text) (b : List Text). a ∷ b) here.1 tail.spelled }
 
 -- where each word is formed, the tokens spell the words
-pub spells : (words : List Text) → unformed words ≡ None → Spells (tokens_of words) words
+pub spells : (words : List Text) → first_unformed words ≡ None → Spells (tokens_of words) words
 spells words e = spells_all words (go (nat_lt (position_or_len (λ word. not (is_formed word)) words) (length words)) refl e)
   where
     go : (b : Bool) → nat_lt (position_or_len (λ word. not (is_formed word)) words) (length words) ≡ b

@@ -5,7 +5,8 @@ use Rattle.gl_base.specs.declared.usage_faults.UsageFault.TheVariants as fault
 use Rattle.job_words.specs.declared.words.Words.{Words}
 use Rattle.job_words.specs.Lines.{Sayings, line_of}
 use Rattle.job_words.specs.Meanings.{meaning_of}
-use Rattle.job_words.specs.Tokens.{Text, tokens_of, unformed}
+use Rattle.gl_base.specs.Texts.{Text}
+use Rattle.job_words.specs.Tokens.{tokens_of, first_unformed}
 
 -- what a line means, where the words are one
 abbrev pub line_means : Option Sayings → Result Words UsageFault
@@ -19,7 +20,7 @@ formed_means None words = line_means (line_of (tokens_of words))
 
 -- the command line that the words are, or else their first fault
 abbrev pub command_line_of : List Text → Result Words UsageFault
-command_line_of words = formed_means (unformed words) words
+command_line_of words = formed_means (first_unformed words) words
 
 abbrev pub IsCommandLine : List Text → Words → Type 0
 IsCommandLine words asked = command_line_of words ≡ Ok asked

@@ -3,4 +3,4 @@ pub mod Lines
 pub mod Meanings
 pub mod CommandLine
 pub mod Glab
-pub mod Told
+pub mod Views

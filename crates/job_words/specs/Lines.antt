@@ -3,7 +3,8 @@ use Rattle.std.specs.Prelude.{◌∷◌, ◌&&◌, [], Bool, List, Option, Some,
 use Rattle.std.specs.List.{list_any}
 use Rattle.gl_base.specs.declared.usage_faults.Opt.{Opt}
 use Rattle.gl_base.specs.declared.usage_faults.Opt.TheVariants.{Number, Vertices, Edges, Weight}
-use Rattle.job_words.specs.Tokens.{Text, Token, plain, report, bare, joined}
+use Rattle.gl_base.specs.Texts.{Text}
+use Rattle.job_words.specs.Tokens.{Token, plain, report, bare, joined}
 
 -- a part of the line
 pub data Part : Type 0 where
@@ -28,15 +29,15 @@ same_option Weight Weight = true
 same_option _ _ = false
 
 -- the second part is the same option or the flag again
-abbrev pub is_again : Part → Part → Bool
-is_again flagged flagged = true
-is_again (valued o v) (valued p w) = same_option o p
-is_again _ _ = false
+abbrev pub repeats : Part → Part → Bool
+repeats flagged flagged = true
+repeats (valued o v) (valued p w) = same_option o p
+repeats _ _ = false
 
 -- no option and no flag stands twice
 abbrev pub stands_once : List Part → Bool
 stands_once [] = true
-stands_once (p ∷ ps) = not (list_any (is_again p) ps) && stands_once ps
+stands_once (p ∷ ps) = not (list_any (repeats p) ps) && stands_once ps
 
 -- the texts that stand alone
 abbrev pub words_in : List Part → List Text
@@ -67,8 +68,8 @@ pub record Sayings : Type 0 where
   pub weight : Option Text
 
 -- exactly two texts stand alone, the verb and the file
-abbrev pub said_with : List Text → List Part → Option Sayings
-said_with (verb ∷ file ∷ []) ps = Some (record {
+abbrev pub line_with : List Text → List Part → Option Sayings
+line_with (verb ∷ file ∷ []) ps = Some (record {
   verb = verb;
   file = file;
   report = has_flag ps;
@@ -77,11 +78,11 @@ said_with (verb ∷ file ∷ []) ps = Some (record {
   edges = value_in Edges ps;
   weight = value_in Weight ps;
 })
-said_with _ ps = None
+line_with _ ps = None
 
-abbrev pub said_by : List Part → Option Sayings
-said_by ps = if stands_once ps then said_with (words_in ps) ps else None
+abbrev pub line_of_parts : List Part → Option Sayings
+line_of_parts ps = if stands_once ps then line_with (words_in ps) ps else None
 
 -- what the words say as a line, where they are one
 abbrev pub line_of : List Token → Option Sayings
-line_of ts = option_and_then said_by (parts_of ts)
+line_of ts = option_and_then line_of_parts (parts_of ts)

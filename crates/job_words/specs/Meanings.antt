@@ -14,55 +14,46 @@ use Rattle.gl_base.specs.declared.usage_faults.UsageFault.TheVariants as fault
 use Rattle.job_words.specs.declared.words.Words.{Words}
 use Rattle.job_words.specs.declared.words.Words.TheVariants.{Run, Make}
 use Rattle.job_words.specs.Lines.{Sayings}
-use Rattle.job_words.specs.Tokens.{Text}
+use Rattle.gl_base.specs.Results.{and_then}
+use Rattle.gl_base.specs.Texts.{Text}
 
 -- one digit or more
 abbrev pub is_number : Text → Bool
 is_number text = not (length text == 0) && list_all is_ascii_digit text
-
--- the number that digits write; zeros may lead
-abbrev pub value_of : Text → ℕ
-value_of = digits_value 10
 
 -- how many edges a generated graph of so many vertices may have
 abbrev pub most_edges : ℕ → ℕ
 most_edges vertices = min MAX_EDGES (vertices * ((vertices - 1) / 2))
 
 -- the plan, where each number is in its range
-abbrev pub in_ranges : ℕ → ℕ → ℕ → Option ℕ → Result MakePlan UsageFault
-in_ranges number vertices edges weight =
+abbrev pub plan_in_range : ℕ → ℕ → ℕ → Option ℕ → Result MakePlan UsageFault
+plan_in_range number vertices edges weight =
     if nat_lt 4294967295 number then Err (fault.Range opt.Number)
     else (if nat_lt MAX_VERTICES vertices then Err (fault.Range opt.Vertices)
     else (if nat_lt (most_edges vertices) edges then Err (fault.Range opt.Edges)
     else (if option_map_or (nat_lt 4294967295) weight false then Err (fault.Range opt.Weight)
     else Ok (record { number = number; vertices = vertices; edges = edges; weight = weight }))))
 
--- the next step, where there was no fault
-abbrev pub and_next : {A B : Type 0} → Result A UsageFault → (A → Result B UsageFault)
-    → Result B UsageFault
-and_next (Ok x) next = next x
-and_next (Err f) next = Err f
-
 -- the number of an option's text; one above the greatest `u64` is out of each range, and counts as it
-abbrev pub number_of : Opt → Text → Result ℕ UsageFault
-number_of option text = if is_number text then Ok (min (value_of text) 18446744073709551615)
+abbrev pub option_number : Opt → Text → Result ℕ UsageFault
+option_number option text = if is_number text then Ok (min (digits_value 10 text) 18446744073709551615)
     else Err (fault.Number option)
 
-abbrev pub weight_of : Option Text → Result (Option ℕ) UsageFault
-weight_of None = Ok None
-weight_of (Some text) = and_next (number_of opt.Weight text) (λ n. Ok (Some n))
+abbrev pub option_weight : Option Text → Result (Option ℕ) UsageFault
+option_weight None = Ok None
+option_weight (Some text) = and_then (option_number opt.Weight text) (λ n. Ok (Some n))
 
 -- all but the weight are needed; each is a number before one is out of its range
 abbrev pub plan_of : Option Text → Option Text → Option Text → Option Text
     → Result MakePlan UsageFault
 plan_of (Some number) (Some vertices) (Some edges) weight =
-    and_next (number_of opt.Number number) (λ n. and_next (number_of opt.Vertices vertices) (λ v.
-    and_next (number_of opt.Edges edges) (λ e. and_next (weight_of weight) (in_ranges n v e))))
+    and_then (option_number opt.Number number) (λ n. and_then (option_number opt.Vertices vertices) (λ v.
+    and_then (option_number opt.Edges edges) (λ e. and_then (option_weight weight) (plan_in_range n v e))))
 plan_of _ _ _ weight = Err fault.Missing
 
-abbrev pub made : Text → Result MakePlan UsageFault → Result Words UsageFault
-made prefix (Ok plan) = Ok (Make prefix plan)
-made prefix (Err f) = Err f
+abbrev pub make_words : Text → Result MakePlan UsageFault → Result Words UsageFault
+make_words prefix (Ok plan) = Ok (Make prefix plan)
+make_words prefix (Err f) = Err f
 
 -- an option stands there that only `make` takes
 abbrev pub has_option : Sayings → Bool
@@ -74,5 +65,5 @@ meaning_of s = if bytes_eq s.verb (codes "run")
     then (if has_option s then Err fault.NotHere else Ok (Run s.file s.report))
     else (if bytes_eq s.verb (codes "make")
     then (if s.report then Err fault.NotHere
-    else made s.file (plan_of s.number s.vertices s.edges s.weight))
+    else make_words s.file (plan_of s.number s.vertices s.edges s.weight))
     else Err fault.Verb)

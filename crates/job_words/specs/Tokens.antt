@@ -2,11 +2,9 @@
 use Rattle.std.specs.Prelude.{◌≡◌, ◌==◌, ◌∷◌, ◌++◌, [], ℕ, Bool, List, Option, Some, None, codes, drop, false, filter_map, if◌then◌else◌, is_some, length, map, not, option_and_then, position, string_bytes, take, true, String}
 use Rattle.std.specs.List.{list_all}
 use Rattle.std.specs.Str.{bytes_eq}
+use Rattle.gl_base.specs.Texts.{Text}
 use Rattle.gl_base.specs.declared.usage_faults.Opt.{Opt}
 use Rattle.gl_base.specs.declared.usage_faults.Opt.TheVariants.{Number, Vertices, Edges, Weight}
-
-abbrev pub Text : Type 0
-Text = List ℕ
 
 -- the bytes of the words
 abbrev pub texts : {Z : Type 0} → List (String Z) → List Text
@@ -20,11 +18,11 @@ pub data Token : Type 0 where
   joined : Opt → Text → Token
 
 -- how an option is written
-abbrev pub name_of : Opt → Text
-name_of Number = codes "--number"
-name_of Vertices = codes "--vertices"
-name_of Edges = codes "--edges"
-name_of Weight = codes "--weight"
+abbrev pub option_name : Opt → Text
+option_name Number = codes "--number"
+option_name Vertices = codes "--vertices"
+option_name Edges = codes "--edges"
+option_name Weight = codes "--weight"
 
 -- what follows the beginning `front`
 abbrev pub after_front : Text → Text → Option Text
@@ -38,20 +36,20 @@ option_token o (c ∷ []) = None
 option_token o (c ∷ x ∷ xs) = if c == 61 then Some (joined o (x ∷ xs)) else None
 
 abbrev pub option_at : Opt → Text → Option Token
-option_at o word = option_and_then (option_token o) (after_front (name_of o) word)
+option_at o word = option_and_then (option_token o) (after_front (option_name o) word)
 
 abbrev pub or_else : Option Token → Option Token → Option Token
 or_else None other = other
 or_else (Some t) other = Some t
 
-abbrev pub some_option : Text → Option Token
-some_option word = or_else (option_at Number word) (or_else (option_at Vertices word)
+abbrev pub any_option : Text → Option Token
+any_option word = or_else (option_at Number word) (or_else (option_at Vertices word)
     (or_else (option_at Edges word) (option_at Weight word)))
 
 -- a word that begins with a hyphen is the flag or an option
 abbrev pub dashed_token : Text → Option Token
 dashed_token word =
-    if bytes_eq word (codes "--report") then Some report else some_option word
+    if bytes_eq word (codes "--report") then Some report else any_option word
 
 -- what the word is; the empty word is none
 abbrev pub token_of : Text → Option Token
@@ -63,8 +61,8 @@ abbrev pub is_formed : Text → Bool
 is_formed word = is_some (token_of word)
 
 -- the place of the first word that has not
-abbrev pub unformed : List Text → Option ℕ
-unformed = position (λ word. not (is_formed word))
+abbrev pub first_unformed : List Text → Option ℕ
+first_unformed = position (λ word. not (is_formed word))
 
 abbrev pub tokens_of : List Text → List Token
 tokens_of = filter_map token_of
@@ -73,8 +71,8 @@ tokens_of = filter_map token_of
 abbrev pub word_of : Token → Text
 word_of (plain t) = t
 word_of report = codes "--report"
-word_of (bare o) = name_of o
-word_of (joined o v) = name_of o ++ 61 ∷ v
+word_of (bare o) = option_name o
+word_of (joined o v) = option_name o ++ 61 ∷ v
 
 -- a text is not empty and begins with no hyphen
 abbrev pub is_text : Token → Bool

@@ -1,7 +1,7 @@
 //! The form of the words.
 ghost use Rattle.std.specs.Prelude.{◌≡◌, is_some, option_and_then};
 ghost use Rattle.gl_base.specs.declared.usage_faults.Opt.{Opt};
-ghost use Rattle.job_words.specs.Tokens.{after_front, is_formed, option_token, some_option, texts, unformed};
+ghost use Rattle.job_words.specs.Tokens.{after_front, is_formed, option_token, any_option, texts, first_unformed};
 
 /// Whether a word is the name alone, or the name, `=` and at least one byte.
 fn is_option(word: &[u8], name: &[u8]) -> bool
@@ -16,8 +16,8 @@ fn is_option(word: &[u8], name: &[u8]) -> bool
 }
 
 /// Whether a word is one of the four options.
-fn is_some_option(word: &[u8]) -> bool
-    ensures { result ≡ is_some (some_option word.now) }
+fn is_any_option(word: &[u8]) -> bool
+    ensures { result ≡ is_some (any_option word.now) }
 {
     is_option(word, b"--number")
         || is_option(word, b"--vertices")
@@ -31,14 +31,14 @@ fn has_form(word: &[u8]) -> bool
 {
     match word {
         [] => false,
-        [b'-', ..] => word == b"--report".as_slice() || is_some_option(word),
+        [b'-', ..] => word == b"--report".as_slice() || is_any_option(word),
         _ => true,
     }
 }
 
 /// The place of the first word that has not the form of a word.
 pub fn first_unformed(words: &[String]) -> Option<usize>
-    ensures { result ≡ unformed (texts words.now) }
+    ensures { result ≡ first_unformed (texts words.now) }
 {
     words.iter().position(|word| !has_form(word.as_bytes()))
 }

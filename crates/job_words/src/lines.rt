@@ -1,14 +1,20 @@
 //! The words as one line.
 ghost use Rattle.std.specs.Prelude.{◌≡◌, List, Some, None, IfOk, Err};
 ghost use Rattle.clap.specs.Words.{kind_of};
-ghost use Rattle.job_words.specs.Told.{fault_at, told};
+ghost use Rattle.clap.specs.declared.error.kind.ErrorKind.{ErrorKind};
+ghost use Rattle.gl_base.specs.declared.memory.OrNoMemory.{OrNoMemory};
+ghost use Rattle.gl_base.specs.declared.usage_faults.UsageFault.{UsageFault};
+ghost use Rattle.job_words.specs.CommandLine.{line_means};
+ghost use Rattle.job_words.specs.Views.{line_view};
 ghost use Rattle.job_words.specs.Lines.{line_of};
 ghost use Rattle.job_words.specs.Tokens.{Spells, Token, texts};
 
 use crate::commands::command;
+use crate::words::WordsReading;
 use clap::Error;
 use clap::error::ErrorKind;
-use std::alloc::{AllocError, Global};
+use gl_base::UsageFault;
+use std::alloc::Global;
 
 /// What the words say as a line.
 #[derive(Drop)]
@@ -27,7 +33,7 @@ impl Line<'_> {
 
     /// Whether an option stands there.
     pub fn has_option(&self) -> bool
-        ensures { result ≡ has_option (told self.now) }
+        ensures { result ≡ has_option (line_view self.now) }
     {
         self.number.is_some()
             || self.vertices.is_some()
@@ -36,41 +42,23 @@ impl Line<'_> {
     }
 }
 
-/// Why the words say nothing.
-#[derive(Clone, Copy)]
-pub enum LineFault {
-    /// They are no line.
-    Line,
-    /// There was not enough memory.
-    NoMemory,
-}
-
-impl From<AllocError> for LineFault {
-    ghost use Rattle.job_words.specs.declared.lines.LineFault.TheVariants.{NoMemory};
-
-    ghost from_gives = { λ _ e. e ≡ NoMemory };
-
-    fn from(_: AllocError) -> Self {
-        LineFault::NoMemory
-    }
-}
-
 /// `clap`'s error, of which only want of memory is no fault of the words.
-fn fault_of(error: &Error) -> LineFault
-    ensures { result ≡ fault_at (kind_of error.now) }
+fn fault_of(error: &Error) -> WordsReading
+    ensures memory { kind_of error.now ≡ ErrorKind.OutOfMemory → result ≡ OrNoMemory.NoMemory }
+    ensures line { (f : UsageFault) → result ≡ OrNoMemory.Fault f → UsageFault.Line ≡ f }
 {
     match error.kind() {
-        ErrorKind::OutOfMemory => LineFault::NoMemory,
-        _ => LineFault::Line,
+        ErrorKind::OutOfMemory => WordsReading::NoMemory,
+        _ => WordsReading::Fault(UsageFault::Line),
     }
 }
 
-/// Reads formed words as a line.
-pub fn read_line<'a>(alloc: Global, words: &'a [String]) -> Result<Line<'a>, LineFault>
+/// Reads formed words as a line. The only fault that it finds is `Line`.
+pub fn read_line<'a>(alloc: Global, words: &'a [String]) -> Result<Line<'a>, WordsReading>
     ensures ok { (ts : List Token) → Spells ts (texts words.entry.now)
-        → IfOk result (λ l. line_of ts ≡ Some (told l)) }
-    ensures fault { (ts : List Token) → Spells ts (texts words.entry.now)
-        → result ≡ Err LineFault.Line → line_of ts ≡ None }
+        → IfOk result (λ l. line_of ts ≡ Some (line_view l)) }
+    ensures fault { (ts : List Token) (f : UsageFault) → Spells ts (texts words.entry.now)
+        → result ≡ Err (OrNoMemory.Fault f) → line_means (line_of ts) ≡ Err f }
 {
     let matches = match command(alloc)?.try_get_matches_from(words) {
         Ok(matches) => matches,
@@ -86,6 +74,6 @@ pub fn read_line<'a>(alloc: Global, words: &'a [String]) -> Result<Line<'a>, Lin
             edges: matches.get_str("edges"),
             weight: matches.get_str("weight"),
         }),
-        _ => Err(LineFault::Line),
+        _ => Err(WordsReading::Fault(UsageFault::Line)),
     }
 }

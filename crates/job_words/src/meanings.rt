@@ -1,8 +1,9 @@
 //! What a line means.
-ghost use Rattle.std.specs.Prelude.{◌≡◌, ◌≤◌, IfErr, IfOk, Err, Ok, option_map};
+ghost use Rattle.std.specs.Prelude.{◌≡◌, ◌≤◌, IfOk, Err, Ok, option_map};
+ghost use Rattle.gl_base.specs.declared.memory.OrNoMemory.{OrNoMemory};
 ghost use Rattle.gl_base.specs.declared.usage_faults.UsageFault.{UsageFault};
-ghost use Rattle.job_words.specs.Meanings.{in_ranges, is_number, meaning_of, most_edges, number_of, plan_of, weight_of};
-ghost use Rattle.job_words.specs.Told.{told};
+ghost use Rattle.job_words.specs.Meanings.{plan_in_range, is_number, meaning_of, most_edges, option_number, plan_of, option_weight};
+ghost use Rattle.job_words.specs.Views.{line_view};
 
 use crate::lines::Line;
 use crate::words::{Words, WordsReading};
@@ -21,7 +22,7 @@ fn is_number(text: &str) -> bool
 
 /// The number that a text of digits writes, and the greatest `u64` for a greater one.
 fn read_number(option: Opt, text: &str) -> Result<u64, UsageFault>
-    ensures { result ≡ number_of option text.now }
+    ensures { result ≡ option_number option text.now }
 {
     if is_number(text) {
         Ok(text.parse::<u64>().unwrap_or(u64::MAX))
@@ -32,7 +33,7 @@ fn read_number(option: Opt, text: &str) -> Result<u64, UsageFault>
 
 /// The number of the weight's text, where there is one.
 fn read_weight(text: Option<&str>) -> Result<Option<u64>, UsageFault>
-    ensures { result ≡ weight_of (option_map (λ s. s.now) text.entry) }
+    ensures { result ≡ option_weight (option_map (λ s. s.now) text.entry) }
 {
     match text {
         None => Ok(None),
@@ -50,13 +51,13 @@ fn edge_limit(vertices: u64) -> u64
 }
 
 /// The plan of four numbers, where each is in its range.
-fn plan_in_ranges(
+fn plan_in_range(
     number: u64,
     vertices: u64,
     edges: u64,
     weight: Option<u64>,
 ) -> Result<MakePlan, UsageFault>
-    ensures { result ≡ in_ranges number vertices edges weight }
+    ensures { result ≡ plan_in_range number vertices edges weight }
 {
     if number > MAX_NUMBER {
         return Err(UsageFault::Range(Opt::Number));
@@ -82,8 +83,8 @@ fn plan_in_ranges(
 
 /// The plan that a line of `make` asks for.
 fn read_plan(line: &Line) -> Result<MakePlan, UsageFault>
-    ensures { result ≡ plan_of (told line.now).number (told line.now).vertices
-        (told line.now).edges (told line.now).weight }
+    ensures { result ≡ plan_of (line_view line.now).number (line_view line.now).vertices
+        (line_view line.now).edges (line_view line.now).weight }
 {
     let (Some(number), Some(vertices), Some(edges)) = (line.number, line.vertices, line.edges)
     else {
@@ -93,25 +94,25 @@ fn read_plan(line: &Line) -> Result<MakePlan, UsageFault>
     let vertices = read_number(Opt::Vertices, vertices)?;
     let edges = read_number(Opt::Edges, edges)?;
     let weight = read_weight(line.weight)?;
-    plan_in_ranges(number, vertices, edges, weight)
+    plan_in_range(number, vertices, edges, weight)
 }
 
 /// What a line means.
 pub fn read_meaning(alloc: Global, line: &Line) -> Result<Words, WordsReading>
-    ensures asked { IfOk result (λ w. meaning_of (told line.now) ≡ Ok w) }
-    ensures fault { (f : UsageFault) → result ≡ Err (WordsReading.Fault f)
-        → meaning_of (told line.now) ≡ Err f }
+    ensures asked { IfOk result (λ w. meaning_of (line_view line.now) ≡ Ok w) }
+    ensures fault { (f : UsageFault) → result ≡ Err (OrNoMemory.Fault f)
+        → meaning_of (line_view line.now) ≡ Err f }
 {
     match line.verb {
         "run" if line.has_option() => Err(WordsReading::Fault(UsageFault::NotHere)),
         "run" => Ok(Words::Run {
-            file: copied(alloc, line.file)?,
+            file: own_name(alloc, line.file)?,
             report: line.report,
         }),
         "make" if line.report => Err(WordsReading::Fault(UsageFault::NotHere)),
         "make" => {
             let plan = read_plan(line).map_err(WordsReading::Fault)?;
-            let prefix = copied(alloc, line.file)?;
+            let prefix = own_name(alloc, line.file)?;
             Ok(Words::Make { prefix, plan })
         }
         _ => Err(WordsReading::Fault(UsageFault::Verb)),
@@ -119,9 +120,8 @@ pub fn read_meaning(alloc: Global, line: &Line) -> Result<Words, WordsReading>
 }
 
 /// A name of its own that a text spells.
-fn copied(alloc: Global, text: &str) -> Result<Name, WordsReading>
-    ensures name { IfOk result (λ name. name ≡ text.now) }
-    ensures memory { IfErr result (λ e. e ≡ WordsReading.NoMemory) }
+fn own_name(alloc: Global, text: &str) -> Result<Name, AllocError>
+    ensures { IfOk result (λ name. name ≡ text.now) }
 {
     Ok(Name::new(String::from_str(alloc, text)?))
 }

@@ -1,13 +1,14 @@
 //! The public call, and what it answers.
 ghost use Rattle.std.specs.Prelude.{◌≡◌, ◌<◌, ◌^◌, length, Err, Ok, IfOk};
+ghost use Rattle.gl_base.specs.declared.memory.OrNoMemory.{OrNoMemory};
 ghost use Rattle.job_words.specs.CommandLine.{IsCommandLine, command_line_of};
 ghost use Rattle.job_words.specs.Tokens.{texts};
 
 use crate::forms::first_unformed;
-use crate::lines::{LineFault, read_line};
+use crate::lines::read_line;
 use crate::meanings::read_meaning;
-use gl_base::{MakePlan, Name, UsageFault};
-use std::alloc::{AllocError, Global};
+use gl_base::{MakePlan, Name, OrNoMemory, UsageFault};
+use std::alloc::Global;
 
 /// A command line that was read.
 #[derive(Debug, Drop)]
@@ -18,24 +19,8 @@ pub enum Words {
     Make { prefix: Name, plan: MakePlan },
 }
 
-/// Why no command line was read.
-#[derive(Debug, Drop)]
-pub enum WordsReading {
-    /// The words are no command line, and this is their first fault.
-    Fault(UsageFault),
-    /// There was not enough memory.
-    NoMemory,
-}
-
-impl From<AllocError> for WordsReading {
-    ghost use Rattle.job_words.specs.declared.words.WordsReading.TheVariants.{NoMemory};
-
-    ghost from_gives = { λ _ e. e ≡ NoMemory };
-
-    fn from(_: AllocError) -> Self {
-        WordsReading::NoMemory
-    }
-}
+/// Why no command line was read: the first fault of the words, which are none, or want of memory.
+pub type WordsReading = OrNoMemory<UsageFault>;
 
 /// Reads the words of the command line, the program's own name not among them.
 ///
@@ -44,7 +29,7 @@ impl From<AllocError> for WordsReading {
 pub fn read_words(alloc: Global, words: &[String]) -> Result<Words, WordsReading>
     requires { length words.now < 4294967295 }
     ensures asked { IfOk result (IsCommandLine (texts words.now)) }
-    ensures fault { (f : UsageFault) → result ≡ Err (WordsReading.Fault f)
+    ensures fault { (f : UsageFault) → result ≡ Err (OrNoMemory.Fault f)
         → command_line_of (texts words.now) ≡ Err f }
 {
     if let Some(place) = first_unformed(words) {
@@ -52,7 +37,6 @@ pub fn read_words(alloc: Global, words: &[String]) -> Result<Words, WordsReading
     }
     match read_line(alloc, words) {
         Ok(line) => read_meaning(alloc, &line),
-        Err(LineFault::Line) => Err(WordsReading::Fault(UsageFault::Line)),
-        Err(LineFault::NoMemory) => Err(WordsReading::NoMemory),
+        Err(reading) => Err(reading),
     }
 }

@@ -1,7 +1,7 @@
 use Rattle.std.proofs.Common.{ℕ, List, IfSome, Err, sym, ap, subst}
 use Rattle.std.proofs.lemmas.Result.{err_from_is_err_and}
 use Rattle.gl_base.specs.declared.limits.TheConstants.{MAX_JOB_BYTES}
-use Rattle.job_config.specs.Told.{told_job}
+use Rattle.job_config.specs.Views.{job_view}
 use Rattle.engine_cli.specs.Found.{IsFront}
 use Rattle.engine_cli.proofs.JobsTold.{job-refused, job-not-built, job-ready}
 use Rattle.engine_cli.proofs.jobs.job_of.Goals as goal
@@ -26,4 +26,4 @@ returns-clause-answer g c =
     let text = g.F.Files.given c.args.files.now c.args.name.now in
     let front : IfSome text (λ t. IsFront MAX_JOB_BYTES t c.deref.result.now) =
     subst (λ (bytes : List ℕ). IfSome text (λ t. IsFront MAX_JOB_BYTES t bytes)) (sym c.deref.ensures.value) c.in_ok-bytes.ensures.answer in
-    job-not-built text c.deref.result.now 0 0 (told_job c.in_ok-job.job) c.in-Some.key front c.in_ok-job.ensures.job (sym c.in-Some.ensures)
+    job-not-built text c.deref.result.now 0 0 (job_view c.in_ok-job.job) c.in-Some.key front c.in_ok-job.ensures.job (sym c.in-Some.ensures)

@@ -1,4 +1,4 @@
-use Rattle.job_config.specs.Told.{told_job}
+use Rattle.job_config.specs.Views.{job_view}
 use Rattle.engine_cli.specs.Found.{edges_after}
 use Rattle.engine_cli.proofs.GraphsTold.{edges-read}
 use Rattle.engine_cli.proofs.NamesHanded.{HandsOver-first, HandsOver-edges, AppendsNames-two, OnOk-map}
@@ -11,7 +11,7 @@ returns-in_err-list-clause-names g c =
 
 pub returns-clause-answer : goal.returns-clause-answer
 returns-clause-answer g c =
-    edges-read (g.F.Files.given c.args.files.now) (g.F.Files.given c.vertices_of.new.files) (told_job c.args.job.now).fields
+    edges-read (g.F.Files.given c.args.files.now) (g.F.Files.given c.vertices_of.new.files) (job_view c.args.job.now).fields
     c.as_str.result.now c.as_str-2.result.now c.in_ok-list.list.ids.items c.is_weighted-weighted.result _ _ _ c.edges_of.result
     c.in_ok-list.ensures.later c.as_str.ensures c.as_str-2.ensures c.is_weighted-weighted.ensures
     (c.in_ok-list.ensures.given c.as_str-2.result.now) c.in_ok-list.ensures.answer.1 c.edges_of.ensures.answer

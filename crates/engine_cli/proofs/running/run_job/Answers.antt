@@ -1,5 +1,5 @@
 use Rattle.std.proofs.Common.{◌≡◌, refl, ◌∙◌}
-use Rattle.job_config.specs.Told.{told_job}
+use Rattle.job_config.specs.Views.{job_view}
 use Rattle.engine_cli.specs.Plays.{update_of}
 use Rattle.engine_cli.specs.Says.{moment}
 use Rattle.engine_cli.specs.declared.status.Status.TheVariants.{BudgetSpent}
@@ -38,7 +38,7 @@ returns-in-Ok-print_run-clause-says g c =
 
 pub returns-in-Ok-print_run-clause-others : goal.returns-in-Ok-print_run-clause-others
 returns-in-Ok-print_run-clause-others g c name apart =
-    c.in-Ok-print_run.ensures.others name (λ named. apart (told_job c.in-Ok.made.job, c.in-Ok.ensures.answer.job, named)) ∙ c.in-Ok.ensures.given name
+    c.in-Ok-print_run.ensures.others name (λ named. apart (job_view c.in-Ok.made.job, c.in-Ok.ensures.answer.job, named)) ∙ c.in-Ok.ensures.given name
 
 pub returns-in-Err-WriteFault-clause-says : goal.returns-in-Err-WriteFault-clause-says
 returns-in-Err-WriteFault-clause-says g c =

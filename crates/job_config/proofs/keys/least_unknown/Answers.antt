@@ -1,7 +1,7 @@
 -- The keys ascend, so that the first that is unknown is the least.
 use Rattle.std.proofs.Common.{◌≡◌, ◌∙◌, ap, filter, map, rules, string_bytes, sym}
 use Rattle.std.specs.List.{find}
-use Rattle.job_config.specs.Keys.{is_unknown, least}
+use Rattle.job_config.specs.Keys.{is_unknown, least_key}
 use Rattle.job_config.proofs.Least.{first_is_least}
 use Rattle.job_config.proofs.Lists.{names-keys}
 use Rattle.job_config.proofs.keys.least_unknown.Goals as goal
@@ -11,4 +11,4 @@ loop-name-init c =
     let same : c.into_iter-name-iterator.result ≡ c.keys-name-items.result = search rules in
     ap (λ ks. find is_unknown (map string_bytes ks)) (same ∙ c.keys-name-items.ensures.rest)
     ∙ first_is_least _ c.keys-name-items.ensures.ordered
-    ∙ ap (λ ks. least (filter is_unknown ks)) (sym (names-keys c.args.members.now.entries))
+    ∙ ap (λ ks. least_key (filter is_unknown ks)) (sym (names-keys c.args.members.now.entries))

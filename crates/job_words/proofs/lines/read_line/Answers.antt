@@ -1,9 +1,11 @@
 -- The command takes exactly the lines of the definition, and its matches say what they say.
-use Rattle.std.proofs.Common.{◌≡◌, ◌∙◌, Some, ap, codes, is_some, sym, true, true≢false}
+use Rattle.std.proofs.Common.{◌≡◌, ◌∙◌, Err, None, Some, ap, codes, is_some, sym, true, true≢false}
 use Rattle.clap.specs.Words.{app_of, found_of, kind_of, rows_of}
 use Rattle.clap.proofs.WalkLemmas.{first_value-rows, one_text-rows}
-use Rattle.job_words.specs.declared.lines.LineFault.TheVariants as fault
-use Rattle.job_words.specs.Told.{fault_at}
+use Rattle.gl_base.specs.declared.memory.OrNoMemory.TheVariants.{NoMemory}
+use Rattle.gl_base.specs.declared.usage_faults.UsageFault.TheVariants as fault
+use Rattle.job_words.specs.CommandLine.{line_means}
+use Rattle.job_words.specs.Lines.{line_of}
 use Rattle.job_words.specs.Tokens.{texts}
 use Rattle.job_words.proofs.ClapSaid.{absent, flag_is, refused_at, some_first, taken_at}
 use Rattle.job_words.proofs.lines.read_line.Goals as goal
@@ -26,14 +28,16 @@ returns-in-Some-Some-clause-ok c = λ ts spells.
     })
 
 pub returns-in-Err-clause-fault : goal.returns-in-Err-clause-fault
-returns-in-Err-clause-fault c = λ ts spells is.
-    refused_at ts (texts c.args.words.now) spells (app_of c.in_ok-command.field-0) c.in_ok-command.ensures (kind_of c.in-Err.error)
+returns-in-Err-clause-fault c = λ ts f spells is.
+    let none : line_of ts ≡ None = refused_at ts (texts c.args.words.now) spells (app_of c.in_ok-command.field-0) c.in_ok-command.ensures (kind_of c.in-Err.error)
     (λ memory.
-    let none : c.fault_of.result ≡ fault.NoMemory = c.fault_of.ensures ∙ ap fault_at memory in
-    cc) c.in-Err.ensures.kinds
+    let full : c.fault_of.result ≡ NoMemory = c.fault_of.ensures.memory memory in
+    cc) c.in-Err.ensures.kinds in
+    let line : fault.Line ≡ f = c.fault_of.ensures.line f cc in
+    ap line_means none ∙ ap Err line
 
 pub returns-clause-fault : goal.returns-clause-fault
-returns-clause-fault c = λ ts spells _.
+returns-clause-fault c = λ ts f spells _.
     let found = found_of c.in-Ok.matches in
     let taken = taken_at ts (texts c.args.words.now) spells (app_of c.in_ok-command.field-0) c.in_ok-command.ensures (rows_of found)
     c.in-Ok.ensures.kinds (λ simple. (c.in-Ok.ensures.matches simple).0) in

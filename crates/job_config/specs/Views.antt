@@ -5,8 +5,8 @@ use Rattle.job_config.specs.declared.fields.Fields.{Fields}
 use Rattle.job_config.specs.Fields.{JobFields}
 use Rattle.job_config.specs.Jobs.{JobSayings}
 
-abbrev pub told_fields : Fields → JobFields
-told_fields f = record {
+abbrev pub fields_view : Fields → JobFields
+fields_view f = record {
   vertices = f.vertices.now;
   edges = f.edges.now;
   directed = f.directed;
@@ -23,8 +23,8 @@ told_fields f = record {
   order = option_map (λ s. s.now) f.order;
 }
 
-abbrev pub told_job : Job → JobSayings
-told_job j = record {
+abbrev pub job_view : Job → JobSayings
+job_view j = record {
   fields = record {
     vertices = j.vertices;
     edges = j.edges;
