@@ -11,7 +11,7 @@ use Rattle.graph_core.proofs.HalvesLaws.{each-weaker, half_out, half_into, IsHal
 use Rattle.graph_core.proofs.VertexLaws.{halves_ascend}
 use Rattle.update_api.specs.declared.links.Link.{Link}
 use Rattle.update_api.specs.Links.{AreLinks}
-use Rattle.seq_run.specs.ListedLinks.{half_of}
+use Rattle.seq_run.specs.Inner.ListedLinks.{half_of}
 use Rattle.seq_run.proofs.EachOf.{each_is}
 use Rattle.seq_run.proofs.Neighbours.{each-unmap}
 

@@ -15,12 +15,12 @@ use Rattle.update_api.specs.declared.woken.Woken.{Woken}
 use Rattle.update_api.specs.Links.{AreLinks, near_at, nears_at}
 use Rattle.update_api.specs.Marks.{AreMarked}
 use Rattle.update_api.specs.Updates.{Update}
-use Rattle.seq_run.specs.ListedLinks.{half_of}
+use Rattle.seq_run.specs.Inner.ListedLinks.{half_of}
 use Rattle.seq_run.specs.States.{GraphState, start_state, near_of, new_number, with_number, with_marks, after_update, is_woken, wakes}
 use Rattle.seq_run.specs.Orders.{replay, all_tasks, tasks_after, tasks_after_entry}
 use Rattle.seq_run.specs.Runs.{RunView, HasTask, HasNoTask, updates, with_updates, WentOn, AreNumbers}
-use Rattle.seq_run.specs.Played.{IsPlayed}
-use Rattle.seq_run.specs.TaskQueues.{flag}
+use Rattle.seq_run.specs.Inner.Played.{IsStateAfter}
+use Rattle.seq_run.specs.Inner.TaskQueues.{flag}
 use Rattle.seq_run.proofs.EachOf.{each_is, all_is}
 use Rattle.seq_run.proofs.GoingOn.{replay_from-append, tasks_from-append, valid_append, tasks_within}
 use Rattle.seq_run.proofs.LinkLemmas.{links_fit}
@@ -118,7 +118,7 @@ unless true false = refl
 unless false true = refl
 unless false false = refl
 
-module _ (g : DataGraph) (p : Update) (order : List Entry) (values edges : List ℕ) (flags : List Bool) (is : IsPlayed g p order values edges flags) (v : Vertex) (task : tasks_after g p order v.0 ≡ true) (links : List Link) (row : map half_of links ≡ halves_of g v.0) where
+module _ (g : DataGraph) (p : Update) (order : List Entry) (values edges : List ℕ) (flags : List Bool) (is : IsStateAfter g p order values edges flags) (v : Vertex) (task : tasks_after g p order v.0 ≡ true) (links : List Link) (row : map half_of links ≡ halves_of g v.0) where
   pub task_within : v.0 < size g
   task_within = tasks_within g p is.graph order v.0 task
 
@@ -184,14 +184,14 @@ module _ (g : DataGraph) (p : Update) (order : List Entry) (values edges : List 
         (new_edges : List ℕ) → AreMarked (p.mark (slice_index new_values v.0)) values edges links new_edges →
         (woken : Woken) → woken ≡ p.woken (slice_index values v.0) (slice_index new_values v.0) →
         (new_flags : List Bool) → length new_flags ≡ length flags → ((u : ℕ) → flag new_flags u ≡ (is_woken woken (map half_of links) u || flag (slice_set flags v.0 false) u)) →
-        IsPlayed g p new_order new_values new_edges new_flags
+        IsStateAfter g p new_order new_values new_edges new_flags
     played_after new_order grown new_edges marked woken answer new_flags long are =
         let entry = Go (record { 0 = 0 }) v (length order) in
         let state : replay g p (order ++ entry ∷ []) ≡ after_update g p old v.0 = replay_from-append g p (start_state g p) order (entry ∷ []) in
         let tasks : tasks_after g p (order ++ entry ∷ []) ≡ tasks_after_entry g p old (tasks_after g p order) entry = tasks_from-append g p (start_state g p) (all_tasks g) order (entry ∷ []) in
         let vertices = is.alone.0 in
         let ticket : 0 + length vertices ≡ length order = let counts = length-updates 0 vertices in let whole = ap length is.alone.1 in omega arith in
-        subst (λ xs. IsPlayed g p xs new_values new_edges new_flags) (sym grown)
+        subst (λ xs. IsStateAfter g p xs new_values new_edges new_flags) (sym grown)
         (record {
           graph = is.graph;
           valid = valid_append g p (start_state g p) (all_tasks g) order (entry ∷ []) is.valid (task, tt);

@@ -6,7 +6,7 @@ use Rattle.std.proofs.lemmas.List.{get_or-set_same, get_or-set_other, get_or_pas
 use Rattle.std.proofs.lemmas.List.Sums.{sum_by-cons, sum_by_push, sum_by-set, sum_by-le}
 use Rattle.std.proofs.lemmas.List.Folds.{sum_by-replicate}
 use Rattle.gl_base.specs.declared.numbers.Vertex.{Vertex}
-use Rattle.seq_run.specs.TaskQueues.{flag, bit, times, IsQueueOf, IsTaskFirst}
+use Rattle.seq_run.specs.Inner.TaskQueues.{flag, bit, times, IsQueueOf, IsTaskFirst}
 
 -- what a flag is after one was written
 pub flag-set : (flags : List Bool) (v u : ℕ) (b : Bool) → v < length flags → flag (slice_set flags v b) u ≡ (if u == v then b else flag flags u)

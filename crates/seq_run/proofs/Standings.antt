@@ -6,7 +6,7 @@ use Rattle.std.proofs.lemmas.List.{get_or-map, length-map, length-replicate, map
 use Rattle.gl_base.specs.declared.numbers.Vertex.{Vertex}
 use Rattle.seq_run.specs.declared.task_queue.Standing.{Standing}
 use Rattle.seq_run.specs.declared.task_queue.Standing.TheVariants.{Outside, Waiting}
-use Rattle.seq_run.specs.TaskQueues.{flag, is_task, is_queued, IsQueueOf, IsKept}
+use Rattle.seq_run.specs.Inner.TaskQueues.{flag, is_task, is_queued, IsQueueOf, IsTaskQueue}
 use Rattle.seq_run.proofs.Queueing.{added, added_again, removed, first_raised, first_added, first_within, first_dropped, none_queued, flags_down}
 
 -- the flag of a vertex whose standing is read
@@ -18,7 +18,7 @@ same_flags : (f : Standing → Bool) (standings : List Standing) (u : ℕ) (x y 
 same_flags f standings u x y read same = map-set_same f standings u y x (same ∙ ap f read)
 
 -- a vertex outside joins the queue
-pub joined : (standings : List Standing) (queue : List Vertex) (capacity : ℕ) (v : Vertex) (x : Standing) → v.0 < length standings → x ≡ slice_index_or standings v.0 x → is_queued x ≡ false → IsKept (map is_task standings) (map is_queued standings) queue capacity → IsKept (map is_task (slice_set standings v.0 Waiting)) (map is_queued (slice_set standings v.0 Waiting)) (queue ++ v ∷ []) capacity
+pub joined : (standings : List Standing) (queue : List Vertex) (capacity : ℕ) (v : Vertex) (x : Standing) → v.0 < length standings → x ≡ slice_index_or standings v.0 x → is_queued x ≡ false → IsTaskQueue (map is_task standings) (map is_queued standings) queue capacity → IsTaskQueue (map is_task (slice_set standings v.0 Waiting)) (map is_queued (slice_set standings v.0 Waiting)) (queue ++ v ∷ []) capacity
 joined standings queue capacity v x within read out is =
     let inside : v.0 < length (map is_task standings) = let as_many = length-map standings is_task in omega arith in
     let absent = flag_read is_queued standings v.0 x within read ∙ out in
@@ -32,7 +32,7 @@ joined standings queue capacity v x within read out is =
     })
 
 -- a vertex that is queued becomes a task
-pub rejoined : (standings : List Standing) (queue : List Vertex) (capacity : ℕ) (v : Vertex) (x : Standing) → v.0 < length standings → x ≡ slice_index_or standings v.0 x → is_queued x ≡ true → IsKept (map is_task standings) (map is_queued standings) queue capacity → IsKept (map is_task (slice_set standings v.0 Waiting)) (map is_queued (slice_set standings v.0 Waiting)) queue capacity
+pub rejoined : (standings : List Standing) (queue : List Vertex) (capacity : ℕ) (v : Vertex) (x : Standing) → v.0 < length standings → x ≡ slice_index_or standings v.0 x → is_queued x ≡ true → IsTaskQueue (map is_task standings) (map is_queued standings) queue capacity → IsTaskQueue (map is_task (slice_set standings v.0 Waiting)) (map is_queued (slice_set standings v.0 Waiting)) queue capacity
 rejoined standings queue capacity v x within read there is =
     let inside : v.0 < length (map is_task standings) = let as_many = length-map standings is_task in omega arith in
     let many = length-set (map is_task standings) v.0 true in
@@ -74,7 +74,7 @@ map-replicate f zero x = refl
 map-replicate f (suc n) x = ap (λ flags. f x ∷ flags) (map-replicate f n x)
 
 -- so many vertices that stand outside an empty queue
-pub none_stand : (n capacity : ℕ) → n ≤ capacity → IsKept (map is_task (replicate n Outside)) (map is_queued (replicate n Outside)) [] capacity
+pub none_stand : (n capacity : ℕ) → n ≤ capacity → IsTaskQueue (map is_task (replicate n Outside)) (map is_queued (replicate n Outside)) [] capacity
 none_stand n capacity room =
     let many : length (replicate n false) ≡ n = length-replicate n false in
     rw (map-replicate is_task n Outside, map-replicate is_queued n Outside)

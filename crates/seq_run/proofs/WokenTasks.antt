@@ -9,10 +9,10 @@ use Rattle.update_api.specs.declared.links.Link.{Link}
 use Rattle.update_api.specs.declared.woken.Woken.{Woken}
 use Rattle.update_api.specs.declared.woken.Woken.TheVariants.{Nobody, Ahead, Around}
 use Rattle.update_api.specs.Directions.{leads_out}
-use Rattle.seq_run.specs.ListedLinks.{half_of}
+use Rattle.seq_run.specs.Inner.ListedLinks.{half_of}
 use Rattle.seq_run.specs.States.{is_woken}
-use Rattle.seq_run.specs.TaskQueues.{flag}
-use Rattle.seq_run.specs.Waking.{is_woken_along}
+use Rattle.seq_run.specs.Inner.TaskQueues.{flag}
+use Rattle.seq_run.specs.Inner.Waking.{is_woken_along}
 use Rattle.seq_run.proofs.Queueing.{flag-set}
 
 -- u is the other end of the link, and woken

@@ -1,5 +1,5 @@
 -- Small graphs and orders, whose replay is worked out.
-use Rattle.std.specs.Prelude.{ℕ, true, false, List, [], ◌∷◌, ◌++◌, map, length}
+use Rattle.std.specs.Prelude.{ℕ, false, List, [], ◌∷◌, ◌++◌, map, length}
 use Rattle.std.specs.List.{range_with_len}
 use Rattle.gl_base.specs.declared.entries.Entry.{Entry}
 use Rattle.gl_base.specs.declared.entries.Entry.TheVariants.{Restart}
@@ -24,10 +24,6 @@ line_and_point = record { ids = 1 ∷ 2 ∷ 3 ∷ 4 ∷ []; edges = edge 0 1 1 �
 
 abbrev pub along_the_line : List Entry
 along_the_line = updates 0 (0 ∷ 1 ∷ 2 ∷ 3 ∷ 0 ∷ 1 ∷ [])
-
--- vertices 1 to 3 with the edges from 1 to 2 and from 3 to 2
-abbrev pub two_into_one : DataGraph
-two_into_one = record { ids = 1 ∷ 2 ∷ 3 ∷ []; edges = edge 0 1 1 ∷ edge 2 1 1 ∷ []; directed = true }
 
 abbrev pub one_after_another : List Entry
 one_after_another = updates 0 (0 ∷ 1 ∷ 2 ∷ [])

@@ -5,8 +5,5 @@ pub mod TightEdges
 pub mod FirstColours
 pub mod CoreNumbers
 pub mod Examples
-pub mod TaskQueues
-pub mod ListedLinks
 pub mod Runs
-pub mod Played
-pub mod Waking
+pub mod Inner

@@ -1,5 +1,6 @@
 -- What a run of updates, one after another, has done so far.
-use Rattle.std.specs.Prelude.{◌≡◌, ℕ, suc, ◌<◌, Bool, true, List, [], ◌∷◌, ◌++◌, length, slice_index}
+use Rattle.std.specs.Prelude.{◌≡◌, ℕ, suc, ◌<◌, Bool, true, List, [], ◌∷◌, ◌++◌, length}
+use Rattle.gl_base.specs.Lists.{AreEach}
 use Rattle.gl_base.specs.declared.entries.Entry.{Entry}
 use Rattle.gl_base.specs.declared.entries.Entry.TheVariants.{Go}
 use Rattle.graph_core.specs.DataGraph.{DataGraph, size}
@@ -47,6 +48,5 @@ abbrev pub WentOn : {P : Type 0} → RunView P → RunView P → ℕ → Type 0
 WentOn old new steps = (vertices : List ℕ) × (length vertices ≡ steps) × (new ≡ with_updates old vertices)
 
 -- the list has the first n of these numbers
-pub record AreNumbers (n : ℕ) (number : ℕ → ℕ) (numbers : List ℕ) : Type 0 where
-  pub count : length numbers ≡ n
-  pub each : (k : ℕ) → k < n → slice_index numbers k ≡ number k
+abbrev pub AreNumbers : ℕ → (ℕ → ℕ) → List ℕ → Type 0
+AreNumbers n number numbers = AreEach n (λ k x. x ≡ number k) numbers

@@ -1,8 +1,9 @@
 //! Worked examples of replay. Each is the contract of a function that does nothing.
 ghost use Rattle.std.specs.Prelude.{◌≡◌, [], ◌∷◌};
 ghost use Rattle.graph_core.specs.DataGraph.{IsDataGraph};
+ghost use Rattle.graph_core.specs.GraphLaws.{two_into_one};
 ghost use Rattle.seq_run.specs.Runs.{updates};
-ghost use Rattle.seq_run.specs.Examples.{vertex_numbers, edge_numbers, line_and_point, along_the_line, two_into_one, one_after_another, ends_and_again, two_ways, far_end_first, triangle_and_point, each_once, triangle_and_tail, down_to_the_cores};
+ghost use Rattle.seq_run.specs.Examples.{vertex_numbers, edge_numbers, line_and_point, along_the_line, one_after_another, ends_and_again, two_ways, far_end_first, triangle_and_point, each_once, triangle_and_tail, down_to_the_cores};
 ghost use Rattle.seq_run.specs.Orders.{replay, IsValidOrder, IsFinished};
 ghost use Rattle.seq_run.specs.StepBound.{updates_since_restart};
 ghost use Rattle.update_api.specs.Updates.{update_of_levels, update_of_components, update_of_paths, update_of_colours, update_of_cores};

@@ -1,11 +1,14 @@
 //! Why a run stops.
 use gl_base::NoMemory;
+use thiserror::Error;
 
 /// Why a step was not made.
-#[derive(Clone, Copy, Debug, PartialEq, Eq)]
+#[derive(Clone, Copy, Debug, PartialEq, Eq, Error)]
 pub enum StepFault {
     /// The vertex is no task.
+    #[error("the vertex is no task")]
     NotScheduled,
+    #[error("out of memory")]
     NoMemory,
 }
 
@@ -21,10 +24,12 @@ impl From<NoMemory> for StepFault {
 }
 
 /// Why a run stopped before its end.
-#[derive(Clone, Copy, Debug, PartialEq, Eq)]
+#[derive(Clone, Copy, Debug, PartialEq, Eq, Error)]
 pub enum RunFault {
     /// The budget was used up, and a task is left.
+    #[error("the budget was used up, and a task is left")]
     Spent,
+    #[error("out of memory")]
     NoMemory,
 }
 

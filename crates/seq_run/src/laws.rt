@@ -1,6 +1,6 @@
 //! Laws about orders of updates. Each is the contract of a function that does nothing, and each is about
 //! orders alone: it holds of the order of any run, on however many machines and threads.
-ghost use Rattle.std.specs.Prelude.{◌≡◌, ℕ, ◌+◌, ◌<◌, ◌≤◌, ◌↔◌, true, false, List, [], ◌∷◌, ◌++◌, length, slice_index, slice_index_or};
+ghost use Rattle.std.specs.Prelude.{◌≡◌, ℕ, ◌+◌, ◌<◌, ◌≤◌, ◌↔◌, true, false, List, [], ◌∷◌, ◌++◌, slice_get, slice_index, Some};
 ghost use Rattle.gl_base.specs.declared.entries.Entry.{Entry};
 ghost use Rattle.gl_base.specs.declared.entries.Entry.TheVariants.{Go, Restart};
 ghost use Rattle.gl_base.specs.declared.jobs.Algorithm.TheVariants.{Levels, Components, Paths, Colours};
@@ -56,12 +56,12 @@ pub fn paths_are_distances()
         (v : ℕ) → v < size g → IsDistanceOrInf g source v ((replay g paths order).vertex v) }
 {}
 
-/// Once no task is left, edge `k`, which is `e`, is marked 1 where it is tight, and 0 elsewhere.
+/// Once no task is left, each edge is marked: 1 where it is tight, and 0 elsewhere. Here `e` is edge number `k`.
 pub fn marks_are_tight()
     ensures { (g : DataGraph) (source : ℕ) → IsDataGraph g →
         let paths = update_of_paths source in
         (order : List Entry) → IsValidOrder g paths order → IsFinished g paths order →
-        (k : ℕ) (e : DataEdge) → k < length g.edges → slice_index_or g.edges k e ≡ e →
+        (k : ℕ) (e : DataEdge) → slice_get g.edges k ≡ Some e →
         let last = replay g paths order in
         IsMark (last.edge k) (IsTight g.directed last.vertex e) }
 {}

@@ -1,7 +1,7 @@
 //! The links of a vertex, which its scope lends.
 ghost use Rattle.std.specs.Prelude.{◌≡◌, ◌||◌, true, map, All, OnOk};
 ghost use Rattle.graph_core.specs.HalfRows.{data_half};
-ghost use Rattle.seq_run.specs.ListedLinks.{half_of};
+ghost use Rattle.seq_run.specs.Inner.ListedLinks.{half_of};
 
 use gl_base::NoMemory;
 use graph_core::Half;

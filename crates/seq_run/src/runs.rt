@@ -31,13 +31,13 @@ pub struct SeqRun<'a, P: Program> {
 
 impl<'a, P: Program> Model for SeqRun<'a, P> {
     ghost use Rattle.seq_run.specs.Runs.{RunView};
-    ghost use Rattle.seq_run.specs.Played.{IsPlayed};
+    ghost use Rattle.seq_run.specs.Inner.Played.{IsStateAfter};
 
     ghost Value = { RunView P };
 
     ghost view = { λ r. record { graph = r.graph.now; program = r.program; order = r.order.items } };
 
-    ghost invariant = { λ r. IsPlayed r.graph.now (P.meaning r.program) r.order.items r.values.items r.edges.items r.tasks };
+    ghost invariant = { λ r. IsStateAfter r.graph.now (P.meaning r.program) r.order.items r.values.items r.edges.items r.tasks };
 }
 
 /// What a run leaves: the order of its updates, and the numbers of the vertices and of the edges.

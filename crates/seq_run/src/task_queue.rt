@@ -1,7 +1,7 @@
 //! The tasks of a run, first in, first out.
 ghost use Rattle.std.specs.Prelude.{◌≡◌, ℕ, ◌<◌, true, false, length, map, slice_set, nat_lt, IfOk, MatchOption};
 ghost use Rattle.std.specs.VecDeque.{deque_capacity};
-ghost use Rattle.seq_run.specs.TaskQueues.{flag, is_task, is_queued, IsQueueOf, IsTaskFirst};
+ghost use Rattle.seq_run.specs.Inner.TaskQueues.{flag, is_task, is_queued, IsQueueOf, IsTaskFirst};
 
 use gl_base::{NoMemory, Vertex};
 use std::alloc::Global;
@@ -30,13 +30,13 @@ enum Standing {
 
 impl Model for TaskQueue {
     ghost use Rattle.std.specs.Prelude.{List, Bool, map};
-    ghost use Rattle.seq_run.specs.TaskQueues.{is_task, is_queued, IsKept};
+    ghost use Rattle.seq_run.specs.Inner.TaskQueues.{is_task, is_queued, IsTaskQueue};
 
     ghost Value = { List Bool };
 
     ghost view = { λ q. map is_task q.standings.items };
 
-    ghost invariant = { λ q. IsKept (map is_task q.standings.items) (map is_queued q.standings.items) q.queue.items q.queue.cap };
+    ghost invariant = { λ q. IsTaskQueue (map is_task q.standings.items) (map is_queued q.standings.items) q.queue.items q.queue.cap };
 }
 
 impl TaskQueue {

@@ -1,9 +1,9 @@
 //! Waking: which tasks an update adds.
 ghost use Rattle.std.specs.Prelude.{◌≡◌, ℕ, ◌<◌, ◌||◌, length, map, All};
-ghost use Rattle.seq_run.specs.ListedLinks.{half_of};
+ghost use Rattle.seq_run.specs.Inner.ListedLinks.{half_of};
 ghost use Rattle.seq_run.specs.States.{is_woken};
-ghost use Rattle.seq_run.specs.TaskQueues.{flag};
-ghost use Rattle.seq_run.specs.Waking.{is_woken_along};
+ghost use Rattle.seq_run.specs.Inner.TaskQueues.{flag};
+ghost use Rattle.seq_run.specs.Inner.Waking.{is_woken_along};
 
 use crate::task_queue::TaskQueue;
 use gl_base::Vertex;

@@ -16,7 +16,7 @@ pub trait Program: Copy {
         ensures { result ≡ (meaning self.now).start id };
 
     /// Updates a vertex. It writes the number of the vertex and the numbers of its edges, and nothing else,
-    /// and tells whom the update wakes.
+    /// and says whom the update wakes.
     fn update(&self, scope: &mut Scope<'_>) -> Woken
         ensures number { scope.new.centre.now
             ≡ (meaning self.now).number scope.old.centre.now (nears scope.old) }

@@ -1,6 +1,6 @@
 use Rattle.std.proofs.Common.{◌<◌, ◌≡◌, ◌∙◌, false, refl, sym, length, slice_index_or, arith}
 use Rattle.seq_run.specs.declared.task_queue.Standing.TheVariants.{Outside}
-use Rattle.seq_run.specs.TaskQueues.{is_task}
+use Rattle.seq_run.specs.Inner.TaskQueues.{is_task}
 use Rattle.seq_run.proofs.Standings.{first_stands, first_out, same_tasks}
 use Rattle.seq_run.proofs.task_queue.drop_done.Goals as goal
 

@@ -1,6 +1,6 @@
 use Rattle.std.proofs.Common.{◌≡◌, map}
 use Rattle.std.specs.VecDeque.{deque_capacity, deque_len}
-use Rattle.seq_run.specs.TaskQueues.{is_task, is_queued, IsQueueOf}
+use Rattle.seq_run.specs.Inner.TaskQueues.{is_task, is_queued, IsQueueOf}
 use Rattle.seq_run.proofs.task_queue.drop_done.Given as goal
 
 abbrev pub invariant-loop-first : goal.invariant-loop-first

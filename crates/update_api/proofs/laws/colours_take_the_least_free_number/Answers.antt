@@ -2,5 +2,5 @@
 use Rattle.update_api.proofs.LeastFreeLaws.{least_free_is}
 use Rattle.update_api.proofs.laws.colours_take_the_least_free_number.Goals as goal
 
-pub returns-clause-given : goal.returns-clause-given
-returns-clause-given c = λ nears. least_free_is nears
+pub returns-clause-uncoloured : goal.returns-clause-uncoloured
+returns-clause-uncoloured c = λ nears. least_free_is nears

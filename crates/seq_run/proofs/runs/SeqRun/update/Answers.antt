@@ -2,7 +2,7 @@ use Rattle.std.proofs.Common.{◌≡◌, ◌∙◌, true, false, ◌∷◌, [], 
 use Rattle.std.proofs.Math.ListN.{length-set}
 use Rattle.gl_base.specs.declared.entries.Entry.TheVariants.{Go}
 use Rattle.graph_core.specs.Halves.{halves_of}
-use Rattle.seq_run.specs.ListedLinks.{half_of}
+use Rattle.seq_run.specs.Inner.ListedLinks.{half_of}
 use Rattle.seq_run.specs.Orders.{tasks_after}
 use Rattle.seq_run.specs.Runs.{tasks_left}
 use Rattle.seq_run.proofs.LinkLemmas.{halves_lead}

@@ -1,7 +1,7 @@
 use Rattle.std.proofs.Common.{◌≡◌, ◌<◌, ◌∙◌, sym, ap, true, false, length, map, slice_set, arith}
 use Rattle.std.proofs.lemmas.List.{length-map, map-set}
 use Rattle.seq_run.specs.declared.task_queue.Standing.TheVariants.{Waiting}
-use Rattle.seq_run.specs.TaskQueues.{is_task, is_queued}
+use Rattle.seq_run.specs.Inner.TaskQueues.{is_task, is_queued}
 use Rattle.seq_run.proofs.Queueing.{room_for_one}
 use Rattle.seq_run.proofs.Standings.{flag_read, joined, rejoined}
 use Rattle.seq_run.proofs.task_queue.TaskQueue.add.Goals as goal

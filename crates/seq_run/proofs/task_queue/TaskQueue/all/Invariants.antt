@@ -1,5 +1,5 @@
 use Rattle.std.proofs.Common.{◌≡◌, ℕ, length, nat_lt}
-use Rattle.seq_run.specs.TaskQueues.{flag}
+use Rattle.seq_run.specs.Inner.TaskQueues.{flag}
 use Rattle.seq_run.proofs.task_queue.TaskQueue.all.Given as goal
 
 abbrev pub invariant-loop-v : goal.invariant-loop-v

@@ -1,7 +1,7 @@
 use Rattle.std.proofs.Common.{◌≡◌, ◌<◌, ◌∙◌, ap, false, length, map, slice_set, arith}
 use Rattle.std.proofs.Math.ListN.{length-set}
 use Rattle.std.proofs.lemmas.List.{length-map, map-set}
-use Rattle.seq_run.specs.TaskQueues.{is_task}
+use Rattle.seq_run.specs.Inner.TaskQueues.{is_task}
 use Rattle.seq_run.proofs.Playing.{written_back}
 use Rattle.seq_run.proofs.Standings.{done_there}
 use Rattle.seq_run.proofs.task_queue.TaskQueue.remove.Goals as goal

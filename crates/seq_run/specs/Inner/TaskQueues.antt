@@ -40,7 +40,7 @@ abbrev pub IsTaskFirst : List Bool → List Vertex → Type 0
 IsTaskFirst tasks queue = (v : Vertex) → 0 < length queue → flag tasks (slice_index_or queue 0 v).0 ≡ true
 
 -- so it stands in a queue that has room for all vertices and whose first vertex is a task
-pub record IsKept (tasks queued : List Bool) (waiting : List Vertex) (capacity : ℕ) : Type 0 where
+pub record IsTaskQueue (tasks queued : List Bool) (waiting : List Vertex) (capacity : ℕ) : Type 0 where
   pub queue : IsQueueOf tasks queued waiting
   pub first : IsTaskFirst tasks waiting
   pub room : length tasks ≤ capacity

@@ -1,0 +1,4 @@
+pub mod TaskQueues
+pub mod ListedLinks
+pub mod Played
+pub mod Waking
