@@ -7,7 +7,7 @@ use Rattle.gl_base.specs.declared.jobs.Algorithm.TheVariants.{Levels, Components
 use Rattle.gl_base.specs.declared.numbers.Vertex.{Vertex}
 use Rattle.graph_core.specs.DataGraph.{DataGraph, IsDataGraph}
 use Rattle.seq_run.specs.Orders.{IsValidOrder, all_tasks, tasks_after}
-use Rattle.seq_run.specs.Runs.{IsUpdates, updates}
+use Rattle.seq_run.specs.Runs.{IsUpdates, updates_in_turn}
 use Rattle.seq_run.specs.States.{start_state}
 use Rattle.seq_run.specs.StepBound.{step_bound, updates_from, updates_since_restart}
 use Rattle.seq_run.proofs.GoingOn.{updates_from-push, valid_append}
@@ -22,11 +22,11 @@ pub one-more : (g : DataGraph) (p : Update) (order : List Entry) (left : Vertex)
 one-more g p order left valid task =
     valid_append g p (start_state g p) (all_tasks g) order (Go (record { 0 = 0 }) left 0 ∷ []) valid (task, tt)
 
-counted : (count ticket : ℕ) (vertices : List ℕ) → updates_from count (updates ticket vertices) ≡ count + length vertices
+counted : (count ticket : ℕ) (vertices : List ℕ) → updates_from count (updates_in_turn ticket vertices) ≡ count + length vertices
 counted count ticket [] = omega arith
 counted count ticket (v ∷ vs) = let rest = counted (count + 1) (suc ticket) vs in omega (arith, rest)
 
-length-updates : (ticket : ℕ) (vertices : List ℕ) → length (updates ticket vertices) ≡ length vertices
+length-updates : (ticket : ℕ) (vertices : List ℕ) → length (updates_in_turn ticket vertices) ≡ length vertices
 length-updates ticket [] = refl
 length-updates ticket (v ∷ vs) = ap (λ n. suc n) (length-updates (suc ticket) vs)
 

@@ -15,7 +15,7 @@ use Rattle.job_words.specs.Lines.{Sayings, line_of}
 use Rattle.gl_base.specs.Results.{and_then}
 use Rattle.job_words.specs.Meanings.{has_option, plan_in_range, make_words, meaning_of, most_edges, option_number, plan_of, option_weight}
 use Rattle.gl_base.specs.Texts.{Text}
-use Rattle.job_words.specs.Tokens.{tokens_of, first_unformed}
+use Rattle.job_words.specs.WordForms.{word_forms, first_unformed}
 use Rattle.job_words.specs.declared.words.Words.TheVariants.{Run, Make}
 
 no_fault_ok : {X : Type 0} → {f : UsageFault} → {x : X} → Err f ≡ Ok x → ⊥
@@ -100,5 +100,5 @@ asked-in-ranges words name plan e = formed (first_unformed words) e
     lined (Some s) e = meaning-in-ranges s name plan e
 
     formed : (place : Option ℕ) → formed_means place words ≡ Ok (Make name plan) → IsInRanges plan
-    formed None e = lined (line_of (tokens_of words)) e
+    formed None e = lined (line_of (word_forms words)) e
     formed (Some place) e = absurd (no_fault_ok e)

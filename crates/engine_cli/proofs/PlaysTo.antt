@@ -5,11 +5,11 @@ use Rattle.gl_base.specs.declared.entries.Entry.{Entry}
 use Rattle.gl_base.specs.declared.numbers.Vertex.{Vertex}
 use Rattle.graph_core.specs.DataGraph.{DataGraph, size}
 use Rattle.seq_run.specs.Orders.{IsFinished, IsValidOrder, replay}
-use Rattle.seq_run.specs.Runs.{AreNumbers, HasNoTask, IsUpdates, RunView, WentOn, tasks_left, updates}
+use Rattle.seq_run.specs.Runs.{AreNumbers, HasNoTask, IsUpdates, RunView, WentOn, tasks_left, updates_in_turn}
 use Rattle.update_api.specs.Updates.{Update}
 use Rattle.engine_cli.specs.Plays.{IsSpent, RunsTo}
 
-length-updates : (ticket : ℕ) (vertices : List ℕ) → length (updates ticket vertices) ≡ length vertices
+length-updates : (ticket : ℕ) (vertices : List ℕ) → length (updates_in_turn ticket vertices) ≡ length vertices
 length-updates ticket [] = refl
 length-updates ticket (v ∷ vs) = ap (λ n. suc n) (length-updates (suc ticket) vs)
 
@@ -18,7 +18,7 @@ module _ {P : Type 0} (meaning : P → Update) where
   length-order : (start run : RunView P) (steps : ℕ) → start.order ≡ [] → WentOn start run steps → length run.order ≡ steps
   length-order start run steps none went =
       ap (λ (r : RunView P). length r.order) went.2
-      ∙ ap (λ (order : List Entry). length (order ++ updates (length order) went.0)) none
+      ∙ ap (λ (order : List Entry). length (order ++ updates_in_turn (length order) went.0)) none
       ∙ length-updates 0 went.0 ∙ went.1
 
   -- a vertex that waits when the budget is spent

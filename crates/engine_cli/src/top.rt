@@ -5,7 +5,7 @@ ghost use Rattle.gl_base.specs.declared.usage_faults.UsageFault.{UsageFault};
 ghost use Rattle.gl_outside.specs.Faults.{Rose};
 ghost use Rattle.gl_outside.specs.Frames.{KeepsSources};
 ghost use Rattle.job_words.specs.CommandLine.{IsCommandLine, command_line_of};
-ghost use Rattle.job_words.specs.Tokens.{texts};
+ghost use Rattle.job_words.specs.WordForms.{texts};
 ghost use Rattle.job_words.specs.declared.words.Words.TheVariants.{Run, Make};
 ghost use Rattle.engine_cli.specs.declared.status.Status.TheVariants.{Done, Usage, NoMemory};
 ghost use Rattle.engine_cli.specs.Status.{IsBeforeMaking, IsBeforeWriting, IsDoneOrNoMemory, IsRefused};

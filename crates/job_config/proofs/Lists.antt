@@ -14,7 +14,7 @@ use Rattle.gl_base.specs.declared.jobs.FailureAt.{FailureAt}
 use Rattle.serde_json.specs.Data.{Data, Members}
 use Rattle.serde_json.specs.View.{items_of, items_view, members_view, view}
 use Rattle.serde_json.specs.declared.value.Value.{Value}
-use Rattle.job_config.specs.Failures.{failure, failure_in, failures_in, failures_of, first_faulty, is_faulty, listed_failures, keys_in, unless_faulty, values_in}
+use Rattle.job_config.specs.Failures.{failure, failure_in, failure_list, failures_of, first_faulty, is_faulty, listed_failures, keys_in, unless_faulty, values_in}
 
 -- the keys of a map's members
 pub names-keys : (es : List (String Global × Value)) → keys_in (members_view es) ≡ map string_bytes (keys_of es)
@@ -82,7 +82,7 @@ each_of vs = cond (list_all (λ d. is_some (failure_in d)) (map view vs)) (Some 
 
 -- the values of a list are all failures, or they are refused
 pub none_each : (machines : ℕ) (ds : List Data) → cond (list_all (λ d. is_some (failure_in d)) ds) (Some (filter_map failure_in ds)) None ≡ None
-    → failures_in machines ds ≡ Err (WrongKind key.Failures)
+    → failure_list machines ds ≡ Err (WrongKind key.Failures)
 none_each machines ds e = go (list_all (λ d. is_some (failure_in d)) ds) e
   where
     go : (b : Bool) → cond b (Some (filter_map failure_in ds)) None ≡ None
@@ -91,7 +91,7 @@ none_each machines ds e = go (list_all (λ d. is_some (failure_in d)) ds) e
     go false h = refl
 
 pub some_each : (machines : ℕ) (ds : List Data) (fs : List FailureAt) → cond (list_all (λ d. is_some (failure_in d)) ds) (Some (filter_map failure_in ds)) None ≡ Some fs
-    → failures_in machines ds ≡ unless_faulty (first_faulty machines [] fs) fs
+    → failure_list machines ds ≡ unless_faulty (first_faulty machines [] fs) fs
 some_each machines ds fs e = go (list_all (λ d. is_some (failure_in d)) ds) e
   where
     go : (b : Bool) → cond b (Some (filter_map failure_in ds)) None ≡ Some fs
@@ -99,8 +99,8 @@ some_each machines ds fs e = go (list_all (λ d. is_some (failure_in d)) ds) e
     go true h = ap (λ o. unless_faulty (first_faulty machines [] (unwrap_or o fs)) (unwrap_or o fs)) h
     go false h = absurd (true≢false (ap is_some (sym h)))
 
-pub listed : (machines : ℕ) (d : Data) (vs : List Value) → Some (items_view vs) ≡ as_array d → failures_of machines (Some d) ≡ failures_in machines (map view vs)
-listed machines d vs e = ap (listed_failures machines) (sym e) ∙ ap (failures_in machines) (values-view vs)
+pub listed : (machines : ℕ) (d : Data) (vs : List Value) → Some (items_view vs) ≡ as_array d → failures_of machines (Some d) ≡ failure_list machines (map view vs)
+listed machines d vs e = ap (listed_failures machines) (sym e) ∙ ap (failure_list machines) (values-view vs)
 
 pub not_two : (n m : ℕ) → n ≡ m → (m ≡ 2 → ⊥) → (n == 2) ≡ false
 not_two n m e h = ne_eqb n 2 (λ t. h (sym e ∙ t))

@@ -51,14 +51,14 @@ unless_faulty None fs = Ok fs
 unless_faulty (Some place) fs = Err (OutOfRange key.Failures place)
 
 -- each value has to be a failure before one is out of its range
-abbrev pub failures_in : ℕ → List Data → Result (List FailureAt) KeyFault
-failures_in machines ds = if list_all (λ d. is_some (failure_in d)) ds
+abbrev pub failure_list : ℕ → List Data → Result (List FailureAt) KeyFault
+failure_list machines ds = if list_all (λ d. is_some (failure_in d)) ds
     then unless_faulty (first_faulty machines [] (filter_map failure_in ds)) (filter_map failure_in ds)
     else Err (WrongKind key.Failures)
 
 abbrev pub listed_failures : ℕ → Option Items → Result (List FailureAt) KeyFault
 listed_failures machines None = Err (WrongKind key.Failures)
-listed_failures machines (Some items) = failures_in machines (values_in items)
+listed_failures machines (Some items) = failure_list machines (values_in items)
 
 -- the failures, by the number of machines
 abbrev pub failures_of : ℕ → Option Data → Result (List FailureAt) KeyFault

@@ -14,7 +14,7 @@ use Rattle.job_config.specs.declared.values.KeyFault.{KeyFault}
 use Rattle.job_config.specs.declared.values.KeyFault.TheVariants.{Missing, OutOfRange}
 use Rattle.gl_base.specs.Results.{and_then}
 use Rattle.gl_base.specs.Texts.{Text}
-use Rattle.job_config.specs.Values.{algorithm_in, engine_in, flag_in, number_in, optional, or_default, required, text_in}
+use Rattle.job_config.specs.Values.{algorithm_in, engine_in, flag_in, whole_number_in, optional, or_default, required, text_in}
 
 pub record JobFields : Type 0 where
   pub vertices : Text
@@ -42,7 +42,7 @@ needs_source Colours = false
 abbrev pub source_of : Algorithm → Option Data → Result (Option ℕ) KeyFault
 source_of algorithm None =
     if needs_source algorithm then Err (Missing key.Source) else Ok None
-source_of algorithm (Some d) = and_then (number_in key.Source 0 MAX_ID d) (λ n. Ok (Some n))
+source_of algorithm (Some d) = and_then (whole_number_in key.Source 0 MAX_ID d) (λ n. Ok (Some n))
 
 -- the order is not written over the store
 abbrev pub apart_from_store : Option Text → Option Text → Result (Option Text) KeyFault
@@ -62,11 +62,11 @@ fields_of d =
     and_then (required key.Algorithm algorithm_in (get (codes "algorithm") d)) (λ algorithm.
     and_then (source_of algorithm (get (codes "source") d)) (λ source.
     and_then (or_default Locking engine_in (get (codes "engine") d)) (λ engine.
-    and_then (or_default 1 (number_in key.Machines 1 16) (get (codes "machines") d)) (λ machines.
-    and_then (or_default (4 * machines) (number_in key.Atoms 1 1024) (get (codes "atoms") d)) (λ atoms.
-    and_then (or_default 16 (number_in key.Pipeline 1 256) (get (codes "pipeline") d)) (λ pipeline.
-    and_then (or_default 16777216 (number_in key.Budget 1 16777216) (get (codes "budget") d)) (λ budget.
-    and_then (or_default 1048576 (number_in key.Window 1 16777216) (get (codes "window") d)) (λ window.
+    and_then (or_default 1 (whole_number_in key.Machines 1 16) (get (codes "machines") d)) (λ machines.
+    and_then (or_default (4 * machines) (whole_number_in key.Atoms 1 1024) (get (codes "atoms") d)) (λ atoms.
+    and_then (or_default 16 (whole_number_in key.Pipeline 1 256) (get (codes "pipeline") d)) (λ pipeline.
+    and_then (or_default 16777216 (whole_number_in key.Budget 1 16777216) (get (codes "budget") d)) (λ budget.
+    and_then (or_default 1048576 (whole_number_in key.Window 1 16777216) (get (codes "window") d)) (λ window.
     and_then (optional (text_in key.Store MAX_NAME_BYTES) (get (codes "store") d)) (λ store.
     and_then (optional (text_in key.AtomsAt 200) (get (codes "atoms_at") d)) (λ atoms_at.
     and_then (order_of store (get (codes "order") d)) (λ order.

@@ -32,8 +32,8 @@ number_at k least most (Some n) =
 abbrev pub whole_number : Data → Option ℕ
 whole_number d = option_and_then as_u64 (as_number d)
 
-abbrev pub number_in : Key → ℕ → ℕ → Data → Result ℕ KeyFault
-number_in k least most d = number_at k least most (whole_number d)
+abbrev pub whole_number_in : Key → ℕ → ℕ → Data → Result ℕ KeyFault
+whole_number_in k least most d = number_at k least most (whole_number d)
 
 abbrev pub flag_at : Key → Option Bool → Result Bool KeyFault
 flag_at k None = Err (WrongKind k)

@@ -2,7 +2,7 @@
 ghost use Rattle.std.specs.Prelude.{◌≡◌, ◌≤◌, Err, IfOk, MatchResult, Ok, option_map};
 ghost use Rattle.serde_json.specs.View.{view};
 ghost use Rattle.job_config.specs.Ranges.{IsWithin};
-ghost use Rattle.job_config.specs.Values.{algorithm_in, engine_in, flag_in, optional, required, number_in, or_default, text_in};
+ghost use Rattle.job_config.specs.Values.{algorithm_in, engine_in, flag_in, optional, required, whole_number_in, or_default, text_in};
 
 use gl_base::{Algorithm, EngineKind, Key};
 use serde_json::Value;
@@ -34,7 +34,7 @@ pub fn read_text<'a>(key: Key, most: usize, value: &'a Value) -> Result<&'a str,
 
 /// A whole number from `least` to `most`.
 pub fn read_number(key: Key, least: u64, most: u64, value: &Value) -> Result<u64, KeyFault>
-    ensures value { result ≡ number_in key least most (view value.now) }
+    ensures value { result ≡ whole_number_in key least most (view value.now) }
     ensures range { IfOk result (IsWithin least most) }
 {
     match value.as_u64() {
@@ -124,7 +124,7 @@ pub fn number_or(
     value: Option<&Value>,
 ) -> Result<u64, KeyFault>
     requires { IsWithin least most default }
-    ensures value { result ≡ or_default default (number_in key least most)
+    ensures value { result ≡ or_default default (whole_number_in key least most)
         (option_map (λ v. view v.now) value.entry) }
     ensures range { IfOk result (IsWithin least most) }
 {

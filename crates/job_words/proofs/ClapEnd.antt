@@ -15,7 +15,7 @@ use Rattle.clap.specs.declared.builder.value_parser.Reading.TheVariants.{AsWritt
 use Rattle.clap.specs.declared.error.kind.ErrorKind.{ErrorKind}
 use Rattle.clap.specs.declared.parser.matches.ValueSource.TheVariants.{DefaultValue}
 use Rattle.job_words.specs.Glab.{glab}
-use Rattle.job_words.specs.Lines.{Part, alone, flagged, has_flag, same_option, value_in, valued, words_in}
+use Rattle.job_words.specs.Lines.{LinePart, alone, flagged, has_flag, same_option, value_in, valued, words_in}
 use Rattle.job_words.proofs.ClapWalk.{at_none, end_fault, held, id_of, is_nil, outcome, row_of, rules_in, shape, state, word_id}
 use Rattle.job_words.proofs.ClapLine.{option_word, rows_from}
 
@@ -158,19 +158,19 @@ find-all id rows other = ap (find_id id) (all-is rows) ∙ go (has_row (codes "r
     go true = refl
     go false = find-push id rows default_row other
 
-find-file : (ps : List Part) (n : ℕ) → find_id (codes "file") (rows_from (suc n) ps) ≡ option_map (row_of (codes "file")) (slice_get (words_in ps) 0)
+find-file : (ps : List LinePart) (n : ℕ) → find_id (codes "file") (rows_from (suc n) ps) ≡ option_map (row_of (codes "file")) (slice_get (words_in ps) 0)
 find-file [] n = refl
 find-file (alone t ∷ ps) n = refl
 find-file (flagged ∷ ps) n = find-file ps n
 find-file (valued o v ∷ ps) n = rw (option_word o 1) (find-file ps n)
 
-pub find-second : (ps : List Part) → find_id (codes "file") (rows_from 0 ps) ≡ option_map (row_of (codes "file")) (slice_get (words_in ps) 1)
+pub find-second : (ps : List LinePart) → find_id (codes "file") (rows_from 0 ps) ≡ option_map (row_of (codes "file")) (slice_get (words_in ps) 1)
 find-second [] = refl
 find-second (alone t ∷ ps) = find-file ps 0
 find-second (flagged ∷ ps) = find-second ps
 find-second (valued o v ∷ ps) = rw (option_word o 1) (find-second ps)
 
-pub find-verb : (ps : List Part) → find_id (codes "verb") (rows_from 0 ps) ≡ option_map (row_of (codes "verb")) (slice_get (words_in ps) 0)
+pub find-verb : (ps : List LinePart) → find_id (codes "verb") (rows_from 0 ps) ≡ option_map (row_of (codes "verb")) (slice_get (words_in ps) 0)
 find-verb [] = refl
 find-verb (alone t ∷ ps) = refl
 find-verb (flagged ∷ ps) = find-verb ps
@@ -238,7 +238,7 @@ pub word_flag : (m : ℕ) → bytes_eq (word_id m) (codes "report") ≡ false
 word_flag zero = refl
 word_flag (suc m) = refl
 
-pub find-option : (o : Opt) (ps : List Part) (n : ℕ) → find_id (id_of o) (rows_from n ps) ≡ option_map (row_of (id_of o)) (value_in o ps)
+pub find-option : (o : Opt) (ps : List LinePart) (n : ℕ) → find_id (id_of o) (rows_from n ps) ≡ option_map (row_of (id_of o)) (value_in o ps)
 find-option o [] n = refl
 find-option o (alone t ∷ ps) n = rw (other_word n o) (find-option o ps (suc n))
 find-option o (flagged ∷ ps) n = rw (other_flag o) (find-option o ps n)
@@ -250,13 +250,13 @@ find-option o (valued q v ∷ ps) n = go (same_option o q) refl (find-option o p
     go false e rest = rw (id-same q o, same-sym q o, e) rest
 
 -- the flag's row
-pub has-flag : (ps : List Part) (n : ℕ) → has_row (codes "report") (rows_from n ps) ≡ has_flag ps
+pub has-flag : (ps : List LinePart) (n : ℕ) → has_row (codes "report") (rows_from n ps) ≡ has_flag ps
 has-flag [] n = refl
 has-flag (alone t ∷ ps) n = rw (word_flag n) (has-flag ps (suc n))
 has-flag (flagged ∷ ps) n = refl
 has-flag (valued o v ∷ ps) n = rw (flag_option o) (has-flag ps n)
 
-pub find-flag : (ps : List Part) (n : ℕ) → has_flag ps ≡ true → find_id (codes "report") (rows_from n ps) ≡ Some (row_of (codes "report") (codes "true"))
+pub find-flag : (ps : List LinePart) (n : ℕ) → has_flag ps ≡ true → find_id (codes "report") (rows_from n ps) ≡ Some (row_of (codes "report") (codes "true"))
 find-flag [] n e = absurd (true≢false (sym e))
 find-flag (alone t ∷ ps) n e = rw (word_flag n) (find-flag ps (suc n) e)
 find-flag (flagged ∷ ps) n e = refl

@@ -15,8 +15,8 @@ use Rattle.clap.specs.Simple.{App, is_simple, matches_of}
 use Rattle.clap.specs.Takes.{is_given}
 use Rattle.clap.specs.Walk.{Row, Text, finished, first_of, has_row, one_of, row_text}
 use Rattle.job_words.specs.Glab.{glab}
-use Rattle.job_words.specs.Lines.{Part, Sayings, alone, flagged, has_flag, repeats, line_of, parts_of, line_of_parts, line_with, stands_once, value_in, valued, words_in}
-use Rattle.job_words.specs.Tokens.{Spells, Token, is_text, word_of}
+use Rattle.job_words.specs.Lines.{LinePart, Sayings, alone, flagged, has_flag, repeats, line_of, parts_of, line_of_parts, line_with, stands_once, value_in, valued, words_in}
+use Rattle.job_words.specs.WordForms.{Spells, WordForm, is_text, word_of}
 use Rattle.job_words.proofs.ClapWalk.{held, id_of, is_early, is_nil, row_of, rules_in}
 use Rattle.job_words.proofs.ClapLine.{count_from, count_from-push, more, reads, rows_from, so_far, walks}
 use Rattle.job_words.proofs.ClapEnd.{all-is, both, cond_same, default_row, end_is, find-all, find-flag, find-new, find-option, find-second, find-verb, find_id, flag_option, has-flag, id-same, other_flag, other_word, outcome_is, word_flag}
@@ -31,26 +31,26 @@ bounded (suc (suc zero)) = true
 bounded (suc (suc (suc n))) = false
 
 -- one of the parts is the same option or the flag
-abbrev again : List Part → Part → Bool
+abbrev again : List LinePart → LinePart → Bool
 again us p = list_any (λ u. repeats u p) us
 
-flag-again : (us : List Part) (n : ℕ) → has_row (codes "report") (rows_from n us) ≡ again us flagged
+flag-again : (us : List LinePart) (n : ℕ) → has_row (codes "report") (rows_from n us) ≡ again us flagged
 flag-again [] n = refl
 flag-again (alone t ∷ us) n = rw (word_flag n) (flag-again us (suc n))
 flag-again (flagged ∷ us) n = refl
 flag-again (valued o v ∷ us) n = rw (flag_option o) (flag-again us n)
 
-option-again : (o : Opt) (v : Text) (us : List Part) (n : ℕ) → has_row (id_of o) (rows_from n us) ≡ again us (valued o v)
+option-again : (o : Opt) (v : Text) (us : List LinePart) (n : ℕ) → has_row (id_of o) (rows_from n us) ≡ again us (valued o v)
 option-again o v [] n = refl
 option-again o v (alone t ∷ us) n = rw (other_word n o) (option-again o v us (suc n))
 option-again o v (flagged ∷ us) n = rw (other_flag o) (option-again o v us n)
 option-again o v (valued q w ∷ us) n = ap₂ (λ (a b : Bool). a || b) (id-same q o) (option-again o v us n)
 
-never_again : (t : Text) (ps : List Part) → list_any (repeats (alone t)) ps ≡ false
+never_again : (t : Text) (ps : List LinePart) → list_any (repeats (alone t)) ps ≡ false
 never_again t [] = refl
 never_again t (p ∷ ps) = never_again t ps
 
-never_before : (t : Text) (us : List Part) → again us (alone t) ≡ false
+never_before : (t : Text) (us : List LinePart) → again us (alone t) ≡ false
 never_before t [] = refl
 never_before t (alone s ∷ us) = never_before t us
 never_before t (flagged ∷ us) = never_before t us
@@ -60,7 +60,7 @@ or_assoc : (a b c : Bool) → (a || (b || c)) ≡ ((a || b) || c)
 or_assoc true b c = refl
 or_assoc false b c = refl
 
-any-push : (f : Part → Bool) (us : List Part) (p : Part) → list_any f (us ++ p ∷ []) ≡ (list_any f us || (f p || false))
+any-push : (f : LinePart → Bool) (us : List LinePart) (p : LinePart) → list_any f (us ++ p ∷ []) ≡ (list_any f us || (f p || false))
 any-push f [] p = refl
 any-push f (u ∷ us) p = ap (λ b. f u || b) (any-push f us p) ∙ or_assoc (f u) (list_any f us) (f p || false)
 
@@ -70,21 +70,21 @@ split false true true y = refl
 split false true false y = refl
 split false false x y = refl
 
-all-push : (us : List Part) (p : Part) (ps : List Part)
+all-push : (us : List LinePart) (p : LinePart) (ps : List LinePart)
     → list_all (λ q. not (again (us ++ p ∷ []) q)) ps ≡ (list_all (λ q. not (again us q)) ps && not (list_any (repeats p) ps))
 all-push us p [] = refl
 all-push us p (q ∷ ps) =
     ap₂ (λ (a b : Bool). not a && b) (any-push (λ u. repeats u q) us p) (all-push us p ps)
     ∙ split (again us q) (repeats p q) (list_all (λ r. not (again us r)) ps) (list_any (repeats p) ps)
 
-late_count : (ps : List Part) (m : ℕ) → bounded (count_from (suc (suc (suc m))) ps) ≡ false
+late_count : (ps : List LinePart) (m : ℕ) → bounded (count_from (suc (suc (suc m))) ps) ≡ false
 late_count [] m = refl
 late_count (alone t ∷ ps) m = late_count ps (suc m)
 late_count (flagged ∷ ps) m = late_count ps m
 late_count (valued o v ∷ ps) m = late_count ps m
 
 -- the parts may follow those so far
-abbrev fits : List Part → List Part → Bool
+abbrev fits : List LinePart → List LinePart → Bool
 fits us ps = bounded (count_from (count_from 0 us) ps) && (list_all (λ p. not (again us p)) ps && stands_once ps)
 
 shuffle : (b k a c s : Bool) (x : Option (List Row)) → cond (b && ((not k && a) && (not c && s))) x None ≡ cond k None (cond (b && ((a && not c) && s)) x None)
@@ -95,7 +95,7 @@ shuffle true false true c s x = refl
 shuffle true false false c s x = refl
 
 -- what follows one more part fits as it fits after those so far
-one_more : (us : List Part) (p : Part) (ps : List Part) → cond (again us p) None (cond (fits (us ++ p ∷ []) ps) (so_far ((us ++ p ∷ []) ++ ps) []) None)
+one_more : (us : List LinePart) (p : LinePart) (ps : List LinePart) → cond (again us p) None (cond (fits (us ++ p ∷ []) ps) (so_far ((us ++ p ∷ []) ++ ps) []) None)
     ≡ cond (fits us (p ∷ ps)) (so_far (us ++ p ∷ ps) []) None
 one_more us p ps =
     ap₂ (λ (n : ℕ) (a : Bool). cond (again us p) None (cond (bounded (count_from n ps) && (a && stands_once ps)) (so_far ((us ++ p ∷ []) ++ ps) []) None))
@@ -109,15 +109,15 @@ early_more zero e = refl
 early_more (suc zero) e = refl
 early_more (suc (suc n)) e = absurd (true≢false (sym e))
 
-late_fits : (us : List Part) (t : Text) (ps : List Part) (n : ℕ) → count_from 0 us ≡ n → is_early n ≡ false → fits us (alone t ∷ ps) ≡ false
+late_fits : (us : List LinePart) (t : Text) (ps : List LinePart) (n : ℕ) → count_from 0 us ≡ n → is_early n ≡ false → fits us (alone t ∷ ps) ≡ false
 late_fits us t ps zero e late = absurd (true≢false late)
 late_fits us t ps (suc zero) e late = absurd (true≢false late)
 late_fits us t ps (suc (suc n)) e late =
     ap (λ m. bounded (count_from (suc m) ps) && (list_all (λ p. not (again us p)) (alone t ∷ ps) && stands_once (alone t ∷ ps))) e
     ∙ ap (λ b. b && (list_all (λ p. not (again us p)) (alone t ∷ ps) && stands_once (alone t ∷ ps))) (late_count ps n)
 
-reads-is : (us ps : List Part) → bounded (count_from 0 us) ≡ true → reads us ps ≡ cond (fits us ps) (so_far (us ++ ps) []) None
-reads-is us [] b = ap₂ (λ (c : Bool) (ws : List Part). cond (c && true) (so_far ws []) None) (sym b) (sym (append-nil us))
+reads-is : (us ps : List LinePart) → bounded (count_from 0 us) ≡ true → reads us ps ≡ cond (fits us ps) (so_far (us ++ ps) []) None
+reads-is us [] b = ap₂ (λ (c : Bool) (ws : List LinePart). cond (c && true) (so_far ws []) None) (sym b) (sym (append-nil us))
 reads-is us (alone t ∷ ps) b = go (is_early (count_from 0 us)) refl (reads-is (us ++ alone t ∷ []) ps)
   where
     go : (early : Bool) → is_early (count_from 0 us) ≡ early
@@ -155,7 +155,7 @@ told_rows rows = record {
   weight = first_of (codes "weight") rows;
 }
 
-abbrev pub all_rows : List Part → List Row
+abbrev pub all_rows : List LinePart → List Row
 all_rows ps = finished rules_in (held (rows_from 0 ps) None)
 
 first_row : (id : Text) (o : Option Text) → option_and_then (λ (r : Row). slice_get r.values 0) (option_map (row_of id) o) ≡ o
@@ -166,17 +166,17 @@ given_row : (id : Text) (o : Option Text) → option_map_or (λ (r : Row). expli
 given_row id None = refl
 given_row id (Some t) = refl
 
-verb_row : (ps : List Part) → find_id (codes "verb") (all_rows ps) ≡ option_map (row_of (codes "verb")) (slice_get (words_in ps) 0)
+verb_row : (ps : List LinePart) → find_id (codes "verb") (all_rows ps) ≡ option_map (row_of (codes "verb")) (slice_get (words_in ps) 0)
 verb_row ps = find-all (codes "verb") (rows_from 0 ps) refl ∙ find-verb ps
 
-file_row : (ps : List Part) → find_id (codes "file") (all_rows ps) ≡ option_map (row_of (codes "file")) (slice_get (words_in ps) 1)
+file_row : (ps : List LinePart) → find_id (codes "file") (all_rows ps) ≡ option_map (row_of (codes "file")) (slice_get (words_in ps) 1)
 file_row ps = find-all (codes "file") (rows_from 0 ps) refl ∙ find-second ps
 
-option_first : (o : Opt) (ps : List Part) → first_of (id_of o) (all_rows ps) ≡ value_in o ps
+option_first : (o : Opt) (ps : List LinePart) → first_of (id_of o) (all_rows ps) ≡ value_in o ps
 option_first o ps = ap (option_and_then (λ (r : Row). slice_get r.values 0)) (find-all (id_of o) (rows_from 0 ps) (other_flag o) ∙ find-option o ps 0)
     ∙ first_row (id_of o) (value_in o ps)
 
-report_told : (ps : List Part) → is_true (one_of (codes "report") (all_rows ps)) ≡ has_flag ps
+report_told : (ps : List LinePart) → is_true (one_of (codes "report") (all_rows ps)) ≡ has_flag ps
 report_told ps = ap (λ rs. is_true (one_of (codes "report") rs)) (all-is (rows_from 0 ps)) ∙ go (has_row (codes "report") (rows_from 0 ps)) refl
   where
     go : (b : Bool) → has_row (codes "report") (rows_from 0 ps) ≡ b
@@ -184,7 +184,7 @@ report_told ps = ap (λ rs. is_true (one_of (codes "report") rs)) (all-is (rows_
     go true e = ap (λ o. is_true (option_and_then row_text o)) (find-flag ps 0 (sym (has-flag ps 0) ∙ e)) ∙ sym e ∙ has-flag ps 0
     go false e = ap (λ o. is_true (option_and_then row_text o)) (find-new (codes "report") (rows_from 0 ps) default_row e refl) ∙ sym e ∙ has-flag ps 0
 
-abbrev told_by : List Text → List Part → Sayings
+abbrev told_by : List Text → List LinePart → Sayings
 told_by ws ps = record {
   verb = unwrap_or (slice_get ws 0) [];
   file = unwrap_or (slice_get ws 1) [];
@@ -195,7 +195,7 @@ told_by ws ps = record {
   weight = value_in Weight ps;
 }
 
-told_rows-is : (ps : List Part) → told_rows (all_rows ps) ≡ told_by (words_in ps) ps
+told_rows-is : (ps : List LinePart) → told_rows (all_rows ps) ≡ told_by (words_in ps) ps
 told_rows-is ps =
     let verb_is : first_of (codes "verb") (all_rows ps) ≡ slice_get (words_in ps) 0 = ap (option_and_then (λ (r : Row). slice_get r.values 0)) (verb_row ps) ∙ first_row (codes "verb") _ in
     let file_is : first_of (codes "file") (all_rows ps) ≡ slice_get (words_in ps) 1 = ap (option_and_then (λ (r : Row). slice_get r.values 0)) (file_row ps) ∙ first_row (codes "file") _ in
@@ -211,13 +211,13 @@ told_rows-is ps =
 
 -- ---- the whole
 
-count_is : (ps : List Part) (n : ℕ) → count_from n ps ≡ length (words_in ps) + n
+count_is : (ps : List LinePart) (n : ℕ) → count_from n ps ≡ length (words_in ps) + n
 count_is [] n = omega arith
 count_is (alone t ∷ ps) n = omega (arith, count_is ps (suc n))
 count_is (flagged ∷ ps) n = count_is ps n
 count_is (valued o v ∷ ps) n = count_is ps n
 
-all_true : (ps : List Part) → list_all (λ p. true) ps ≡ true
+all_true : (ps : List LinePart) → list_all (λ p. true) ps ≡ true
 all_true [] = refl
 all_true (p ∷ ps) = all_true ps
 
@@ -226,14 +226,14 @@ map_conds true true rows = refl
 map_conds true false rows = refl
 map_conds false d rows = refl
 
-by_words : (ws : List Text) (ps : List Part) (once : Bool) → cond (bounded (length ws) && once) (cond (is_some (slice_get ws 0) && is_some (slice_get ws 1)) (Some (told_by ws ps)) None) None
+by_words : (ws : List Text) (ps : List LinePart) (once : Bool) → cond (bounded (length ws) && once) (cond (is_some (slice_get ws 0) && is_some (slice_get ws 1)) (Some (told_by ws ps)) None) None
     ≡ cond once (line_with ws ps) None
 by_words [] ps once = refl
 by_words (a ∷ []) ps once = refl
 by_words (a ∷ b ∷ []) ps once = refl
 by_words (a ∷ b ∷ c ∷ ws) ps once = sym (cond_same once None)
 
-said : (ps : List Part) → option_map told_rows (reads [] ps) ≡ line_of_parts ps
+said : (ps : List LinePart) → option_map told_rows (reads [] ps) ≡ line_of_parts ps
 said ps =
     let ws = words_in ps in
     let fit : fits [] ps ≡ (bounded (length ws) && stands_once ps) =
@@ -246,22 +246,22 @@ said ps =
     ∙ ap₂ (λ (d : Bool) (t : Sayings). cond (bounded (length ws) && stands_once ps) (cond d (Some t) None) None) given (told_rows-is ps)
     ∙ by_words ws ps (stands_once ps)
 
-said_all : (o : Option (List Part)) → option_map told_rows (option_and_then (reads []) o) ≡ option_and_then line_of_parts o
+said_all : (o : Option (List LinePart)) → option_map told_rows (option_and_then (reads []) o) ≡ option_and_then line_of_parts o
 said_all None = refl
 said_all (Some ps) = said ps
 
 -- the definition of a line is what `clap` takes
-pub line_is : (ts : List Token) → list_all is_text ts ≡ true
+pub line_is : (ts : List WordForm) → list_all is_text ts ≡ true
     → option_map told_rows (cond (is_nil (fault_of glab (map word_of ts))) (Some (matches_of glab (map word_of ts))) None) ≡ line_of ts
 line_is ts texts = ap (option_map told_rows) (sym (outcome_is (map word_of ts)) ∙ walks [] ts texts) ∙ said_all (parts_of ts)
 
 -- where no fault comes, the line says what was found
-pub line-taken : (ts : List Token) → list_all is_text ts ≡ true → fault_of glab (map word_of ts) ≡ [] → line_of ts ≡ Some (told_rows (matches_of glab (map word_of ts)))
+pub line-taken : (ts : List WordForm) → list_all is_text ts ≡ true → fault_of glab (map word_of ts) ≡ [] → line_of ts ≡ Some (told_rows (matches_of glab (map word_of ts)))
 line-taken ts texts none =
     sym (line_is ts texts) ∙ ap (λ k. option_map told_rows (cond (is_nil k) (Some (matches_of glab (map word_of ts))) None)) none
 
 -- where one comes, the words are no line
-pub line-refused : (ts : List Token) → list_all is_text ts ≡ true → is_nil (fault_of glab (map word_of ts)) ≡ false → line_of ts ≡ None
+pub line-refused : (ts : List WordForm) → list_all is_text ts ≡ true → is_nil (fault_of glab (map word_of ts)) ≡ false → line_of ts ≡ None
 line-refused ts texts some =
     sym (line_is ts texts) ∙ ap (λ b. option_map told_rows (cond b (Some (matches_of glab (map word_of ts))) None)) some
 
@@ -272,7 +272,7 @@ some_of true true rows found e = (refl, ap (λ o. unwrap_or o rows) e)
 some_of true false rows found e = absurd (true≢false (ap is_some (sym e)))
 some_of false d rows found e = absurd (true≢false (ap is_some (sym e)))
 
-flag_text : (ps : List Part) → one_of (codes "report") (all_rows ps) ≡ Some (cond (has_flag ps) (codes "true") (codes "false"))
+flag_text : (ps : List LinePart) → one_of (codes "report") (all_rows ps) ≡ Some (cond (has_flag ps) (codes "true") (codes "false"))
 flag_text ps = ap (one_of (codes "report")) (all-is (rows_from 0 ps)) ∙ go (has_row (codes "report") (rows_from 0 ps)) refl
   where
     go : (b : Bool) → has_row (codes "report") (rows_from 0 ps) ≡ b
@@ -290,7 +290,7 @@ given_first : (id : Text) (o : Option Row) (t : Option Text) → o ≡ option_ma
     → is_some (option_and_then (λ (r : Row). slice_get r.values 0) o) ≡ true
 given_first id o t e given = rw e (ap is_some (first_row id t) ∙ sym (given_row id t) ∙ ap (λ x. option_map_or (λ (r : Row). explicit_source r.source) x false) (sym e) ∙ given)
 
-whole_parts : (o : Option (List Part)) (found : List Row) → option_and_then (reads []) o ≡ Some found → IsWhole found
+whole_parts : (o : Option (List LinePart)) (found : List Row) → option_and_then (reads []) o ≡ Some found → IsWhole found
 whole_parts None found e = absurd (true≢false (ap is_some (sym e)))
 whole_parts (Some ps) found e =
     let same = some_of (fits [] ps) (is_given (codes "verb") (all_rows ps) && is_given (codes "file") (all_rows ps)) (all_rows ps) found
@@ -303,11 +303,11 @@ whole_parts (Some ps) found e =
     } in
     subst IsWhole same.1 all
 
-known : (ts : List Token) → list_all is_text ts ≡ true → fault_of glab (map word_of ts) ≡ [] → IsWhole (matches_of glab (map word_of ts))
+known : (ts : List WordForm) → list_all is_text ts ≡ true → fault_of glab (map word_of ts) ≡ [] → IsWhole (matches_of glab (map word_of ts))
 known ts texts none = whole_parts (parts_of ts) (matches_of glab (map word_of ts))
     (sym (walks [] ts texts) ∙ outcome_is (map word_of ts) ∙ ap (λ k. cond (is_nil k) (Some (matches_of glab (map word_of ts))) None) none)
 
-module _ (ts : List Token) (words : List Text) (spells : Spells ts words) where
+module _ (ts : List WordForm) (words : List Text) (spells : Spells ts words) where
   -- what was found, where the command takes the words
   pub taken_at : (a : App) → a ≡ glab → (rows : List Row) → (is_simple_and_free a ≡ true → fault_of a words ≡ []) → (is_simple a ≡ true → rows ≡ matches_of a words)
       → (line_of ts ≡ Some (told_rows rows)) × IsWhole rows

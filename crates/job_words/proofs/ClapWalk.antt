@@ -1,4 +1,4 @@
--- What `clap` makes of the words of tokens, one token after another.
+-- What `clap` makes of the words of forms, one form after another.
 use Rattle.std.proofs.Common.{◌≡◌, ◌∙◌, ◌&&◌, ◌||◌, ◌==◌, ℕ, suc, zero, Bool, cond, true, false, not, refl, sym, ap, ap₂, List, [], ◌∷◌, ◌++◌, map, Option, Some, None, codes, fold, append-nil, true≢false}
 use Rattle.std.specs.List.{list_all}
 use Rattle.std.specs.Str.{bytes_eq}
@@ -13,7 +13,7 @@ use Rattle.clap.specs.declared.builder.value_parser.Reading.TheVariants.{AsWritt
 use Rattle.clap.specs.declared.error.kind.ErrorKind.TheVariants.{ArgumentConflict}
 use Rattle.clap.specs.declared.parser.matches.ValueSource.TheVariants.{CommandLine}
 use Rattle.job_words.specs.Glab.{glab}
-use Rattle.job_words.specs.Tokens.{Token, bare, is_text, joined, plain, report, word_of}
+use Rattle.job_words.specs.WordForms.{WordForm, bare, is_text, joined, plain, report, word_of}
 
 abbrev pub shape : Shape
 shape = (built glab).top
@@ -245,7 +245,7 @@ text_settles x xs h rows pending rest (suc (suc m)) =
     none_both _ _ (x ∷ xs) rest _ (text-turn x xs h rows (suc (suc m)) pending) (text-turn x xs h _ (suc (suc m)) None)
 
 -- what is pending is settled before the next word, or at the end
-pub settles : (ts : List Token) (rows : List Row) (n : ℕ) (pending : Option (Text × List Text)) → list_all is_text ts ≡ true
+pub settles : (ts : List WordForm) (rows : List Row) (n : ℕ) (pending : Option (Text × List Text)) → list_all is_text ts ≡ true
     → outcome (standing rows pending idle (place n)) (map word_of ts)
     ≡ cond (is_nil (settle_fault rules_in false (held rows pending))) (outcome (standing (settled_rows rules_in pending rows) None idle (place n)) (map word_of ts)) None
 unfolding walk_fault
@@ -319,7 +319,7 @@ module _ (rows : List Row) (n : ℕ) where
   option-settled Edges v = refl
   option-settled Weight v = refl
 
-  pub bare-step : (o : Opt) (x : ℕ) (xs : Text) (ts : List Token) → (x == 45) ≡ false → list_all is_text ts ≡ true
+  pub bare-step : (o : Opt) (x : ℕ) (xs : Text) (ts : List WordForm) → (x == 45) ≡ false → list_all is_text ts ≡ true
       → outcome (state rows n) (word_of (bare o) ∷ (x ∷ xs) ∷ map word_of ts)
       ≡ cond (has_row (id_of o) rows) None (outcome (state (rows ++ row_of (id_of o) (x ∷ xs) ∷ []) n) (map word_of ts))
   bare-step o x xs ts h texts =
@@ -380,15 +380,15 @@ waiting_report Edges rows p = refl
 waiting_report Weight rows p = refl
 
 -- the next word is no text
-abbrev pub lacks_value : List Token → Bool
+abbrev pub lacks_value : List WordForm → Bool
 lacks_value (plain t ∷ ts) = false
 lacks_value _ = true
 
-pub bare-lacks : (rows : List Row) (n : ℕ) (o : Opt) (ts : List Token) → lacks_value ts ≡ true → outcome (state rows n) (word_of (bare o) ∷ map word_of ts) ≡ None
+pub bare-lacks : (rows : List Row) (n : ℕ) (o : Opt) (ts : List WordForm) → lacks_value ts ≡ true → outcome (state rows n) (word_of (bare o) ∷ map word_of ts) ≡ None
 bare-lacks rows n o ts lacks =
     steps (state rows n) _ (word_of (bare o)) (map word_of ts) true (bare-turn rows (place n) o None) (bare-walk rows (place n) o None) ∙ go ts lacks
   where
-    go : (rest : List Token) → lacks_value rest ≡ true → outcome (standing rows (Some (id_of o, [])) (option (id_of o)) (place n)) (map word_of rest) ≡ None
+    go : (rest : List WordForm) → lacks_value rest ≡ true → outcome (standing rows (Some (id_of o, [])) (option (id_of o)) (place n)) (map word_of rest) ≡ None
     go [] e = waiting_end o rows (place n)
     go (plain t ∷ rest) e = absurd (true≢false (sym e))
     go (report ∷ rest) e = fails (standing rows (Some (id_of o, [])) (option (id_of o)) (place n)) (codes "--report") (map word_of rest) (waiting_report o rows (place n))
@@ -407,7 +407,7 @@ word-settled (suc m) v rows = refl
 pub text-late : (rows : List Row) (n x : ℕ) (xs : Text) (rest : List Text) → (x == 45) ≡ false → is_early n ≡ false → outcome (state rows n) ((x ∷ xs) ∷ rest) ≡ None
 text-late rows n x xs rest h late = fails (state rows n) (x ∷ xs) rest (text-turn x xs h rows n None ∙ late)
 
-pub text-step : (rows : List Row) (n x : ℕ) (xs : Text) (ts : List Token) → (x == 45) ≡ false → list_all is_text ts ≡ true → is_early n ≡ true → has_row (word_id n) rows ≡ false
+pub text-step : (rows : List Row) (n x : ℕ) (xs : Text) (ts : List WordForm) → (x == 45) ≡ false → list_all is_text ts ≡ true → is_early n ≡ true → has_row (word_id n) rows ≡ false
     → outcome (state rows n) ((x ∷ xs) ∷ map word_of ts) ≡ outcome (state (rows ++ row_of (word_id n) (x ∷ xs) ∷ []) (suc n)) (map word_of ts)
 text-step rows n x xs ts h texts early fresh =
     steps (state rows n) _ (x ∷ xs) (map word_of ts) true (text-turn x xs h rows n None ∙ early) (text-walk x xs h rows n None early)

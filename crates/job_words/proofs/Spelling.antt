@@ -1,4 +1,4 @@
--- Words and their tokens.
+-- Words and their forms.
 use Rattle.std.proofs.Common.{◌≡◌, ◌==◌, ◌≤◌, ◌++◌, append-nil, arith, codes, drop, eqb-true, ltb-false, subst, take, true≢false, ◌||◌, ap, ap₂, sym, ◌∙◌, Bool, List, [], ◌∷◌, ℕ, Option, Some, None, is_some, length, map, refl, true, false, cond, nat_lt, not, suc, ◌+◌, ◌⊎◌, inl, inr}
 use Rattle.std.specs.List.{position, position_or_len}
 use Rattle.gl_base.specs.declared.usage_faults.Opt.TheVariants.{Number, Vertices, Edges, Weight}
@@ -10,9 +10,9 @@ use Rattle.std.proofs.lemmas.Slice.Eq.{bytes_eq-Decides}
 use Rattle.std.proofs.lemmas.List.{take-append-drop}
 use Rattle.gl_base.specs.declared.usage_faults.Opt.{Opt}
 use Rattle.gl_base.specs.Texts.{Text}
-use Rattle.job_words.specs.Tokens.{Spells, Token, bare, dashed_token, is_formed, is_text, joined, option_name, option_at, option_token, or_else, plain, report, any_option, token_of, tokens_of, first_unformed, word_of}
+use Rattle.job_words.specs.WordForms.{Spells, WordForm, bare, dashed_form, is_formed, is_text, joined, option_name, option_at, option_form, or_else, plain, report, any_option, word_form, word_forms, first_unformed, word_of}
 
-is_some-or_else : (a b : Option Token) → is_some (or_else a b) ≡ (is_some a || is_some b)
+is_some-or_else : (a b : Option WordForm) → is_some (or_else a b) ≡ (is_some a || is_some b)
 is_some-or_else None b = refl
 is_some-or_else (Some t) b = refl
 
@@ -45,13 +45,13 @@ pub position-map : {X Y : Type 0} (p : Y → Bool) (f : X → Y) (xs : List X) �
 position-map p f xs =
     ap₂ (λ (i n : ℕ). cond (nat_lt i n) (Some i) None) (position_or_len-map p f xs) (length-map f xs)
 
--- ---- formed words are the words of their tokens
+-- ---- formed words are the words of their forms
 
 eq-bytes : (xs ys : Text) → bytes_eq xs ys ≡ true → xs ≡ ys
 eq-bytes xs ys e = (bytes_eq-Decides xs ys).0 e
 
 -- what `Spells` says of one word
-abbrev IsWordOf : Text → Token → Type 0
+abbrev IsWordOf : Text → WordForm → Type 0
 IsWordOf word t = (is_text t ≡ true) × (word_of t ≡ word)
 
 none≢some : {X : Type 0} (x : X) → None ≡ Some x → ⊥
@@ -60,7 +60,7 @@ none≢some x e = true≢false (ap is_some (sym e))
 some_same : {X : Type 0} (x y : X) → Some x ≡ Some y → x ≡ y
 some_same x y e = ap (λ o. unwrap_or o x) e
 
-rest-word : (o : Opt) (word rest : Text) (t : Token) → word ≡ option_name o ++ rest → option_token o rest ≡ Some t → IsWordOf word t
+rest-word : (o : Opt) (word rest : Text) (t : WordForm) → word ≡ option_name o ++ rest → option_form o rest ≡ Some t → IsWordOf word t
 rest-word o word [] t is e = subst (IsWordOf word) (some_same (bare o) t e) (refl, sym (is ∙ append-nil (option_name o)))
 rest-word o word (c ∷ []) t is e = absurd (none≢some t e)
 rest-word o word (c ∷ x ∷ xs) t is e = go (c == 61) refl e
@@ -70,20 +70,20 @@ rest-word o word (c ∷ x ∷ xs) t is e = go (c == 61) refl e
         (refl, ap (λ d. option_name o ++ d ∷ x ∷ xs) (sym (eqb-true c 61 same)) ∙ sym is)
     go false same h = absurd (none≢some t h)
 
-option-word : (o : Opt) (word : Text) (t : Token) → option_at o word ≡ Some t → IsWordOf word t
+option-word : (o : Opt) (word : Text) (t : WordForm) → option_at o word ≡ Some t → IsWordOf word t
 option-word o word t e = go (bytes_eq (take (length (option_name o)) word) (option_name o)) refl e
   where
     go : (b : Bool) → bytes_eq (take (length (option_name o)) word) (option_name o) ≡ b
-        → option_and_then (option_token o) (cond b (Some (drop (length (option_name o)) word)) None) ≡ Some t → IsWordOf word t
+        → option_and_then (option_form o) (cond b (Some (drop (length (option_name o)) word)) None) ≡ Some t → IsWordOf word t
     go true same h = rest-word o word (drop (length (option_name o)) word) t
         (sym (take-append-drop (length (option_name o)) word) ∙ ap (λ front. front ++ drop (length (option_name o)) word) (eq-bytes _ _ same)) h
     go false same h = absurd (none≢some t h)
 
-or_else-cases : (a b : Option Token) (t : Token) → or_else a b ≡ Some t → (a ≡ Some t) ⊎ (b ≡ Some t)
+or_else-cases : (a b : Option WordForm) (t : WordForm) → or_else a b ≡ Some t → (a ≡ Some t) ⊎ (b ≡ Some t)
 or_else-cases None b t e = inr e
 or_else-cases (Some s) b t e = inl e
 
-any_option-word : (word : Text) (t : Token) → any_option word ≡ Some t → IsWordOf word t
+any_option-word : (word : Text) (t : WordForm) → any_option word ≡ Some t → IsWordOf word t
 any_option-word word t e = elim (or_else-cases (option_at Number word) _ t e) [
   | inl h ↦ option-word Number word t h
   | inr rest ↦ elim (or_else-cases (option_at Vertices word) _ t rest) [
@@ -95,35 +95,35 @@ any_option-word word t e = elim (or_else-cases (option_at Number word) _ t e) [
   ]
 ]
 
-dashed-word : (word : Text) (t : Token) → dashed_token word ≡ Some t → IsWordOf word t
+dashed-word : (word : Text) (t : WordForm) → dashed_form word ≡ Some t → IsWordOf word t
 dashed-word word t e = go (bytes_eq word (codes "--report")) refl e
   where
     go : (b : Bool) → bytes_eq word (codes "--report") ≡ b → cond b (Some report) (any_option word) ≡ Some t → IsWordOf word t
     go true same h = subst (IsWordOf word) (some_same report t h) (refl, sym (eq-bytes word (codes "--report") same))
     go false same h = any_option-word word t h
 
-token-word : (word : Text) (t : Token) → token_of word ≡ Some t → IsWordOf word t
+token-word : (word : Text) (t : WordForm) → word_form word ≡ Some t → IsWordOf word t
 token-word [] t e = absurd (none≢some t e)
 token-word (x ∷ xs) t e = go (x == 45) refl e
   where
-    go : (b : Bool) → (x == 45) ≡ b → cond b (dashed_token (x ∷ xs)) (Some (plain (x ∷ xs))) ≡ Some t → IsWordOf (x ∷ xs) t
+    go : (b : Bool) → (x == 45) ≡ b → cond b (dashed_form (x ∷ xs)) (Some (plain (x ∷ xs))) ≡ Some t → IsWordOf (x ∷ xs) t
     go true same h = dashed-word (x ∷ xs) t h
     go false same h = subst (IsWordOf (x ∷ xs)) (some_same (plain (x ∷ xs)) t h) (ap not same, refl)
 
-spells_all : (words : List Text) → length words ≤ position_or_len (λ word. not (is_formed word)) words → Spells (tokens_of words) words
+spells_all : (words : List Text) → length words ≤ position_or_len (λ word. not (is_formed word)) words → Spells (word_forms words) words
 spells_all [] h = record { formed = refl; spelled = refl }
-spells_all (w ∷ ws) h = go (token_of w) refl h (spells_all ws)
+spells_all (w ∷ ws) h = go (word_form w) refl h (spells_all ws)
   where
-    go : (o : Option Token) → token_of w ≡ o → suc (length ws) ≤ cond (not (not (is_some o))) (1 + position_or_len (λ word. not (is_formed word)) ws) 0
-        → (length ws ≤ position_or_len (λ word. not (is_formed word)) ws → Spells (tokens_of ws) ws) → Spells (cons_option o (tokens_of ws)) (w ∷ ws)
+    go : (o : Option WordForm) → word_form w ≡ o → suc (length ws) ≤ cond (not (not (is_some o))) (1 + position_or_len (λ word. not (is_formed word)) ws) 0
+        → (length ws ≤ position_or_len (λ word. not (is_formed word)) ws → Spells (word_forms ws) ws) → Spells (cons_option o (word_forms ws)) (w ∷ ws)
     go None e k rest = absurd (omega arith)
     go (Some t) e k rest =
         let here = token-word w t e in
         let tail = rest (omega arith) in
         record { formed = rw here.0 tail.formed; spelled = ap₂ (λ (a : Text) (b : List Text). a ∷ b) here.1 tail.spelled }
 
--- where each word is formed, the tokens spell the words
-pub spells : (words : List Text) → first_unformed words ≡ None → Spells (tokens_of words) words
+-- where each word is formed, the forms spell the words
+pub spells : (words : List Text) → first_unformed words ≡ None → Spells (word_forms words) words
 spells words e = spells_all words (go (nat_lt (position_or_len (λ word. not (is_formed word)) words) (length words)) refl e)
   where
     go : (b : Bool) → nat_lt (position_or_len (λ word. not (is_formed word)) words) (length words) ≡ b

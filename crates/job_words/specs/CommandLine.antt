@@ -6,7 +6,7 @@ use Rattle.job_words.specs.declared.words.Words.{Words}
 use Rattle.job_words.specs.Lines.{Sayings, line_of}
 use Rattle.job_words.specs.Meanings.{meaning_of}
 use Rattle.gl_base.specs.Texts.{Text}
-use Rattle.job_words.specs.Tokens.{tokens_of, first_unformed}
+use Rattle.job_words.specs.WordForms.{word_forms, first_unformed}
 
 -- what a line means, where the words are one
 abbrev pub line_means : Option Sayings → Result Words UsageFault
@@ -16,7 +16,7 @@ line_means (Some s) = meaning_of s
 -- the form comes first
 abbrev pub formed_means : Option ℕ → List Text → Result Words UsageFault
 formed_means (Some place) words = Err (fault.Form place)
-formed_means None words = line_means (line_of (tokens_of words))
+formed_means None words = line_means (line_of (word_forms words))
 
 -- the command line that the words are, or else their first fault
 abbrev pub command_line_of : List Text → Result Words UsageFault

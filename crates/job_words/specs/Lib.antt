@@ -1,4 +1,4 @@
-pub mod Tokens
+pub mod WordForms
 pub mod Lines
 pub mod Meanings
 pub mod CommandLine

@@ -1,12 +1,12 @@
 //! The form of the words.
 ghost use Rattle.std.specs.Prelude.{◌≡◌, is_some, option_and_then};
 ghost use Rattle.gl_base.specs.declared.usage_faults.Opt.{Opt};
-ghost use Rattle.job_words.specs.Tokens.{after_front, is_formed, option_token, any_option, texts, first_unformed};
+ghost use Rattle.job_words.specs.WordForms.{after_front, is_formed, option_form, any_option, texts, first_unformed};
 
 /// Whether a word is the name alone, or the name, `=` and at least one byte.
 fn is_option(word: &[u8], name: &[u8]) -> bool
     ensures { (o : Opt) → result
-        ≡ is_some (option_and_then (option_token o) (after_front name.now word.now)) }
+        ≡ is_some (option_and_then (option_form o) (after_front name.now word.now)) }
 {
     match word.strip_prefix(name) {
         Some([]) => true,

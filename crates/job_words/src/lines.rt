@@ -7,7 +7,7 @@ ghost use Rattle.gl_base.specs.declared.usage_faults.UsageFault.{UsageFault};
 ghost use Rattle.job_words.specs.CommandLine.{line_means};
 ghost use Rattle.job_words.specs.Views.{line_view};
 ghost use Rattle.job_words.specs.Lines.{line_of};
-ghost use Rattle.job_words.specs.Tokens.{Spells, Token, texts};
+ghost use Rattle.job_words.specs.WordForms.{Spells, WordForm, texts};
 
 use crate::commands::command;
 use crate::words::WordsReading;
@@ -55,9 +55,9 @@ fn fault_of(error: &Error) -> WordsReading
 
 /// Reads formed words as a line. The only fault that it finds is `Line`.
 pub fn read_line<'a>(alloc: Global, words: &'a [String]) -> Result<Line<'a>, WordsReading>
-    ensures ok { (ts : List Token) → Spells ts (texts words.entry.now)
+    ensures ok { (ts : List WordForm) → Spells ts (texts words.entry.now)
         → IfOk result (λ l. line_of ts ≡ Some (line_view l)) }
-    ensures fault { (ts : List Token) (f : UsageFault) → Spells ts (texts words.entry.now)
+    ensures fault { (ts : List WordForm) (f : UsageFault) → Spells ts (texts words.entry.now)
         → result ≡ Err (OrNoMemory.Fault f) → line_means (line_of ts) ≡ Err f }
 {
     let matches = match command(alloc)?.try_get_matches_from(words) {

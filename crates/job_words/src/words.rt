@@ -2,7 +2,7 @@
 ghost use Rattle.std.specs.Prelude.{◌≡◌, ◌<◌, ◌^◌, length, Err, Ok, IfOk};
 ghost use Rattle.gl_base.specs.declared.memory.OrNoMemory.{OrNoMemory};
 ghost use Rattle.job_words.specs.CommandLine.{IsCommandLine, command_line_of};
-ghost use Rattle.job_words.specs.Tokens.{texts};
+ghost use Rattle.job_words.specs.WordForms.{texts};
 
 use crate::forms::first_unformed;
 use crate::lines::read_line;

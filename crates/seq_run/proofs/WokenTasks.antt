@@ -9,7 +9,7 @@ use Rattle.update_api.specs.declared.links.Link.{Link}
 use Rattle.update_api.specs.declared.woken.Woken.{Woken}
 use Rattle.update_api.specs.declared.woken.Woken.TheVariants.{Nobody, Ahead, Around}
 use Rattle.update_api.specs.Directions.{leads_out}
-use Rattle.seq_run.specs.Inner.ListedLinks.{half_of}
+use Rattle.seq_run.specs.Inner.ListedLinks.{link_half}
 use Rattle.seq_run.specs.States.{is_woken}
 use Rattle.seq_run.specs.Inner.TaskQueues.{flag}
 use Rattle.seq_run.specs.Inner.Waking.{is_woken_along}
@@ -73,7 +73,7 @@ woken_more woken links i d old new within inside awake are =
         (cases_eq u near)
 
 -- the links wake whom the half-edges wake
-woken_is : (woken : Woken) (links : List Link) (u : ℕ) → list_any (wakes_to woken u) links ≡ is_woken woken (map half_of links) u
+woken_is : (woken : Woken) (links : List Link) (u : ℕ) → list_any (wakes_to woken u) links ≡ is_woken woken (map link_half links) u
 woken_is Nobody [] u = refl
 woken_is Nobody (link ∷ links) u = woken_is Nobody links u
 woken_is Ahead [] u = refl
@@ -81,5 +81,5 @@ woken_is Ahead (link ∷ links) u = ap (λ b. (leads_out link.direction && link.
 woken_is Around [] u = refl
 woken_is Around (link ∷ links) u = ap (λ b. (link.near == u) || b) (woken_is Around links u)
 
-pub added_all : (woken : Woken) (links : List Link) (old new : List Bool) → AreAddedBy woken links old new → (u : ℕ) → flag new u ≡ (is_woken woken (map half_of links) u || flag old u)
+pub added_all : (woken : Woken) (links : List Link) (old new : List Bool) → AreAddedBy woken links old new → (u : ℕ) → flag new u ≡ (is_woken woken (map link_half links) u || flag old u)
 added_all woken links old new are u = are.tasks u ∙ ap (λ b. b || flag old u) (woken_is woken links u)

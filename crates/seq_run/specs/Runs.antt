@@ -31,17 +31,17 @@ abbrev pub HasNoTask : {P : Type 0} → (P → Update) → RunView P → Type 0
 HasNoTask meaning run = IsFinished run.graph (meaning run.program) run.order
 
 -- updates of these vertices by machine 0, with tickets from this one on
-abbrev pub updates : ℕ → List ℕ → List Entry
-updates ticket [] = []
-updates ticket (v ∷ vs) = Go (record { 0 = 0 }) (record { 0 = v }) ticket ∷ updates (suc ticket) vs
+abbrev pub updates_in_turn : ℕ → List ℕ → List Entry
+updates_in_turn ticket [] = []
+updates_in_turn ticket (v ∷ vs) = Go (record { 0 = 0 }) (record { 0 = v }) ticket ∷ updates_in_turn (suc ticket) vs
 
 -- the order has updates by machine 0 alone, with tickets 0, 1, 2 and so on
 abbrev pub IsUpdates : List Entry → Type 0
-IsUpdates order = (vertices : List ℕ) × (order ≡ updates 0 vertices)
+IsUpdates order = (vertices : List ℕ) × (order ≡ updates_in_turn 0 vertices)
 
 -- the run, where these vertices were updated besides, in this order
 abbrev pub with_updates : {P : Type 0} → RunView P → List ℕ → RunView P
-with_updates run vertices = record run { order = run.order ++ updates (length run.order) vertices }
+with_updates run vertices = record run { order = run.order ++ updates_in_turn (length run.order) vertices }
 
 -- so many updates were made besides
 abbrev pub WentOn : {P : Type 0} → RunView P → RunView P → ℕ → Type 0

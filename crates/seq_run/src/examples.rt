@@ -2,7 +2,7 @@
 ghost use Rattle.std.specs.Prelude.{◌≡◌, [], ◌∷◌};
 ghost use Rattle.graph_core.specs.DataGraph.{IsDataGraph};
 ghost use Rattle.graph_core.specs.GraphLaws.{two_into_one};
-ghost use Rattle.seq_run.specs.Runs.{updates};
+ghost use Rattle.seq_run.specs.Runs.{updates_in_turn};
 ghost use Rattle.seq_run.specs.Examples.{vertex_numbers, edge_numbers, line_and_point, along_the_line, one_after_another, ends_and_again, two_ways, far_end_first, triangle_and_point, each_once, triangle_and_tail, down_to_the_cores};
 ghost use Rattle.seq_run.specs.Orders.{replay, IsValidOrder, IsFinished};
 ghost use Rattle.seq_run.specs.StepBound.{updates_since_restart};
@@ -17,7 +17,7 @@ pub fn levels_along_a_line()
     ensures finished { IsFinished line_and_point (update_of_levels 1) along_the_line }
     ensures levels { let last = replay line_and_point (update_of_levels 1) along_the_line in
         vertex_numbers line_and_point last ≡ 0 ∷ 1 ∷ 2 ∷ INF ∷ [] }
-    ensures no_second_update { IsValidOrder line_and_point (update_of_levels 1) (updates 0 (3 ∷ 3 ∷ [])) → ⊥ }
+    ensures no_second_update { IsValidOrder line_and_point (update_of_levels 1) (updates_in_turn 0 (3 ∷ 3 ∷ [])) → ⊥ }
 {}
 
 /// Levels where an edge leads away from the vertex that is not reached.

@@ -1,7 +1,7 @@
 //! The links of a vertex, which its scope lends.
 ghost use Rattle.std.specs.Prelude.{◌≡◌, ◌||◌, true, map, All, OnOk};
 ghost use Rattle.graph_core.specs.HalfRows.{data_half};
-ghost use Rattle.seq_run.specs.Inner.ListedLinks.{half_of};
+ghost use Rattle.seq_run.specs.Inner.ListedLinks.{link_half};
 
 use gl_base::NoMemory;
 use graph_core::Half;
@@ -10,7 +10,7 @@ use update_api::{Direction, Link};
 /// The links in the order of the half-edges.
 pub fn list_links(row: &mut Vec<Link>, halves: &[Half]) -> Result<(), NoMemory>
     requires { All (λ half. (half.out || half.into) ≡ true) halves.now }
-    ensures { OnOk result (map half_of row.new.items ≡ map data_half halves.now) }
+    ensures { OnOk result (map link_half row.new.items ≡ map data_half halves.now) }
 {
     row.clear();
     for half in halves {
@@ -22,7 +22,7 @@ pub fn list_links(row: &mut Vec<Link>, halves: &[Half]) -> Result<(), NoMemory>
 /// The link of a half-edge, which leads one way at least.
 fn link_of(half: &Half) -> Link
     requires { (half.now.out || half.now.into) ≡ true }
-    ensures { half_of result ≡ data_half half.now }
+    ensures { link_half result ≡ data_half half.now }
 {
     let direction = if !half.out {
         Direction::Into

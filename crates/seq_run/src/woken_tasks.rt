@@ -1,6 +1,6 @@
 //! Waking: which tasks an update adds.
 ghost use Rattle.std.specs.Prelude.{◌≡◌, ℕ, ◌<◌, ◌||◌, length, map, All};
-ghost use Rattle.seq_run.specs.Inner.ListedLinks.{half_of};
+ghost use Rattle.seq_run.specs.Inner.ListedLinks.{link_half};
 ghost use Rattle.seq_run.specs.States.{is_woken};
 ghost use Rattle.seq_run.specs.Inner.TaskQueues.{flag};
 ghost use Rattle.seq_run.specs.Inner.Waking.{is_woken_along};
@@ -13,7 +13,7 @@ use update_api::{Link, Woken};
 pub fn wake(tasks: &mut TaskQueue, woken: Woken, links: &[Link])
     requires { All (λ link. link.near < length tasks.old) links.now }
     ensures count { length tasks.new ≡ length tasks.old }
-    ensures tasks { (u : ℕ) → flag tasks.new u ≡ (is_woken woken (map half_of links.now) u || flag tasks.old u) }
+    ensures tasks { (u : ℕ) → flag tasks.new u ≡ (is_woken woken (map link_half links.now) u || flag tasks.old u) }
 {
     for link in links {
         if is_woken_along(woken, link.direction.leads_out()) {

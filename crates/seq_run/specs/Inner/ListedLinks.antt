@@ -4,8 +4,8 @@ use Rattle.update_api.specs.declared.links.Link.{Link}
 use Rattle.update_api.specs.Directions.{leads_out, leads_into}
 
 -- the link as a half-edge
-abbrev pub half_of : Link → DataHalf
-half_of link =
+abbrev pub link_half : Link → DataHalf
+link_half link =
     record {
       edge = link.edge;
       other = link.near;

@@ -1,4 +1,4 @@
-use Rattle.job_words.specs.Tokens.{texts}
+use Rattle.job_words.specs.WordForms.{texts}
 use Rattle.job_words.specs.declared.words.Words.TheVariants.{Run, Make}
 use Rattle.engine_cli.specs.Notes.{Tells}
 use Rattle.engine_cli.specs.Says.{moment}

@@ -2,7 +2,7 @@
 use Rattle.std.proofs.Common.{◌∙◌, not, rules, string_bytes, sym}
 use Rattle.std.proofs.lemmas.Iterator.{YieldsList-from_slice}
 use Rattle.std.proofs.lemmas.Iterator.Search.{position_from_yields_List}
-use Rattle.job_words.specs.Tokens.{is_formed}
+use Rattle.job_words.specs.WordForms.{is_formed}
 use Rattle.job_words.proofs.Spelling.{position-map}
 use Rattle.job_words.proofs.forms.first_unformed.Goals as goal
 

@@ -2,7 +2,7 @@
 use Rattle.std.proofs.Common.{◌≡◌, ◌||◌, ◌∙◌, Bool, List, ℕ, inl, inr, is_some, sym}
 use Rattle.gl_base.specs.declared.usage_faults.Opt.{Opt}
 use Rattle.gl_base.specs.declared.usage_faults.Opt.TheVariants.{Number, Vertices, Edges, Weight}
-use Rattle.job_words.specs.Tokens.{option_at}
+use Rattle.job_words.specs.WordForms.{option_at}
 use Rattle.job_words.proofs.Spelling.{four_or, is_option, joined_or}
 use Rattle.job_words.proofs.forms.is_any_option.Goals as goal
 use Rattle.job_words.proofs.forms.is_any_option.Goals.{then-is_option, else-is_option, then-is_option-2, else-is_option-2}

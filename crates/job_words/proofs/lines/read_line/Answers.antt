@@ -6,7 +6,7 @@ use Rattle.gl_base.specs.declared.memory.OrNoMemory.TheVariants.{NoMemory}
 use Rattle.gl_base.specs.declared.usage_faults.UsageFault.TheVariants as fault
 use Rattle.job_words.specs.CommandLine.{line_means}
 use Rattle.job_words.specs.Lines.{line_of}
-use Rattle.job_words.specs.Tokens.{texts}
+use Rattle.job_words.specs.WordForms.{texts}
 use Rattle.job_words.proofs.ClapSaid.{absent, flag_is, refused_at, some_first, taken_at}
 use Rattle.job_words.proofs.lines.read_line.Goals as goal
 use Rattle.job_words.proofs.lines.read_line.Goals.{in_default-via-in-Some+in_default, in_default-via-in_default}

@@ -2,7 +2,7 @@ use Rattle.std.proofs.Common.{◌≡◌, ◌∙◌, true, false, ◌∷◌, [], 
 use Rattle.std.proofs.Math.ListN.{length-set}
 use Rattle.gl_base.specs.declared.entries.Entry.TheVariants.{Go}
 use Rattle.graph_core.specs.Halves.{halves_of}
-use Rattle.seq_run.specs.Inner.ListedLinks.{half_of}
+use Rattle.seq_run.specs.Inner.ListedLinks.{link_half}
 use Rattle.seq_run.specs.Orders.{tasks_after}
 use Rattle.seq_run.specs.Runs.{tasks_left}
 use Rattle.seq_run.proofs.LinkLemmas.{halves_lead}
@@ -19,7 +19,7 @@ update_vertex-woken-requires-clause-links g c =
     let in_run = c.self.inside in
     let meaning = g.P.Program.meaning in
     let links = c.list_links.new.row.items in
-    let row : map half_of links ≡ halves_of in_run.graph.now c.args.vertex.0 = c.in_ok-list_links.ensures ∙ c.halves.ensures in
+    let row : map link_half links ≡ halves_of in_run.graph.now c.args.vertex.0 = c.in_ok-list_links.ensures ∙ c.halves.ensures in
     let task : tasks_after in_run.graph.now (meaning in_run.program) in_run.order.items c.args.vertex.0 ≡ true = subst (λ run. tasks_left meaning run c.args.vertex.0 ≡ true) (sym c.self.view_is) c.requires in
     rw (c.as_slice-links.ensures.value, c.as_mut_slice-values.ensures.value, c.as_mut_slice-edges.ensures.value)
     (its_links_fit in_run.graph.now (meaning in_run.program) in_run.order.items in_run.values.items in_run.edges.items in_run.tasks c.self.invariant c.args.vertex task links row)
@@ -29,7 +29,7 @@ wake-requires g c =
     let in_run = c.self.inside in
     let meaning = g.P.Program.meaning in
     let links = c.list_links.new.row.items in
-    let row : map half_of links ≡ halves_of in_run.graph.now c.args.vertex.0 = c.in_ok-list_links.ensures ∙ c.halves.ensures in
+    let row : map link_half links ≡ halves_of in_run.graph.now c.args.vertex.0 = c.in_ok-list_links.ensures ∙ c.halves.ensures in
     let task : tasks_after in_run.graph.now (meaning in_run.program) in_run.order.items c.args.vertex.0 ≡ true = subst (λ run. tasks_left meaning run c.args.vertex.0 ≡ true) (sym c.self.view_is) c.requires in
     let fit = its_links_fit in_run.graph.now (meaning in_run.program) in_run.order.items in_run.values.items in_run.edges.items in_run.tasks c.self.invariant c.args.vertex task links row in
     let flags : length c.remove.new.self ≡ length in_run.tasks = ap length c.remove.ensures ∙ length-set in_run.tasks c.args.vertex.0 false in
@@ -46,7 +46,7 @@ invariant_of-self-2 g c =
     let values = in_run.values.items in
     let edges = in_run.edges.items in
     let links = c.list_links.new.row.items in
-    let row : map half_of links ≡ halves_of in_run.graph.now v.0 = c.in_ok-list_links.ensures ∙ c.halves.ensures in
+    let row : map link_half links ≡ halves_of in_run.graph.now v.0 = c.in_ok-list_links.ensures ∙ c.halves.ensures in
     let new_values = c.update_vertex-woken.new.values in
     let new_edges = c.update_vertex-woken.new.edges in
     let task : tasks_after in_run.graph.now (meaning in_run.program) order v.0 ≡ true = subst (λ run. tasks_left meaning run v.0 ≡ true) (sym c.self.view_is) c.requires in

@@ -11,11 +11,11 @@ abbrev pub texts : {Z : Type 0} → List (String Z) → List Text
 texts = map string_bytes
 
 -- what a word is by its form: a text, `--report`, `--NAME`, or `--NAME=VALUE`
-pub data Token : Type 0 where
-  plain : Text → Token
-  report : Token
-  bare : Opt → Token
-  joined : Opt → Text → Token
+pub data WordForm : Type 0 where
+  plain : Text → WordForm
+  report : WordForm
+  bare : Opt → WordForm
+  joined : Opt → Text → WordForm
 
 -- how an option is written
 abbrev pub option_name : Opt → Text
@@ -30,57 +30,57 @@ after_front front word =
     if bytes_eq (take (length front) word) front then Some (drop (length front) word) else None
 
 -- an option, by what follows its name: nothing, or `=` (61) and at least one byte
-abbrev pub option_token : Opt → Text → Option Token
-option_token o [] = Some (bare o)
-option_token o (c ∷ []) = None
-option_token o (c ∷ x ∷ xs) = if c == 61 then Some (joined o (x ∷ xs)) else None
+abbrev pub option_form : Opt → Text → Option WordForm
+option_form o [] = Some (bare o)
+option_form o (c ∷ []) = None
+option_form o (c ∷ x ∷ xs) = if c == 61 then Some (joined o (x ∷ xs)) else None
 
-abbrev pub option_at : Opt → Text → Option Token
-option_at o word = option_and_then (option_token o) (after_front (option_name o) word)
+abbrev pub option_at : Opt → Text → Option WordForm
+option_at o word = option_and_then (option_form o) (after_front (option_name o) word)
 
-abbrev pub or_else : Option Token → Option Token → Option Token
+abbrev pub or_else : Option WordForm → Option WordForm → Option WordForm
 or_else None other = other
 or_else (Some t) other = Some t
 
-abbrev pub any_option : Text → Option Token
+abbrev pub any_option : Text → Option WordForm
 any_option word = or_else (option_at Number word) (or_else (option_at Vertices word)
     (or_else (option_at Edges word) (option_at Weight word)))
 
 -- a word that begins with a hyphen is the flag or an option
-abbrev pub dashed_token : Text → Option Token
-dashed_token word =
+abbrev pub dashed_form : Text → Option WordForm
+dashed_form word =
     if bytes_eq word (codes "--report") then Some report else any_option word
 
 -- what the word is; the empty word is none
-abbrev pub token_of : Text → Option Token
-token_of [] = None
-token_of (x ∷ xs) = if x == 45 then dashed_token (x ∷ xs) else Some (plain (x ∷ xs))
+abbrev pub word_form : Text → Option WordForm
+word_form [] = None
+word_form (x ∷ xs) = if x == 45 then dashed_form (x ∷ xs) else Some (plain (x ∷ xs))
 
 -- the word has the form of a word
 abbrev pub is_formed : Text → Bool
-is_formed word = is_some (token_of word)
+is_formed word = is_some (word_form word)
 
 -- the place of the first word that has not
 abbrev pub first_unformed : List Text → Option ℕ
 first_unformed = position (λ word. not (is_formed word))
 
-abbrev pub tokens_of : List Text → List Token
-tokens_of = filter_map token_of
+abbrev pub word_forms : List Text → List WordForm
+word_forms = filter_map word_form
 
--- the word of a token
-abbrev pub word_of : Token → Text
+-- the word of a form
+abbrev pub word_of : WordForm → Text
 word_of (plain t) = t
 word_of report = codes "--report"
 word_of (bare o) = option_name o
 word_of (joined o v) = option_name o ++ 61 ∷ v
 
 -- a text is not empty and begins with no hyphen
-abbrev pub is_text : Token → Bool
+abbrev pub is_text : WordForm → Bool
 is_text (plain []) = false
 is_text (plain (x ∷ xs)) = not (x == 45)
 is_text _ = true
 
--- the words are those of the tokens
-pub record Spells (ts : List Token) (words : List Text) : Type 0 where
+-- the words are those of the forms
+pub record Spells (ts : List WordForm) (words : List Text) : Type 0 where
   pub formed : list_all is_text ts ≡ true
   pub spelled : map word_of ts ≡ words
