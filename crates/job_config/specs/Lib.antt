@@ -5,3 +5,4 @@ pub mod Keys
 pub mod Jobs
 pub mod Views
 pub mod Ranges
+pub mod Inner

@@ -4,7 +4,7 @@ ghost use Rattle.gl_base.specs.declared.jobs.EngineKind.TheVariants.{Locking};
 ghost use Rattle.serde_json.specs.View.{view};
 ghost use Rattle.job_config.specs.Fields.{fields_of, order_of, source_of};
 ghost use Rattle.job_config.specs.Ranges.{HasNumbers, HasSource};
-ghost use Rattle.job_config.specs.Views.{fields_view};
+ghost use Rattle.job_config.specs.Inner.FieldsViews.{fields_view};
 ghost use Rattle.job_config.specs.Values.{algorithm_in, engine_in, flag_in, required, or_default};
 
 use crate::values::{

@@ -5,7 +5,8 @@ ghost use Rattle.gl_base.specs.declared.memory.OrNoMemory.{OrNoMemory};
 ghost use Rattle.serde_json.specs.View.{view};
 ghost use Rattle.job_config.specs.Jobs.{IsJob, job_fault, job_of, job_of_json};
 ghost use Rattle.job_config.specs.Ranges.{IsInRanges};
-ghost use Rattle.job_config.specs.Views.{fields_view, job_view};
+ghost use Rattle.job_config.specs.Inner.FieldsViews.{fields_view};
+ghost use Rattle.job_config.specs.Views.{job_view};
 
 use crate::failures::read_failures;
 use crate::fields::{Fields, read_fields};

@@ -14,7 +14,7 @@ use Rattle.clap.specs.Kinds.{Kinds, or_else}
 use Rattle.clap.specs.declared.builder.value_parser.Reading.TheVariants.{AsWritten}
 use Rattle.clap.specs.declared.error.kind.ErrorKind.{ErrorKind}
 use Rattle.clap.specs.declared.parser.matches.ValueSource.TheVariants.{DefaultValue}
-use Rattle.job_words.specs.Glab.{glab}
+use Rattle.job_words.specs.Inner.Glab.{glab}
 use Rattle.job_words.specs.Lines.{LinePart, alone, flagged, has_flag, same_option, value_in, valued, words_in}
 use Rattle.job_words.proofs.ClapWalk.{at_none, end_fault, held, id_of, is_nil, outcome, row_of, rules_in, shape, state, word_id}
 use Rattle.job_words.proofs.ClapLine.{option_word, rows_from}

@@ -7,7 +7,8 @@ use Rattle.gl_base.specs.declared.usage_faults.Opt.{Opt}
 use Rattle.gl_base.specs.declared.usage_faults.Opt.TheVariants.{Number, Vertices, Edges, Weight}
 use Rattle.clap.specs.Walk.{Row, Text, has_row}
 use Rattle.job_words.specs.Lines.{LinePart, alone, flagged, parts_of, valued}
-use Rattle.job_words.specs.WordForms.{WordForm, bare, is_text, joined, plain, report, word_of}
+use Rattle.job_words.specs.WordForms.{WordForm, bare, joined, plain, report}
+use Rattle.job_words.specs.Inner.Spelling.{is_text, word_of}
 use Rattle.job_words.proofs.ClapWalk.{bare-lacks, bare-step, id_of, is_early, joined-step, no_hyphen, outcome, report-step, row_of, state, text-late, text-step, word_id}
 
 -- ---- the rows of the parts so far

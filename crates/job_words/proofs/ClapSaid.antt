@@ -14,9 +14,10 @@ use Rattle.clap.specs.declared.error.kind.ErrorKind.TheVariants.{OutOfMemory}
 use Rattle.clap.specs.Simple.{App, is_simple, matches_of}
 use Rattle.clap.specs.Takes.{is_given}
 use Rattle.clap.specs.Walk.{Row, Text, finished, first_of, has_row, one_of, row_text}
-use Rattle.job_words.specs.Glab.{glab}
+use Rattle.job_words.specs.Inner.Glab.{glab}
 use Rattle.job_words.specs.Lines.{LinePart, Sayings, alone, flagged, has_flag, repeats, line_of, parts_of, line_of_parts, line_with, stands_once, value_in, valued, words_in}
-use Rattle.job_words.specs.WordForms.{Spells, WordForm, is_text, word_of}
+use Rattle.job_words.specs.WordForms.{WordForm}
+use Rattle.job_words.specs.Inner.Spelling.{Spells, is_text, word_of}
 use Rattle.job_words.proofs.ClapWalk.{held, id_of, is_early, is_nil, row_of, rules_in}
 use Rattle.job_words.proofs.ClapLine.{count_from, count_from-push, more, reads, rows_from, so_far, walks}
 use Rattle.job_words.proofs.ClapEnd.{all-is, both, cond_same, default_row, end_is, find-all, find-flag, find-new, find-option, find-second, find-verb, find_id, flag_option, has-flag, id-same, other_flag, other_word, outcome_is, word_flag}

@@ -12,8 +12,9 @@ use Rattle.clap.specs.Kinds.{Kinds, or_else}
 use Rattle.clap.specs.declared.builder.value_parser.Reading.TheVariants.{AsWritten}
 use Rattle.clap.specs.declared.error.kind.ErrorKind.TheVariants.{ArgumentConflict}
 use Rattle.clap.specs.declared.parser.matches.ValueSource.TheVariants.{CommandLine}
-use Rattle.job_words.specs.Glab.{glab}
-use Rattle.job_words.specs.WordForms.{WordForm, bare, is_text, joined, plain, report, word_of}
+use Rattle.job_words.specs.Inner.Glab.{glab}
+use Rattle.job_words.specs.WordForms.{WordForm, bare, joined, plain, report}
+use Rattle.job_words.specs.Inner.Spelling.{is_text, word_of}
 
 abbrev pub shape : Shape
 shape = (built glab).top

@@ -10,7 +10,8 @@ use Rattle.std.proofs.lemmas.Slice.Eq.{bytes_eq-Decides}
 use Rattle.std.proofs.lemmas.List.{take-append-drop}
 use Rattle.gl_base.specs.declared.usage_faults.Opt.{Opt}
 use Rattle.gl_base.specs.Texts.{Text}
-use Rattle.job_words.specs.WordForms.{Spells, WordForm, bare, dashed_form, is_formed, is_text, joined, option_name, option_at, option_form, or_else, plain, report, any_option, word_form, word_forms, first_unformed, word_of}
+use Rattle.job_words.specs.WordForms.{WordForm, bare, dashed_form, is_formed, joined, option_name, option_at, option_form, or_else, plain, report, any_option, word_form, word_forms, first_unformed}
+use Rattle.job_words.specs.Inner.Spelling.{Spells, is_text, word_of}
 
 is_some-or_else : (a b : Option WordForm) → is_some (or_else a b) ≡ (is_some a || is_some b)
 is_some-or_else None b = refl

@@ -2,5 +2,4 @@ pub mod WordForms
 pub mod Lines
 pub mod Meanings
 pub mod CommandLine
-pub mod Glab
-pub mod Views
+pub mod Inner

@@ -1,6 +1,5 @@
 -- The form of a word.
-use Rattle.std.specs.Prelude.{◌≡◌, ◌==◌, ◌∷◌, ◌++◌, [], ℕ, Bool, List, Option, Some, None, codes, drop, false, filter_map, if◌then◌else◌, is_some, length, map, not, option_and_then, position, string_bytes, take, true, String}
-use Rattle.std.specs.List.{list_all}
+use Rattle.std.specs.Prelude.{◌==◌, ◌∷◌, [], ℕ, Bool, List, Option, Some, None, codes, drop, filter_map, if◌then◌else◌, is_some, length, map, not, option_and_then, position, string_bytes, take, String}
 use Rattle.std.specs.Str.{bytes_eq}
 use Rattle.gl_base.specs.Texts.{Text}
 use Rattle.gl_base.specs.declared.usage_faults.Opt.{Opt}
@@ -66,21 +65,3 @@ first_unformed = position (λ word. not (is_formed word))
 
 abbrev pub word_forms : List Text → List WordForm
 word_forms = filter_map word_form
-
--- the word of a form
-abbrev pub word_of : WordForm → Text
-word_of (plain t) = t
-word_of report = codes "--report"
-word_of (bare o) = option_name o
-word_of (joined o v) = option_name o ++ 61 ∷ v
-
--- a text is not empty and begins with no hyphen
-abbrev pub is_text : WordForm → Bool
-is_text (plain []) = false
-is_text (plain (x ∷ xs)) = not (x == 45)
-is_text _ = true
-
--- the words are those of the forms
-pub record Spells (ts : List WordForm) (words : List Text) : Type 0 where
-  pub formed : list_all is_text ts ≡ true
-  pub spelled : map word_of ts ≡ words

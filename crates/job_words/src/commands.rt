@@ -1,7 +1,7 @@
 //! The one command, for `clap`.
 ghost use Rattle.std.specs.Prelude.{◌≡◌, IfOk, false};
 ghost use Rattle.clap.specs.Words.{app_of, rule_of};
-ghost use Rattle.job_words.specs.Glab.{bare_glab, flag_rule, glab, option_rule, word_rule};
+ghost use Rattle.job_words.specs.Inner.Glab.{bare_glab, flag_rule, glab, option_rule, word_rule};
 
 use clap::{Arg, ArgAction, Command};
 use std::alloc::{AllocError, Global};

@@ -5,9 +5,10 @@ ghost use Rattle.clap.specs.declared.error.kind.ErrorKind.{ErrorKind};
 ghost use Rattle.gl_base.specs.declared.memory.OrNoMemory.{OrNoMemory};
 ghost use Rattle.gl_base.specs.declared.usage_faults.UsageFault.{UsageFault};
 ghost use Rattle.job_words.specs.CommandLine.{line_means};
-ghost use Rattle.job_words.specs.Views.{line_view};
+ghost use Rattle.job_words.specs.Inner.Views.{line_view};
 ghost use Rattle.job_words.specs.Lines.{line_of};
-ghost use Rattle.job_words.specs.WordForms.{Spells, WordForm, texts};
+ghost use Rattle.job_words.specs.WordForms.{WordForm, texts};
+ghost use Rattle.job_words.specs.Inner.Spelling.{Spells};
 
 use crate::commands::command;
 use crate::words::WordsReading;

@@ -3,7 +3,7 @@ ghost use Rattle.std.specs.Prelude.{◌≡◌, ◌≤◌, IfOk, Err, Ok, option_
 ghost use Rattle.gl_base.specs.declared.memory.OrNoMemory.{OrNoMemory};
 ghost use Rattle.gl_base.specs.declared.usage_faults.UsageFault.{UsageFault};
 ghost use Rattle.job_words.specs.Meanings.{plan_in_range, is_number, meaning_of, most_edges, option_number, plan_of, option_weight};
-ghost use Rattle.job_words.specs.Views.{line_view};
+ghost use Rattle.job_words.specs.Inner.Views.{line_view};
 
 use crate::lines::Line;
 use crate::words::{Words, WordsReading};

@@ -4,7 +4,7 @@ use Rattle.std.proofs.lemmas.Result.{IfOk-weaker}
 use Rattle.gl_base.specs.declared.memory.OrNoMemory.TheVariants.{Fault}
 use Rattle.job_words.specs.CommandLine.{command_line_of, formed_means, line_means}
 use Rattle.job_words.specs.Lines.{Sayings, line_of}
-use Rattle.job_words.specs.Views.{line_view}
+use Rattle.job_words.specs.Inner.Views.{line_view}
 use Rattle.gl_base.specs.Texts.{Text}
 use Rattle.job_words.specs.WordForms.{texts, word_forms, first_unformed}
 use Rattle.job_words.proofs.Spelling.{spells}

@@ -1,0 +1,3 @@
+pub mod Glab
+pub mod Views
+pub mod Spelling
