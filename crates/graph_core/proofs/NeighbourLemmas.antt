@@ -18,10 +18,11 @@ use Rattle.graph_core.specs.declared.halves.Half.{Half}
 use Rattle.graph_core.specs.DataGraph.{DataEdge, DataGraph, IsDataGraph, IsEdge, size}
 use Rattle.graph_core.specs.Colourings.{joins}
 use Rattle.graph_core.specs.Halves.{half_at, halves_from, halves_of}
-use Rattle.graph_core.specs.HalfRows.{AreDistinctOf, AreOthers, data_half}
+use Rattle.graph_core.specs.HalfRows.{data_half}
+use Rattle.graph_core.specs.Inner.HalfPairs.{AreDistinctOf, AreOthers}
 use Rattle.graph_core.specs.Neighbours.{neighbours_of}
 use Rattle.graph_core.proofs.EdgeLemmas.{map-map, eqb_flips}
-use Rattle.graph_core.specs.Sorting.{Rises}
+use Rattle.graph_core.specs.Inner.SortedKeys.{Rises}
 
 -- ---- a list that rises is the list of what it contains
 

@@ -9,7 +9,9 @@ use Rattle.std.proofs.lemmas.List.Edits.{length-between}
 use Rattle.std.proofs.lemmas.List.Sums.{sum_by_more, sum_by-take-le}
 use Rattle.std.proofs.lemmas.Option.{get_or_from_slice_get, slice_get_within}
 use Rattle.std.proofs.lemmas.Slice.{between_is}
-use Rattle.graph_core.specs.Rows.{with_key, rows_of, count_below, AreRowsFrom, AreStarts, IsSummedUpTo}
+use Rattle.graph_core.specs.Rows.{with_key, rows_of}
+use Rattle.graph_core.specs.Inner.RowSteps.{count_below, AreRowsFrom, AreStarts}
+use Rattle.graph_core.proofs.RowSums.{IsSummedUpTo}
 
 pub with_key-here : {T : Type 0} (k : ℕ) (p : ℕ × T) (ps : List (ℕ × T)) → p.0 ≡ k → with_key k (p ∷ ps) ≡ p.1 ∷ with_key k ps
 with_key-here k p ps h = rw (eq-eqb p.0 k h) refl

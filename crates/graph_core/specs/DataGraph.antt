@@ -30,11 +30,15 @@ pub record IsEdge (n : ℕ) (directed : Bool) (e : DataEdge) : Type 0 where
   pub lower : directed ≡ false → e.from < e.to
   pub weight : e.weight < 2 ^ 32
 
+-- each number is below those after it
+abbrev pub Ascends : List ℕ → Type 0
+Ascends numbers = (i j : ℕ) → i < j → j < length numbers → slice_index numbers i < slice_index numbers j
+
 -- Identifiers and edges ascend strictly, so none stands twice.
 pub record IsDataGraph (g : DataGraph) : Type 0 where
   pub few : size g ≤ MAX_VERTICES
   pub few_edges : length g.edges ≤ MAX_EDGES
-  pub ascending : (i j : ℕ) → i < j → j < size g → slice_index g.ids i < slice_index g.ids j
+  pub ascending : Ascends g.ids
   pub ids : All (λ id. id ≤ MAX_ID) g.ids
   pub edges : All (IsEdge (size g) g.directed) g.edges
   pub edges_ascending : AllPairs IsBefore g.edges

@@ -28,18 +28,19 @@ pub struct Graph {
 
 impl Model for Graph {
     ghost use Rattle.graph_core.specs.DataGraph.{DataGraph};
-    ghost use Rattle.graph_core.specs.Graphs.{data_graph, IsKept};
+    ghost use Rattle.graph_core.specs.Graphs.{data_graph};
+    ghost use Rattle.graph_core.specs.Inner.GraphParts.{AreGraphParts};
 
     ghost Value = { DataGraph };
 
     ghost view = { λ g. data_graph g.directed g.ids.items g.edges.items };
 
-    ghost invariant = { λ g. IsKept (data_graph g.directed g.ids.items g.edges.items) g.table g.halves g.neighbours };
+    ghost invariant = { λ g. AreGraphParts (data_graph g.directed g.ids.items g.edges.items) g.table g.halves g.neighbours };
 }
 
 impl Graph {
     ghost use Rattle.graph_core.specs.DataGraph.{DataGraph, IsDataGraph, size};
-    ghost use Rattle.graph_core.specs.GraphLists.{IsGraphOf, graph_fault, Refuses};
+    ghost use Rattle.graph_core.specs.GraphLists.{IsGraphOf, graph_fault, NamesFirstFault};
     ghost use Rattle.graph_core.specs.Halves.{halves_of};
     ghost use Rattle.graph_core.specs.HalfRows.{data_half};
     ghost use Rattle.graph_core.specs.IdTable.{IsVertexWith};
@@ -60,7 +61,7 @@ impl Graph {
         requires ids { All (λ id. id ≤ MAX_ID) ids.items }
         ensures graph { IfOk result (IsGraphOf ids.items edges.items directed) }
         ensures no_fault { OnOk result (graph_fault ids.items edges.items directed ≡ None) }
-        ensures fault { IfErr result (Refuses (graph_fault ids.items edges.items directed)) }
+        ensures fault { IfErr result (NamesFirstFault (graph_fault ids.items edges.items directed)) }
     {
         let ids = sorted_ids(alloc, ids)?;
         let table = IdTable::new(alloc, &ids)?;

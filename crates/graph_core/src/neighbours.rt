@@ -1,6 +1,6 @@
 //! The neighbours of each vertex, from the half-edges at it.
 ghost use Rattle.std.specs.Prelude.{◌≡◌, ℕ, ◌<◌, List, [], length, map, slice_index_or, IfOk, OnOk};
-ghost use Rattle.graph_core.specs.HalfRows.{AreDistinctOf, AreOthers};
+ghost use Rattle.graph_core.specs.Inner.HalfPairs.{AreDistinctOf, AreOthers};
 
 use crate::halves::Half;
 use crate::rows::Rows;

@@ -1,6 +1,7 @@
 //! Lists by key in one flat list, each with its place there.
 ghost use Rattle.std.specs.Prelude.{◌≡◌, ℕ, suc, ◌+◌, ◌^◌, ◌<◌, List, [], ◌∷◌, ◌++◌, length, slice_index, slice_index_or, slice_range, slice_get, sum, sum_by, take, All, IfOk, OnOk, OnErr, Some};
-ghost use Rattle.graph_core.specs.Rows.{with_key, count_below, AreRowsFrom, AreStarts};
+ghost use Rattle.graph_core.specs.Rows.{with_key};
+ghost use Rattle.graph_core.specs.Inner.RowSteps.{count_below, AreRowsFrom, AreStarts};
 
 use gl_base::NoMemory;
 use std::alloc::Global;
@@ -31,7 +32,8 @@ pub struct Rows<T> {
 
 impl<T> Model for Rows<T> {
     ghost use Rattle.std.specs.Prelude.{List, length};
-    ghost use Rattle.graph_core.specs.Rows.{rows_of, AreStarts};
+    ghost use Rattle.graph_core.specs.Rows.{rows_of};
+    ghost use Rattle.graph_core.specs.Inner.RowSteps.{AreStarts};
 
     ghost Value = { List (List T) };
 
@@ -173,7 +175,7 @@ fn sum_up(starts: &mut [u32])
     }
 }
 
-/// As many items as are given, in any order.
+/// As many items as are listed, in any order.
 fn room_for<K: Keyed>(alloc: Global, keyed: &K) -> Result<Vec<K::Item>, NoMemory>
     ensures { IfOk result (λ items. length items.items ≡ length (K.list keyed.now)) }
 {

@@ -1,7 +1,7 @@
 //! Sorts lists by a key that no two items have, and finds the first key that stands twice.
 ghost use Rattle.std.specs.Prelude.{◌≡◌, ℕ, List, map, nat_eq, MatchBool, MatchOption, IfOk};
 ghost use Rattle.std.specs.List.{IsDistinct};
-ghost use Rattle.graph_core.specs.Sorting.{Rises, IsFirstDouble, AreSorted};
+ghost use Rattle.graph_core.specs.Inner.SortedKeys.{Rises, IsFirstDouble, AreSorted};
 
 use gl_base::{NoMemory, Vertex};
 use std::alloc::{AllocError, Global};

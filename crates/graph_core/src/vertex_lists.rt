@@ -1,6 +1,7 @@
 //! Sorts the identifiers of a graph.
 ghost use Rattle.std.specs.Prelude.{◌≡◌, List};
-ghost use Rattle.graph_core.specs.Edges.{AreIds, vertex_double};
+ghost use Rattle.graph_core.specs.Edges.{SortsIds};
+ghost use Rattle.graph_core.specs.Inner.NumberedEdges.{vertex_double};
 
 use crate::GraphFault;
 use crate::sorting::{Unsorted, sorted};
@@ -8,7 +9,7 @@ use std::alloc::Global;
 
 /// The identifiers in order, or the first one that stands before it too.
 pub fn sorted_ids(alloc: Global, ids: Vec<u64>) -> Result<Vec<u64>, GraphFault>
-    ensures { AreIds ids.items result }
+    ensures { SortsIds ids.items result }
 {
     match sorted(alloc, ids) {
         Ok(ids) => Ok(ids),

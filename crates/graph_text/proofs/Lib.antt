@@ -1,3 +1,5 @@
+pub mod LinesFound
+pub mod FieldRows
 pub mod Runs
 pub mod CutPieces
 pub mod LinePieces

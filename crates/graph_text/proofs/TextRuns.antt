@@ -7,26 +7,28 @@ use Rattle.graph_text.specs.declared.said.Said.{Said}
 use Rattle.graph_text.specs.declared.said.Said.TheVariants.{Passed}
 use Rattle.graph_text.specs.Lines.{lines_after, lines, ended_lines, fields}
 use Rattle.graph_text.specs.Firsts.{Rules, and_then, run}
-use Rattle.graph_text.specs.Found.{Kept, Stop, Found, collect, collect_line, nothing_kept, whole, cut, found_upto, found_in}
-use Rattle.graph_text.specs.Steps.{row_of, line_more, nothing_begun, Text, line_end, byte_step, nothing_read, past, found_within, found_by_bytes}
+use Rattle.graph_text.specs.Inner.Found.{Kept, Stop, Found, collect, nothing_kept, whole}
+use Rattle.graph_text.proofs.LinesFound.{collect_line, cut, found_upto, found_in}
+use Rattle.graph_text.specs.Inner.Steps.{line_more, nothing_begun, ReadText, line_end, byte_step, nothing_read, past, found_within, found_by_bytes}
+use Rattle.graph_text.proofs.FieldRows.{row_of}
 use Rattle.graph_text.proofs.RowTexts.{row_read}
 
 module _ {X : Type 0} (r : Rules X) (says : Row → Said X) (law : (fs : List (List ℕ)) → says (row_of fs) ≡ r.says fs) (blank : r.says [] ≡ Passed) where
   -- a line that has begun with these bytes
-  abbrev begun_with : Kept X → List ℕ → Text X
+  abbrev begun_with : Kept X → List ℕ → ReadText X
   begun_with kept begun = record { kept = kept; begun = fold line_more nothing_begun begun }
 
   line_ends : (kept : Kept X) (l : List ℕ) → line_end r.most says (begun_with kept l) ≡ collect_line r kept l
   line_ends kept l = ap (λ row. collect r.most kept (says row)) (row_read l) ∙ ap (collect r.most kept) (law (fields l))
 
-  abbrev next : Kept X → Result (Text X) (Stop X)
+  abbrev next : Kept X → Result (ReadText X) (Stop X)
   next kept = Ok (record { kept = kept; begun = nothing_begun })
 
   then_same : (found : Result (Kept X) (Stop X)) → and_then (λ t. Ok t) found ≡ found
   then_same (Ok s) = refl
   then_same (Err e) = refl
 
-  abbrev ending : Result (Text X) (Stop X) → Found X
+  abbrev ending : Result (ReadText X) (Stop X) → Found X
   ending t = whole (and_then (line_end r.most says) t)
 
   one_more : (kept : Kept X) (begun : List ℕ) (b : ℕ) → begun_with kept (begun ++ b ∷ []) ≡ record { kept = kept; begun = line_more (fold line_more nothing_begun begun) b }

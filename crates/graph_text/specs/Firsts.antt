@@ -14,8 +14,8 @@ use Rattle.graph_text.specs.Lines.{lines, ended_lines, fields}
 pub record Rules (X : Type 0) : Type 0 where
   pub file : TextFile
   pub says : List (List ℕ) → Said X
-  pub alone : X → Option TextKind
-  pub behind : List X → X → Option TextKind
+  pub fault_alone : X → Option TextKind
+  pub fault_after : List X → X → Option TextKind
   pub most : ℕ
 
 -- the number of the next line, and the items so far
@@ -24,8 +24,8 @@ pub record Judged (X : Type 0) : Type 0 where
   pub items : List X
 
 -- the fault of a line
-abbrev pub fault_at : {X : Type 0} → Rules X → ℕ → TextKind → TextFault
-fault_at r line kind = record { file = r.file; line = line; kind = kind }
+abbrev pub text_fault : {X : Type 0} → Rules X → ℕ → TextKind → TextFault
+text_fault r line kind = record { file = r.file; line = line; kind = kind }
 
 -- the first of two faults
 abbrev pub or_kind : Option TextKind → TextKind → TextKind
@@ -34,15 +34,15 @@ or_kind (Some first) kind = first
 
 -- an item is taken where nothing is wrong with it and there is room
 abbrev pub put : {X : Type 0} → Rules X → Judged X → X → Option TextKind → Result (Judged X) TextFault
-put r s x (Some kind) = Err (fault_at r s.line kind)
-put r s x None = if nat_lt (length s.items) r.most then Ok (record { line = s.line + 1; items = s.items ++ x ∷ [] }) else Err (fault_at r s.line TooMany)
+put r s x (Some kind) = Err (text_fault r s.line kind)
+put r s x None = if nat_lt (length s.items) r.most then Ok (record { line = s.line + 1; items = s.items ++ x ∷ [] }) else Err (text_fault r s.line TooMany)
 
 -- a line is passed over, faulty, or an item
 abbrev pub judge : {X : Type 0} → Rules X → Judged X → Said X → Result (Judged X) TextFault
 judge r s Passed = Ok (record { line = s.line + 1; items = s.items })
-judge r s (Wrong kind) = Err (fault_at r s.line kind)
-judge r s (Late x kind) = Err (fault_at r s.line (or_kind (r.alone x) kind))
-judge r s (Item x) = put r s x (r.behind s.items x)
+judge r s (Wrong kind) = Err (text_fault r s.line kind)
+judge r s (Late x kind) = Err (text_fault r s.line (or_kind (r.fault_alone x) kind))
+judge r s (Item x) = put r s x (r.fault_after s.items x)
 
 -- goes on where all went well
 abbrev pub and_then : {S T E : Type 0} → (S → Result T E) → Result S E → Result T E
@@ -66,7 +66,7 @@ judge_lines r ls = run (judge_line r) (record { line = 1; items = [] }) ls
 abbrev pub items_within : {X : Type 0} → ℕ → Rules X → List ℕ → Result (List X) TextFault
 items_within limit r bytes =
     if nat_le (length bytes) limit then and_then (λ s. Ok s.items) (judge_lines r (lines bytes))
-    else and_then (λ s. Err (fault_at r s.line TooLong)) (judge_lines r (ended_lines (take limit bytes)))
+    else and_then (λ s. Err (text_fault r s.line TooLong)) (judge_lines r (ended_lines (take limit bytes)))
 
 -- the same under the limit of all texts
 unfoldable pub items_of : {X : Type 0} → Rules X → List ℕ → Result (List X) TextFault

@@ -5,10 +5,10 @@ ghost use Rattle.gl_base.specs.declared.limits.TheConstants.{MAX_TEXT_BYTES};
 ghost use Rattle.graph_text.specs.declared.said.Row.{Row};
 ghost use Rattle.graph_text.specs.declared.said.Said.{Said};
 ghost use Rattle.graph_text.specs.Firsts.{run};
-ghost use Rattle.graph_text.specs.Found.{collect};
-ghost use Rattle.graph_text.specs.Steps.{byte_step, line_end, nothing_read};
-ghost use Rattle.graph_text.specs.Places.{IsInside};
-ghost use Rattle.graph_text.specs.Texts.{text_at, kept_at, IsBetween, TakesItem, Gives, GivesText, TakesPiece, ReadsBytes, ReadsLines};
+ghost use Rattle.graph_text.specs.Inner.Found.{collect};
+ghost use Rattle.graph_text.specs.Inner.Steps.{byte_step, line_end, nothing_read};
+ghost use Rattle.graph_text.specs.Inner.Places.{IsInsideField};
+ghost use Rattle.graph_text.specs.Inner.Texts.{read_text, kept_at, IsBetween, TakesItem, LeadsTo, LeadsToText, TakesPiece, ReadsBytes, ReadsLines};
 
 use crate::Reading;
 use crate::fields::{Fields, Place, broken, with_digit};
@@ -48,7 +48,7 @@ pub(crate) struct Lines<X> {
 impl<X: LineItem> Lines<X> {
     /// Nothing is read.
     pub(crate) fn new(alloc: Global) -> Self
-        ensures text { text_at result None ≡ nothing_read }
+        ensures text { read_text result None ≡ nothing_read }
     {
         Lines {
             items: Vec::new(alloc),
@@ -62,7 +62,7 @@ impl<X: LineItem> Lines<X> {
     /// Keeps what a line says.
     fn keep(&mut self, said: Said<X>) -> Result<(), Halt<X>>
         requires { self.old.line + 1 < 2 ^ 32 }
-        ensures kept { Gives (collect X.MOST (kept_at self.old) said) (kept_at self.new) result }
+        ensures kept { LeadsTo (collect X.MOST (kept_at self.old) said) (kept_at self.new) result }
         ensures line { self.new.line ≤ self.old.line + 1 }
     {
         match said {
@@ -97,7 +97,7 @@ impl<X: LineItem> Lines<X> {
     #[inline]
     fn end_line(&mut self, weighted: bool, number: Option<u64>) -> Result<(), Halt<X>>
         requires { self.old.line + 1 < 2 ^ 32 }
-        ensures kept { Gives (line_end X.MOST (X.says weighted) (text_at self.old number)) (kept_at self.new) result }
+        ensures kept { LeadsTo (line_end X.MOST (X.says weighted) (read_text self.old number)) (kept_at self.new) result }
         ensures line { self.new.line ≤ self.old.line + 1 }
     {
         let (place, number) = match self.before_cr {
@@ -117,7 +117,7 @@ impl<X: LineItem> Lines<X> {
     ) -> Result<Option<u64>, Halt<X>>
         requires between { IsBetween self.old number }
         requires room { self.old.line + 1 < 2 ^ 32 }
-        ensures takes { GivesText (byte_step X.MOST (X.says weighted) (text_at self.old number) byte) self.new result }
+        ensures takes { LeadsToText (byte_step X.MOST (X.says weighted) (read_text self.old number) byte) self.new result }
         ensures between { IfOk result (IsBetween self.new) }
         ensures line { self.new.line ≤ self.old.line + 1 }
     {
@@ -135,7 +135,7 @@ impl<X: LineItem> Lines<X> {
         byte: u8,
     ) -> Result<Option<u64>, Halt<X>>
         requires { self.old.line + 1 < 2 ^ 32 }
-        ensures takes { GivesText (byte_step X.MOST (X.says weighted) (text_at self.old number) byte) self.new result }
+        ensures takes { LeadsToText (byte_step X.MOST (X.says weighted) (read_text self.old number) byte) self.new result }
         ensures between { IfOk result (IsBetween self.new) }
         ensures line { self.new.line ≤ self.old.line + 1 }
     {
@@ -163,7 +163,7 @@ impl<X: LineItem> Lines<X> {
     ) -> Result<Option<u64>, Halt<X>>
         requires between { IsBetween self.old number }
         requires room { self.old.line + length bytes.now < 2 ^ 32 }
-        ensures takes { GivesText (run (byte_step X.MOST (X.says weighted)) (text_at self.old number) bytes.now) self.new result }
+        ensures takes { LeadsToText (run (byte_step X.MOST (X.says weighted)) (read_text self.old number) bytes.now) self.new result }
         ensures between { IfOk result (IsBetween self.new) }
         ensures line { self.new.line ≤ self.old.line + length bytes.now }
     {
@@ -184,7 +184,7 @@ impl<X: LineItem> Lines<X> {
     ) -> Result<Option<u64>, Halt<X>>
         requires between { IsBetween self.old number }
         requires room { self.old.line + room < 2 ^ 32 }
-        ensures takes { TakesPiece X.MOST (X.says weighted) (text_at self.old number) piece.now room self.new result }
+        ensures takes { TakesPiece X.MOST (X.says weighted) (read_text self.old number) piece.now room self.new result }
         ensures between { IfOk result (IsBetween self.new) }
         ensures line { IfOk result (λ _. self.new.line ≤ self.old.line + length piece.now) }
     {
@@ -204,7 +204,7 @@ pub(crate) fn read_lines<S: Source, X: LineItem>(
     weighted: bool,
     lines: &mut Lines<X>,
 ) -> Result<Option<Ending<X>>, Reading>
-    requires { text_at lines.old None ≡ nothing_read }
+    requires { read_text lines.old None ≡ nothing_read }
     ensures answer { ReadsLines X.MOST (X.says weighted) lines.new result (S.left source.old) (S.faults source.old) (S.faults source.new) }
     ensures taken { (taken : List ℕ) × Consumes (S.left source.old) (S.left source.new) taken }
     ensures later { S.faults source.old ≤ S.faults source.new }
@@ -224,7 +224,7 @@ fn read_bytes<S: Source, X: LineItem>(
     weighted: bool,
     lines: &mut Lines<X>,
 ) -> Result<(), Halt<X>>
-    requires { text_at lines.old None ≡ nothing_read }
+    requires { read_text lines.old None ≡ nothing_read }
     ensures answer { ReadsBytes X.MOST (X.says weighted) lines.new result (S.left source.old) (S.faults source.old) (S.faults source.new) }
     ensures taken { (taken : List ℕ) × Consumes (S.left source.old) (S.left source.new) taken }
     ensures later { S.faults source.old ≤ S.faults source.new }

@@ -1,6 +1,6 @@
 //! Writes the texts of made graphs.
 ghost use Rattle.std.specs.Prelude.{◌≡◌, ◌≤◌, ◌<◌, ◌+◌, ◌*◌, ◌^◌, ◌∷◌, ◌++◌, [], decimal, OnOk, IfSome};
-ghost use Rattle.graph_text.specs.Making.{IsInRanges, half_of, edge_from, edge_to, edge_weight, edge_line, made_vertices, made_edges};
+ghost use Rattle.graph_text.specs.Making.{IsPlanInRange, offset_count, edge_from, edge_to, edge_weight, edge_line, made_vertices, made_edges};
 ghost use Rattle.graph_text.specs.Writes.{Writes, WritesEdges};
 
 use crate::stride::stride_of;
@@ -42,7 +42,7 @@ impl From<NoMemory> for Writing {
 /// Writes the vertex text of a made graph: the identifiers from 1 to the number of vertices, one a line. Where the sink
 /// fails or memory runs out a front of it was written.
 pub fn make_vertices<K: Sink>(alloc: Global, sink: &mut K, plan: &MakePlan) -> Result<(), Writing>
-    requires { IsInRanges plan.now }
+    requires { IsPlanInRange plan.now }
     ensures written { Writes result (made_vertices plan.now) (K.held sink.old) (K.held sink.new) (K.faults sink.old) (K.faults sink.new) }
     ensures later { K.faults sink.old ≤ K.faults sink.new }
     ensures same { K.same sink.old sink.new }
@@ -60,7 +60,7 @@ pub fn make_vertices<K: Sink>(alloc: Global, sink: &mut K, plan: &MakePlan) -> R
 /// Writes the edge text of a made graph: for each edge the identifiers of its ends and, where the plan has weights, its
 /// weight. Where the sink fails or memory runs out a front of it was written.
 pub fn make_edges<K: Sink>(alloc: Global, sink: &mut K, plan: &MakePlan) -> Result<(), Writing>
-    requires { IsInRanges plan.now }
+    requires { IsPlanInRange plan.now }
     ensures written { WritesEdges result plan.now (K.held sink.old) (K.held sink.new) (K.faults sink.old) (K.faults sink.new) }
     ensures later { K.faults sink.old ≤ K.faults sink.new }
     ensures same { K.same sink.old sink.new }
@@ -76,8 +76,8 @@ fn write_edges<K: Sink>(
     plan: &MakePlan,
     stride: u64,
 ) -> Result<(), Writing>
-    requires plan { IsInRanges plan.now }
-    requires stride { stride ≤ half_of plan.now.vertices + 1 }
+    requires plan { IsPlanInRange plan.now }
+    requires stride { stride ≤ offset_count plan.now.vertices + 1 }
     ensures written { Writes result (made_edges plan.now stride) (K.held sink.old) (K.held sink.new) (K.faults sink.old) (K.faults sink.new) }
     ensures later { K.faults sink.old ≤ K.faults sink.new }
     ensures same { K.same sink.old sink.new }
@@ -93,15 +93,15 @@ fn write_edges<K: Sink>(
 
 /// How many offsets there are.
 fn half(vertices: u32) -> u64
-    ensures { result ≡ half_of vertices }
+    ensures { result ≡ offset_count vertices }
 {
     u64::from(vertices.saturating_sub(1) / 2)
 }
 
 /// Adds the line of an edge.
 fn push_edge(piece: &mut Vec<u8>, plan: &MakePlan, stride: u64, edge: u32) -> Result<(), NoMemory>
-    requires plan { IsInRanges plan.now }
-    requires stride { stride ≤ half_of plan.now.vertices + 1 }
+    requires plan { IsPlanInRange plan.now }
+    requires stride { stride ≤ offset_count plan.now.vertices + 1 }
     requires edge { edge < plan.now.edges }
     ensures { OnOk result (piece.new.items ≡ piece.old.items ++ edge_line plan.now stride edge) }
 {
@@ -118,8 +118,8 @@ fn push_edge(piece: &mut Vec<u8>, plan: &MakePlan, stride: u64, edge: u32) -> Re
 
 /// The two ends of an edge.
 fn ends_of(plan: &MakePlan, stride: u64, edge: u32) -> (u32, u32)
-    requires plan { IsInRanges plan.now }
-    requires stride { stride ≤ half_of plan.now.vertices + 1 }
+    requires plan { IsPlanInRange plan.now }
+    requires stride { stride ≤ offset_count plan.now.vertices + 1 }
     requires edge { edge < plan.now.edges }
     ensures from { result.0 ≡ edge_from plan.now edge }
     ensures to { result.1 ≡ edge_to plan.now stride edge }

@@ -1,5 +1,5 @@
 use Rattle.std.proofs.Common.{◌≡◌, ℕ, ◌<◌, ◌≤◌, [], length, take, sum_by, slice_index_or}
-use Rattle.graph_core.specs.HalfRows.{AreOthers}
+use Rattle.graph_core.specs.Inner.HalfPairs.{AreOthers}
 use Rattle.graph_core.proofs.neighbours.neighbour_rows.Given as goal
 
 abbrev pub invariant-loop-v : goal.invariant-loop-v

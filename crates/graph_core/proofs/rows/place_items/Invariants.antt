@@ -1,5 +1,5 @@
 use Rattle.std.proofs.Common.{◌≤◌, length}
-use Rattle.graph_core.specs.Rows.{AreRowsFrom}
+use Rattle.graph_core.specs.Inner.RowSteps.{AreRowsFrom}
 use Rattle.graph_core.proofs.rows.place_items.Given as goal
 
 abbrev pub invariant-loop-place : goal.invariant-loop-place

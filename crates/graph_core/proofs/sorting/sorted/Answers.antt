@@ -1,7 +1,7 @@
 use Rattle.std.proofs.Common.{rules}
 use Rattle.std.specs.List.Sorted.{IsPermutation}
 use Rattle.std.proofs.lemmas.List.Sorted.{IsNonDecreasingBy-from_sort_by_key}
-use Rattle.graph_core.specs.Sorting.{Rises}
+use Rattle.graph_core.specs.Inner.SortedKeys.{Rises}
 use Rattle.graph_core.proofs.SortLemmas.{rises_from_distinct}
 use Rattle.graph_core.proofs.sorting.sorted.Goals as goal
 

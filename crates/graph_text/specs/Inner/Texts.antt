@@ -12,17 +12,17 @@ use Rattle.graph_text.specs.declared.said.Ending.TheVariants.{Full}
 use Rattle.graph_text.specs.declared.said.Halt.{Halt}
 use Rattle.graph_text.specs.declared.said.Halt.TheVariants.{Stopped, ReadFault, NoMemory}
 use Rattle.graph_text.specs.Firsts.{run}
-use Rattle.graph_text.specs.Found.{Kept, Stop, Found}
-use Rattle.graph_text.specs.Steps.{Text, byte_step, nothing_read, found_by_bytes}
-use Rattle.graph_text.specs.Places.{seen_at, seen_before, has_number}
+use Rattle.graph_text.specs.Inner.Found.{Kept, Stop, Found}
+use Rattle.graph_text.specs.Inner.Steps.{ReadText, byte_step, nothing_read, found_by_bytes}
+use Rattle.graph_text.specs.Inner.Places.{seen_at, seen_before, has_number}
 
 -- the lines that are read
 abbrev pub kept_at : {X : Type 0} → Lines X → Kept X
 kept_at l = record { line = l.line; items = l.items.items; places = l.places.items }
 
 -- all that is read, with the number of the field that is begun
-abbrev pub text_at : {X : Type 0} → Lines X → Option ℕ → Text X
-text_at l number =
+abbrev pub read_text : {X : Type 0} → Lines X → Option ℕ → ReadText X
+read_text l number =
     record { kept = kept_at l; begun = record { seen = seen_at l.fields number; before_cr = option_map (seen_before l.fields) l.before_cr } }
 
 -- what is found, and why no more is read
@@ -43,22 +43,22 @@ TakesItem most old x new (Err ReadFault) = ⊥
 TakesItem most old x new (Err NoMemory) = Unit {0}
 
 -- whole lines lead to this state, or end there
-abbrev pub Gives : {X : Type 0} → Result (Kept X) (Stop X) → Kept X → Result (Unit {0}) (Halt X) → Type 0
-Gives found new (Ok taken) = found ≡ Ok new
-Gives found new (Err (Stopped ending)) = found ≡ Err (record { items = new.items; places = new.places; ending = ending })
-Gives found new (Err ReadFault) = ⊥
-Gives found new (Err NoMemory) = Unit {0}
+abbrev pub LeadsTo : {X : Type 0} → Result (Kept X) (Stop X) → Kept X → Result (Unit {0}) (Halt X) → Type 0
+LeadsTo found new (Ok taken) = found ≡ Ok new
+LeadsTo found new (Err (Stopped ending)) = found ≡ Err (record { items = new.items; places = new.places; ending = ending })
+LeadsTo found new (Err ReadFault) = ⊥
+LeadsTo found new (Err NoMemory) = Unit {0}
 
 -- bytes lead to this state, or end there
-abbrev pub GivesText : {X : Type 0} → Result (Text X) (Stop X) → Lines X → Result (Option ℕ) (Halt X) → Type 0
-GivesText found new (Ok number) = found ≡ Ok (text_at new number)
-GivesText found new (Err (Stopped ending)) = found ≡ Err (record { items = new.items.items; places = new.places.items; ending = ending })
-GivesText found new (Err ReadFault) = ⊥
-GivesText found new (Err NoMemory) = Unit {0}
+abbrev pub LeadsToText : {X : Type 0} → Result (ReadText X) (Stop X) → Lines X → Result (Option ℕ) (Halt X) → Type 0
+LeadsToText found new (Ok number) = found ≡ Ok (read_text new number)
+LeadsToText found new (Err (Stopped ending)) = found ≡ Err (record { items = new.items.items; places = new.places.items; ending = ending })
+LeadsToText found new (Err ReadFault) = ⊥
+LeadsToText found new (Err NoMemory) = Unit {0}
 
 -- a piece leads to this state, or settles what is found, whatever comes behind it
-abbrev pub TakesPiece : {X : Type 0} → ℕ → (Row → Said X) → Text X → List ℕ → ℕ → Lines X → Result (Option ℕ) (Halt X) → Type 0
-TakesPiece most says old piece room new (Ok number) = (length piece ≤ room) × (run (byte_step most says) old piece ≡ Ok (text_at new number))
+abbrev pub TakesPiece : {X : Type 0} → ℕ → (Row → Said X) → ReadText X → List ℕ → ℕ → Lines X → Result (Option ℕ) (Halt X) → Type 0
+TakesPiece most says old piece room new (Ok number) = (length piece ≤ room) × (run (byte_step most says) old piece ≡ Ok (read_text new number))
 TakesPiece most says old piece room new (Err (Stopped ending)) =
     (taken rest : List ℕ) → run (byte_step most says) nothing_read taken ≡ Ok old → length taken + room ≡ MAX_TEXT_BYTES
     → found_by_bytes most says ((taken ++ piece) ++ rest) ≡ found_at new (Some ending)

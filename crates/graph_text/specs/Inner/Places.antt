@@ -3,7 +3,7 @@ use Rattle.std.specs.Prelude.{ℕ, Bool, true, false, IsTrue, Option, None, Some
 use Rattle.graph_text.specs.declared.fields.Place.{Place}
 use Rattle.graph_text.specs.declared.fields.Place.TheVariants.{Begin, Comment, First, BehindFirst, Second, BehindSecond, Digits, Point, Zeros, BehindThird}
 use Rattle.graph_text.specs.declared.fields.Fields.{Fields}
-use Rattle.graph_text.specs.Steps.{digits, point, zeros, Seen, begin, comment, first, behind_first, second, behind_second, third, behind_third}
+use Rattle.graph_text.specs.Inner.Steps.{digits, point, zeros, Seen, begin, comment, first, behind_first, second, behind_second, third, behind_third}
 
 -- the line that is begun, from its place, the numbers of the first three fields, and that of the field that is begun
 abbrev pub seen_by : Place → Option ℕ → Option ℕ → Option ℕ → Option ℕ → Seen
@@ -52,6 +52,6 @@ has_number Zeros = false
 has_number BehindThird = false
 
 -- only inside a field that may be one there is a number
-abbrev pub IsInside : Place → Option ℕ → Type 0
-IsInside place None = Unit {0}
-IsInside place (Some n) = IsTrue (has_number place)
+abbrev pub IsInsideField : Place → Option ℕ → Type 0
+IsInsideField place None = Unit {0}
+IsInsideField place (Some n) = IsTrue (has_number place)

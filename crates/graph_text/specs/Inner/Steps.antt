@@ -1,5 +1,5 @@
 -- Lines, read byte by byte.
-use Rattle.std.specs.Prelude.{ℕ, ◌+◌, ◌-◌, ◌*◌, ◌==◌, if◌then◌else◌, List, [], ◌∷◌, length, take, min, fold, nat_le, Option, None, Some, unwrap_or, Result, Ok, Err}
+use Rattle.std.specs.Prelude.{ℕ, ◌+◌, ◌-◌, ◌*◌, ◌==◌, if◌then◌else◌, List, length, take, min, nat_le, Option, None, Some, unwrap_or, Result, Ok, Err}
 use Rattle.std.specs.Char.{is_ascii_digit}
 use Rattle.gl_base.specs.declared.limits.TheConstants.{INF, MAX_TEXT_BYTES}
 use Rattle.gl_base.specs.declared.text_faults.TextKind.TheVariants.{TooLong}
@@ -7,9 +7,9 @@ use Rattle.graph_text.specs.declared.said.Row.{Row}
 use Rattle.graph_text.specs.declared.said.Row.TheVariants.{Nothing, One, Two, Three}
 use Rattle.graph_text.specs.declared.said.Said.{Said}
 use Rattle.graph_text.specs.declared.said.Ending.TheVariants.{Fault}
-use Rattle.graph_text.specs.Lines.{is_blank, is_comment}
+use Rattle.graph_text.specs.Lines.{is_blank}
 use Rattle.graph_text.specs.Firsts.{and_then, run}
-use Rattle.graph_text.specs.Found.{Kept, Stop, Found, collect, nothing_kept, whole, stopped}
+use Rattle.graph_text.specs.Inner.Found.{Kept, Stop, Found, collect, nothing_kept, whole, stopped}
 
 -- a number with one digit more, up to INF
 abbrev pub grown : ℕ → ℕ → ℕ
@@ -37,28 +37,6 @@ abbrev pub weight_end : Weight → Option ℕ
 weight_end (digits n) = n
 weight_end (point n) = None
 weight_end (zeros n) = n
-
--- the number of a field that is digits alone, or INF where it is above
-abbrev pub number_in : List ℕ → Option ℕ
-number_in field = fold number_more (Some 0) field
-
--- the same of a weight
-abbrev pub weight_number : List ℕ → Option ℕ
-weight_number [] = None
-weight_number (byte ∷ field) = weight_end (fold weight_more (digits (number_more (Some 0) byte)) field)
-
--- the row of a line, by its fields
-abbrev pub row_third : Option ℕ → Option ℕ → List (List ℕ) → Row
-row_third from to [] = Two from to
-row_third from to (h ∷ fs) = Three from to (weight_number h)
-
-abbrev pub row_second : Option ℕ → List (List ℕ) → Row
-row_second from [] = One from
-row_second from (g ∷ fs) = row_third from (number_in g) fs
-
-abbrev pub row_of : List (List ℕ) → Row
-row_of [] = Nothing
-row_of (f ∷ fs) = if is_comment f then Nothing else row_second (number_in f) fs
 
 -- a line that is begun: the fields up to the third, of which the last is begun or ended
 pub data Seen : Type 0 where
@@ -110,25 +88,25 @@ abbrev pub row_begun : Begun → Row
 row_begun b = row_seen (unwrap_or b.before_cr b.seen)
 
 -- what a text is read to: whole lines, and one that is begun
-pub record Text (X : Type 0) : Type 0 where
+pub record ReadText (X : Type 0) : Type 0 where
   pub kept : Kept X
   pub begun : Begun
 
-abbrev pub nothing_read : {X : Type 0} → Text X
+abbrev pub nothing_read : {X : Type 0} → ReadText X
 nothing_read = record { kept = nothing_kept; begun = nothing_begun }
 
 -- the line ends
-abbrev pub line_end : {X : Type 0} → ℕ → (Row → Said X) → Text X → Result (Kept X) (Stop X)
+abbrev pub line_end : {X : Type 0} → ℕ → (Row → Said X) → ReadText X → Result (Kept X) (Stop X)
 line_end most says s = collect most s.kept (says (row_begun s.begun))
 
 -- a byte: LF ends the line
-abbrev pub byte_step : {X : Type 0} → ℕ → (Row → Said X) → Text X → ℕ → Result (Text X) (Stop X)
+abbrev pub byte_step : {X : Type 0} → ℕ → (Row → Said X) → ReadText X → ℕ → Result (ReadText X) (Stop X)
 byte_step most says s byte =
     if byte == 10 then and_then (λ kept. Ok (record { kept = kept; begun = nothing_begun })) (line_end most says s)
     else Ok (record { kept = s.kept; begun = line_more s.begun byte })
 
 -- what is found in a text that goes on past the limit
-abbrev pub past : {X : Type 0} → Result (Text X) (Stop X) → Found X
+abbrev pub past : {X : Type 0} → Result (ReadText X) (Stop X) → Found X
 past (Ok s) = record { items = s.kept.items; places = s.kept.places; ending = Some (Fault s.kept.line TooLong) }
 past (Err s) = stopped s
 

@@ -1,15 +1,13 @@
 -- What a reader finds in a text: items with their lines, and why it read no further.
-use Rattle.std.specs.Prelude.{ℕ, ◌+◌, List, [], ◌∷◌, ◌++◌, length, take, slice_index, nat_lt, nat_le, if◌then◌else◌, Option, None, Some, Result, Ok, Err}
-use Rattle.gl_base.specs.declared.limits.TheConstants.{MAX_TEXT_BYTES}
+use Rattle.std.specs.Prelude.{ℕ, ◌+◌, List, [], ◌∷◌, ◌++◌, length, slice_index, nat_lt, if◌then◌else◌, Option, None, Some, Result, Ok, Err}
 use Rattle.gl_base.specs.declared.text_faults.TextFault.{TextFault}
 use Rattle.gl_base.specs.declared.text_faults.TextKind.{TextKind}
-use Rattle.gl_base.specs.declared.text_faults.TextKind.TheVariants.{TooMany, TooLong}
+use Rattle.gl_base.specs.declared.text_faults.TextKind.TheVariants.{TooMany}
 use Rattle.graph_text.specs.declared.said.Said.{Said}
 use Rattle.graph_text.specs.declared.said.Said.TheVariants.{Passed, Wrong, Late, Item}
 use Rattle.graph_text.specs.declared.said.Ending.{Ending}
 use Rattle.graph_text.specs.declared.said.Ending.TheVariants.{Fault, Late as LateAt, Full}
-use Rattle.graph_text.specs.Firsts.{Rules, run, fault_at, or_kind}
-use Rattle.graph_text.specs.Lines.{lines, ended_lines, fields}
+use Rattle.graph_text.specs.Firsts.{Rules, text_fault, or_kind}
 
 -- the number of the next line, and the items so far with their lines
 pub record Kept (X : Type 0) : Type 0 where
@@ -52,29 +50,6 @@ abbrev pub whole : {X : Type 0} → Result (Kept X) (Stop X) → Found X
 whole (Ok s) = record { items = s.items; places = s.places; ending = None }
 whole (Err s) = stopped s
 
--- what is found in a text that goes on behind such lines, past the limit
-abbrev pub cut : {X : Type 0} → Result (Kept X) (Stop X) → Found X
-cut (Ok s) = record { items = s.items; places = s.places; ending = Some (Fault s.line TooLong) }
-cut (Err s) = stopped s
-
--- a line
-abbrev pub collect_line : {X : Type 0} → Rules X → Kept X → List ℕ → Result (Kept X) (Stop X)
-collect_line r s l = collect r.most s (r.says (fields l))
-
--- these lines, from here on
-abbrev pub collect_lines : {X : Type 0} → Rules X → Kept X → List (List ℕ) → Result (Kept X) (Stop X)
-collect_lines r s ls = run (collect_line r) s ls
-
--- what is found in a text that has a limit
-abbrev pub found_upto : {X : Type 0} → ℕ → Rules X → List ℕ → Found X
-found_upto limit r bytes =
-    if nat_le (length bytes) limit then whole (collect_lines r nothing_kept (lines bytes))
-    else cut (collect_lines r nothing_kept (ended_lines (take limit bytes)))
-
--- what is found in a text
-unfoldable pub found_in : {X : Type 0} → Rules X → List ℕ → Found X
-found_in r bytes = found_upto MAX_TEXT_BYTES r bytes
-
 -- the fault of the item at this place, and else that of a later one
 abbrev pub bad_or : ℕ → Option TextKind → Option (ℕ × TextKind) → Option (ℕ × TextKind)
 bad_or place None later = later
@@ -88,14 +63,14 @@ first_bad behind before (x ∷ xs) = bad_or (length before) (behind before x) (f
 -- where nothing is wrong with the items, why no more was read
 abbrev pub ended : {X : Type 0} → Rules X → List X → Option (Ending X) → Result (List X) TextFault
 ended r items None = Ok items
-ended r items (Some (Fault line kind)) = Err (fault_at r line kind)
-ended r items (Some (LateAt line x kind)) = Err (fault_at r line (or_kind (r.alone x) kind))
-ended r items (Some (Full line x)) = Err (fault_at r line (or_kind (r.behind items x) TooMany))
+ended r items (Some (Fault line kind)) = Err (text_fault r line kind)
+ended r items (Some (LateAt line x kind)) = Err (text_fault r line (or_kind (r.fault_alone x) kind))
+ended r items (Some (Full line x)) = Err (text_fault r line (or_kind (r.fault_after items x) TooMany))
 
 abbrev pub settled_by : {X : Type 0} → Rules X → Found X → Option (ℕ × TextKind) → Result (List X) TextFault
-settled_by r found (Some bad) = Err (fault_at r (slice_index found.places bad.0) bad.1)
+settled_by r found (Some bad) = Err (text_fault r (slice_index found.places bad.0) bad.1)
 settled_by r found None = ended r found.items found.ending
 
 -- the items, or the first fault, of what was found
 abbrev pub settled : {X : Type 0} → Rules X → Found X → Result (List X) TextFault
-settled r found = settled_by r found (first_bad r.behind [] found.items)
+settled r found = settled_by r found (first_bad r.fault_after [] found.items)

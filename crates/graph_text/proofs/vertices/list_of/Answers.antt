@@ -1,20 +1,20 @@
 use Rattle.std.proofs.Common.{◌≡◌, ℕ, Err, List, length, sym, ◌∙◌, ap, refl, subst}
-use Rattle.graph_text.specs.Answers.{IsUnsorted}
-use Rattle.graph_text.specs.Found.{ended}
+use Rattle.graph_text.specs.Inner.FoundVertices.{IsUnsorted}
+use Rattle.graph_text.specs.Inner.Found.{ended}
 use Rattle.graph_text.specs.Vertices.{vertex_rules}
-use Rattle.graph_text.specs.Texts.{found_at}
+use Rattle.graph_text.specs.Inner.Texts.{found_at}
 use Rattle.graph_text.proofs.VertexTexts.{unsorted_is, list_unsorted, list_ended, list_whole, sorted_are}
-use Rattle.graph_text.proofs.vertices.listed.Goals as goal
+use Rattle.graph_text.proofs.vertices.list_of.Goals as goal
 
-pub unsorted-requires : goal.unsorted-requires
-unsorted-requires c =
+pub refusal-requires : goal.refusal-requires
+refusal-requires c =
     let long : length c.args.lines.items.items ≡ length c.deref-in-Err.result.now = sym c.requires.long ∙ ap length (sym c.deref-in-Err.ensures.value) in
     unsorted_is c.args.lines.items.items c.in-Err.fault (length c.deref-in-Err.result.now) long c.in-Err.ensures
 
 pub returns-in-Err : goal.returns-in-Err
 returns-in-Err c =
-    let unsorted = subst (λ (places : List ℕ). IsUnsorted places c.in-Err.fault c.unsorted.result) c.deref-in-Err.ensures.value c.unsorted.ensures in
-    list_unsorted (found_at c.args.lines c.args.ending) c.in-Err.fault c.unsorted.result c.in-Err.ensures unsorted
+    let unsorted = subst (λ (places : List ℕ). IsUnsorted places c.in-Err.fault c.refusal.result) c.deref-in-Err.ensures.value c.refusal.ensures in
+    list_unsorted (found_at c.args.lines c.args.ending) c.in-Err.fault c.refusal.result c.in-Err.ensures unsorted
 
 pub invariant_of-result : goal.invariant_of-result
 invariant_of-result c = record {

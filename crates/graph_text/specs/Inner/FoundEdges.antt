@@ -1,29 +1,20 @@
--- What the reader of edges answers, where the source tells its bytes and where it does not.
-use Rattle.std.specs.Prelude.{◌≡◌, ℕ, ◌<◌, ◌≤◌, Bool, List, length, slice_index, Option, None, Result, Ok, Err, IfSome}
+-- What the reader of edges makes of what it found.
+use Rattle.std.specs.Prelude.{◌≡◌, ℕ, ◌<◌, ◌≤◌, Bool, List, length, slice_index, Option, None, Result, Ok, Err}
 use Rattle.gl_base.specs.declared.limits.TheConstants.{MAX_EDGES}
 use Rattle.gl_base.specs.declared.text_faults.TextFault.{TextFault}
 use Rattle.gl_base.specs.declared.text_faults.TextFile.TheVariants.{Edges}
 use Rattle.gl_base.specs.declared.text_faults.TextKind.{TextKind}
 use Rattle.gl_base.specs.declared.text_faults.TextKind.TheVariants.{Unknown, SelfLoop as SelfLoopKind, Double}
-use Rattle.gl_outside.specs.Faults.{Rose}
 use Rattle.graph_core.specs.declared.graph_lists.EdgeIn.{EdgeIn}
 use Rattle.graph_core.specs.declared.graph_lists.GraphFault.{GraphFault}
 use Rattle.graph_core.specs.declared.graph_lists.GraphFault.TheVariants.{DoubleVertex, UnknownVertex, SelfLoop, DoubleEdge, NoMemory as NoMemoryForGraph}
-use Rattle.graph_core.specs.DataGraph.{DataGraph, IsDataGraph}
+use Rattle.graph_core.specs.DataGraph.{DataGraph}
 use Rattle.graph_core.specs.GraphLists.{IsGraphOf}
 use Rattle.graph_text.specs.declared.said.Ending.{Ending}
 use Rattle.graph_text.specs.declared.lists.Reading.{Reading}
 use Rattle.graph_text.specs.declared.lists.Reading.TheVariants.{Text, ReadFault, NoMemory}
-use Rattle.graph_text.specs.Edges.{edge_rules, edges_of}
-use Rattle.graph_text.specs.Found.{Found, ended, settled}
-
--- what the reader of edges answers to a text, over these identifiers, where the count of faults went from `before` to `now`
-abbrev pub ReadsGraph : List ℕ → Bool → Bool → Result DataGraph Reading → Option (List ℕ) → ℕ → ℕ → Type 0
-ReadsGraph ids directed weighted (Ok g) text before now =
-    IsDataGraph g × IfSome text (λ bytes. (given : List EdgeIn) × (edges_of ids directed weighted bytes ≡ Ok given) × IsGraphOf ids given directed g)
-ReadsGraph ids directed weighted (Err (Text fault)) text before now = IfSome text (λ bytes. edges_of ids directed weighted bytes ≡ Err fault)
-ReadsGraph ids directed weighted (Err ReadFault) text before now = Rose before now
-ReadsGraph ids directed weighted (Err NoMemory) text before now = Unit {0}
+use Rattle.graph_text.specs.Edges.{edge_rules}
+use Rattle.graph_text.specs.Inner.Found.{Found, ended, settled}
 
 -- edges that were found are within the limit, and each has its line
 pub record AreFoundEdges (found : Found EdgeIn) : Type 0 where
@@ -56,9 +47,9 @@ abbrev pub faulty : ℕ → TextKind → Reading
 faulty line kind = Text (record { file = Edges; line = line; kind = kind })
 
 -- the fault of edges that make no graph
-abbrev pub IsRefused : List ℕ → GraphFault → Reading → Type 0
-IsRefused places (DoubleVertex place) reading = ⊥
-IsRefused places (UnknownVertex place) reading = reading ≡ faulty (slice_index places place) Unknown
-IsRefused places (SelfLoop place) reading = reading ≡ faulty (slice_index places place) SelfLoopKind
-IsRefused places (DoubleEdge place) reading = reading ≡ faulty (slice_index places place) Double
-IsRefused places NoMemoryForGraph reading = reading ≡ NoMemory
+abbrev pub IsEdgeRefusal : List ℕ → GraphFault → Reading → Type 0
+IsEdgeRefusal places (DoubleVertex place) reading = ⊥
+IsEdgeRefusal places (UnknownVertex place) reading = reading ≡ faulty (slice_index places place) Unknown
+IsEdgeRefusal places (SelfLoop place) reading = reading ≡ faulty (slice_index places place) SelfLoopKind
+IsEdgeRefusal places (DoubleEdge place) reading = reading ≡ faulty (slice_index places place) Double
+IsEdgeRefusal places NoMemoryForGraph reading = reading ≡ NoMemory

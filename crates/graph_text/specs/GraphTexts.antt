@@ -10,14 +10,14 @@ use Rattle.graph_text.specs.Edges.{edges_of}
 
 -- the vertex text has these identifiers, here in ascending order
 pub record ListsIds (vertices ids : List ℕ) : Type 0 where
-  pub given : List ℕ
-  pub lines : vertices_of vertices ≡ Ok given
-  pub same : IsPermutation given ids
+  pub listed : List ℕ
+  pub lines : vertices_of vertices ≡ Ok listed
+  pub same : IsPermutation listed ids
   pub are : AreIds ids
 
 -- the vertex text has the graph's identifiers, and over them the edge text has its edges
-pub record TellGraph (directed weighted : Bool) (vertices edges : List ℕ) (g : DataGraph) : Type 0 where
+pub record DescribeGraph (directed weighted : Bool) (vertices edges : List ℕ) (g : DataGraph) : Type 0 where
   pub vertex_lines : ListsIds vertices g.ids
-  pub given : List EdgeIn
-  pub edge_lines : edges_of g.ids directed weighted edges ≡ Ok given
-  pub graph : IsGraphOf g.ids given directed g
+  pub listed : List EdgeIn
+  pub edge_lines : edges_of g.ids directed weighted edges ≡ Ok listed
+  pub graph : IsGraphOf g.ids listed directed g

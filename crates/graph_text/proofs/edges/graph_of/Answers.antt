@@ -1,21 +1,21 @@
 use Rattle.std.proofs.Common.{◌≡◌, ℕ, Ok, Err, List, length, sym, ◌∙◌, ap, subst}
 use Rattle.graph_core.specs.declared.graph_lists.EdgeIn.{EdgeIn}
-use Rattle.graph_text.specs.EdgeAnswers.{IsRefused}
-use Rattle.graph_text.specs.Found.{ended}
+use Rattle.graph_text.specs.Inner.FoundEdges.{IsEdgeRefusal}
+use Rattle.graph_text.specs.Inner.Found.{ended}
 use Rattle.graph_text.specs.Edges.{edge_rules}
-use Rattle.graph_text.specs.Texts.{found_at}
+use Rattle.graph_text.specs.Inner.Texts.{found_at}
 use Rattle.graph_text.proofs.EdgeTexts.{refused_is, graph_refused, graph_ended}
-use Rattle.graph_text.proofs.edges.built.Goals as goal
+use Rattle.graph_text.proofs.edges.graph_of.Goals as goal
 
-pub refused-requires : goal.refused-requires
-refused-requires c =
+pub refusal-requires : goal.refusal-requires
+refusal-requires c =
     let long : length c.args.lines.items.items ≡ length c.deref-in-Err.result.now = sym c.requires.long ∙ ap length (sym c.deref-in-Err.ensures.value) in
     refused_is c.args.list.ids.items c.args.directed c.args.lines.items.items c.in-Err.fault (length c.deref-in-Err.result.now) c.args.list.are_ids.ascending long c.in-Err.ensures.fault
 
 pub returns-in-Err : goal.returns-in-Err
 returns-in-Err c =
-    let refused = subst (λ (places : List ℕ). IsRefused places c.in-Err.fault c.refused.result) c.deref-in-Err.ensures.value c.refused.ensures in
-    graph_refused c.args.list.ids.items c.args.directed (found_at c.args.lines c.args.ending) c.in-Err.fault c.refused.result c.args.list.are_ids.ascending c.in-Err.ensures.fault refused
+    let refused = subst (λ (places : List ℕ). IsEdgeRefusal places c.in-Err.fault c.refusal.result) c.deref-in-Err.ensures.value c.refusal.ensures in
+    graph_refused c.args.list.ids.items c.args.directed (found_at c.args.lines c.args.ending) c.in-Err.fault c.refusal.result c.args.list.are_ids.ascending c.in-Err.ensures.fault refused
 
 pub returns-in-Ok-ended : goal.returns-in-Ok-ended
 returns-in-Ok-ended c = (
