@@ -1,5 +1,7 @@
 //! The lines of an atom, and why the files of a cut were refused.
 use crate::{AtomNo, EdgeNo, Vertex};
+use std::fmt;
+use thiserror::Error;
 
 /// A vertex of an atom, with its identifier.
 #[derive(Clone, Copy, Debug, PartialEq, Eq, Hash)]
@@ -53,9 +55,24 @@ pub enum AtomsKind {
     TooLong,
 }
 
+impl fmt::Display for AtomsKind {
+    fn fmt<W: fmt::Write>(&self, f: &mut fmt::Formatter<W>) -> fmt::Result {
+        f.write_str(match self {
+            AtomsKind::Torn => "a byte is missing",
+            AtomsKind::BadTag => "a tag or a number has none of its values",
+            AtomsKind::OutOfOrder => "a record is out of order",
+            AtomsKind::Trailing => "a byte stands past the last record",
+            AtomsKind::Owner => "a vertex is not in exactly one atom",
+            AtomsKind::Differs => "the bytes are not those of the graph",
+            AtomsKind::TooLong => "the file is too long",
+        })
+    }
+}
+
 /// The first fault of the files of a cut. File 0 is the index, and file `a + 1` is that of atom `a`. `at` is the place of a
 /// byte of that file, or for `Owner` a vertex.
-#[derive(Clone, Copy, Debug, PartialEq, Eq, Hash)]
+#[derive(Clone, Copy, Debug, PartialEq, Eq, Hash, Error)]
+#[error("file {file} of the cut, at {at}: {kind}")]
 pub struct AtomsFault {
     pub file: u16,
     pub kind: AtomsKind,

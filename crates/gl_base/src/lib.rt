@@ -3,6 +3,7 @@
 #![tactic(auto)]
 
 mod atoms;
+mod digits;
 mod entries;
 mod job_faults;
 mod jobs;
@@ -16,6 +17,7 @@ mod text_faults;
 mod usage_faults;
 
 pub use atoms::{AtomsFault, AtomsKind, EdgeLine, GhostLine, Lines, VertexLine};
+pub use digits::push_decimal;
 pub use entries::Entry;
 pub use job_faults::{JobFault, Key};
 pub use jobs::{Algorithm, EngineKind, FailureAt, Job, MakePlan};
@@ -23,7 +25,7 @@ pub use limits::{
     INF, MAX_ATOM_BYTES, MAX_ATOMS, MAX_EDGES, MAX_ID, MAX_JOB_BYTES, MAX_MACHINES, MAX_NAME_BYTES,
     MAX_SNAPSHOTS, MAX_STORE_BYTES, MAX_TEXT_BYTES, MAX_VERTICES,
 };
-pub use memory::NoMemory;
+pub use memory::{NoMemory, OrNoMemory};
 pub use names::Name;
 pub use numbers::{AtomNo, EdgeNo, MachineNo, Vertex};
 pub use scopes::{Claim, Counted, Datum, Mode, Peer, ScopeId};

@@ -1,12 +1,19 @@
 //! Names of files.
 ghost use Rattle.std.specs.Prelude.{◌≡◌, ℕ, List, string_bytes};
 
+use std::fmt;
 use std::marker::Model;
 
 /// The name of a file. Contracts see its bytes.
 #[derive(Debug, Drop)]
 pub struct Name {
     text: String,
+}
+
+impl fmt::Display for Name {
+    fn fmt<W: fmt::Write>(&self, f: &mut fmt::Formatter<W>) -> fmt::Result {
+        f.write_str(self.as_str())
+    }
 }
 
 impl Model for Name {

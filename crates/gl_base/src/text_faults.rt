@@ -1,10 +1,33 @@
 //! Why a graph text was refused.
+ghost use Rattle.std.specs.Prelude.{◌≡◌};
+ghost use Rattle.gl_base.specs.FaultNames.{text_file_name, text_kind_name};
+
+use std::fmt;
+use thiserror::Error;
 
 /// The texts that a graph is read from.
 #[derive(Clone, Copy, Debug, PartialEq, Eq, Hash)]
 pub enum TextFile {
     Vertices,
     Edges,
+}
+
+impl TextFile {
+    /// What the text lists.
+    pub fn name(self) -> &'static str
+        ensures { result.now ≡ text_file_name self }
+    {
+        match self {
+            TextFile::Vertices => "vertices",
+            TextFile::Edges => "edges",
+        }
+    }
+}
+
+impl fmt::Display for TextFile {
+    fn fmt<W: fmt::Write>(&self, f: &mut fmt::Formatter<W>) -> fmt::Result {
+        f.write_str(self.name())
+    }
 }
 
 /// What is wrong with a text.
@@ -30,8 +53,34 @@ pub enum TextKind {
     TooLong,
 }
 
+impl TextKind {
+    /// The fault in a word or two.
+    pub fn name(self) -> &'static str
+        ensures { result.now ≡ text_kind_name self }
+    {
+        match self {
+            TextKind::Fields => "fields",
+            TextKind::Number => "number",
+            TextKind::TooLarge => "too large",
+            TextKind::Double => "double",
+            TextKind::TooMany => "too many",
+            TextKind::Unknown => "unknown",
+            TextKind::SelfLoop => "self-loop",
+            TextKind::NoWeight => "no weight",
+            TextKind::TooLong => "too long",
+        }
+    }
+}
+
+impl fmt::Display for TextKind {
+    fn fmt<W: fmt::Write>(&self, f: &mut fmt::Formatter<W>) -> fmt::Result {
+        f.write_str(self.name())
+    }
+}
+
 /// The first fault of a text. Lines are counted from 1.
-#[derive(Clone, Copy, Debug, PartialEq, Eq, Hash)]
+#[derive(Clone, Copy, Debug, PartialEq, Eq, Hash, Error)]
+#[error("the text of the {file}, line {line}: {kind}")]
 pub struct TextFault {
     pub file: TextFile,
     pub line: u32,
