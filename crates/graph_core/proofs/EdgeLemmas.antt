@@ -12,12 +12,14 @@ use Rattle.std.proofs.lemmas.Map.Views.{Contains-from_any, list_any-from_Contain
 use Rattle.std.proofs.lemmas.Nat.{same_from_place}
 use Rattle.std.proofs.lemmas.Option.{get_or_from_slice_get, slice_get_within}
 use Rattle.gl_base.specs.declared.numbers.Vertex.{Vertex}
-use Rattle.graph_core.specs.DataGraph.{IsEdge, IsBefore, Ascends}
+use Rattle.gl_base.specs.Lists.{Ascends}
+use Rattle.graph_core.specs.DataGraph.{IsEdge, IsBefore}
 use Rattle.graph_core.specs.declared.graph_lists.EdgeIn.{EdgeIn}
 use Rattle.graph_core.specs.declared.graph_lists.GraphFault.{GraphFault}
 use Rattle.graph_core.specs.declared.graph_lists.GraphFault.TheVariants.{DoubleVertex, UnknownVertex, SelfLoop, DoubleEdge, NoMemory}
-use Rattle.graph_core.specs.declared.sorting.Unsorted.{Unsorted}
-use Rattle.graph_core.specs.declared.sorting.Unsorted.TheVariants.{Double, NoMemory as UnsortedNoMemory}
+use Rattle.gl_base.specs.declared.memory.OrNoMemory.{OrNoMemory}
+use Rattle.gl_base.specs.declared.memory.OrNoMemory.TheVariants.{Fault, NoMemory as UnsortedNoMemory}
+use Rattle.graph_core.specs.declared.sorting.DoubleAt.{DoubleAt}
 use Rattle.graph_core.specs.declared.edges.Edge.{Edge}
 use Rattle.graph_core.specs.GraphLists.{lower_first, with_ids, first_fault, ends_fault, edge_fault, same_ends, NamesFirstFault}
 use Rattle.graph_core.specs.Edges.{data_edge}
@@ -312,8 +314,8 @@ refuses_first first (SelfLoop place) is = is
 refuses_first first (DoubleEdge place) is = is
 refuses_first first NoMemory is = tt
 
-pub refuses_double : (ids : List ℕ) (directed : Bool) (listed : List EdgeIn) (edges : List Edge) (unsorted : Unsorted) → length ids < 2 ^ 32 → Ascends ids → AreNumbered ids directed listed edges → AreSorted ends_key edges (Err unsorted) → NamesFirstFault (first_fault (edge_fault ids directed) [] listed) (edge_double unsorted)
-refuses_double ids directed listed edges (Double place) few up so double = first_is_double ids directed listed edges place few up so double
+pub refuses_double : (ids : List ℕ) (directed : Bool) (listed : List EdgeIn) (edges : List Edge) (unsorted : OrNoMemory DoubleAt) → length ids < 2 ^ 32 → Ascends ids → AreNumbered ids directed listed edges → AreSorted ends_key edges (Err unsorted) → NamesFirstFault (first_fault (edge_fault ids directed) [] listed) (edge_double unsorted)
+refuses_double ids directed listed edges (Fault at) few up so double = first_is_double ids directed listed edges at.0 few up so double
 refuses_double ids directed listed edges UnsortedNoMemory few up so none = tt
 
 pub refuses_ends : (ids : List ℕ) (directed : Bool) (listed : List EdgeIn) (edges sorted : List Edge) (f : GraphFault) → length ids < 2 ^ 32 → Ascends ids → AreNumbered ids directed listed edges → IsPermutation edges sorted → Rises ends_key sorted → StopsAt ids listed (length edges) (Some f) → NamesFirstFault (first_fault (edge_fault ids directed) [] listed) f

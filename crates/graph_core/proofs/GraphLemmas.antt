@@ -1,11 +1,11 @@
 -- What build keeps is the data graph of its lists.
-use Rattle.std.proofs.Common.{◌≡◌, ℕ, ◌<◌, ◌≤◌, Bool, List, [], length, map, get_or, refl, ◌∙◌, All, arith}
+use Rattle.std.proofs.Common.{◌≡◌, ℕ, ◌<◌, ◌≤◌, Bool, List, [], length, map, get_or, refl, All, arith}
 use Rattle.std.specs.List.Sorted.{IsPermutation}
 use Rattle.std.proofs.lemmas.List.{length-map}
 use Rattle.std.proofs.lemmas.List.Sorted.{length_permutation, All-permutation}
 use Rattle.gl_base.specs.declared.limits.TheConstants.{MAX_ID, MAX_VERTICES, MAX_EDGES}
-use Rattle.gl_base.specs.declared.numbers.Vertex.{Vertex}
-use Rattle.graph_core.specs.DataGraph.{IsDataGraph, Ascends}
+use Rattle.gl_base.specs.Lists.{Ascends}
+use Rattle.graph_core.specs.DataGraph.{IsDataGraph}
 use Rattle.graph_core.specs.declared.graph_lists.EdgeIn.{EdgeIn}
 use Rattle.graph_core.specs.declared.edges.Edge.{Edge}
 use Rattle.graph_core.specs.declared.halves.Half.{Half}
@@ -15,11 +15,9 @@ use Rattle.graph_core.specs.Graphs.{data_graph}
 use Rattle.graph_core.specs.Inner.GraphParts.{AreGraphParts}
 use Rattle.graph_core.specs.Halves.{halves_from}
 use Rattle.graph_core.specs.HalfRows.{data_half}
-use Rattle.graph_core.specs.Inner.HalfPairs.{AreOthers}
 use Rattle.graph_core.specs.IdTable.{IsTableOf}
 use Rattle.graph_core.specs.Edges.{data_edge}
 use Rattle.graph_core.specs.Inner.NumberedEdges.{AreKept}
-use Rattle.graph_core.proofs.NeighbourLemmas.{neighbours_are}
 
 -- what the phases of build have shown
 pub record Built (ids sorted : List ℕ) (listed : List EdgeIn) (directed : Bool) (edges : List Edge) : Type 0 where
@@ -49,12 +47,10 @@ pub built_is : (ids sorted : List ℕ) (listed : List EdgeIn) (directed : Bool) 
 built_is ids sorted listed directed edges b =
     record { graph = built_graph ids sorted listed directed edges b; same_ids = b.same; same_edges = b.kept.same; direction = refl }
 
-pub built_kept : (ids sorted : List ℕ) (listed : List EdgeIn) (directed : Bool) (edges : List Edge) (table : IdTable) (halves : List (List Half)) (rows : List (List Vertex)) → Built ids sorted listed directed edges → IsTableOf sorted table → length halves ≡ length sorted → ((v : ℕ) → v < length sorted → map data_half (get_or halves v []) ≡ halves_from directed v 0 (map data_edge edges)) → length rows ≡ length halves → ((v : ℕ) → v < length rows → AreOthers (get_or halves v []) (get_or rows v [])) → AreGraphParts (data_graph directed sorted edges) table halves rows
-built_kept ids sorted listed directed edges table halves rows b found halves_len halves_each rows_len rows_each =
-    let graph = built_graph ids sorted listed directed edges b in
+pub built_kept : (ids sorted : List ℕ) (listed : List EdgeIn) (directed : Bool) (edges : List Edge) (table : IdTable) (halves : List (List Half)) → Built ids sorted listed directed edges → IsTableOf sorted table → length halves ≡ length sorted → ((v : ℕ) → v < length sorted → map data_half (get_or halves v []) ≡ halves_from directed v 0 (map data_edge edges)) → AreGraphParts (data_graph directed sorted edges) table halves
+built_kept ids sorted listed directed edges table halves b found halves_len halves_each =
     record {
-      graph = graph;
+      graph = built_graph ids sorted listed directed edges b;
       found = found;
       half_rows = (halves_len, halves_each);
-      neighbour_rows = (rows_len ∙ halves_len, λ v l. neighbours_are (data_graph directed sorted edges) v (get_or halves v []) (get_or rows v []) graph (halves_each v l) (rows_each v (omega arith)));
     }

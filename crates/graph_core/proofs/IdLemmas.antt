@@ -8,7 +8,7 @@ use Rattle.std.proofs.lemmas.List.Sorted.{searched}
 use Rattle.std.proofs.lemmas.Nat.{le-div, pow_pos}
 use Rattle.std.specs.List.Sorted.{IsBinarySearchResult}
 use Rattle.std.specs.Ordering.{nat_cmp}
-use Rattle.graph_core.specs.DataGraph.{Ascends}
+use Rattle.gl_base.specs.Lists.{Ascends}
 use Rattle.graph_core.specs.IdTable.{AreRanges, range_of}
 use Rattle.graph_core.proofs.IdRanges.{AreRangesTo}
 

@@ -1,11 +1,10 @@
 -- Lists by key: how a counting sort fills them.
-use Rattle.std.proofs.Common.{◌^◌, ◌≡◌, ℕ, zero, suc, ◌+◌, ◌-◌, ◌<◌, ◌≤◌, List, [], ◌∷◌, ◌++◌, length, map, get_or, set, take, drop, slice_range, refl, sym, ap, ◌∙◌, subst, ⊎_elim, eqb, sum, sum_by, slice_get, Some, All, add-one, arith}
-use Rattle.std.specs.List.{filter, range_with_len}
+use Rattle.std.proofs.Common.{◌^◌, ◌≡◌, ℕ, zero, suc, ◌+◌, ◌-◌, ◌<◌, ◌≤◌, List, [], ◌∷◌, ◌++◌, length, map, get_or, set, take, drop, slice_range, refl, sym, ap, ◌∙◌, subst, ⊎_elim, eqb, sum, slice_get, Some, All, add-one, arith}
+use Rattle.std.specs.List.{filter}
 use Rattle.std.proofs.lemmas.Bool.{cases_eq, cases_lt, eq-eqb, ne_eqb}
-use Rattle.std.proofs.lemmas.List.{drop_more, take_more, drop_at, take-append-le, same_lists, length_push, get_or_push, get_or_append_left, get_or_default, get_or-set_same, get_or-set_other, drop-set, drop-set-lt, take-set-le, length-set, length-append, map-append, take_all, drop_all}
+use Rattle.std.proofs.lemmas.List.{drop_more, take_more, get_or-set_same, get_or-set_other, drop-set, drop-set-lt, take-set-le, length-set, length-append, map-append, take_all, drop_all}
 use Rattle.std.proofs.lemmas.List.Elements.{All-head, All-tail, filter-append}
-use Rattle.std.proofs.lemmas.List.FromFn.{length-map-range_with_len, get_or-map-range_with_len, sum_by-map-range_with_len_more}
-use Rattle.std.proofs.lemmas.List.Edits.{length-between}
+use Rattle.std.proofs.lemmas.List.FromFn.{length-map-range_with_len, get_or-map-range_with_len}
 use Rattle.std.proofs.lemmas.List.Sums.{sum_by_more, sum_by-take-le}
 use Rattle.std.proofs.lemmas.Option.{get_or_from_slice_get, slice_get_within}
 use Rattle.std.proofs.lemmas.Slice.{between_is}
@@ -320,73 +319,3 @@ counts_fit counts ps each =
     let sums : sum (take (length counts) counts) ≡ count_below (length counts) ps = sum_counts counts ps each (length counts) (omega arith) in
     let sums' : sum counts ≡ count_below (length counts) ps = rw all at sums in
     omega (arith, count_below-le (length counts) ps)
-
--- ---- a row behind the others
-
--- the rows have all items
-total_to : {T : Type 0} (starts : List ℕ) (items : List T) → AreStarts starts (length items) → (n : ℕ) → n < length starts → sum_by length (map (λ k. slice_range items (get_or starts k 0) (get_or starts (k + 1) 0)) (range_with_len 0 n)) ≡ get_or starts n 0
-total_to starts items so zero l = sym so.first
-total_to starts items so (suc n) l =
-    let row = λ (k : ℕ). slice_range items (get_or starts k 0) (get_or starts (k + 1) 0) in
-    let more : sum_by length (map row (range_with_len 0 (n + 1))) ≡ sum_by length (map row (range_with_len 0 n)) + length (row n) = sum_by-map-range_with_len_more length row 0 n n (omega arith) in
-    let before = total_to starts items so n (omega arith) in
-    let len : length (row n) ≡ get_or starts (n + 1) 0 - get_or starts n 0 = length-between items (get_or starts n 0) (get_or starts (n + 1) 0) (so.within (n + 1) (omega arith)) in
-    let up = so.ascending n (omega arith) in
-    let all : sum_by length (map row (range_with_len 0 (n + 1))) ≡ get_or starts (n + 1) 0 = omega arith in
-    rw add-one at all
-
-pub total_of_rows : {T : Type 0} (starts : List ℕ) (items : List T) (rows : List (List T)) → rows_of starts items ≡ rows → AreStarts starts (length items) → sum_by length rows ≡ length items
-total_of_rows starts items rows is so =
-    rw (← is) (total_to starts items so (length starts - 1) (omega (arith, so.some)) ∙ so.last)
-
-pub rows-push : {T : Type 0} (starts : List ℕ) (items row : List T) (end : ℕ) (rows : List (List T)) → rows_of starts items ≡ rows → AreStarts starts (length items) → end ≡ length items + length row → rows_of (starts ++ end ∷ []) (items ++ row) ≡ rows ++ row ∷ []
-rows-push starts items row end rows is so end_is =
-    let len_starts = length_push starts end in
-    let len = length_of_rows starts items rows is in
-    let len_more = length_of_rows (starts ++ end ∷ []) (items ++ row) _ refl in
-    same_lists (rows_of (starts ++ end ∷ []) (items ++ row)) (rows ++ row ∷ []) (omega (arith, len_more, length_push rows row, so.some))
-    (λ k d l.
-    let n = length starts - 1 in
-    let inside : k + 1 < length (starts ++ end ∷ []) = omega (arith, len_more) in
-    let here : get_or (rows_of (starts ++ end ∷ []) (items ++ row)) k d ≡ slice_range (items ++ row) (get_or (starts ++ end ∷ []) k 0) (get_or (starts ++ end ∷ []) (k + 1) 0) = get_or_default (rows_of (starts ++ end ∷ []) (items ++ row)) k d [] l ∙ get_or-rows_of (starts ++ end ∷ []) (items ++ row) k inside in
-    let start : get_or (starts ++ end ∷ []) k 0 ≡ get_or starts k 0 = get_or_append_left starts (end ∷ []) 0 k (omega arith) in
-    ⊎_elim
-    (λ (c : k + 1 < length starts).
-    let stop : get_or (starts ++ end ∷ []) (k + 1) 0 ≡ get_or starts (k + 1) 0 = get_or_append_left starts (end ∷ []) 0 (k + 1) c in
-    let front : take (get_or starts (k + 1) 0) (items ++ row) ≡ take (get_or starts (k + 1) 0) items = take-append-le (get_or starts (k + 1) 0) items row (so.within (k + 1) c) in
-    let same : slice_range (items ++ row) (get_or starts k 0) (get_or starts (k + 1) 0) ≡ slice_range items (get_or starts k 0) (get_or starts (k + 1) 0) =
-    between_is (items ++ row) (get_or starts k 0) (get_or starts (k + 1) 0) ∙ ap (drop (get_or starts k 0)) front ∙ sym (between_is items (get_or starts k 0) (get_or starts (k + 1) 0)) in
-    let in_rows : k < length rows = omega (arith, len) in
-    let there : get_or (rows ++ row ∷ []) k d ≡ get_or rows k [] = get_or_append_left rows (row ∷ []) d k in_rows ∙ get_or_default rows k d [] in_rows in
-    rw (here, start, stop, there, row_of_rows starts items rows k is c) same)
-    (λ (c : length starts ≤ k + 1).
-    let at : k + 1 ≡ length starts = omega arith in
-    let stop : get_or (starts ++ end ∷ []) (k + 1) 0 ≡ end = rw at (get_or_push starts end 0 (length starts) refl) in
-    let last : get_or starts k 0 ≡ length items = let e : k ≡ length starts - 1 = omega arith in rw e so.last in
-    let rest : drop (length items) (items ++ row) ≡ row = drop_at items row (length items) refl in
-    let count : end - length items ≡ length row = omega arith in
-    let there : get_or (rows ++ row ∷ []) k d ≡ row = get_or_push rows row d k (omega (arith, len)) in
-    rw (here, start, stop, last, there, rest, count) (take_all (length row) row (omega arith)))
-    (cases_lt (k + 1) (length starts)))
-
-pub starts-push : (starts : List ℕ) (total end : ℕ) → AreStarts starts total → total ≤ end → end < 2 ^ 32 → AreStarts (starts ++ end ∷ []) end
-starts-push starts total end so more few =
-    let len = length_push starts end in
-    let same = λ (k : ℕ) (l : k < length starts). get_or_append_left starts (end ∷ []) 0 k l in
-    let last : get_or (starts ++ end ∷ []) (length starts) 0 ≡ end = get_or_push starts end 0 (length starts) refl in
-    record {
-      few = few;
-      some = omega arith;
-      first = same 0 so.some ∙ so.first;
-      ascending = λ k l. ⊎_elim
-          (λ (c : k + 1 < length starts). omega (arith, same k (omega arith), same (k + 1) c, so.ascending k c))
-          (λ (c : length starts ≤ k + 1). let e : k + 1 ≡ length starts = omega arith in
-          let at_end : get_or (starts ++ end ∷ []) (k + 1) 0 ≡ end = rw e last in
-          omega (arith, same k (omega arith), so.within k (omega arith)))
-          (cases_lt (k + 1) (length starts));
-      within = λ k l. ⊎_elim
-          (λ (c : k < length starts). omega (arith, same k c, so.within k c))
-          (λ (c : length starts ≤ k). let e : k ≡ length starts = omega arith in rw e (omega arith))
-          (cases_lt k (length starts));
-      last = let e : length (starts ++ end ∷ []) - 1 ≡ length starts = omega arith in rw e last;
-    }

@@ -1,5 +1,6 @@
 -- The data graph: identifiers, edges between vertex numbers, and whether edges have a direction.
-use Rattle.std.specs.Prelude.{◌≡◌, ◌≢◌, ◌⊎◌, ℕ, ◌^◌, ◌<◌, ◌≤◌, Bool, false, List, length, slice_index, All, AllPairs}
+use Rattle.std.specs.Prelude.{◌≡◌, ◌≢◌, ◌⊎◌, ℕ, ◌^◌, ◌<◌, ◌≤◌, Bool, false, List, length, All, AllPairs}
+use Rattle.gl_base.specs.Lists.{Ascends}
 use Rattle.gl_base.specs.declared.limits.TheConstants.{MAX_ID, MAX_VERTICES, MAX_EDGES}
 
 -- An edge leads from one vertex to another.
@@ -29,10 +30,6 @@ pub record IsEdge (n : ℕ) (directed : Bool) (e : DataEdge) : Type 0 where
   pub apart : e.from ≢ e.to
   pub lower : directed ≡ false → e.from < e.to
   pub weight : e.weight < 2 ^ 32
-
--- each number is below those after it
-abbrev pub Ascends : List ℕ → Type 0
-Ascends numbers = (i j : ℕ) → i < j → j < length numbers → slice_index numbers i < slice_index numbers j
 
 -- Identifiers and edges ascend strictly, so none stands twice.
 pub record IsDataGraph (g : DataGraph) : Type 0 where

@@ -5,7 +5,8 @@ use Rattle.std.specs.declared.alloc.Global.{Global}
 use Rattle.std.specs.List.Sorted.{IsPermutation}
 use Rattle.graph_core.specs.declared.graph_lists.GraphFault.{GraphFault}
 use Rattle.graph_core.specs.declared.edges.Edge.{Edge}
-use Rattle.graph_core.specs.DataGraph.{DataEdge, Ascends}
+use Rattle.gl_base.specs.Lists.{Ascends}
+use Rattle.graph_core.specs.DataGraph.{DataEdge}
 use Rattle.graph_core.specs.GraphLists.{vertex_fault, first_fault, NamesFirstFault}
 
 -- the edge as the definitions see it

@@ -1,7 +1,7 @@
 -- Where an identifier stands in a list of identifiers that ascends.
 use Rattle.std.specs.Prelude.{◌≡◌, ℕ, ◌+◌, ◌-◌, ◌/◌, ◌^◌, ◌<◌, ◌≤◌, List, length, slice_index, slice_get, Option, Some, MatchOption, Contains}
 use Rattle.gl_base.specs.declared.numbers.Vertex.{Vertex}
-use Rattle.graph_core.specs.DataGraph.{Ascends}
+use Rattle.gl_base.specs.Lists.{Ascends}
 use Rattle.graph_core.specs.declared.id_table.IdTable.{IdTable}
 use Rattle.graph_core.specs.declared.id_table.Form.{Form}
 use Rattle.graph_core.specs.declared.id_table.Form.TheVariants.{Consecutive, Ranged}

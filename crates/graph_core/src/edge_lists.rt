@@ -5,9 +5,9 @@ ghost use Rattle.graph_core.specs.Inner.NumberedEdges.{IsNumber, AreNumbered, St
 
 use crate::edges::Edge;
 use crate::id_table::IdTable;
-use crate::sorting::{Unsorted, sorted};
+use crate::sorting::{DoubleAt, sorted};
 use crate::{EdgeIn, GraphFault};
-use gl_base::{MAX_VERTICES, NoMemory};
+use gl_base::{MAX_VERTICES, NoMemory, OrNoMemory};
 use std::alloc::Global;
 
 /// The edges of a graph with these identifiers, by ascending ends.
@@ -33,12 +33,12 @@ pub fn kept_edges(
 }
 
 /// Edges that cannot be sorted, as a fault of the graph.
-fn double_edge(unsorted: Unsorted) -> GraphFault
+fn double_edge(unsorted: OrNoMemory<DoubleAt>) -> GraphFault
     ensures { result ≡ edge_double unsorted }
 {
     match unsorted {
-        Unsorted::Double(place) => GraphFault::DoubleEdge(place),
-        Unsorted::NoMemory => GraphFault::NoMemory,
+        OrNoMemory::Fault(DoubleAt(place)) => GraphFault::DoubleEdge(place),
+        OrNoMemory::NoMemory => GraphFault::NoMemory,
     }
 }
 

@@ -1,5 +1,5 @@
 //! Lists by key in one flat list, each with its place there.
-ghost use Rattle.std.specs.Prelude.{◌≡◌, ℕ, suc, ◌+◌, ◌^◌, ◌<◌, List, [], ◌∷◌, ◌++◌, length, slice_index, slice_index_or, slice_range, slice_get, sum, sum_by, take, All, IfOk, OnOk, OnErr, Some};
+ghost use Rattle.std.specs.Prelude.{◌≡◌, ℕ, suc, ◌+◌, ◌^◌, ◌<◌, List, [], length, slice_index, slice_index_or, slice_range, slice_get, sum, take, All, IfOk, Some};
 ghost use Rattle.graph_core.specs.Rows.{with_key};
 ghost use Rattle.graph_core.specs.Inner.RowSteps.{count_below, AreRowsFrom, AreStarts};
 
@@ -62,30 +62,6 @@ impl<T: Copy> Rows<T> {
     }
 }
 
-impl<T: Copy> Rows<T> {
-    /// No rows, with room for so many rows and items.
-    pub fn with_room(alloc: Global, rows: usize, items: usize) -> Result<Rows<T>, NoMemory>
-        ensures { IfOk result (λ none. none ≡ []) }
-    {
-        let mut starts = Vec::with_capacity(alloc, rows.saturating_add(1))?;
-        starts.push(0)?;
-        let items = Vec::with_capacity(alloc, items)?;
-        Ok(Rows { starts, items })
-    }
-
-    /// Puts a row behind the others. After an error the rows are as before.
-    pub fn push(&mut self, row: &[T]) -> Result<(), NoMemory>
-        requires { sum_by length self.old + length row.now < 2 ^ 32 }
-        ensures ok { OnOk result (self.new ≡ self.old ++ row.now ∷ []) }
-        ensures err { OnErr result (self.new ≡ self.old) }
-    {
-        self.starts.reserve(1)?;
-        self.items.extend_from_slice(row)?;
-        self.starts.push(self.items.len() as u32)?;
-        Ok(())
-    }
-}
-
 impl<T> Rows<T> {
     /// How many rows there are.
     #[tactic(auto, using(crate::proofs::RowLemmas::length_of_rows))]
@@ -93,15 +69,6 @@ impl<T> Rows<T> {
         ensures { result ≡ length self.now }
     {
         self.starts.len() - 1
-    }
-
-    /// How many items there are in all rows.
-    #[tactic(auto, using(crate::proofs::RowLemmas::total_of_rows))]
-    pub fn item_count(&self) -> usize
-        ensures count { result ≡ sum_by length self.now }
-        ensures few { sum_by length self.now < 2 ^ 32 }
-    {
-        self.items.len()
     }
 
     /// The row with this number.

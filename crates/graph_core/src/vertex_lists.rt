@@ -4,7 +4,8 @@ ghost use Rattle.graph_core.specs.Edges.{SortsIds};
 ghost use Rattle.graph_core.specs.Inner.NumberedEdges.{vertex_double};
 
 use crate::GraphFault;
-use crate::sorting::{Unsorted, sorted};
+use crate::sorting::{DoubleAt, sorted};
+use gl_base::OrNoMemory;
 use std::alloc::Global;
 
 /// The identifiers in order, or the first one that stands before it too.
@@ -18,11 +19,11 @@ pub fn sorted_ids(alloc: Global, ids: Vec<u64>) -> Result<Vec<u64>, GraphFault>
 }
 
 /// Identifiers that cannot be sorted, as a fault of the graph.
-fn double_vertex(unsorted: Unsorted) -> GraphFault
+fn double_vertex(unsorted: OrNoMemory<DoubleAt>) -> GraphFault
     ensures { result ≡ vertex_double unsorted }
 {
     match unsorted {
-        Unsorted::Double(place) => GraphFault::DoubleVertex(place),
-        Unsorted::NoMemory => GraphFault::NoMemory,
+        OrNoMemory::Fault(DoubleAt(place)) => GraphFault::DoubleVertex(place),
+        OrNoMemory::NoMemory => GraphFault::NoMemory,
     }
 }

@@ -11,7 +11,8 @@ use Rattle.graph_text.specs.declared.said.Said.{Said}
 use Rattle.graph_text.specs.declared.said.Ending.TheVariants.{Fault}
 use Rattle.graph_text.specs.declared.said.Halt.{Halt}
 use Rattle.graph_text.specs.declared.said.Halt.TheVariants.{Stopped, ReadFault, NoMemory}
-use Rattle.graph_text.specs.Firsts.{run, and_then}
+use Rattle.gl_base.specs.Results.{and_then}
+use Rattle.graph_text.specs.Firsts.{run}
 use Rattle.graph_text.specs.Inner.Found.{Stop, whole, stopped}
 use Rattle.graph_text.specs.Inner.Steps.{ReadText, byte_step, line_end, nothing_read, past, found_within, found_by_bytes}
 use Rattle.graph_text.specs.Inner.Texts.{read_text, LeadsToText, TakesPiece}
@@ -26,9 +27,9 @@ stops_within : {X : Type 0} (limit most : ℕ) (says : Row → Said X) (xs ys : 
     → run (byte_step most says) nothing_read xs ≡ Err s → found_within limit most says (xs ++ ys) ≡ stopped s
 stops_within limit most says xs ys s short ends =
     elim (nat_le (length (xs ++ ys)) limit)
-    as (λ t. (cond t (whole (and_then (line_end most says) (run (byte_step most says) nothing_read (xs ++ ys))))
+    as (λ t. (cond t (whole (and_then (run (byte_step most says) nothing_read (xs ++ ys)) (line_end most says)))
     (past (run (byte_step most says) nothing_read (take limit (xs ++ ys))))) ≡ stopped s) [
-      | true ↦ ap (λ r. whole (and_then (line_end most says) r)) (run_stays (byte_step most says) nothing_read s xs ys ends)
+      | true ↦ ap (λ r. whole (and_then r (line_end most says))) (run_stays (byte_step most says) nothing_read s xs ys ends)
       | false ↦ ap (λ bytes. past (run (byte_step most says) nothing_read bytes)) (take_past xs ys limit short)
           ∙ ap past (run_stays (byte_step most says) nothing_read s xs (take (limit - length xs) ys) ends)
     ]
@@ -38,7 +39,7 @@ passes : {X : Type 0} (limit most : ℕ) (says : Row → Said X) (xs ys : List �
 passes limit most says xs ys t full more ran =
     let longer : nat_le (length (xs ++ ys)) limit ≡ false = rw length-append (grind (arith, nat_tests)) in
     let front : take limit (xs ++ ys) ≡ xs = ap (λ n. take n (xs ++ ys)) (sym full) ∙ take-append_seam xs ys in
-    ap (λ b. cond b (whole (and_then (line_end most says) (run (byte_step most says) nothing_read (xs ++ ys)))) (past (run (byte_step most says) nothing_read (take limit (xs ++ ys))))) longer
+    ap (λ b. cond b (whole (and_then (run (byte_step most says) nothing_read (xs ++ ys)) (line_end most says))) (past (run (byte_step most says) nothing_read (take limit (xs ++ ys))))) longer
     ∙ ap (λ bytes. past (run (byte_step most says) nothing_read bytes)) front ∙ ap past ran
 
 split_piece : (taken piece rest : List ℕ) (n : ℕ) → (taken ++ piece) ++ rest ≡ (taken ++ take n piece) ++ (drop n piece ++ rest)

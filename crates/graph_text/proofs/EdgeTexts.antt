@@ -14,7 +14,8 @@ use Rattle.gl_base.specs.declared.text_faults.TextKind.TheVariants.{Unknown, Sel
 use Rattle.graph_core.specs.declared.graph_lists.EdgeIn.{EdgeIn}
 use Rattle.graph_core.specs.declared.graph_lists.GraphFault.{GraphFault}
 use Rattle.graph_core.specs.declared.graph_lists.GraphFault.TheVariants.{DoubleVertex, UnknownVertex, SelfLoop, DoubleEdge, NoMemory as NoMemoryForGraph}
-use Rattle.graph_core.specs.DataGraph.{DataGraph, Ascends}
+use Rattle.gl_base.specs.Lists.{Ascends}
+use Rattle.graph_core.specs.DataGraph.{DataGraph}
 use Rattle.graph_core.specs.GraphLists.{first_fault, vertex_fault, edge_fault, same_ends, graph_fault, NamesFirstFault}
 use Rattle.graph_text.specs.declared.lists.Reading.{Reading}
 use Rattle.graph_text.specs.declared.lists.Reading.TheVariants.{Text, ReadFault, NoMemory}
@@ -22,7 +23,8 @@ use Rattle.graph_text.specs.declared.said.Said.{Said}
 use Rattle.graph_text.specs.declared.said.Said.TheVariants.{Passed, Wrong, Late, Item}
 use Rattle.graph_text.specs.declared.said.Ending.TheVariants.{Full}
 use Rattle.graph_text.specs.Lines.{lines, ended_lines, fields}
-use Rattle.graph_text.specs.Firsts.{Rules, and_then, run}
+use Rattle.gl_base.specs.Results.{and_then}
+use Rattle.graph_text.specs.Firsts.{Rules, run}
 use Rattle.graph_text.specs.Edges.{edge_said, edge_fault_after, edge_rules, edges_of}
 use Rattle.graph_text.specs.Inner.Found.{Kept, Stop, Found, stop, collect, nothing_kept, whole, bad_or, first_bad, ended, settled_by, settled}
 use Rattle.graph_text.proofs.LinesFound.{collect_line, cut, found_upto, found_in}
@@ -174,7 +176,7 @@ module _ (ids : List ℕ) (directed weighted : Bool) where
   r = edge_rules ids directed weighted
 
   few_next : (ls : List (List ℕ)) (found : Result (Kept EdgeIn) (Stop EdgeIn)) → Result-few found → ((s : Kept EdgeIn) → AreFew s.items s.places → Result-few (run (collect_line r) s ls))
-      → Result-few (and_then (λ t. run (collect_line r) t ls) found)
+      → Result-few (and_then found (λ t. run (collect_line r) t ls))
   few_next ls (Ok s) few again = again s few
   few_next ls (Err t) few again = few
 

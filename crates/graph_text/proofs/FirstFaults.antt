@@ -11,7 +11,8 @@ use Rattle.graph_text.specs.declared.said.Said.TheVariants.{Passed, Wrong, Late,
 use Rattle.graph_text.specs.declared.said.Ending.{Ending}
 use Rattle.graph_text.specs.declared.said.Ending.TheVariants.{Fault, Late as LateAt, Full}
 use Rattle.graph_text.specs.Lines.{lines, ended_lines, fields}
-use Rattle.graph_text.specs.Firsts.{Rules, Judged, and_then, run, text_fault, or_kind, put, judge, judge_line, items_within, items_of}
+use Rattle.gl_base.specs.Results.{and_then}
+use Rattle.graph_text.specs.Firsts.{Rules, Judged, run, text_fault, or_kind, put, judge, judge_line, items_within, items_of}
 use Rattle.graph_text.specs.Inner.Found.{Kept, Stop, Found, collect, nothing_kept, whole, stopped, bad_or, first_bad, ended, settled_by, settled}
 use Rattle.graph_text.proofs.LinesFound.{collect_line, cut, found_upto, found_in}
 
@@ -71,10 +72,10 @@ module _ {X : Type 0} (r : Rules X) where
 
   module _ (end : Result (Kept X) (Stop X) → Found X) (judged : Result (Judged X) TextFault → Result (List X) TextFault) (ends : AreEnds end judged) where
     abbrev found_from : List (List ℕ) → Result (Kept X) (Stop X) → Result (List X) TextFault
-    found_from ls found = settled r (end (and_then (λ t. run (collect_line r) t ls) found))
+    found_from ls found = settled r (end (and_then found (λ t. run (collect_line r) t ls)))
 
     abbrev judged_from : List (List ℕ) → Result (Judged X) TextFault → Result (List X) TextFault
-    judged_from ls found = judged (and_then (λ t. run (judge_line r) t ls) found)
+    judged_from ls found = judged (and_then found (λ t. run (judge_line r) t ls))
 
     wrong_ends : (s : Kept X) (ending : Ending X) (place line : ℕ) (kind : TextKind) → IsAt s place line kind → settled r (end (Err (stop_at s ending))) ≡ Err (text_fault r line kind)
     wrong_ends s ending place line kind at = ap (settled r) (ends.stops (stop_at s ending)) ∙ settles_by (stopped (stop_at s ending)) place line kind at.wrong at.there
@@ -146,10 +147,10 @@ module _ {X : Type 0} (r : Rules X) where
         ]
 
   abbrev items_whole : Result (Judged X) TextFault → Result (List X) TextFault
-  items_whole judged = and_then (λ s. Ok s.items) judged
+  items_whole judged = and_then judged (λ s. Ok s.items)
 
   abbrev items_past : Result (Judged X) TextFault → Result (List X) TextFault
-  items_past judged = and_then (λ s. Err (text_fault r s.line TooLong)) judged
+  items_past judged = and_then judged (λ s. Err (text_fault r s.line TooLong))
 
   whole_ends : AreEnds whole items_whole
   whole_ends = record {

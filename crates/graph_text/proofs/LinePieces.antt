@@ -10,7 +10,8 @@ use Rattle.graph_text.specs.declared.said.Row.{Row}
 use Rattle.graph_text.specs.declared.said.Said.{Said}
 use Rattle.graph_text.specs.declared.said.Halt.{Halt}
 use Rattle.graph_text.specs.declared.said.Halt.TheVariants.{Stopped, ReadFault, NoMemory}
-use Rattle.graph_text.specs.Firsts.{run, and_then}
+use Rattle.gl_base.specs.Results.{and_then}
+use Rattle.graph_text.specs.Firsts.{run}
 use Rattle.graph_text.specs.Inner.Found.{Kept, Stop, whole}
 use Rattle.graph_text.specs.Inner.Steps.{ReadText, byte_step, line_end, nothing_read, past, found_within, found_by_bytes}
 use Rattle.graph_text.specs.Inner.Texts.{kept_at, read_text, LeadsTo, TakesPiece, IsTold, ReadsBytes}
@@ -33,8 +34,8 @@ ends_within : {X : Type 0} (limit most : ℕ) (says : Row → Said X) (bytes : L
     → run (byte_step most says) nothing_read bytes ≡ Ok t → line_end most says t ≡ found → found_within limit most says bytes ≡ whole found
 ends_within limit most says bytes t found short ran ends =
     let within : nat_le (length bytes) limit ≡ true = grind (arith, nat_tests) in
-    ap (λ b. cond b (whole (and_then (line_end most says) (run (byte_step most says) nothing_read bytes))) (past (run (byte_step most says) nothing_read (take limit bytes)))) within
-    ∙ ap (λ r. whole (and_then (line_end most says) r)) ran ∙ ap whole ends
+    ap (λ b. cond b (whole (and_then (run (byte_step most says) nothing_read bytes) (line_end most says))) (past (run (byte_step most says) nothing_read (take limit bytes)))) within
+    ∙ ap (λ r. whole (and_then r (line_end most says))) ran ∙ ap whole ends
 
 -- a source at its end has told all
 told_all : (first left : Option (List ℕ)) (taken : List ℕ) → Consumes first left taken → IsAtEnd left → IsTold first taken

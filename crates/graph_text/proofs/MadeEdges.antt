@@ -16,7 +16,8 @@ use Rattle.graph_core.specs.GraphLists.{same_ends}
 use Rattle.graph_text.specs.declared.said.Said.TheVariants.{Passed, Wrong, Item}
 use Rattle.graph_text.specs.Lines.{lines, fields, fields_after}
 use Rattle.graph_text.specs.Numerals.{value}
-use Rattle.graph_text.specs.Firsts.{Judged, and_then, run, judge, judge_line, put, text_fault}
+use Rattle.gl_base.specs.Results.{and_then}
+use Rattle.graph_text.specs.Firsts.{Judged, run, judge, judge_line, put, text_fault}
 use Rattle.graph_text.specs.Edges.{edge_rules, edge_said, edge_fault_alone, edge_fault_after, ends_said, weighed, weight_in, edges_of}
 use Rattle.graph_text.specs.Making.{IsPlanInRange, IsStride, HasWeights, edge_from, edge_to, edge_line, edge_weight, offset_count, lines_from, made_edge, made_ids, made_list, weight_field, weight_read}
 use Rattle.graph_text.proofs.MadeLines.{Digits-all, Digits-comment, InLine, InLine-append, apart_test, decimal-InLine, decimal_digits, decimal_field, decimal_value, decimal_weight, fields-last, fields-next, lines-next, without_cr-same}
@@ -237,7 +238,7 @@ module _ (plan : MakePlan) (stride : ℕ) (directed weighted : Bool) (ranges : I
       let a : line + 1 + count ≡ line + suc count = omega arith in
       let b : i + 1 + count ≡ i + suc count = omega arith in
       ap (run step (after line i)) (first_edge i rest (omega (arith, few)))
-      ∙ ap (and_then (λ t. run step t (lines rest))) (edge-judged line i (omega (arith, few)))
+      ∙ ap (λ r. and_then r (λ t. run step t (lines rest))) (edge-judged line i (omega (arith, few)))
       ∙ edges-judged (line + 1) (i + 1) count (omega (arith, few))
       ∙ ap (λ l. Ok (after l (i + 1 + count))) a ∙ ap (λ k. Ok (after (line + suc count) k)) b
 

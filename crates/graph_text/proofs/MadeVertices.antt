@@ -12,7 +12,8 @@ use Rattle.std.proofs.lemmas.Fmt.{length-decimal-le}
 use Rattle.gl_base.specs.declared.limits.TheConstants.{MAX_ID, MAX_VERTICES, MAX_TEXT_BYTES}
 use Rattle.gl_base.specs.declared.text_faults.TextKind.TheVariants.{Double, TooMany}
 use Rattle.graph_text.specs.Lines.{lines}
-use Rattle.graph_text.specs.Firsts.{Rules, Judged, and_then, run, judge, judge_line, judge_lines, items_of, put, text_fault}
+use Rattle.gl_base.specs.Results.{and_then}
+use Rattle.graph_text.specs.Firsts.{Rules, Judged, run, judge, judge_line, judge_lines, items_of, put, text_fault}
 use Rattle.graph_text.specs.Ids.{AreIds}
 use Rattle.graph_text.specs.Vertices.{vertex_rules, vertex_fault_after, vertices_of}
 use Rattle.graph_text.specs.GraphTexts.{ListsIds}
@@ -64,7 +65,7 @@ vertices-judged line j (suc count) room =
     let a : line + 1 + count ≡ line + suc count = omega arith in
     let b : j + 1 + count ≡ j + suc count = omega arith in
     ap (run (judge_line vertex_rules) (after line j)) (first_line j rest (omega (arith, room)))
-    ∙ ap (and_then (λ t. run (judge_line vertex_rules) t (lines rest))) (vertex-judged line j (omega (arith, room)))
+    ∙ ap (λ r. and_then r (λ t. run (judge_line vertex_rules) t (lines rest))) (vertex-judged line j (omega (arith, room)))
     ∙ vertices-judged (line + 1) (j + 1) count (omega (arith, room))
     ∙ ap (λ l. Ok (after l (j + 1 + count))) a ∙ ap (λ k. Ok (after (line + suc count) k)) b
 

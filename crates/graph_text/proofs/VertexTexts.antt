@@ -23,7 +23,8 @@ use Rattle.graph_text.specs.declared.said.Ending.TheVariants.{Full}
 use Rattle.graph_text.specs.Ids.{AreIds}
 use Rattle.graph_text.specs.Lines.{is_empty, is_comment, lines, ended_lines, fields}
 use Rattle.graph_text.specs.Numerals.{value, id_of}
-use Rattle.graph_text.specs.Firsts.{and_then, run}
+use Rattle.gl_base.specs.Results.{and_then}
+use Rattle.graph_text.specs.Firsts.{run}
 use Rattle.graph_text.specs.Vertices.{said_of, vertex_said, vertex_fault_after, vertex_rules, vertices_of}
 use Rattle.graph_text.specs.Inner.Found.{Kept, Stop, Found, stop, collect, nothing_kept, whole, bad_or, first_bad, ended, settled_by, settled}
 use Rattle.graph_text.proofs.LinesFound.{collect_line, cut, found_upto, found_in}
@@ -33,7 +34,7 @@ use Rattle.graph_text.specs.Inner.Texts.{FindsIn}
 use Rattle.graph_text.specs.Answers.{ReadsVertices}
 use Rattle.graph_text.specs.Inner.FoundVertices.{AreFound, Lists, IsDoubleIn, IsUnsorted}
 use Rattle.gl_base.specs.declared.text_faults.TextFault.{TextFault}
-use Rattle.graph_core.specs.DataGraph.{Ascends}
+use Rattle.gl_base.specs.Lists.{Ascends}
 use Rattle.graph_text.proofs.RowLaws.{vertex_law}
 use Rattle.graph_text.proofs.TextRuns.{found_read}
 use Rattle.graph_text.proofs.FirstFaults.{items_settled}
@@ -146,7 +147,7 @@ small_run [] s small = small
 small_run (l ∷ ls) s small = small_next (collect MAX_VERTICES s (vertex_said (fields l))) (small_collect s (vertex_said (fields l)) (small_said (fields l)) small) (small_run ls)
   where
     small_next : (found : Result (Kept ℕ) (Stop ℕ)) → Result-small found → ((s : Kept ℕ) → AreSmall s.items s.places → Result-small (run (collect_line vertex_rules) s ls))
-        → Result-small (and_then (λ t. run (collect_line vertex_rules) t ls) found)
+        → Result-small (and_then found (λ t. run (collect_line vertex_rules) t ls))
     small_next (Ok s) small again = again s small
     small_next (Err t) small again = small
 

@@ -1,5 +1,6 @@
 -- A text is read line by line, up to the first fault.
 use Rattle.std.specs.Prelude.{ℕ, ◌+◌, List, [], ◌∷◌, ◌++◌, length, take, nat_lt, nat_le, if◌then◌else◌, Option, None, Some, Result, Ok, Err}
+use Rattle.gl_base.specs.Results.{and_then}
 use Rattle.gl_base.specs.declared.limits.TheConstants.{MAX_TEXT_BYTES}
 use Rattle.gl_base.specs.declared.text_faults.TextFault.{TextFault}
 use Rattle.gl_base.specs.declared.text_faults.TextFile.{TextFile}
@@ -44,15 +45,10 @@ judge r s (Wrong kind) = Err (text_fault r s.line kind)
 judge r s (Late x kind) = Err (text_fault r s.line (or_kind (r.fault_alone x) kind))
 judge r s (Item x) = put r s x (r.fault_after s.items x)
 
--- goes on where all went well
-abbrev pub and_then : {S T E : Type 0} → (S → Result T E) → Result S E → Result T E
-and_then f (Ok s) = f s
-and_then f (Err e) = Err e
-
 -- one step after another, up to the first error
 abbrev pub run : {S A E : Type 0} → (S → A → Result S E) → S → List A → Result S E
 run step s [] = Ok s
-run step s (x ∷ xs) = and_then (λ t. run step t xs) (step s x)
+run step s (x ∷ xs) = and_then (step s x) (λ t. run step t xs)
 
 -- a line
 abbrev pub judge_line : {X : Type 0} → Rules X → Judged X → List ℕ → Result (Judged X) TextFault
@@ -65,8 +61,8 @@ judge_lines r ls = run (judge_line r) (record { line = 1; items = [] }) ls
 -- The items of a text, or its first fault. Of a text that passes the limit only the lines count that end within it.
 abbrev pub items_within : {X : Type 0} → ℕ → Rules X → List ℕ → Result (List X) TextFault
 items_within limit r bytes =
-    if nat_le (length bytes) limit then and_then (λ s. Ok s.items) (judge_lines r (lines bytes))
-    else and_then (λ s. Err (text_fault r s.line TooLong)) (judge_lines r (ended_lines (take limit bytes)))
+    if nat_le (length bytes) limit then and_then (judge_lines r (lines bytes)) (λ s. Ok s.items)
+    else and_then (judge_lines r (ended_lines (take limit bytes))) (λ s. Err (text_fault r s.line TooLong))
 
 -- the same under the limit of all texts
 unfoldable pub items_of : {X : Type 0} → Rules X → List ℕ → Result (List X) TextFault

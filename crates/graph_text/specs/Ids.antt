@@ -1,7 +1,7 @@
 -- The identifiers of a list of vertices.
 use Rattle.std.specs.Prelude.{ℕ, ◌≤◌, List, length, All}
 use Rattle.gl_base.specs.declared.limits.TheConstants.{MAX_ID, MAX_VERTICES}
-use Rattle.graph_core.specs.DataGraph.{Ascends}
+use Rattle.gl_base.specs.Lists.{Ascends}
 
 -- identifiers ascend strictly and are within the limits
 pub record AreIds (ids : List ℕ) : Type 0 where

@@ -4,18 +4,22 @@ ghost use Rattle.graph_text.specs.Making.{IsPlanInRange, offset_count, edge_from
 ghost use Rattle.graph_text.specs.Writes.{Writes, WritesEdges};
 
 use crate::stride::stride_of;
-use gl_base::{MakePlan, NoMemory};
+use gl_base::{MakePlan, NoMemory, push_decimal};
 use gl_outside::{Failed, PIECE, Sink, write_all, write_when_full};
-use itoa::Buffer;
 use std::alloc::Global;
+use thiserror::Error;
 
 /// As many bytes as a line has at most: three numbers of 10 digits, two blanks and LF.
 const LINE: usize = 33;
 
 /// Why a text was not written to its end.
-#[derive(Clone, Copy, Debug, PartialEq, Eq)]
+#[derive(Clone, Copy, Debug, PartialEq, Eq, Error)]
 pub enum Writing {
+    /// The sink failed.
+    #[error("a write failed")]
     WriteFault,
+    /// There was not enough memory.
+    #[error("out of memory")]
     NoMemory,
 }
 
@@ -49,7 +53,7 @@ pub fn make_vertices<K: Sink>(alloc: Global, sink: &mut K, plan: &MakePlan) -> R
 {
     let mut piece = Vec::with_capacity(alloc, PIECE).map_err(|_| Writing::NoMemory)?;
     for vertex in 0..plan.vertices {
-        push_number(&mut piece, vertex + 1)?;
+        push_decimal(&mut piece, vertex + 1)?;
         push_byte(&mut piece, b'\n')?;
         write_when_full(sink, &mut piece, LINE)?;
     }
@@ -106,12 +110,12 @@ fn push_edge(piece: &mut Vec<u8>, plan: &MakePlan, stride: u64, edge: u32) -> Re
     ensures { OnOk result (piece.new.items ≡ piece.old.items ++ edge_line plan.now stride edge) }
 {
     let (from, to) = ends_of(plan, stride, edge);
-    push_number(piece, from + 1)?;
+    push_decimal(piece, from + 1)?;
     push_byte(piece, b' ')?;
-    push_number(piece, to + 1)?;
+    push_decimal(piece, to + 1)?;
     if let Some(most) = plan.weight {
         push_byte(piece, b' ')?;
-        push_number(piece, weight_of(plan.number, most, edge))?;
+        push_decimal(piece, weight_of(plan.number, most, edge))?;
     }
     push_byte(piece, b'\n')
 }
@@ -138,15 +142,6 @@ fn weight_of(number: u32, most: u32, edge: u32) -> u32
 {
     let weight = (u64::from(number) + u64::from(edge) * 2654435761) % (u64::from(most) + 1);
     weight as u32
-}
-
-/// Adds a number in decimal.
-fn push_number(piece: &mut Vec<u8>, number: u32) -> Result<(), NoMemory>
-    ensures { OnOk result (piece.new.items ≡ piece.old.items ++ decimal number) }
-{
-    let mut digits = Buffer::new();
-    piece.extend_from_slice(digits.format(number).as_bytes())?;
-    Ok(())
 }
 
 /// Adds a byte.

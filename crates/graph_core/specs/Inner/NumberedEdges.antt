@@ -6,8 +6,9 @@ use Rattle.std.specs.List.Sorted.{IsPermutation}
 use Rattle.graph_core.specs.declared.graph_lists.EdgeIn.{EdgeIn}
 use Rattle.graph_core.specs.declared.graph_lists.GraphFault.{GraphFault}
 use Rattle.graph_core.specs.declared.graph_lists.GraphFault.TheVariants.{DoubleVertex, DoubleEdge, NoMemory as NoMemoryForGraph}
-use Rattle.graph_core.specs.declared.sorting.Unsorted.{Unsorted}
-use Rattle.graph_core.specs.declared.sorting.Unsorted.TheVariants.{Double, NoMemory}
+use Rattle.gl_base.specs.declared.memory.OrNoMemory.{OrNoMemory}
+use Rattle.gl_base.specs.declared.memory.OrNoMemory.TheVariants.{Fault, NoMemory}
+use Rattle.graph_core.specs.declared.sorting.DoubleAt.{DoubleAt}
 use Rattle.graph_core.specs.declared.edges.Edge.{Edge}
 use Rattle.graph_core.specs.DataGraph.{DataEdge, IsEdge, IsBefore}
 use Rattle.graph_core.specs.GraphLists.{lower_first, with_ids, ends_fault, edge_fault, first_fault, NamesFirstFault}
@@ -39,8 +40,8 @@ StopsAt ids listed n None = length listed ≤ n
 StopsAt ids listed n (Some fault) = (n < length listed) × ((d : EdgeIn) → ends_fault ids (slice_index_or listed n d) n ≡ Some fault)
 
 -- edges that cannot be sorted, as a fault of the graph
-abbrev pub edge_double : Unsorted → GraphFault
-edge_double (Double place) = DoubleEdge place
+abbrev pub edge_double : OrNoMemory DoubleAt → GraphFault
+edge_double (Fault double) = DoubleEdge double.0
 edge_double NoMemory = NoMemoryForGraph
 
 -- the listed edges as edges of a graph with these identifiers, in order
@@ -56,6 +57,6 @@ SortsEdges ids directed listed (Ok edges) = AreKept ids directed listed (map dat
 SortsEdges ids directed listed (Err fault) = NamesFirstFault (first_fault (edge_fault ids directed) [] listed) fault
 
 -- identifiers that cannot be sorted, as a fault of the graph
-abbrev pub vertex_double : Unsorted → GraphFault
-vertex_double (Double place) = DoubleVertex place
+abbrev pub vertex_double : OrNoMemory DoubleAt → GraphFault
+vertex_double (Fault double) = DoubleVertex double.0
 vertex_double NoMemory = NoMemoryForGraph

@@ -4,8 +4,9 @@ use Rattle.std.specs.declared.vec.Vec.{Vec}
 use Rattle.std.specs.declared.alloc.Global.{Global}
 use Rattle.std.specs.List.{IsDistinct}
 use Rattle.std.specs.List.Sorted.{IsPermutation}
-use Rattle.graph_core.specs.declared.sorting.Unsorted.{Unsorted}
-use Rattle.graph_core.specs.declared.sorting.Unsorted.TheVariants.{Double, NoMemory}
+use Rattle.gl_base.specs.declared.memory.OrNoMemory.{OrNoMemory}
+use Rattle.gl_base.specs.declared.memory.OrNoMemory.TheVariants.{Fault, NoMemory}
+use Rattle.graph_core.specs.declared.sorting.DoubleAt.{DoubleAt}
 
 -- each key is below those after it
 abbrev pub Rises : {T : Type 0} → (T → ℕ) → List T → Type 0
@@ -18,7 +19,7 @@ pub record IsFirstDouble (keys : List ℕ) (place : ℕ) : Type 0 where
   pub first : IsDistinct nat_eq (take place keys)
 
 -- the items in the order of their keys, or the first place of a key that stands before it too
-abbrev pub AreSorted : {T : Type 0} → (T → ℕ) → List T → Result (Vec T Global) Unsorted → Type 0
+abbrev pub AreSorted : {T : Type 0} → (T → ℕ) → List T → Result (Vec T Global) (OrNoMemory DoubleAt) → Type 0
 AreSorted key items (Ok sorted) = IsPermutation items sorted.items × Rises key sorted.items
-AreSorted key items (Err (Double place)) = IsFirstDouble (map key items) place
+AreSorted key items (Err (Fault double)) = IsFirstDouble (map key items) double.0
 AreSorted key items (Err NoMemory) = Unit {0}

@@ -8,7 +8,8 @@ use Rattle.graph_text.specs.declared.said.Row.TheVariants.{Nothing, One, Two, Th
 use Rattle.graph_text.specs.declared.said.Said.{Said}
 use Rattle.graph_text.specs.declared.said.Ending.TheVariants.{Fault}
 use Rattle.graph_text.specs.Lines.{is_blank}
-use Rattle.graph_text.specs.Firsts.{and_then, run}
+use Rattle.gl_base.specs.Results.{and_then}
+use Rattle.graph_text.specs.Firsts.{run}
 use Rattle.graph_text.specs.Inner.Found.{Kept, Stop, Found, collect, nothing_kept, whole, stopped}
 
 -- a number with one digit more, up to INF
@@ -102,7 +103,7 @@ line_end most says s = collect most s.kept (says (row_begun s.begun))
 -- a byte: LF ends the line
 abbrev pub byte_step : {X : Type 0} → ℕ → (Row → Said X) → ReadText X → ℕ → Result (ReadText X) (Stop X)
 byte_step most says s byte =
-    if byte == 10 then and_then (λ kept. Ok (record { kept = kept; begun = nothing_begun })) (line_end most says s)
+    if byte == 10 then and_then (line_end most says s) (λ kept. Ok (record { kept = kept; begun = nothing_begun }))
     else Ok (record { kept = s.kept; begun = line_more s.begun byte })
 
 -- what is found in a text that goes on past the limit
@@ -113,7 +114,7 @@ past (Err s) = stopped s
 -- what is found in a text that has a limit
 abbrev pub found_within : {X : Type 0} → ℕ → ℕ → (Row → Said X) → List ℕ → Found X
 found_within limit most says bytes =
-    if nat_le (length bytes) limit then whole (and_then (line_end most says) (run (byte_step most says) nothing_read bytes))
+    if nat_le (length bytes) limit then whole (and_then (run (byte_step most says) nothing_read bytes) (line_end most says))
     else past (run (byte_step most says) nothing_read (take limit bytes))
 
 -- what is found in a text, byte by byte
