@@ -1,3 +1,4 @@
+pub mod PlainTexts
 pub mod LinesFound
 pub mod FieldRows
 pub mod Runs

@@ -1,6 +1,6 @@
 -- Steps in turn, and what is found after a piece that ends the reading.
-use Rattle.std.proofs.Common.{◌≡◌, ℕ, ◌+◌, ◌<◌, List, [], ◌∷◌, ◌++◌, length, get_or, drop, refl, sym, ◌∙◌, ap, Result, Ok, Err}
-use Rattle.std.proofs.lemmas.List.{drop_more}
+use Rattle.std.proofs.Common.{◌≡◌, ℕ, ◌+◌, ◌<◌, List, [], ◌∷◌, ◌++◌, length, get_or, take, drop, refl, sym, ◌∙◌, ap, Result, Ok, Err}
+use Rattle.std.proofs.lemmas.List.{drop_more, drop-drop, take-append-drop}
 use Rattle.gl_base.specs.Results.{and_then}
 use Rattle.graph_text.specs.Firsts.{run}
 
@@ -32,3 +32,13 @@ run_joined step old mid end xs ys first second = run-append step old xs ys ∙ a
 -- a run that ended goes no further
 pub run_stays : {S A E : Type 0} (step : S → A → Result S E) (old : S) (e : E) (xs ys : List A) → run step old xs ≡ Err e → run step old (xs ++ ys) ≡ Err e
 run_stays step old e xs ys ended = run-append step old xs ys ∙ ap (λ r. and_then r (λ t. run step t ys)) ended
+
+-- so many items on, in a run that began at `old`
+pub run_jumps : {S A E : Type 0} (step : S → A → Result S E) (s t old : S) (items : List A) (at taken : ℕ) → run step s (take taken (drop at items)) ≡ Ok t
+    → run step s (drop at items) ≡ run step old items → run step t (drop (at + taken) items) ≡ run step old items
+run_jumps step s t old items at taken one ran =
+    let front = take taken (drop at items) in
+    let rest = drop taken (drop at items) in
+    let split : run step s (drop at items) ≡ run step t rest =
+    ap (run step s) (sym (take-append-drop taken (drop at items))) ∙ run_joined step s t (run step t rest) front rest one refl in
+    ap (run step t) (sym (drop-drop taken at items)) ∙ sym split ∙ ran

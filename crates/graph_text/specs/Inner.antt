@@ -3,6 +3,7 @@ pub mod Found
 pub mod Steps
 pub mod Places
 pub mod Texts
+pub mod PlainLines
 pub mod RowRules
 pub mod FoundVertices
 pub mod FoundEdges

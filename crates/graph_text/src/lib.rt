@@ -7,6 +7,7 @@ mod laws;
 mod lines;
 mod lists;
 mod making;
+mod plain;
 mod said;
 mod stride;
 mod vertices;

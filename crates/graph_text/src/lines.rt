@@ -8,10 +8,11 @@ ghost use Rattle.graph_text.specs.Firsts.{run};
 ghost use Rattle.graph_text.specs.Inner.Found.{collect};
 ghost use Rattle.graph_text.specs.Inner.Steps.{byte_step, line_end, nothing_read};
 ghost use Rattle.graph_text.specs.Inner.Places.{IsInsideField};
-ghost use Rattle.graph_text.specs.Inner.Texts.{read_text, kept_at, IsBetween, TakesItem, LeadsTo, LeadsToText, TakesPiece, ReadsBytes, ReadsLines};
+ghost use Rattle.graph_text.specs.Inner.Texts.{read_text, kept_at, IsBegunAs, IsBetween, TakesItem, TakesPlain, LeadsTo, LeadsToText, TakesPiece, ReadsBytes, ReadsLines};
 
 use crate::Reading;
 use crate::fields::{Fields, Place, broken, with_digit};
+use crate::plain::{PLAIN, plain_line};
 use crate::said::{Ending, Halt, Row, Said};
 use gl_base::{MAX_TEXT_BYTES, TextKind};
 use gl_outside::Source;
@@ -60,10 +61,12 @@ impl<X: LineItem> Lines<X> {
     }
 
     /// Keeps what a line says.
+    #[inline(always)]
     fn keep(&mut self, said: Said<X>) -> Result<(), Halt<X>>
         requires { self.old.line + 1 < 2 ^ 32 }
         ensures kept { LeadsTo (collect X.MOST (kept_at self.old) said) (kept_at self.new) result }
         ensures line { self.new.line ≤ self.old.line + 1 }
+        ensures begun { IsBegunAs self.old self.new }
     {
         match said {
             Said::Passed => {}
@@ -76,9 +79,11 @@ impl<X: LineItem> Lines<X> {
     }
 
     /// Keeps an item and its line.
+    #[inline(always)]
     fn push(&mut self, x: X) -> Result<(), Halt<X>>
         ensures takes { TakesItem X.MOST (kept_at self.old) x (kept_at self.new) result }
         ensures line { self.new.line ≡ self.old.line }
+        ensures begun { IsBegunAs self.old self.new }
     {
         if self.items.len() >= X::MOST {
             return Err(Halt::Stopped(Ending::Full(self.line, x)));
@@ -154,7 +159,34 @@ impl<X: LineItem> Lines<X> {
         Ok(self.fields.take(number, byte))
     }
 
-    /// Takes bytes in turn.
+    /// Takes the plain line at the front of the bytes, where no line is begun, and says how many bytes that are: none where
+    /// no plain line is found.
+    #[inline(always)]
+    fn take_plain(
+        &mut self,
+        weighted: bool,
+        number: Option<u64>,
+        bytes: &[u8],
+    ) -> Result<usize, Halt<X>>
+        requires room { self.old.line + 1 < 2 ^ 32 }
+        ensures takes { TakesPlain X.MOST (X.says weighted) self.old number bytes.now self.new result }
+        ensures line { self.new.line ≤ self.old.line + 1 }
+        ensures lines { IfOk result (λ taken. self.new.line ≤ self.old.line + taken) }
+    {
+        let (Place::Begin, None, None) = (self.fields.place, number, self.before_cr) else {
+            return Ok(0);
+        };
+        if bytes.len() < PLAIN {
+            return Ok(0);
+        }
+        let Some(line) = plain_line(bytes) else {
+            return Ok(0);
+        };
+        self.keep(X::said(line.row, weighted))?;
+        Ok(line.len)
+    }
+
+    /// Takes bytes in turn: whole plain lines, and else one byte at a time.
     fn take_bytes(
         &mut self,
         weighted: bool,
@@ -168,8 +200,15 @@ impl<X: LineItem> Lines<X> {
         ensures line { self.new.line ≤ self.old.line + length bytes.now }
     {
         let mut number = number;
-        for byte in bytes {
-            number = self.take(weighted, number, *byte)?;
+        let mut at = 0;
+        while at < bytes.len() {
+            let taken = self.take_plain(weighted, number, &bytes[at..])?;
+            if taken > 0 {
+                at += taken;
+            } else {
+                number = self.take(weighted, number, bytes[at])?;
+                at += 1;
+            }
         }
         Ok(number)
     }

@@ -1,5 +1,5 @@
 -- What the reader of lines keeps, and what it answers.
-use Rattle.std.specs.Prelude.{◌≡◌, ℕ, ◌+◌, ◌<◌, ◌≤◌, IsTrue, List, [], ◌∷◌, ◌++◌, length, Option, None, Some, option_map, Result, Ok, Err, IfSome}
+use Rattle.std.specs.Prelude.{◌≡◌, ℕ, ◌+◌, ◌<◌, ◌≤◌, IsTrue, List, [], ◌∷◌, ◌++◌, length, take, Option, None, Some, option_map, Result, Ok, Err, IfSome}
 use Rattle.gl_base.specs.declared.limits.TheConstants.{MAX_TEXT_BYTES}
 use Rattle.gl_outside.specs.Faults.{Rose}
 use Rattle.graph_text.specs.declared.lists.Reading.{Reading}
@@ -34,6 +34,10 @@ abbrev pub IsBetween : {X : Type 0} → Lines X → Option ℕ → Type 0
 IsBetween l None = Unit {0}
 IsBetween l (Some n) = IsTrue (has_number l.fields.place) × (l.before_cr ≡ None)
 
+-- the line that is begun is the same
+abbrev pub IsBegunAs : {X : Type 0} → Lines X → Lines X → Type 0
+IsBegunAs old new = (new.fields ≡ old.fields) × (new.before_cr ≡ old.before_cr)
+
 -- an item is kept, or is one too many
 abbrev pub TakesItem : {X : Type 0} → ℕ → Kept X → X → Kept X → Result (Unit {0}) (Halt X) → Type 0
 TakesItem most old x new (Ok taken) =
@@ -55,6 +59,15 @@ LeadsToText found new (Ok number) = found ≡ Ok (read_text new number)
 LeadsToText found new (Err (Stopped ending)) = found ≡ Err (record { items = new.items.items; places = new.places.items; ending = ending })
 LeadsToText found new (Err ReadFault) = ⊥
 LeadsToText found new (Err NoMemory) = Unit {0}
+
+-- the bytes of a line at the front, if any, lead to this state, or end there
+abbrev pub TakesPlain : {X : Type 0} → ℕ → (Row → Said X) → Lines X → Option ℕ → List ℕ → Lines X → Result ℕ (Halt X) → Type 0
+TakesPlain most says old number bytes new (Ok taken) =
+    (taken ≤ length bytes) × (run (byte_step most says) (read_text old number) (take taken bytes) ≡ Ok (read_text new number)) × (IsBetween old number → IsBetween new number)
+TakesPlain most says old number bytes new (Err (Stopped ending)) =
+    run (byte_step most says) (read_text old number) bytes ≡ Err (record { items = new.items.items; places = new.places.items; ending = ending })
+TakesPlain most says old number bytes new (Err ReadFault) = ⊥
+TakesPlain most says old number bytes new (Err NoMemory) = Unit {0}
 
 -- a piece leads to this state, or settles what is found, whatever comes behind it
 abbrev pub TakesPiece : {X : Type 0} → ℕ → (Row → Said X) → ReadText X → List ℕ → ℕ → Lines X → Result (Option ℕ) (Halt X) → Type 0
