@@ -4,7 +4,7 @@ use Rattle.std.proofs.lemmas.List.Sorted.{IsPermutation-trans}
 use Rattle.graph_core.specs.DataGraph.{DataGraph}
 use Rattle.graph_core.specs.GraphLists.{IsGraphOf}
 use Rattle.graph_text.specs.Edges.{edges_of}
-use Rattle.graph_text.specs.Tells.{ListsIds}
+use Rattle.graph_text.specs.GraphTexts.{ListsIds}
 use Rattle.job_config.specs.Fields.{JobFields}
 use Rattle.engine_cli.specs.declared.status.Status.{Status}
 use Rattle.engine_cli.specs.declared.status.Status.TheVariants.{Done, Usage, BadJob, BadGraph, ReadFault, WriteFault, BudgetSpent, NoMemory}
@@ -18,8 +18,8 @@ tells : (job : JobFields) (vertices edges ids : List ℕ) (g : DataGraph) → Li
     → ListsEdges job.directed (is_weighted job.algorithm) ids g edges → TellJobGraph job vertices edges g
 tells job vertices edges ids g lists has =
     let same : ids ≡ g.ids =
-    sorted_once lists.given ids g.ids lists.are.ascending has.graph.graph.ascending lists.same
-    (IsPermutation-trans lists.given ids g.ids lists.same has.graph.same_ids) in
+    sorted_once lists.listed ids g.ids lists.are.ascending has.graph.graph.ascending lists.same
+    (IsPermutation-trans lists.listed ids g.ids lists.same has.graph.same_ids) in
     let Edges : List ℕ → Type 0 = λ ids. edges_of ids job.directed (is_weighted job.algorithm) edges ≡ Ok has.given in
     let Graph : List ℕ → Type 0 = λ ids. IsGraphOf ids has.given job.directed g in
     record {

@@ -6,7 +6,7 @@ use Rattle.gl_outside.specs.declared.files.OpenFault.{OpenFault}
 use Rattle.gl_outside.specs.declared.files.OpenFault.TheVariants.{Failed, NoMemory}
 use Rattle.gl_outside.specs.Names.{AppendsNames, NotesName}
 use Rattle.gl_base.specs.declared.text_faults.TextFault.{TextFault}
-use Rattle.graph_text.specs.Tells.{ListsIds}
+use Rattle.graph_text.specs.GraphTexts.{ListsIds}
 use Rattle.engine_cli.specs.Found.{HandsOver, edges_after, edges_behind, names_in}
 
 AppendsNames-trans : (a b c : Option (List (List ℕ))) (xs ys : List (List ℕ)) → AppendsNames a b xs → AppendsNames b c ys → AppendsNames a c (xs ++ ys)

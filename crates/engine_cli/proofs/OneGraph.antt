@@ -10,7 +10,7 @@ use Rattle.gl_base.specs.declared.job_faults.JobFault.{JobFault}
 use Rattle.gl_base.specs.declared.text_faults.TextFault.{TextFault}
 use Rattle.graph_text.specs.Vertices.{vertices_of}
 use Rattle.graph_text.specs.Edges.{edges_of}
-use Rattle.graph_text.specs.Tells.{ListsIds}
+use Rattle.graph_text.specs.GraphTexts.{ListsIds}
 use Rattle.job_config.specs.Fields.{JobFields}
 use Rattle.job_config.specs.Jobs.{JobSayings}
 use Rattle.engine_cli.specs.declared.status.Status.{Status}

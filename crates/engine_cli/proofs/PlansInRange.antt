@@ -9,7 +9,7 @@ use Rattle.gl_base.specs.declared.limits.TheConstants.{MAX_VERTICES}
 use Rattle.gl_base.specs.declared.usage_faults.Opt.TheVariants as opt
 use Rattle.gl_base.specs.declared.usage_faults.UsageFault.{UsageFault}
 use Rattle.gl_base.specs.declared.usage_faults.UsageFault.TheVariants as fault
-use Rattle.graph_text.specs.Making.{IsInRanges}
+use Rattle.graph_text.specs.Making.{IsPlanInRange}
 use Rattle.job_words.specs.CommandLine.{command_line_of, formed_means, line_means}
 use Rattle.job_words.specs.Lines.{Sayings, line_of}
 use Rattle.gl_base.specs.Results.{and_then}
@@ -34,7 +34,7 @@ weight-small None e = tt
 weight-small (Some most) e = let small : most ≤ 4294967295 = ltb-false 4294967295 most e in omega (arith, small)
 
 -- numbers that pass the tests are in their ranges
-in-ranges : (number vertices edges : ℕ) (weight : Option ℕ) (plan : MakePlan) → plan_in_range number vertices edges weight ≡ Ok plan → IsInRanges plan
+in-ranges : (number vertices edges : ℕ) (weight : Option ℕ) (plan : MakePlan) → plan_in_range number vertices edges weight ≡ Ok plan → IsPlanInRange plan
 in-ranges number vertices edges weight plan e =
     by_tests (nat_lt 4294967295 number) (nat_lt MAX_VERTICES vertices) (nat_lt (most_edges vertices) edges) (option_map_or (nat_lt 4294967295) weight false)
     refl refl refl refl e
@@ -45,7 +45,7 @@ in-ranges number vertices edges weight plan e =
     by_tests : (a b c d : Bool) → nat_lt 4294967295 number ≡ a → nat_lt MAX_VERTICES vertices ≡ b → nat_lt (most_edges vertices) edges ≡ c
         → option_map_or (nat_lt 4294967295) weight false ≡ d
         → cond a (Err (fault.Range opt.Number)) (cond b (Err (fault.Range opt.Vertices)) (cond c (Err (fault.Range opt.Edges)) (cond d (Err (fault.Range opt.Weight)) (Ok given)))) ≡ Ok plan
-        → IsInRanges plan
+        → IsPlanInRange plan
     by_tests true b c d p q r s e = absurd (no_fault_ok e)
     by_tests false true c d p q r s e = absurd (no_fault_ok e)
     by_tests false false true d p q r s e = absurd (no_fault_ok e)
@@ -53,16 +53,16 @@ in-ranges number vertices edges weight plan e =
     by_tests false false false false p q r s e =
         let small : number ≤ 4294967295 = ltb-false 4294967295 number p in
         let few : edges ≤ most_edges vertices = ltb-false (most_edges vertices) edges r in
-        let ranges : IsInRanges given = record {
+        let ranges : IsPlanInRange given = record {
           number = omega (arith, small);
           vertices = ltb-false MAX_VERTICES vertices q;
           edges = omega (arith, few);
           offsets = omega (arith, few);
           weight = weight-small weight s;
         } in
-        subst IsInRanges (same_ok e) ranges
+        subst IsPlanInRange (same_ok e) ranges
 
-plan-in-ranges : (number vertices edges weight : Option Text) (plan : MakePlan) → plan_of number vertices edges weight ≡ Ok plan → IsInRanges plan
+plan-in-ranges : (number vertices edges weight : Option Text) (plan : MakePlan) → plan_of number vertices edges weight ≡ Ok plan → IsPlanInRange plan
 plan-in-ranges (Some number) (Some vertices) (Some edges) weight plan e =
     let n = next-ok (option_number opt.Number number) _ plan e in
     let v = next-ok (option_number opt.Vertices vertices) _ plan n.1 in
@@ -77,13 +77,13 @@ make_words-in-ranges : (prefix name : Text) (r : Result MakePlan UsageFault) (pl
 make_words-in-ranges prefix name (Ok given) plan e = cc
 make_words-in-ranges prefix name (Err f) plan e = absurd (no_fault_ok e)
 
-meaning-in-ranges : (s : Sayings) (name : Text) (plan : MakePlan) → meaning_of s ≡ Ok (Make name plan) → IsInRanges plan
+meaning-in-ranges : (s : Sayings) (name : Text) (plan : MakePlan) → meaning_of s ≡ Ok (Make name plan) → IsPlanInRange plan
 meaning-in-ranges s name plan e = by_tests (bytes_eq s.verb (codes "run")) (bytes_eq s.verb (codes "make")) (has_option s) s.report e
   where
     by_tests : (a b c d : Bool)
         → cond a (cond c (Err fault.NotHere) (Ok (Run s.file s.report)))
         (cond b (cond d (Err fault.NotHere) (make_words s.file (plan_of s.number s.vertices s.edges s.weight))) (Err fault.Verb)) ≡ Ok (Make name plan)
-        → IsInRanges plan
+        → IsPlanInRange plan
     by_tests true b true d e = absurd (no_fault_ok e)
     by_tests true b false d e = absurd cc
     by_tests false true c true e = absurd (no_fault_ok e)
@@ -92,13 +92,13 @@ meaning-in-ranges s name plan e = by_tests (bytes_eq s.verb (codes "run")) (byte
     by_tests false false c d e = absurd (no_fault_ok e)
 
 -- the plan of a command line is in its ranges
-pub asked-in-ranges : (words : List Text) (name : Text) (plan : MakePlan) → command_line_of words ≡ Ok (Make name plan) → IsInRanges plan
+pub asked-in-ranges : (words : List Text) (name : Text) (plan : MakePlan) → command_line_of words ≡ Ok (Make name plan) → IsPlanInRange plan
 asked-in-ranges words name plan e = formed (first_unformed words) e
   where
-    lined : (l : Option Sayings) → line_means l ≡ Ok (Make name plan) → IsInRanges plan
+    lined : (l : Option Sayings) → line_means l ≡ Ok (Make name plan) → IsPlanInRange plan
     lined None e = absurd (no_fault_ok e)
     lined (Some s) e = meaning-in-ranges s name plan e
 
-    formed : (place : Option ℕ) → formed_means place words ≡ Ok (Make name plan) → IsInRanges plan
+    formed : (place : Option ℕ) → formed_means place words ≡ Ok (Make name plan) → IsPlanInRange plan
     formed None e = lined (line_of (word_forms words)) e
     formed (Some place) e = absurd (no_fault_ok e)

@@ -10,7 +10,7 @@ use Rattle.gl_base.specs.declared.jobs.Algorithm.TheVariants.{Levels, Components
 use Rattle.gl_base.specs.declared.text_faults.TextFault.{TextFault}
 use Rattle.graph_core.specs.DataGraph.{DataGraph}
 use Rattle.graph_text.specs.Edges.{edges_of}
-use Rattle.graph_text.specs.Tells.{ListsIds, TellGraph}
+use Rattle.graph_text.specs.GraphTexts.{ListsIds, DescribeGraph}
 use Rattle.job_config.specs.Fields.{JobFields, needs_source}
 use Rattle.order_text.specs.Answers.{answer_text}
 use Rattle.order_text.specs.Orders.{order_text}
@@ -26,7 +26,7 @@ is_weighted Colours = false
 
 -- the two texts tell the graph that the job is about
 abbrev pub TellJobGraph : JobFields → List ℕ → List ℕ → DataGraph → Type 0
-TellJobGraph job vertices edges g = TellGraph job.directed (is_weighted job.algorithm) vertices edges g
+TellJobGraph job vertices edges g = DescribeGraph job.directed (is_weighted job.algorithm) vertices edges g
 
 -- the report of an answer, where it is asked for, and else nothing
 abbrev pub told_of : Bool → DataGraph → List ℕ → List ℕ → List ℕ

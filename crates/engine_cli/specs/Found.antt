@@ -14,7 +14,7 @@ use Rattle.graph_core.specs.GraphLists.{IsGraphOf}
 use Rattle.graph_core.specs.declared.graph_lists.EdgeIn.{EdgeIn}
 use Rattle.graph_text.specs.Edges.{edges_of}
 use Rattle.graph_text.specs.Ids.{AreIds}
-use Rattle.graph_text.specs.Tells.{ListsIds}
+use Rattle.graph_text.specs.GraphTexts.{ListsIds}
 use Rattle.graph_text.specs.Vertices.{vertices_of}
 use Rattle.graph_text.specs.declared.lists.VertexList.{VertexList}
 use Rattle.job_config.specs.Fields.{JobFields, needs_source}

@@ -4,7 +4,7 @@ use Rattle.gl_base.specs.declared.jobs.MakePlan.{MakePlan}
 use Rattle.gl_base.specs.declared.text_faults.TextFile.{TextFile}
 use Rattle.gl_base.specs.declared.text_faults.TextFile.TheVariants.{Vertices, Edges}
 use Rattle.gl_outside.specs.Faults.{Rose}
-use Rattle.graph_text.specs.Making.{IsStride, half_of, made_edges, made_vertices}
+use Rattle.graph_text.specs.Making.{IsStride, offset_count, made_edges, made_vertices}
 use Rattle.job_words.specs.CommandLine.{IsCommandLine}
 use Rattle.gl_base.specs.Texts.{Text}
 use Rattle.job_words.specs.declared.words.Words.{Words}
@@ -36,7 +36,7 @@ edges_name prefix = prefix ++ ending_of Edges
 -- the bytes are this text of the plan's graph
 abbrev pub IsMade : MakePlan → TextFile → List ℕ → Type 0
 IsMade plan Vertices bytes = bytes ≡ made_vertices plan
-IsMade plan Edges bytes = (stride : ℕ) × IsStride (half_of plan.vertices) stride × (bytes ≡ made_edges plan stride)
+IsMade plan Edges bytes = (stride : ℕ) × IsStride (offset_count plan.vertices) stride × (bytes ≡ made_edges plan stride)
 
 -- the bytes are a front of this text of the plan's graph
 abbrev pub IsMadeFront : MakePlan → TextFile → List ℕ → Type 0

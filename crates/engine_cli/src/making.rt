@@ -6,7 +6,7 @@ ghost use Rattle.gl_base.specs.declared.text_faults.TextFile.TheVariants.{Vertic
 ghost use Rattle.gl_outside.specs.declared.files.OpenFault.TheVariants.{Failed, NoMemory as NoMemoryAtOpen};
 ghost use Rattle.gl_outside.specs.Frames.{KeepsSources};
 ghost use Rattle.gl_outside.specs.Names.{AppendsNames};
-ghost use Rattle.graph_text.specs.Making.{IsInRanges};
+ghost use Rattle.graph_text.specs.Making.{IsPlanInRange};
 ghost use Rattle.graph_text.specs.declared.making.Writing.{Writing};
 ghost use Rattle.job_words.specs.declared.words.Words.TheVariants.{Make};
 ghost use Rattle.engine_cli.specs.declared.status.Status.TheVariants.{Done};
@@ -68,7 +68,7 @@ fn make_files<F: Files>(
     prefix: &str,
     plan: &MakePlan,
 ) -> Result<(), Status>
-    requires { IsInRanges plan.now }
+    requires { IsPlanInRange plan.now }
     ensures vertices { OnOk result (IfSome (F.made files.old) (λ told. Gives (F.given files.new (vertices_name prefix.now)) (IsMade plan.now Vertices))) }
     ensures edges { OnOk result (IfSome (F.made files.old) (λ told. Gives (F.given files.new (edges_name prefix.now)) (IsMade plan.now Edges))) }
     ensures fronts { LeavesFronts plan.now prefix.now (F.made files.old) (F.given files.old) (F.given files.new) }
@@ -90,7 +90,7 @@ fn make_file<F: Files>(
     text: TextFile,
     plan: &MakePlan,
 ) -> Result<(), Status>
-    requires { IsInRanges plan.now }
+    requires { IsPlanInRange plan.now }
     ensures made { OnOk result (IfSome (F.made files.old) (λ told. Gives (F.given files.new (prefix.now ++ ending_of text)) (IsMade plan.now text))) }
     ensures front { LeavesFront plan.now text (F.made files.old) (F.given files.old (prefix.now ++ ending_of text)) (F.given files.new (prefix.now ++ ending_of text)) }
     ensures fault { IfErr result (λ status. IsFault status (F.writes files.old) (F.writes files.new)) }
@@ -115,7 +115,7 @@ fn write_text<K: Sink>(
     text: TextFile,
     plan: &MakePlan,
 ) -> Result<(), Status>
-    requires { IsInRanges plan.now }
+    requires { IsPlanInRange plan.now }
     ensures made { OnOk result ((bytes : List ℕ) × IsMade plan.now text bytes × Appends (K.held sink.old) (K.held sink.new) bytes) }
     ensures front { (bytes : List ℕ) × IsMadeFront plan.now text bytes × Appends (K.held sink.old) (K.held sink.new) bytes }
     ensures fault { IfErr result (λ status. IsFault status (K.faults sink.old) (K.faults sink.new)) }

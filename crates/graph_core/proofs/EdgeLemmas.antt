@@ -12,17 +12,19 @@ use Rattle.std.proofs.lemmas.Map.Views.{Contains-from_any, list_any-from_Contain
 use Rattle.std.proofs.lemmas.Nat.{same_from_place}
 use Rattle.std.proofs.lemmas.Option.{get_or_from_slice_get, slice_get_within}
 use Rattle.gl_base.specs.declared.numbers.Vertex.{Vertex}
+use Rattle.gl_base.specs.Lists.{Ascends}
 use Rattle.graph_core.specs.DataGraph.{IsEdge, IsBefore}
 use Rattle.graph_core.specs.declared.graph_lists.EdgeIn.{EdgeIn}
 use Rattle.graph_core.specs.declared.graph_lists.GraphFault.{GraphFault}
 use Rattle.graph_core.specs.declared.graph_lists.GraphFault.TheVariants.{DoubleVertex, UnknownVertex, SelfLoop, DoubleEdge, NoMemory}
-use Rattle.graph_core.specs.declared.sorting.Unsorted.{Unsorted}
-use Rattle.graph_core.specs.declared.sorting.Unsorted.TheVariants.{Double, NoMemory as UnsortedNoMemory}
+use Rattle.gl_base.specs.declared.memory.OrNoMemory.{OrNoMemory}
+use Rattle.gl_base.specs.declared.memory.OrNoMemory.TheVariants.{Fault, NoMemory as UnsortedNoMemory}
+use Rattle.graph_core.specs.declared.sorting.DoubleAt.{DoubleAt}
 use Rattle.graph_core.specs.declared.edges.Edge.{Edge}
-use Rattle.graph_core.specs.GraphLists.{written, named, first_fault, ends_fault, edge_fault, is_same, Refuses}
-use Rattle.graph_core.specs.Edges.{data_edge, ends_key, IsNumbered, AreNumbered, AreKept, StopsAt, edge_double}
-use Rattle.graph_core.specs.IdTable.{Ascends}
-use Rattle.graph_core.specs.Sorting.{Rises, IsFirstDouble, AreSorted}
+use Rattle.graph_core.specs.GraphLists.{lower_first, with_ids, first_fault, ends_fault, edge_fault, same_ends, NamesFirstFault}
+use Rattle.graph_core.specs.Edges.{data_edge}
+use Rattle.graph_core.specs.Inner.NumberedEdges.{ends_key, IsNumbered, AreNumbered, AreKept, StopsAt, edge_double}
+use Rattle.graph_core.specs.Inner.SortedKeys.{Rises, IsFirstDouble, AreSorted}
 
 -- ---- the first fault of a list
 
@@ -121,24 +123,24 @@ numbered_back ids directed e v w up weight from to apart back =
 
 -- ---- edges in their numbers, one after another
 
-pub numbered_none : (ids : List ℕ) (directed : Bool) (given : List EdgeIn) → AreNumbered ids directed given []
-numbered_none ids directed given = record { few = omega arith; each = λ k d e l. absurd (omega arith); clean = λ k d l. absurd (omega arith) }
+pub numbered_none : (ids : List ℕ) (directed : Bool) (listed : List EdgeIn) → AreNumbered ids directed listed []
+numbered_none ids directed listed = record { few = omega arith; each = λ k d e l. absurd (omega arith); clean = λ k d l. absurd (omega arith) }
 
-pub numbered_more : (ids : List ℕ) (directed : Bool) (given : List EdgeIn) (edges : List Edge) (k : ℕ) (item : EdgeIn) (edge : Edge) → AreNumbered ids directed given edges → length edges ≡ k → slice_get given k ≡ Some item → IsNumbered ids directed item edge → ends_fault ids item k ≡ None → AreNumbered ids directed given (edges ++ edge ∷ [])
-numbered_more ids directed given edges k item edge so len at one clean =
-    let inside : k < length given = slice_get_within given k item at in
+pub numbered_more : (ids : List ℕ) (directed : Bool) (listed : List EdgeIn) (edges : List Edge) (k : ℕ) (item : EdgeIn) (edge : Edge) → AreNumbered ids directed listed edges → length edges ≡ k → slice_get listed k ≡ Some item → IsNumbered ids directed item edge → ends_fault ids item k ≡ None → AreNumbered ids directed listed (edges ++ edge ∷ [])
+numbered_more ids directed listed edges k item edge so len at one clean =
+    let inside : k < length listed = slice_get_within listed k item at in
     let count : length (edges ++ edge ∷ []) ≡ length edges + 1 = length_push edges edge in
     record {
       few = omega (arith, so.few);
       each = λ j d e l. ⊎_elim
           (λ c. rw (get_or_append_left edges (edge ∷ []) e j c) (so.each j d e c))
           (λ (c : length edges ≤ j). let is : j ≡ k = omega arith in
-          rw (is, get_or_push edges edge e k len, get_or_from_slice_get given k item d at) one)
+          rw (is, get_or_push edges edge e k len, get_or_from_slice_get listed k item d at) one)
           (cases_lt j (length edges));
       clean = λ j d l. ⊎_elim
           (λ c. so.clean j d c)
           (λ (c : length edges ≤ j). let is : j ≡ k = omega arith in
-          rw (is, get_or_from_slice_get given k item d at) clean)
+          rw (is, get_or_from_slice_get listed k item d at) clean)
           (cases_lt j (length edges));
     }
 
@@ -147,32 +149,32 @@ numbered_more ids directed given edges k item edge so len at one clean =
 abbrev no_edge : Edge
 no_edge = record { from = record { 0 = 0 }; to = record { 0 = 0 }; weight = 0 }
 
-abbrev no_given : EdgeIn
-no_given = record { from = 0; to = 0; weight = 0 }
+abbrev no_listed : EdgeIn
+no_listed = record { from = 0; to = 0; weight = 0 }
 
 abbrev edge_keys : List Edge → List ℕ
 edge_keys edges = map ends_key edges
 
-one_key : (ids : List ℕ) (directed : Bool) (a b : EdgeIn) (e f : Edge) → length ids < 2 ^ 32 → Ascends ids → IsNumbered ids directed a e → IsNumbered ids directed b f → is_same directed a b ≡ eqb (ends_key e) (ends_key f)
+one_key : (ids : List ℕ) (directed : Bool) (a b : EdgeIn) (e f : Edge) → length ids < 2 ^ 32 → Ascends ids → IsNumbered ids directed a e → IsNumbered ids directed b f → same_ends directed a b ≡ eqb (ends_key e) (ends_key f)
 one_key ids directed a b e f few up ne nf =
-    let from_a : get_or ids e.from.0 0 ≡ (written directed a).from = ap (λ x. x.from) ne.same in
-    let to_a : get_or ids e.to.0 0 ≡ (written directed a).to = ap (λ x. x.to) ne.same in
-    let from_b : get_or ids f.from.0 0 ≡ (written directed b).from = ap (λ x. x.from) nf.same in
-    let to_b : get_or ids f.to.0 0 ≡ (written directed b).to = ap (λ x. x.to) nf.same in
+    let from_a : get_or ids e.from.0 0 ≡ (lower_first directed a).from = ap (λ x. x.from) ne.same in
+    let to_a : get_or ids e.to.0 0 ≡ (lower_first directed a).to = ap (λ x. x.to) ne.same in
+    let from_b : get_or ids f.from.0 0 ≡ (lower_first directed b).from = ap (λ x. x.from) nf.same in
+    let to_b : get_or ids f.to.0 0 ≡ (lower_first directed b).to = ap (λ x. x.to) nf.same in
     ⊎_elim
     (λ same. let ends = same_from_place e.from.0 e.to.0 f.from.0 f.to.0 (2 ^ 32) (omega (arith, ne.edge.to)) (omega (arith, nf.edge.to)) same in
-    let froms : (written directed a).from ≡ (written directed b).from = sym from_a ∙ ap (λ v. get_or ids v 0) ends.0 ∙ from_b in
-    let tos : (written directed a).to ≡ (written directed b).to = sym to_a ∙ ap (λ v. get_or ids v 0) ends.1 ∙ to_b in
-    rw (eq-eqb (written directed a).from (written directed b).from froms, eq-eqb (written directed a).to (written directed b).to tos, eq-eqb (ends_key e) (ends_key f) same) refl)
+    let froms : (lower_first directed a).from ≡ (lower_first directed b).from = sym from_a ∙ ap (λ v. get_or ids v 0) ends.0 ∙ from_b in
+    let tos : (lower_first directed a).to ≡ (lower_first directed b).to = sym to_a ∙ ap (λ v. get_or ids v 0) ends.1 ∙ to_b in
+    rw (eq-eqb (lower_first directed a).from (lower_first directed b).from froms, eq-eqb (lower_first directed a).to (lower_first directed b).to tos, eq-eqb (ends_key e) (ends_key f) same) refl)
     (λ differ. ⊎_elim
-    (λ h. let parts = and_parts (eqb (written directed a).from (written directed b).from) (eqb (written directed a).to (written directed b).to) h in
-    let froms = from_a ∙ eqb-true (written directed a).from (written directed b).from parts.0 ∙ sym from_b in
-    let tos = to_a ∙ eqb-true (written directed a).to (written directed b).to parts.1 ∙ sym to_b in
+    (λ h. let parts = and_parts (eqb (lower_first directed a).from (lower_first directed b).from) (eqb (lower_first directed a).to (lower_first directed b).to) h in
+    let froms = from_a ∙ eqb-true (lower_first directed a).from (lower_first directed b).from parts.0 ∙ sym from_b in
+    let tos = to_a ∙ eqb-true (lower_first directed a).to (lower_first directed b).to parts.1 ∙ sym to_b in
     let one_from = numbers_one ids e.from.0 f.from.0 up ne.edge.from nf.edge.from froms in
     let one_to = numbers_one ids e.to.0 f.to.0 up ne.edge.to nf.edge.to tos in
     absurd (differ (rw (one_from, one_to) refl)))
     (λ h. h ∙ sym (ne_eqb (ends_key e) (ends_key f) differ))
-    (cases_Bool (is_same directed a b)))
+    (cases_Bool (same_ends directed a b)))
     (cases_eq (ends_key e) (ends_key f))
 
 any_agree : {X Y : Type 0} (p : X → Bool) (q : Y → Bool) (xs : List X) (ys : List Y) → length xs ≡ length ys → ((k : ℕ) (d : X) (e : Y) → k < length xs → p (get_or xs k d) ≡ q (get_or ys k e)) → list_any p xs ≡ list_any q ys
@@ -184,16 +186,16 @@ any_agree p q (x ∷ xs) (y ∷ ys) len each =
     rw (first, any_agree p q xs ys (omega arith) (λ k d e l. each (suc k) d e (omega arith))) refl
 
 -- whether the edge at a place stands before it, told by keys
-any_before : (ids : List ℕ) (directed : Bool) (given : List EdgeIn) (edges : List Edge) (i : ℕ) (d : EdgeIn) → length ids < 2 ^ 32 → Ascends ids → AreNumbered ids directed given edges → i < length edges → list_any (is_same directed (get_or given i d)) (take i given) ≡ list_any (eqb (get_or (edge_keys edges) i 0)) (take i (edge_keys edges))
-any_before ids directed given edges i d few up so inside =
+any_before : (ids : List ℕ) (directed : Bool) (listed : List EdgeIn) (edges : List Edge) (i : ℕ) (d : EdgeIn) → length ids < 2 ^ 32 → Ascends ids → AreNumbered ids directed listed edges → i < length edges → list_any (same_ends directed (get_or listed i d)) (take i listed) ≡ list_any (eqb (get_or (edge_keys edges) i 0)) (take i (edge_keys edges))
+any_before ids directed listed edges i d few up so inside =
     let keys_len : length (edge_keys edges) ≡ length edges = length-map edges ends_key in
-    let len_g = length-take-le i given (omega (arith, so.few)) in
+    let len_g = length-take-le i listed (omega (arith, so.few)) in
     let len_k = length-take-le i (edge_keys edges) (omega arith) in
-    any_agree (is_same directed (get_or given i d)) (eqb (get_or (edge_keys edges) i 0)) (take i given) (take i (edge_keys edges)) (omega arith)
+    any_agree (same_ends directed (get_or listed i d)) (eqb (get_or (edge_keys edges) i 0)) (take i listed) (take i (edge_keys edges)) (omega arith)
     (λ k a n l.
     let at_k : k < i = omega arith in
-    rw (get_or-take i given k a at_k, get_or-take i (edge_keys edges) k n at_k, get_or-map ends_key edges i no_edge 0 inside, get_or-map ends_key edges k no_edge n (omega arith))
-    (one_key ids directed (get_or given i d) (get_or given k a) (get_or edges i no_edge) (get_or edges k no_edge) few up (so.each i d no_edge inside) (so.each k a no_edge (omega arith))))
+    rw (get_or-take i listed k a at_k, get_or-take i (edge_keys edges) k n at_k, get_or-map ends_key edges i no_edge 0 inside, get_or-map ends_key edges k no_edge n (omega arith))
+    (one_key ids directed (get_or listed i d) (get_or listed k a) (get_or edges i no_edge) (get_or edges k no_edge) few up (so.each i d no_edge inside) (so.each k a no_edge (omega arith))))
 
 -- ---- keys that differ
 
@@ -226,49 +228,49 @@ distinct_from_rises key items sorted same up =
     let apart = IsDistinct-from_apart nat_eq (map key sorted) (λ i j d l m. keys_apart key sorted up i j d l (omega (arith, length-map sorted key))) in
     IsDistinct-IsPermutation nat_eq eqb_flips (map key sorted) (map key items) back apart
 
--- ---- the first fault of given edges
+-- ---- the first fault of listed edges
 
 -- no fault at a place whose key does not stand before it
-fault_none : (ids : List ℕ) (directed : Bool) (given : List EdgeIn) (edges : List Edge) (i : ℕ) (d : EdgeIn) → length ids < 2 ^ 32 → Ascends ids → AreNumbered ids directed given edges → i < length edges → list_any (eqb (get_or (edge_keys edges) i 0)) (take i (edge_keys edges)) ≡ false → edge_fault ids directed (take i given) (get_or given i d) ≡ None
-fault_none ids directed given edges i d few up so inside new =
-    let len : length (take i given) ≡ i = length-take-le i given (omega (arith, so.few)) in
-    rw (len, so.clean i d inside, any_before ids directed given edges i d few up so inside, new) refl
+fault_none : (ids : List ℕ) (directed : Bool) (listed : List EdgeIn) (edges : List Edge) (i : ℕ) (d : EdgeIn) → length ids < 2 ^ 32 → Ascends ids → AreNumbered ids directed listed edges → i < length edges → list_any (eqb (get_or (edge_keys edges) i 0)) (take i (edge_keys edges)) ≡ false → edge_fault ids directed (take i listed) (get_or listed i d) ≡ None
+fault_none ids directed listed edges i d few up so inside new =
+    let len : length (take i listed) ≡ i = length-take-le i listed (omega (arith, so.few)) in
+    rw (len, so.clean i d inside, any_before ids directed listed edges i d few up so inside, new) refl
 
-fault_double : (ids : List ℕ) (directed : Bool) (given : List EdgeIn) (edges : List Edge) (i : ℕ) (d : EdgeIn) → length ids < 2 ^ 32 → Ascends ids → AreNumbered ids directed given edges → i < length edges → list_any (eqb (get_or (edge_keys edges) i 0)) (take i (edge_keys edges)) ≡ true → edge_fault ids directed (take i given) (get_or given i d) ≡ Some (DoubleEdge i)
-fault_double ids directed given edges i d few up so inside again =
-    let len : length (take i given) ≡ i = length-take-le i given (omega (arith, so.few)) in
-    rw (len, so.clean i d inside, any_before ids directed given edges i d few up so inside, again) refl
+fault_double : (ids : List ℕ) (directed : Bool) (listed : List EdgeIn) (edges : List Edge) (i : ℕ) (d : EdgeIn) → length ids < 2 ^ 32 → Ascends ids → AreNumbered ids directed listed edges → i < length edges → list_any (eqb (get_or (edge_keys edges) i 0)) (take i (edge_keys edges)) ≡ true → edge_fault ids directed (take i listed) (get_or listed i d) ≡ Some (DoubleEdge i)
+fault_double ids directed listed edges i d few up so inside again =
+    let len : length (take i listed) ≡ i = length-take-le i listed (omega (arith, so.few)) in
+    rw (len, so.clean i d inside, any_before ids directed listed edges i d few up so inside, again) refl
 
-fault_ends : (ids : List ℕ) (directed : Bool) (given : List EdgeIn) (i : ℕ) (d : EdgeIn) (f : GraphFault) → i ≤ length given → ends_fault ids (get_or given i d) i ≡ Some f → edge_fault ids directed (take i given) (get_or given i d) ≡ Some f
-fault_ends ids directed given i d f inside wrong =
-    let len : length (take i given) ≡ i = length-take-le i given inside in
+fault_ends : (ids : List ℕ) (directed : Bool) (listed : List EdgeIn) (i : ℕ) (d : EdgeIn) (f : GraphFault) → i ≤ length listed → ends_fault ids (get_or listed i d) i ≡ Some f → edge_fault ids directed (take i listed) (get_or listed i d) ≡ Some f
+fault_ends ids directed listed i d f inside wrong =
+    let len : length (take i listed) ≡ i = length-take-le i listed inside in
     rw (len, wrong) refl
 
-pub first_is_double : (ids : List ℕ) (directed : Bool) (given : List EdgeIn) (edges : List Edge) (i : ℕ) → length ids < 2 ^ 32 → Ascends ids → AreNumbered ids directed given edges → IsFirstDouble (edge_keys edges) i → first_fault (edge_fault ids directed) [] given ≡ Some (DoubleEdge i)
-first_is_double ids directed given edges i few up so double =
+pub first_is_double : (ids : List ℕ) (directed : Bool) (listed : List EdgeIn) (edges : List Edge) (i : ℕ) → length ids < 2 ^ 32 → Ascends ids → AreNumbered ids directed listed edges → IsFirstDouble (edge_keys edges) i → first_fault (edge_fault ids directed) [] listed ≡ Some (DoubleEdge i)
+first_is_double ids directed listed edges i few up so double =
     let keys_len : length (edge_keys edges) ≡ length edges = length-map edges ends_key in
     let inside : i < length edges = omega (arith, double.inside) in
     let again = list_any-from_Contains nat_eq_equiv (get_or (edge_keys edges) i 0) (take i (edge_keys edges)) double.double in
-    first_fault_at (edge_fault ids directed) [] given i (DoubleEdge i) (omega (arith, so.few))
+    first_fault_at (edge_fault ids directed) [] listed i (DoubleEdge i) (omega (arith, so.few))
     (λ j d l.
     let len = length-take-le i (edge_keys edges) (omega arith) in
     let h = distinct_before (take i (edge_keys edges)) j double.first (omega arith) in
     let new : list_any (eqb (get_or (edge_keys edges) j 0)) (take j (edge_keys edges)) ≡ false = rw (get_or-take i (edge_keys edges) j 0 l, take-take j i (edge_keys edges) (omega arith)) at h in
-    fault_none ids directed given edges j d few up so (omega arith) new)
-    (λ d. fault_double ids directed given edges i d few up so inside again)
+    fault_none ids directed listed edges j d few up so (omega arith) new)
+    (λ d. fault_double ids directed listed edges i d few up so inside again)
 
-pub first_is_ends : (ids : List ℕ) (directed : Bool) (given : List EdgeIn) (edges : List Edge) (f : GraphFault) → length ids < 2 ^ 32 → Ascends ids → AreNumbered ids directed given edges → IsDistinct nat_eq (edge_keys edges) → length edges < length given → ((d : EdgeIn) → ends_fault ids (get_or given (length edges) d) (length edges) ≡ Some f) → first_fault (edge_fault ids directed) [] given ≡ Some f
-first_is_ends ids directed given edges f few up so apart more wrong =
+pub first_is_ends : (ids : List ℕ) (directed : Bool) (listed : List EdgeIn) (edges : List Edge) (f : GraphFault) → length ids < 2 ^ 32 → Ascends ids → AreNumbered ids directed listed edges → IsDistinct nat_eq (edge_keys edges) → length edges < length listed → ((d : EdgeIn) → ends_fault ids (get_or listed (length edges) d) (length edges) ≡ Some f) → first_fault (edge_fault ids directed) [] listed ≡ Some f
+first_is_ends ids directed listed edges f few up so apart more wrong =
     let keys_len : length (edge_keys edges) ≡ length edges = length-map edges ends_key in
-    first_fault_at (edge_fault ids directed) [] given (length edges) f more
-    (λ j d l. fault_none ids directed given edges j d few up so l (distinct_before (edge_keys edges) j apart (omega arith)))
-    (λ d. fault_ends ids directed given (length edges) d f (omega arith) (wrong d))
+    first_fault_at (edge_fault ids directed) [] listed (length edges) f more
+    (λ j d l. fault_none ids directed listed edges j d few up so l (distinct_before (edge_keys edges) j apart (omega arith)))
+    (λ d. fault_ends ids directed listed (length edges) d f (omega arith) (wrong d))
 
-pub first_is_none : (ids : List ℕ) (directed : Bool) (given : List EdgeIn) (edges : List Edge) → length ids < 2 ^ 32 → Ascends ids → AreNumbered ids directed given edges → IsDistinct nat_eq (edge_keys edges) → length given ≤ length edges → first_fault (edge_fault ids directed) [] given ≡ None
-first_is_none ids directed given edges few up so apart all =
+pub first_is_none : (ids : List ℕ) (directed : Bool) (listed : List EdgeIn) (edges : List Edge) → length ids < 2 ^ 32 → Ascends ids → AreNumbered ids directed listed edges → IsDistinct nat_eq (edge_keys edges) → length listed ≤ length edges → first_fault (edge_fault ids directed) [] listed ≡ None
+first_is_none ids directed listed edges few up so apart all =
     let keys_len : length (edge_keys edges) ≡ length edges = length-map edges ends_key in
-    first_fault_none (edge_fault ids directed) [] given
-    (λ j d l. fault_none ids directed given edges j d few up so (omega arith) (distinct_before (edge_keys edges) j apart (omega arith)))
+    first_fault_none (edge_fault ids directed) [] listed
+    (λ j d l. fault_none ids directed listed edges j d few up so (omega arith) (distinct_before (edge_keys edges) j apart (omega arith)))
 
 -- ---- the edges of the graph
 
@@ -283,39 +285,39 @@ pub map-map : {X Y Z : Type 0} (f : Y → Z) (g : X → Y) (xs : List X) → map
 map-map f g [] = refl
 map-map f g (x ∷ xs) = ap (λ ys. f (g x) ∷ ys) (map-map f g xs)
 
-pub edges_kept : (ids : List ℕ) (directed : Bool) (given : List EdgeIn) (edges sorted : List Edge) → length ids < 2 ^ 32 → Ascends ids → AreNumbered ids directed given edges → length given ≤ length edges → IsPermutation edges sorted → Rises ends_key sorted → AreKept ids directed given (map data_edge sorted)
-edges_kept ids directed given edges sorted few up so all same rises =
-    let right : All (λ e. IsEdge (length ids) directed (data_edge e)) edges = λ k d l. (so.each k no_given d l).edge in
+pub edges_kept : (ids : List ℕ) (directed : Bool) (listed : List EdgeIn) (edges sorted : List Edge) → length ids < 2 ^ 32 → Ascends ids → AreNumbered ids directed listed edges → length listed ≤ length edges → IsPermutation edges sorted → Rises ends_key sorted → AreKept ids directed listed (map data_edge sorted)
+edges_kept ids directed listed edges sorted few up so all same rises =
+    let right : All (λ e. IsEdge (length ids) directed (data_edge e)) edges = λ k d l. (so.each k no_listed d l).edge in
     let right' = All-permutation (λ e. IsEdge (length ids) directed (data_edge e)) edges sorted same right in
-    let written_is : map (written directed) given ≡ map (λ e. named ids (data_edge e)) edges =
-    same_lists (map (written directed) given) (map (λ e. named ids (data_edge e)) edges) (omega (arith, length-map given (written directed), length-map edges (λ e. named ids (data_edge e)), so.few))
+    let written_is : map (lower_first directed) listed ≡ map (λ e. with_ids ids (data_edge e)) edges =
+    same_lists (map (lower_first directed) listed) (map (λ e. with_ids ids (data_edge e)) edges) (omega (arith, length-map listed (lower_first directed), length-map edges (λ e. with_ids ids (data_edge e)), so.few))
     (λ k d l.
-    let in_given : k < length given = omega (arith, length-map given (written directed)) in
-    rw (get_or-map (written directed) given k no_given d in_given, get_or-map (λ e. named ids (data_edge e)) edges k no_edge d (omega arith))
-    (sym (so.each k no_given no_edge (omega arith)).same)) in
+    let in_listed : k < length listed = omega (arith, length-map listed (lower_first directed)) in
+    rw (get_or-map (lower_first directed) listed k no_listed d in_listed, get_or-map (λ e. with_ids ids (data_edge e)) edges k no_edge d (omega arith))
+    (sym (so.each k no_listed no_edge (omega arith)).same)) in
     record {
       edges_in = All-map (IsEdge (length ids) directed) data_edge sorted right';
       ascending = λ i j d l m.
           let m' : j < length sorted = omega (arith, length-map sorted data_edge) in
           rw (get_or-map data_edge sorted i no_edge d (omega arith), get_or-map data_edge sorted j no_edge d m')
           (before_from_key (get_or sorted i no_edge) (get_or sorted j no_edge) (omega (arith, (right' i no_edge (omega arith)).to)) (omega (arith, (right' j no_edge m').to)) (rises i j no_edge l m'));
-      same = rw (map-map (named ids) data_edge sorted, written_is) (IsPermutation-map (λ e. named ids (data_edge e)) edges sorted same);
-      no_fault = first_is_none ids directed given edges few up so (distinct_from_rises ends_key edges sorted same rises) all;
+      same = rw (map-map (with_ids ids) data_edge sorted, written_is) (IsPermutation-map (λ e. with_ids ids (data_edge e)) edges sorted same);
+      no_fault = first_is_none ids directed listed edges few up so (distinct_from_rises ends_key edges sorted same rises) all;
     }
 
 -- ---- refusals
 
-pub refuses_first : (first : Option GraphFault) (f : GraphFault) → first ≡ Some f → Refuses first f
+pub refuses_first : (first : Option GraphFault) (f : GraphFault) → first ≡ Some f → NamesFirstFault first f
 refuses_first first (DoubleVertex place) is = is
 refuses_first first (UnknownVertex place) is = is
 refuses_first first (SelfLoop place) is = is
 refuses_first first (DoubleEdge place) is = is
 refuses_first first NoMemory is = tt
 
-pub refuses_double : (ids : List ℕ) (directed : Bool) (given : List EdgeIn) (edges : List Edge) (unsorted : Unsorted) → length ids < 2 ^ 32 → Ascends ids → AreNumbered ids directed given edges → AreSorted ends_key edges (Err unsorted) → Refuses (first_fault (edge_fault ids directed) [] given) (edge_double unsorted)
-refuses_double ids directed given edges (Double place) few up so double = first_is_double ids directed given edges place few up so double
-refuses_double ids directed given edges UnsortedNoMemory few up so none = tt
+pub refuses_double : (ids : List ℕ) (directed : Bool) (listed : List EdgeIn) (edges : List Edge) (unsorted : OrNoMemory DoubleAt) → length ids < 2 ^ 32 → Ascends ids → AreNumbered ids directed listed edges → AreSorted ends_key edges (Err unsorted) → NamesFirstFault (first_fault (edge_fault ids directed) [] listed) (edge_double unsorted)
+refuses_double ids directed listed edges (Fault at) few up so double = first_is_double ids directed listed edges at.0 few up so double
+refuses_double ids directed listed edges UnsortedNoMemory few up so none = tt
 
-pub refuses_ends : (ids : List ℕ) (directed : Bool) (given : List EdgeIn) (edges sorted : List Edge) (f : GraphFault) → length ids < 2 ^ 32 → Ascends ids → AreNumbered ids directed given edges → IsPermutation edges sorted → Rises ends_key sorted → StopsAt ids given (length edges) (Some f) → Refuses (first_fault (edge_fault ids directed) [] given) f
-refuses_ends ids directed given edges sorted f few up so same rises stop =
-    refuses_first _ f (first_is_ends ids directed given edges f few up so (distinct_from_rises ends_key edges sorted same rises) stop.0 stop.1)
+pub refuses_ends : (ids : List ℕ) (directed : Bool) (listed : List EdgeIn) (edges sorted : List Edge) (f : GraphFault) → length ids < 2 ^ 32 → Ascends ids → AreNumbered ids directed listed edges → IsPermutation edges sorted → Rises ends_key sorted → StopsAt ids listed (length edges) (Some f) → NamesFirstFault (first_fault (edge_fault ids directed) [] listed) f
+refuses_ends ids directed listed edges sorted f few up so same rises stop =
+    refuses_first _ f (first_is_ends ids directed listed edges f few up so (distinct_from_rises ends_key edges sorted same rises) stop.0 stop.1)

@@ -5,7 +5,8 @@ use Rattle.std.proofs.lemmas.List.Elements.{All-head, All-tail, All-nil, All-con
 use Rattle.graph_core.specs.Halves.{halves_from}
 use Rattle.graph_core.specs.declared.edges.Edge.{Edge}
 use Rattle.graph_core.specs.Edges.{data_edge}
-use Rattle.graph_core.specs.HalfRows.{data_half, half_out, half_into, half_pairs}
+use Rattle.graph_core.specs.HalfRows.{data_half}
+use Rattle.graph_core.specs.Inner.HalfPairs.{half_out, half_into, half_pairs}
 use Rattle.graph_core.specs.Rows.{with_key}
 use Rattle.graph_core.proofs.RowLemmas.{with_key-here, with_key-past}
 

@@ -8,7 +8,9 @@ use Rattle.std.proofs.lemmas.List.Sorted.{searched}
 use Rattle.std.proofs.lemmas.Nat.{le-div, pow_pos}
 use Rattle.std.specs.List.Sorted.{IsBinarySearchResult}
 use Rattle.std.specs.Ordering.{nat_cmp}
-use Rattle.graph_core.specs.IdTable.{Ascends, AreRanges, AreRangesTo, range_of}
+use Rattle.gl_base.specs.Lists.{Ascends}
+use Rattle.graph_core.specs.IdTable.{AreRanges, range_of}
+use Rattle.graph_core.proofs.IdRanges.{AreRangesTo}
 
 ascends_le : (ids : List ℕ) → Ascends ids → (i j : ℕ) → i ≤ j → j < length ids → get_or ids i 0 ≤ get_or ids j 0
 ascends_le ids up i j le inside =

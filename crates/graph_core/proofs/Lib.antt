@@ -1,3 +1,5 @@
+pub mod RowSums
+pub mod IdRanges
 pub mod RowLemmas
 pub mod IdLemmas
 pub mod HalvesLaws

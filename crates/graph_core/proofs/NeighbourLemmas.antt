@@ -1,27 +1,27 @@
 -- Neighbours: the other ends of half-edges, each once and ascending.
-use Rattle.std.proofs.Common.{◌≡◌, ℕ, zero, suc, ◌+◌, ◌<◌, ◌≤◌, Bool, true, false, ◌||◌, ◌&&◌, List, [], ◌∷◌, ◌++◌, length, map, take, get_or, sum_by, eqb, nat_cmp, refl, sym, ap, ◌∙◌, subst, ⊎_elim, Contains, All, AllPairs, arith}
+use Rattle.std.proofs.Common.{◌≡◌, ℕ, zero, suc, ◌+◌, ◌<◌, ◌≤◌, Bool, true, false, ◌||◌, ◌&&◌, List, [], ◌∷◌, length, map, get_or, eqb, nat_cmp, refl, sym, ap, ◌∙◌, subst, ⊎_elim, Contains, All, AllPairs, arith}
 use Rattle.std.specs.List.{filter, list_any, dedup, dedup_from, range_with_len}
 use Rattle.std.specs.List.Sorted.{IsPermutation, IsNonDecreasingBy, IsSorted}
 use Rattle.std.specs.Ordering.{is_lt}
-use Rattle.std.proofs.lemmas.Bool.{cases_lt, cases_eq, cases_Bool, eq-eqb, ne_eqb, eqb-true, le-ltb, false≢true, or_cases, and_parts}
+use Rattle.std.proofs.lemmas.Bool.{cases_eq, cases_Bool, eq-eqb, ne_eqb, eqb-true, le-ltb, false≢true, or_cases, and_parts}
 use Rattle.std.proofs.lemmas.Cmp.{nat_eq_equiv}
-use Rattle.std.proofs.lemmas.List.{length-map, length_push, map-append, get_or-map, get_or_append_left, get_or_push}
+use Rattle.std.proofs.lemmas.List.{length-map, map-append, get_or-map}
 use Rattle.std.proofs.lemmas.List.Elements.{All-head, All-tail}
 use Rattle.std.proofs.lemmas.List.Kept.{AllPairs-from_increasing, Contains-dedup_nat, Contains-from_dedup}
 use Rattle.std.proofs.lemmas.List.Sorted.{IsPermutation-map, length_permutation, list_any-IsPermutation}
 use Rattle.std.proofs.lemmas.Map.Keys.{IsStrictlyIncreasing-dedup}
 use Rattle.std.proofs.lemmas.Map.Views.{Contains-from_any, list_any-from_Contains}
 use Rattle.std.proofs.lemmas.List.Folds.{list_any-append, Any-from_list_any}
-use Rattle.std.proofs.lemmas.List.Sums.{sum_by_more_le, sum_by_more, sum_by-append}
 use Rattle.gl_base.specs.declared.numbers.Vertex.{Vertex}
 use Rattle.graph_core.specs.declared.halves.Half.{Half}
 use Rattle.graph_core.specs.DataGraph.{DataEdge, DataGraph, IsDataGraph, IsEdge, size}
 use Rattle.graph_core.specs.Colourings.{joins}
 use Rattle.graph_core.specs.Halves.{half_at, halves_from, halves_of}
-use Rattle.graph_core.specs.HalfRows.{AreDistinctOf, AreOthers, data_half}
+use Rattle.graph_core.specs.HalfRows.{data_half}
+use Rattle.graph_core.specs.Inner.HalfPairs.{AreDistinctOf, AreOthers}
 use Rattle.graph_core.specs.Neighbours.{neighbours_of}
 use Rattle.graph_core.proofs.EdgeLemmas.{map-map, eqb_flips}
-use Rattle.graph_core.specs.Sorting.{Rises}
+use Rattle.graph_core.specs.Inner.SortedKeys.{Rises}
 
 -- ---- a list that rises is the list of what it contains
 
@@ -181,35 +181,12 @@ distinct_already f (x ∷ xs) up =
       few = omega arith;
     }
 
--- ---- rows of neighbours, one after another
+-- ---- the other ends of half-edges
 
 pub others_are : (halves : List Half) (listed new : List Vertex) → listed ≡ map (λ h. h.other) halves → AreDistinctOf (map (λ v. v.0) listed) (map (λ v. v.0) new) → AreOthers halves new
 others_are halves listed new is distinct =
     let ends : map (λ v. v.0) listed ≡ map (λ h. h.other.0) halves = ap (map (λ v. v.0)) is ∙ map-map (λ v. v.0) (λ h. h.other) halves in
     subst (λ xs. AreDistinctOf xs (map (λ v. v.0) new)) ends distinct
-
-pub others_few : (halves : List Half) (new : List Vertex) → AreOthers halves new → length new ≤ length halves
-others_few halves new so = omega (arith, so.few, length-map halves (λ h. h.other.0), length-map new (λ v. v.0))
-
--- what the rows so far are
-abbrev AreRowsTo : ℕ → List (List Half) → List (List Vertex) → Type 0
-AreRowsTo v halves rows = (length rows ≡ v) × (sum_by length rows ≤ sum_by length (take v halves)) × ((u : ℕ) → u < v → AreOthers (get_or halves u []) (get_or rows u []))
-
-pub rows_fit : (halves : List (List Half)) (rows : List (List Vertex)) (row : List Vertex) (v : ℕ) → AreRowsTo v halves rows → v < length halves → AreOthers (get_or halves v []) row → sum_by length rows + length row ≤ sum_by length halves
-rows_fit halves rows row v so inside others =
-    omega (arith, so.1, others_few (get_or halves v []) row others, sum_by_more_le length halves v [] inside)
-
-pub neighbours_more : (halves : List (List Half)) (rows : List (List Vertex)) (row : List Vertex) (v : ℕ) → AreRowsTo v halves rows → v < length halves → AreOthers (get_or halves v []) row → AreRowsTo (v + 1) halves (rows ++ row ∷ [])
-neighbours_more halves rows row v so inside others =
-    let sum_rows : sum_by length (rows ++ row ∷ []) ≡ sum_by length rows + sum_by length (row ∷ []) = sum_by-append length rows (row ∷ []) in
-    let sum_halves : sum_by length (take (v + 1) halves) ≡ sum_by length (take v halves) + length (get_or halves v []) = sum_by_more length halves v [] inside in (
-      omega (arith, so.0, length_push rows row),
-      omega (arith, so.1, others_few (get_or halves v []) row others),
-      λ u l. ⊎_elim
-          (λ (c : u < v). rw (get_or_append_left rows (row ∷ []) [] u (omega (arith, so.0))) (so.2 u c))
-          (λ (c : v ≤ u). let e : u ≡ v = omega arith in rw (e, get_or_push rows row [] v so.0) others)
-          (cases_lt u v),
-    )
 
 -- ---- the other ends of the half-edges at v are its neighbours
 

@@ -1,15 +1,16 @@
 -- Lists by key: how a counting sort fills them.
-use Rattle.std.proofs.Common.{◌^◌, ◌≡◌, ℕ, zero, suc, ◌+◌, ◌-◌, ◌<◌, ◌≤◌, List, [], ◌∷◌, ◌++◌, length, map, get_or, set, take, drop, slice_range, refl, sym, ap, ◌∙◌, subst, ⊎_elim, eqb, sum, sum_by, slice_get, Some, All, add-one, arith}
-use Rattle.std.specs.List.{filter, range_with_len}
-use Rattle.std.proofs.lemmas.Bool.{cases_eq, cases_lt, eq-eqb, ne_eqb}
-use Rattle.std.proofs.lemmas.List.{drop_more, take_more, drop_at, take-append-le, same_lists, length_push, get_or_push, get_or_append_left, get_or_default, get_or-set_same, get_or-set_other, drop-set, drop-set-lt, take-set-le, length-set, length-append, map-append, take_all, drop_all}
+use Rattle.std.proofs.Common.{◌^◌, ◌≡◌, ℕ, Bool, true, false, cond, nat_lt, zero, suc, ◌+◌, ◌-◌, ◌<◌, ◌≤◌, List, [], ◌∷◌, ◌++◌, length, map, get_or, set, take, drop, slice_range, refl, sym, ap, ◌∙◌, subst, ⊎_elim, eqb, sum, slice_get, Some, All, add-one, arith}
+use Rattle.std.specs.List.{filter}
+use Rattle.std.proofs.lemmas.Bool.{cases_eq, cases_lt, eq-eqb, ne_eqb, le-ltb, lt-ltb}
+use Rattle.std.proofs.lemmas.List.{drop_more, take_more, get_or-set_same, get_or-set_other, drop-set, drop-set-lt, take-set-le, length-set, length-append, map-append, take_all, drop_all}
 use Rattle.std.proofs.lemmas.List.Elements.{All-head, All-tail, filter-append}
-use Rattle.std.proofs.lemmas.List.FromFn.{length-map-range_with_len, get_or-map-range_with_len, sum_by-map-range_with_len_more}
-use Rattle.std.proofs.lemmas.List.Edits.{length-between}
+use Rattle.std.proofs.lemmas.List.FromFn.{length-map-range_with_len, get_or-map-range_with_len}
 use Rattle.std.proofs.lemmas.List.Sums.{sum_by_more, sum_by-take-le}
 use Rattle.std.proofs.lemmas.Option.{get_or_from_slice_get, slice_get_within}
 use Rattle.std.proofs.lemmas.Slice.{between_is}
-use Rattle.graph_core.specs.Rows.{with_key, rows_of, count_below, AreRowsFrom, AreStarts, IsSummedUpTo}
+use Rattle.graph_core.specs.Rows.{with_key, rows_of}
+use Rattle.graph_core.specs.Inner.RowSteps.{count_below, AreRowsAt, AreRowsFrom, AreStarts, place_in}
+use Rattle.graph_core.proofs.RowSums.{IsSummedUpTo}
 
 pub with_key-here : {T : Type 0} (k : ℕ) (p : ℕ × T) (ps : List (ℕ × T)) → p.0 ≡ k → with_key k (p ∷ ps) ≡ p.1 ∷ with_key k ps
 with_key-here k p ps h = rw (eq-eqb p.0 k h) refl
@@ -97,16 +98,28 @@ range-set_before xs p s e x h =
     ap (take (e - s)) same
 
 -- the row that takes the item at this place, and the others
-record Places {T : Type 0} (ps : List (ℕ × T)) (i : ℕ) (p : ℕ × T) (starts : List ℕ) (items : List T) : Type 0 where
-  from : AreRowsFrom (i + 1) ps starts items
+record Places {T : Type 0} (ps : List (ℕ × T)) (i : ℕ) (p : ℕ × T) (f : ℕ → ℕ) (starts : List ℕ) (items : List T) : Type 0 where
+  from : AreRowsAt f ps starts items
+  at : f p.0 ≡ i + 1
   inside : i < length ps
   read : get_or ps i p ≡ p
   key : p.0 < length starts
   room : length items ≡ length ps
 
-places_of : {T : Type 0} (ps : List (ℕ × T)) (i : ℕ) (p : ℕ × T) (starts : List ℕ) (items : List T) → AreRowsFrom (i + 1) ps starts items → slice_get ps i ≡ Some p → p.0 < length starts → length items ≡ length ps → Places ps i p starts items
-places_of ps i p starts items from at key room =
-    record { from = from; inside = slice_get_within ps i p at; read = get_or_from_slice_get ps i p p at; key = key; room = room }
+-- the row of this key goes one item on, and those of the others stay
+pub record Moves {T : Type 0} (ps : List (ℕ × T)) (i : ℕ) (p : ℕ × T) (f g : ℕ → ℕ) : Type 0 where
+  pub here : g p.0 ≡ i
+  pub others : (k : ℕ) → (p.0 ≡ k → ⊥) → with_key k (drop (g k) ps) ≡ with_key k (drop (f k) ps)
+
+places_of : {T : Type 0} (ps : List (ℕ × T)) (i : ℕ) (p : ℕ × T) (f : ℕ → ℕ) (starts : List ℕ) (items : List T) → AreRowsAt f ps starts items → f p.0 ≡ i + 1 → slice_get ps i ≡ Some p → p.0 < length starts → length items ≡ length ps → Places ps i p f starts items
+places_of ps i p f starts items from next at key room =
+    record { from = from; at = next; inside = slice_get_within ps i p at; read = get_or_from_slice_get ps i p p at; key = key; room = room }
+
+left_of : {T : Type 0} (ps : List (ℕ × T)) (i : ℕ) (p : ℕ × T) (f : ℕ → ℕ) (starts : List ℕ) (items : List T) → Places ps i p f starts items → get_or starts p.0 0 + length (with_key p.0 (drop (i + 1) ps)) ≡ count_below (suc p.0) ps
+left_of ps i p f starts items h = subst (λ n. get_or starts p.0 0 + length (with_key p.0 (drop n ps)) ≡ count_below (suc p.0) ps) h.at (h.from.left p.0 h.key)
+
+row_of : {T : Type 0} (ps : List (ℕ × T)) (i : ℕ) (p : ℕ × T) (f : ℕ → ℕ) (starts : List ℕ) (items : List T) → Places ps i p f starts items → slice_range items (get_or starts p.0 0) (count_below (suc p.0) ps) ≡ with_key p.0 (drop (i + 1) ps)
+row_of ps i p f starts items h = subst (λ n. slice_range items (get_or starts p.0 0) (count_below (suc p.0) ps) ≡ with_key p.0 (drop n ps)) h.at (h.from.rows p.0 h.key)
 
 more_here : {T : Type 0} (ps : List (ℕ × T)) (i : ℕ) (p : ℕ × T) → i < length ps → get_or ps i p ≡ p → with_key p.0 (drop i ps) ≡ p.1 ∷ with_key p.0 (drop (i + 1) ps)
 more_here ps i p inside read =
@@ -124,9 +137,9 @@ record Room {T : Type 0} (ps : List (ℕ × T)) (k start total : ℕ) : Type 0 w
   below : start ≤ count_below (suc k) ps
   all : count_below (suc k) ps ≤ total
 
-room_of : {T : Type 0} (ps : List (ℕ × T)) (i : ℕ) (p : ℕ × T) (starts : List ℕ) (items : List T) → Places ps i p starts items → Room ps p.0 (get_or starts p.0 0) (length items)
-room_of ps i p starts items h =
-    let left = h.from.left p.0 h.key in
+room_of : {T : Type 0} (ps : List (ℕ × T)) (i : ℕ) (p : ℕ × T) (f : ℕ → ℕ) (starts : List ℕ) (items : List T) → Places ps i p f starts items → Room ps p.0 (get_or starts p.0 0) (length items)
+room_of ps i p f starts items h =
+    let left = left_of ps i p f starts items h in
     let more : length (with_key p.0 (drop i ps)) ≡ suc (length (with_key p.0 (drop (i + 1) ps))) = ap length (more_here ps i p h.inside h.read) in
     record {
       above = omega (arith, left, more, length-with_key-drop p.0 i ps);
@@ -134,54 +147,59 @@ room_of ps i p starts items h =
       all = omega (arith, h.room, count_below-le (suc p.0) ps);
     }
 
-step_left : {T : Type 0} (ps : List (ℕ × T)) (i : ℕ) (p : ℕ × T) (starts : List ℕ) (items : List T) → Places ps i p starts items → (k : ℕ) → k < length starts → get_or (set starts p.0 (get_or starts p.0 0 - 1)) k 0 + length (with_key k (drop i ps)) ≡ count_below (suc k) ps
-step_left ps i p starts items h k inside =
-    let room = room_of ps i p starts items h in
+step_left : {T : Type 0} (ps : List (ℕ × T)) (i : ℕ) (p : ℕ × T) (f g : ℕ → ℕ) (starts : List ℕ) (items : List T) → Moves ps i p f g → Places ps i p f starts items → (k : ℕ) → k < length starts → get_or (set starts p.0 (get_or starts p.0 0 - 1)) k 0 + length (with_key k (drop (g k) ps)) ≡ count_below (suc k) ps
+step_left ps i p f g starts items m h k inside =
+    let room = room_of ps i p f starts items h in
     ⊎_elim
     (λ e. let same : get_or (set starts p.0 (get_or starts p.0 0 - 1)) p.0 0 ≡ get_or starts p.0 0 - 1 = get_or-set_same starts p.0 (get_or starts p.0 0 - 1) 0 h.key in
     let more : length (with_key p.0 (drop i ps)) ≡ suc (length (with_key p.0 (drop (i + 1) ps))) = ap length (more_here ps i p h.inside h.read) in
-    let left : get_or starts p.0 0 + length (with_key p.0 (drop (i + 1) ps)) ≡ count_below (suc p.0) ps = h.from.left p.0 h.key in
-    subst (λ j. get_or (set starts p.0 (get_or starts p.0 0 - 1)) j 0 + length (with_key j (drop i ps)) ≡ count_below (suc j) ps) e (omega (arith, room.above)))
+    let left = left_of ps i p f starts items h in
+    subst (λ j. get_or (set starts p.0 (get_or starts p.0 0 - 1)) j 0 + length (with_key j (drop (g j) ps)) ≡ count_below (suc j) ps) e (rw m.here (omega (arith, room.above))))
     (λ e. let same : get_or (set starts p.0 (get_or starts p.0 0 - 1)) k 0 ≡ get_or starts k 0 = get_or-set_other starts p.0 k (get_or starts p.0 0 - 1) 0 (λ q. e (sym q)) in
-    rw (same, more_past k ps i p h.inside h.read e) (h.from.left k inside))
+    rw (same, m.others k e) (h.from.left k inside))
     (cases_eq p.0 k)
 
-step_rows : {T : Type 0} (ps : List (ℕ × T)) (i : ℕ) (p : ℕ × T) (starts : List ℕ) (items : List T) → Places ps i p starts items → (k : ℕ) → k < length starts → slice_range (set items (get_or starts p.0 0 - 1) p.1) (get_or (set starts p.0 (get_or starts p.0 0 - 1)) k 0) (count_below (suc k) ps) ≡ with_key k (drop i ps)
-step_rows ps i p starts items h k inside =
-    let room = room_of ps i p starts items h in
+step_rows : {T : Type 0} (ps : List (ℕ × T)) (i : ℕ) (p : ℕ × T) (f g : ℕ → ℕ) (starts : List ℕ) (items : List T) → Moves ps i p f g → Places ps i p f starts items → (k : ℕ) → k < length starts → slice_range (set items (get_or starts p.0 0 - 1) p.1) (get_or (set starts p.0 (get_or starts p.0 0 - 1)) k 0) (count_below (suc k) ps) ≡ with_key k (drop (g k) ps)
+step_rows ps i p f g starts items m h k inside =
+    let room = room_of ps i p f starts items h in
     let at : ℕ = get_or starts p.0 0 - 1 in
     ⊎_elim
     (λ e. let same : get_or (set starts p.0 (get_or starts p.0 0 - 1)) p.0 0 ≡ get_or starts p.0 0 - 1 = get_or-set_same starts p.0 (get_or starts p.0 0 - 1) 0 h.key in
     let first = range-set_first items (get_or starts p.0 0 - 1) (get_or starts p.0 0) (count_below (suc p.0) ps) p.1 (omega (arith, room.above)) room.below (omega (arith, room.above, room.below, room.all)) in
-    subst (λ j. slice_range (set items (get_or starts p.0 0 - 1) p.1) (get_or (set starts p.0 (get_or starts p.0 0 - 1)) j 0) (count_below (suc j) ps) ≡ with_key j (drop i ps)) e
-    (rw (same, more_here ps i p h.inside h.read) (first ∙ ap (λ xs. p.1 ∷ xs) (h.from.rows p.0 h.key))))
+    subst (λ j. slice_range (set items (get_or starts p.0 0 - 1) p.1) (get_or (set starts p.0 (get_or starts p.0 0 - 1)) j 0) (count_below (suc j) ps) ≡ with_key j (drop (g j) ps)) e
+    (rw (same, m.here, more_here ps i p h.inside h.read) (first ∙ ap (λ xs. p.1 ∷ xs) (row_of ps i p f starts items h))))
     (λ e. let same : get_or (set starts p.0 (get_or starts p.0 0 - 1)) k 0 ≡ get_or starts k 0 = get_or-set_other starts p.0 k (get_or starts p.0 0 - 1) 0 (λ q. e (sym q)) in
-    let left : get_or starts k 0 + length (with_key k (drop (i + 1) ps)) ≡ count_below (suc k) ps = h.from.left k inside in
+    let left : get_or starts k 0 + length (with_key k (drop (f k) ps)) ≡ count_below (suc k) ps = h.from.left k inside in
     let stays : slice_range (set items (get_or starts p.0 0 - 1) p.1) (get_or starts k 0) (count_below (suc k) ps) ≡ slice_range items (get_or starts k 0) (count_below (suc k) ps) =
     ⊎_elim
     (λ l. range-set_past items (get_or starts p.0 0 - 1) (get_or starts k 0) (count_below (suc k) ps) p.1 (omega (arith, room.above, count_below-mono (suc k) p.0 ps l)))
     (λ l. range-set_before items (get_or starts p.0 0 - 1) (get_or starts k 0) (count_below (suc k) ps) p.1
     (let mono : count_below (suc p.0) ps ≤ count_below k ps = count_below-mono (suc p.0) k ps (omega (arith, e)) in
-    omega (arith, room.above, room.below, length-with_key-drop k (i + 1) ps)))
+    omega (arith, room.above, room.below, length-with_key-drop k (f k) ps)))
     (cases_lt k p.0) in
-    rw (same, more_past k ps i p h.inside h.read e) (stays ∙ h.from.rows k inside))
+    rw (same, m.others k e) (stays ∙ h.from.rows k inside))
     (cases_eq p.0 k)
 
 -- a step of the sort: the item at the place goes before the start of its row
-pub rows_more : {T : Type 0} (ps : List (ℕ × T)) (i : ℕ) (p : ℕ × T) (starts : List ℕ) (items : List T) → AreRowsFrom (i + 1) ps starts items → slice_get ps i ≡ Some p → p.0 < length starts → length items ≡ length ps → AreRowsFrom i ps (set starts p.0 (get_or starts p.0 0 - 1)) (set items (get_or starts p.0 0 - 1) p.1)
-rows_more ps i p starts items from at key room =
-    let h = places_of ps i p starts items from at key room in
+pub rows_more : {T : Type 0} (ps : List (ℕ × T)) (i : ℕ) (p : ℕ × T) (f g : ℕ → ℕ) (starts : List ℕ) (items : List T) → AreRowsAt f ps starts items → f p.0 ≡ i + 1 → Moves ps i p f g → slice_get ps i ≡ Some p → p.0 < length starts → length items ≡ length ps → AreRowsAt g ps (set starts p.0 (get_or starts p.0 0 - 1)) (set items (get_or starts p.0 0 - 1) p.1)
+rows_more ps i p f g starts items from next m at key room =
+    let h = places_of ps i p f starts items from next at key room in
     record {
-      left = λ k l. step_left ps i p starts items h k (omega (arith, l, length-set starts p.0 (get_or starts p.0 0 - 1)));
-      rows = λ k l. step_rows ps i p starts items h k (omega (arith, l, length-set starts p.0 (get_or starts p.0 0 - 1)));
+      left = λ k l. step_left ps i p f g starts items m h k (omega (arith, l, length-set starts p.0 (get_or starts p.0 0 - 1)));
+      rows = λ k l. step_rows ps i p f g starts items m h k (omega (arith, l, length-set starts p.0 (get_or starts p.0 0 - 1)));
     }
 
 -- the start of a row that takes an item is above 0, and its new place is one of the items
-pub rows_room : {T : Type 0} (ps : List (ℕ × T)) (i : ℕ) (p : ℕ × T) (starts : List ℕ) (items : List T) → AreRowsFrom (i + 1) ps starts items → slice_get ps i ≡ Some p → p.0 < length starts → length items ≡ length ps → (0 < get_or starts p.0 0) × (get_or starts p.0 0 - 1 < length items)
-rows_room ps i p starts items from at key room =
-    let h = places_of ps i p starts items from at key room in
-    let r = room_of ps i p starts items h in
+pub rows_room : {T : Type 0} (ps : List (ℕ × T)) (i : ℕ) (p : ℕ × T) (f : ℕ → ℕ) (starts : List ℕ) (items : List T) → AreRowsAt f ps starts items → f p.0 ≡ i + 1 → slice_get ps i ≡ Some p → p.0 < length starts → length items ≡ length ps → (0 < get_or starts p.0 0) × (get_or starts p.0 0 - 1 < length items)
+rows_room ps i p f starts items from next at key room =
+    let h = places_of ps i p f starts items from next at key room in
+    let r = room_of ps i p f starts items h in
     (omega (arith, r.above), omega (arith, r.above, r.below, r.all))
+
+-- rows at places that come to the same
+pub rows_same : {T : Type 0} (ps : List (ℕ × T)) (f g : ℕ → ℕ) (starts : List ℕ) (items : List T) → ((k : ℕ) → k < length starts → with_key k (drop (g k) ps) ≡ with_key k (drop (f k) ps)) → AreRowsAt f ps starts items → AreRowsAt g ps starts items
+rows_same ps f g starts items same from =
+    record { left = λ k l. rw (same k l) (from.left k l); rows = λ k l. from.rows k l ∙ sym (same k l) }
 
 -- before the first step no item is in its row
 pub rows_none : {T : Type 0} (ps : List (ℕ × T)) (starts : List ℕ) (items : List T) → ((k : ℕ) → k < length starts → get_or starts k 0 ≡ count_below (suc k) ps) → AreRowsFrom (length ps) ps starts items
@@ -272,16 +290,82 @@ key_below n ps i p all at =
 pub row_of_rows : {T : Type 0} (starts : List ℕ) (items : List T) (rows : List (List T)) (k : ℕ) → rows_of starts items ≡ rows → k + 1 < length starts → get_or rows k [] ≡ slice_range items (get_or starts k 0) (get_or starts (k + 1) 0)
 row_of_rows starts items rows k e l = rw (← e) (get_or-rows_of starts items k l)
 
--- the same steps where the place goes down
-pub rows_down : {T : Type 0} (ps : List (ℕ × T)) (i : ℕ) (p : ℕ × T) (starts : List ℕ) (items : List T) → 0 < i → AreRowsFrom i ps starts items → slice_get ps (i - 1) ≡ Some p → p.0 < length starts → length items ≡ length ps → AreRowsFrom (i - 1) ps (set starts p.0 (get_or starts p.0 0 - 1)) (set items (get_or starts p.0 0 - 1) p.1)
-rows_down ps i p starts items some from at key room =
-    let e : i ≡ i - 1 + 1 = omega arith in
-    rows_more ps (i - 1) p starts items (subst (λ j. AreRowsFrom j ps starts items) e from) at key room
+-- ---- one part of the rows after another
 
-pub rows_down_room : {T : Type 0} (ps : List (ℕ × T)) (i : ℕ) (p : ℕ × T) (starts : List ℕ) (items : List T) → 0 < i → AreRowsFrom i ps starts items → slice_get ps (i - 1) ≡ Some p → p.0 < length starts → length items ≡ length ps → (0 < get_or starts p.0 0) × (get_or starts p.0 0 - 1 < length items)
-rows_down_room ps i p starts items some from at key room =
-    let e : i ≡ i - 1 + 1 = omega arith in
-    rows_room ps (i - 1) p starts items (subst (λ j. AreRowsFrom j ps starts items) e from) at key room
+-- the place of a key of the part
+in_part : (low high place total k : ℕ) → low ≤ k → k < high → place_in low high place total k ≡ place
+in_part low high place total k above below = rw (le-ltb k low above, lt-ltb k high below) refl
+
+-- other keys stay where they are
+others_stay : {T : Type 0} (ps : List (ℕ × T)) (low high place total k : ℕ) (p : ℕ × T) → 0 < place → slice_get ps (place - 1) ≡ Some p → (low ≤ k → k < high → p.0 ≡ k → ⊥)
+    → with_key k (drop (place_in low high (place - 1) total k) ps) ≡ with_key k (drop (place_in low high place total k) ps)
+others_stay ps low high place total k p some at other =
+    let next : place - 1 + 1 ≡ place = omega arith in
+    ⊎_elim
+    (λ (c : k < low). rw (lt-ltb k low c) refl)
+    (λ (c : low ≤ k). ⊎_elim
+    (λ (d : k < high). rw (le-ltb k low c, lt-ltb k high d)
+    (subst (λ n. with_key k (drop (place - 1) ps) ≡ with_key k (drop n ps)) next
+    (more_past k ps (place - 1) p (slice_get_within ps (place - 1) p at) (get_or_from_slice_get ps (place - 1) p p at) (other c d))))
+    (λ (d : high ≤ k). rw (le-ltb k low c, le-ltb k high d) refl)
+    (cases_lt k high))
+    (cases_lt k low)
+
+-- an item of the part
+part_moves : {T : Type 0} (ps : List (ℕ × T)) (low high place total : ℕ) (p : ℕ × T) → 0 < place → slice_get ps (place - 1) ≡ Some p → low ≤ p.0 → p.0 < high
+    → Moves ps (place - 1) p (place_in low high place total) (place_in low high (place - 1) total)
+part_moves ps low high place total p some at above below =
+    record { here = in_part low high (place - 1) total p.0 above below; others = λ k e. others_stay ps low high place total k p some at (λ _ _. e) }
+
+next_in_part : {T : Type 0} (low high place total : ℕ) (p : ℕ × T) → 0 < place → low ≤ p.0 → p.0 < high → place_in low high place total p.0 ≡ place - 1 + 1
+next_in_part low high place total p some above below = in_part low high place total p.0 above below ∙ omega arith
+
+pub part_placed : {T : Type 0} (ps : List (ℕ × T)) (low high place total : ℕ) (p : ℕ × T) (starts : List ℕ) (items : List T) → 0 < place → AreRowsAt (place_in low high place total) ps starts items → slice_get ps (place - 1) ≡ Some p → p.0 < length starts → length items ≡ length ps → low ≤ p.0 → p.0 < high
+    → AreRowsAt (place_in low high (place - 1) total) ps (set starts p.0 (get_or starts p.0 0 - 1)) (set items (get_or starts p.0 0 - 1) p.1)
+part_placed ps low high place total p starts items some from at key room above below =
+    rows_more ps (place - 1) p (place_in low high place total) (place_in low high (place - 1) total) starts items from (next_in_part low high place total p some above below) (part_moves ps low high place total p some at above below) at key room
+
+pub part_room : {T : Type 0} (ps : List (ℕ × T)) (low high place total : ℕ) (p : ℕ × T) (starts : List ℕ) (items : List T) → 0 < place → AreRowsAt (place_in low high place total) ps starts items → slice_get ps (place - 1) ≡ Some p → p.0 < length starts → length items ≡ length ps → low ≤ p.0 → p.0 < high
+    → (0 < get_or starts p.0 0) × (get_or starts p.0 0 - 1 < length items)
+part_room ps low high place total p starts items some from at key room above below =
+    rows_room ps (place - 1) p (place_in low high place total) starts items from (next_in_part low high place total p some above below) at key room
+
+-- an item of another part
+pub part_passed : {T : Type 0} (ps : List (ℕ × T)) (low high place total : ℕ) (p : ℕ × T) (starts : List ℕ) (items : List T) → 0 < place → AreRowsAt (place_in low high place total) ps starts items → slice_get ps (place - 1) ≡ Some p → (low ≤ p.0 → p.0 < high → ⊥)
+    → AreRowsAt (place_in low high (place - 1) total) ps starts items
+part_passed ps low high place total p starts items some from at outside =
+    rows_same ps (place_in low high place total) (place_in low high (place - 1) total) starts items
+    (λ k l. others_stay ps low high place total k p some at (λ above below e. outside (omega arith) (omega arith))) from
+
+-- no part is done, a part behind those that are done, and all
+pub parts_none : {T : Type 0} (ps : List (ℕ × T)) (total : ℕ) (starts : List ℕ) (items : List T) → AreRowsFrom total ps starts items → AreRowsAt (place_in 0 0 total total) ps starts items
+parts_none ps total starts items from = rows_same ps (λ k. total) (place_in 0 0 total total) starts items (λ k l. rw (le-ltb k 0 (omega arith)) refl) from
+
+pub parts_begin : {T : Type 0} (ps : List (ℕ × T)) (low high total : ℕ) (starts : List ℕ) (items : List T) → AreRowsAt (place_in low low total total) ps starts items → AreRowsAt (place_in low high total total) ps starts items
+parts_begin ps low high total starts items from =
+    rows_same ps (place_in low low total total) (place_in low high total total) starts items
+    (λ k l. ap (λ n. with_key k (drop n ps)) (same (nat_lt k low) (nat_lt k high))) from
+  where
+    same : (s t : Bool) → cond s 0 (cond t total total) ≡ cond s 0 (cond s total total)
+    same true t = refl
+    same false true = refl
+    same false false = refl
+
+pub parts_more : {T : Type 0} (ps : List (ℕ × T)) (low high total : ℕ) (starts : List ℕ) (items : List T) → low ≤ high → AreRowsAt (place_in low high 0 total) ps starts items → AreRowsAt (place_in high high total total) ps starts items
+parts_more ps low high total starts items up from =
+    rows_same ps (place_in low high 0 total) (place_in high high total total) starts items
+    (λ k l. ⊎_elim
+    (λ (c : k < high). rw (lt-ltb k high c) (ap (λ n. with_key k (drop n ps)) (done (nat_lt k low) 0)))
+    (λ (c : high ≤ k). rw (le-ltb k high c, le-ltb k low (omega arith)) refl)
+    (cases_lt k high)) from
+  where
+    done : (s : Bool) (n : ℕ) → n ≡ cond s n n
+    done true n = refl
+    done false n = refl
+
+pub parts_all : {T : Type 0} (ps : List (ℕ × T)) (low total : ℕ) (starts : List ℕ) (items : List T) → length starts ≤ low → AreRowsAt (place_in low low total total) ps starts items → AreRowsFrom 0 ps starts items
+parts_all ps low total starts items end from =
+    rows_same ps (place_in low low total total) (λ k. 0) starts items (λ k l. rw (lt-ltb k low (omega arith)) refl) from
 
 -- one number more is summed up
 pub sums_more : (k : ℕ) (old new : List ℕ) → 0 < k → k < length old → IsSummedUpTo k old new → length new ≡ length old → IsSummedUpTo (k + 1) old (set new k (get_or new k 0 + get_or new (k - 1) 0))
@@ -318,73 +402,3 @@ counts_fit counts ps each =
     let sums : sum (take (length counts) counts) ≡ count_below (length counts) ps = sum_counts counts ps each (length counts) (omega arith) in
     let sums' : sum counts ≡ count_below (length counts) ps = rw all at sums in
     omega (arith, count_below-le (length counts) ps)
-
--- ---- a row behind the others
-
--- the rows have all items
-total_to : {T : Type 0} (starts : List ℕ) (items : List T) → AreStarts starts (length items) → (n : ℕ) → n < length starts → sum_by length (map (λ k. slice_range items (get_or starts k 0) (get_or starts (k + 1) 0)) (range_with_len 0 n)) ≡ get_or starts n 0
-total_to starts items so zero l = sym so.first
-total_to starts items so (suc n) l =
-    let row = λ (k : ℕ). slice_range items (get_or starts k 0) (get_or starts (k + 1) 0) in
-    let more : sum_by length (map row (range_with_len 0 (n + 1))) ≡ sum_by length (map row (range_with_len 0 n)) + length (row n) = sum_by-map-range_with_len_more length row 0 n n (omega arith) in
-    let before = total_to starts items so n (omega arith) in
-    let len : length (row n) ≡ get_or starts (n + 1) 0 - get_or starts n 0 = length-between items (get_or starts n 0) (get_or starts (n + 1) 0) (so.within (n + 1) (omega arith)) in
-    let up = so.ascending n (omega arith) in
-    let all : sum_by length (map row (range_with_len 0 (n + 1))) ≡ get_or starts (n + 1) 0 = omega arith in
-    rw add-one at all
-
-pub total_of_rows : {T : Type 0} (starts : List ℕ) (items : List T) (rows : List (List T)) → rows_of starts items ≡ rows → AreStarts starts (length items) → sum_by length rows ≡ length items
-total_of_rows starts items rows is so =
-    rw (← is) (total_to starts items so (length starts - 1) (omega (arith, so.some)) ∙ so.last)
-
-pub rows-push : {T : Type 0} (starts : List ℕ) (items row : List T) (end : ℕ) (rows : List (List T)) → rows_of starts items ≡ rows → AreStarts starts (length items) → end ≡ length items + length row → rows_of (starts ++ end ∷ []) (items ++ row) ≡ rows ++ row ∷ []
-rows-push starts items row end rows is so end_is =
-    let len_starts = length_push starts end in
-    let len = length_of_rows starts items rows is in
-    let len_more = length_of_rows (starts ++ end ∷ []) (items ++ row) _ refl in
-    same_lists (rows_of (starts ++ end ∷ []) (items ++ row)) (rows ++ row ∷ []) (omega (arith, len_more, length_push rows row, so.some))
-    (λ k d l.
-    let n = length starts - 1 in
-    let inside : k + 1 < length (starts ++ end ∷ []) = omega (arith, len_more) in
-    let here : get_or (rows_of (starts ++ end ∷ []) (items ++ row)) k d ≡ slice_range (items ++ row) (get_or (starts ++ end ∷ []) k 0) (get_or (starts ++ end ∷ []) (k + 1) 0) = get_or_default (rows_of (starts ++ end ∷ []) (items ++ row)) k d [] l ∙ get_or-rows_of (starts ++ end ∷ []) (items ++ row) k inside in
-    let start : get_or (starts ++ end ∷ []) k 0 ≡ get_or starts k 0 = get_or_append_left starts (end ∷ []) 0 k (omega arith) in
-    ⊎_elim
-    (λ (c : k + 1 < length starts).
-    let stop : get_or (starts ++ end ∷ []) (k + 1) 0 ≡ get_or starts (k + 1) 0 = get_or_append_left starts (end ∷ []) 0 (k + 1) c in
-    let front : take (get_or starts (k + 1) 0) (items ++ row) ≡ take (get_or starts (k + 1) 0) items = take-append-le (get_or starts (k + 1) 0) items row (so.within (k + 1) c) in
-    let same : slice_range (items ++ row) (get_or starts k 0) (get_or starts (k + 1) 0) ≡ slice_range items (get_or starts k 0) (get_or starts (k + 1) 0) =
-    between_is (items ++ row) (get_or starts k 0) (get_or starts (k + 1) 0) ∙ ap (drop (get_or starts k 0)) front ∙ sym (between_is items (get_or starts k 0) (get_or starts (k + 1) 0)) in
-    let in_rows : k < length rows = omega (arith, len) in
-    let there : get_or (rows ++ row ∷ []) k d ≡ get_or rows k [] = get_or_append_left rows (row ∷ []) d k in_rows ∙ get_or_default rows k d [] in_rows in
-    rw (here, start, stop, there, row_of_rows starts items rows k is c) same)
-    (λ (c : length starts ≤ k + 1).
-    let at : k + 1 ≡ length starts = omega arith in
-    let stop : get_or (starts ++ end ∷ []) (k + 1) 0 ≡ end = rw at (get_or_push starts end 0 (length starts) refl) in
-    let last : get_or starts k 0 ≡ length items = let e : k ≡ length starts - 1 = omega arith in rw e so.last in
-    let rest : drop (length items) (items ++ row) ≡ row = drop_at items row (length items) refl in
-    let count : end - length items ≡ length row = omega arith in
-    let there : get_or (rows ++ row ∷ []) k d ≡ row = get_or_push rows row d k (omega (arith, len)) in
-    rw (here, start, stop, last, there, rest, count) (take_all (length row) row (omega arith)))
-    (cases_lt (k + 1) (length starts)))
-
-pub starts-push : (starts : List ℕ) (total end : ℕ) → AreStarts starts total → total ≤ end → end < 2 ^ 32 → AreStarts (starts ++ end ∷ []) end
-starts-push starts total end so more few =
-    let len = length_push starts end in
-    let same = λ (k : ℕ) (l : k < length starts). get_or_append_left starts (end ∷ []) 0 k l in
-    let last : get_or (starts ++ end ∷ []) (length starts) 0 ≡ end = get_or_push starts end 0 (length starts) refl in
-    record {
-      few = few;
-      some = omega arith;
-      first = same 0 so.some ∙ so.first;
-      ascending = λ k l. ⊎_elim
-          (λ (c : k + 1 < length starts). omega (arith, same k (omega arith), same (k + 1) c, so.ascending k c))
-          (λ (c : length starts ≤ k + 1). let e : k + 1 ≡ length starts = omega arith in
-          let at_end : get_or (starts ++ end ∷ []) (k + 1) 0 ≡ end = rw e last in
-          omega (arith, same k (omega arith), so.within k (omega arith)))
-          (cases_lt (k + 1) (length starts));
-      within = λ k l. ⊎_elim
-          (λ (c : k < length starts). omega (arith, same k c, so.within k c))
-          (λ (c : length starts ≤ k). let e : k ≡ length starts = omega arith in rw e (omega arith))
-          (cases_lt k (length starts));
-      last = let e : length (starts ++ end ∷ []) - 1 ≡ length starts = omega arith in rw e last;
-    }

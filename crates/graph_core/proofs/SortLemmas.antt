@@ -11,7 +11,7 @@ use Rattle.std.proofs.lemmas.List.Quantifiers.{all_pairs_push}
 use Rattle.std.proofs.lemmas.List.Sorted.{IsPermutation-map}
 use Rattle.std.proofs.lemmas.Map.Keys.{IsDistinct-push, IsDistinct-IsPermutation, apart_from_distinct}
 use Rattle.std.proofs.lemmas.Map.Views.{Contains-from_any}
-use Rattle.graph_core.specs.Sorting.{Rises, IsFirstDouble}
+use Rattle.graph_core.specs.Inner.SortedKeys.{Rises, IsFirstDouble}
 
 -- one item more that is above the last
 pub rises_more : {T : Type 0} (key : T → ℕ) (xs : List T) (k : ℕ) → Rises key (take k xs) → 0 < k → k < length xs → ((d : T) → key (get_or xs (k - 1) d) < key (get_or xs k d)) → Rises key (take (k + 1) xs)

@@ -10,11 +10,12 @@ use Rattle.std.proofs.lemmas.Option.{slice_get-get_or}
 use Rattle.graph_core.specs.declared.graph_lists.EdgeIn.{EdgeIn}
 use Rattle.graph_core.specs.declared.graph_lists.GraphFault.{GraphFault}
 use Rattle.graph_core.specs.declared.graph_lists.GraphFault.TheVariants.{DoubleVertex}
-use Rattle.graph_core.specs.declared.sorting.Unsorted.{Unsorted}
-use Rattle.graph_core.specs.declared.sorting.Unsorted.TheVariants.{Double, NoMemory}
-use Rattle.graph_core.specs.GraphLists.{first_fault, vertex_fault, ends_fault, edge_fault, graph_fault, Refuses}
-use Rattle.graph_core.specs.Edges.{vertex_double}
-use Rattle.graph_core.specs.Sorting.{IsFirstDouble, AreSorted}
+use Rattle.gl_base.specs.declared.memory.OrNoMemory.{OrNoMemory}
+use Rattle.gl_base.specs.declared.memory.OrNoMemory.TheVariants.{Fault, NoMemory}
+use Rattle.graph_core.specs.declared.sorting.DoubleAt.{DoubleAt}
+use Rattle.graph_core.specs.GraphLists.{first_fault, vertex_fault, ends_fault, edge_fault, graph_fault, NamesFirstFault}
+use Rattle.graph_core.specs.Inner.NumberedEdges.{vertex_double}
+use Rattle.graph_core.specs.Inner.SortedKeys.{IsFirstDouble, AreSorted}
 use Rattle.graph_core.proofs.EdgeLemmas.{first_fault_at, first_fault_none, distinct_before, eqb_flips}
 
 any_flip : (x : ℕ) (xs : List ℕ) → list_any (λ o. eqb o x) xs ≡ list_any (eqb x) xs
@@ -42,8 +43,8 @@ first_double_vertex ids i double =
     vertex_none ids j d (omega arith) new)
     (λ d. vertex_again ids i d double.inside (list_any-from_Contains nat_eq_equiv (get_or ids i 0) (take i ids) double.double))
 
-pub refuses_vertex : (ids : List ℕ) (unsorted : Unsorted) → AreSorted (λ (id : ℕ). id) ids (Err unsorted) → Refuses (first_fault vertex_fault [] ids) (vertex_double unsorted)
-refuses_vertex ids (Double place) double = first_double_vertex ids place (subst (λ ks. IsFirstDouble ks place) (map-id ids) double)
+pub refuses_vertex : (ids : List ℕ) (unsorted : OrNoMemory DoubleAt) → AreSorted (λ (id : ℕ). id) ids (Err unsorted) → NamesFirstFault (first_fault vertex_fault [] ids) (vertex_double unsorted)
+refuses_vertex ids (Fault at) double = first_double_vertex ids at.0 (subst (λ ks. IsFirstDouble ks at.0) (map-id ids) double)
 refuses_vertex ids NoMemory none = tt
 
 pub distinct_ids : (ids : List ℕ) → IsDistinct nat_eq (map (λ (id : ℕ). id) ids) → IsDistinct nat_eq ids

@@ -7,7 +7,7 @@ use Rattle.graph_core.specs.Walks.{IsWalk}
 abbrev pub Joined : DataGraph → ℕ → ℕ → Type 0
 Joined g a b = (path : List DataEdge) × IsWalk g.edges false a b path
 
--- the identifier of a vertex that is joined to v, and of none with a lower one
+-- a vertex that is joined to v has this identifier, and none that is joined to v has a lower one
 pub record IsComponentLabel (g : DataGraph) (v id : ℕ) : Type 0 where
   pub joined : (u : ℕ) × (u < size g) × Joined g u v × (slice_index g.ids u ≡ id)
   pub least : (u : ℕ) → u < size g → Joined g u v → id ≤ slice_index g.ids u

@@ -1,5 +1,6 @@
 -- The data graph: identifiers, edges between vertex numbers, and whether edges have a direction.
-use Rattle.std.specs.Prelude.{◌≡◌, ◌≢◌, ◌⊎◌, ℕ, ◌^◌, ◌<◌, ◌≤◌, Bool, false, List, length, slice_index, All, AllPairs}
+use Rattle.std.specs.Prelude.{◌≡◌, ◌≢◌, ◌⊎◌, ℕ, ◌^◌, ◌<◌, ◌≤◌, Bool, false, List, length, All, AllPairs}
+use Rattle.gl_base.specs.Lists.{Ascends}
 use Rattle.gl_base.specs.declared.limits.TheConstants.{MAX_ID, MAX_VERTICES, MAX_EDGES}
 
 -- An edge leads from one vertex to another.
@@ -34,7 +35,7 @@ pub record IsEdge (n : ℕ) (directed : Bool) (e : DataEdge) : Type 0 where
 pub record IsDataGraph (g : DataGraph) : Type 0 where
   pub few : size g ≤ MAX_VERTICES
   pub few_edges : length g.edges ≤ MAX_EDGES
-  pub ascending : (i j : ℕ) → i < j → j < size g → slice_index g.ids i < slice_index g.ids j
+  pub ascending : Ascends g.ids
   pub ids : All (λ id. id ≤ MAX_ID) g.ids
   pub edges : All (IsEdge (size g) g.directed) g.edges
   pub edges_ascending : AllPairs IsBefore g.edges

@@ -9,18 +9,18 @@ use Rattle.graph_core.specs.declared.graph_lists.GraphFault.TheVariants.{DoubleV
 use Rattle.graph_core.specs.DataGraph.{DataEdge, DataGraph, IsDataGraph}
 
 -- an edge as it is kept: where edges have no direction, the lower identifier comes first
-abbrev pub written : Bool → EdgeIn → EdgeIn
-written directed e = if directed || nat_lt e.from e.to then e else record { from = e.to; to = e.from; weight = e.weight }
+abbrev pub lower_first : Bool → EdgeIn → EdgeIn
+lower_first directed e = if directed || nat_lt e.from e.to then e else record { from = e.to; to = e.from; weight = e.weight }
 
 -- an edge of the graph, with the identifiers of its ends
-abbrev pub named : List ℕ → DataEdge → EdgeIn
-named ids e = record { from = slice_index ids e.from; to = slice_index ids e.to; weight = e.weight }
+abbrev pub with_ids : List ℕ → DataEdge → EdgeIn
+with_ids ids e = record { from = slice_index ids e.from; to = slice_index ids e.to; weight = e.weight }
 
 -- the graph has just these identifiers and just these edges
 pub record IsGraphOf (ids : List ℕ) (edges : List EdgeIn) (directed : Bool) (g : DataGraph) : Type 0 where
   pub graph : IsDataGraph g
   pub same_ids : IsPermutation ids g.ids
-  pub same_edges : IsPermutation (map (written directed) edges) (map (named g.ids) g.edges)
+  pub same_edges : IsPermutation (map (lower_first directed) edges) (map (with_ids g.ids) g.edges)
   pub direction : g.directed ≡ directed
 
 -- the first fault, where the fault of an item depends on those before it
@@ -40,22 +40,22 @@ ends_fault ids e place =
     else Some (UnknownVertex place)
 
 -- two edges are the same where they are kept with the same ends
-abbrev pub is_same : Bool → EdgeIn → EdgeIn → Bool
-is_same directed e f = (written directed e).from == (written directed f).from && (written directed e).to == (written directed f).to
+abbrev pub same_ends : Bool → EdgeIn → EdgeIn → Bool
+same_ends directed e f = (lower_first directed e).from == (lower_first directed f).from && (lower_first directed e).to == (lower_first directed f).to
 
 -- an end that is unknown, two equal ends, and an edge that stands before it too, in this order
 abbrev pub edge_fault : List ℕ → Bool → List EdgeIn → EdgeIn → Option GraphFault
 edge_fault ids directed before e =
-    option_or (ends_fault ids e (length before)) (if list_any (is_same directed e) before then Some (DoubleEdge (length before)) else None)
+    option_or (ends_fault ids e (length before)) (if list_any (same_ends directed e) before then Some (DoubleEdge (length before)) else None)
 
 -- the first fault of the identifiers, and else that of the edges
 abbrev pub graph_fault : List ℕ → List EdgeIn → Bool → Option GraphFault
 graph_fault ids edges directed = option_or (first_fault vertex_fault [] ids) (first_fault (edge_fault ids directed) [] edges)
 
 -- a refusal names the first fault, or want of memory
-abbrev pub Refuses : Option GraphFault → GraphFault → Type 0
-Refuses first NoMemory = Unit {0}
-Refuses first (DoubleVertex place) = first ≡ Some (DoubleVertex place)
-Refuses first (UnknownVertex place) = first ≡ Some (UnknownVertex place)
-Refuses first (SelfLoop place) = first ≡ Some (SelfLoop place)
-Refuses first (DoubleEdge place) = first ≡ Some (DoubleEdge place)
+abbrev pub NamesFirstFault : Option GraphFault → GraphFault → Type 0
+NamesFirstFault first NoMemory = Unit {0}
+NamesFirstFault first (DoubleVertex place) = first ≡ Some (DoubleVertex place)
+NamesFirstFault first (UnknownVertex place) = first ≡ Some (UnknownVertex place)
+NamesFirstFault first (SelfLoop place) = first ≡ Some (SelfLoop place)
+NamesFirstFault first (DoubleEdge place) = first ≡ Some (DoubleEdge place)

@@ -1,34 +1,7 @@
--- Half-edges and neighbours as rows.
-use Rattle.std.specs.Prelude.{◌≡◌, ℕ, suc, ◌<◌, ◌≤◌, Bool, true, not, List, [], ◌∷◌, length, map, nat_eq, AllPairs}
-use Rattle.std.specs.List.{list_any}
-use Rattle.gl_base.specs.declared.numbers.Vertex.{Vertex}
+-- A half-edge as the definitions see it.
 use Rattle.graph_core.specs.Halves.{DataHalf}
-use Rattle.graph_core.specs.declared.edges.Edge.{Edge}
 use Rattle.graph_core.specs.declared.halves.Half.{Half}
 
 -- the half-edge as the definitions see it
 abbrev pub data_half : Half → DataHalf
 data_half h = record { edge = h.edge.0; other = h.other.0; weight = h.weight; out = h.out; into = h.into }
-
--- edge k where it begins
-abbrev pub half_out : Bool → ℕ → Edge → Half
-half_out directed k e = record { edge = record { 0 = k }; other = e.to; weight = e.weight; out = true; into = not directed }
-
--- edge k where it ends
-abbrev pub half_into : Bool → ℕ → Edge → Half
-half_into directed k e = record { edge = record { 0 = k }; other = e.from; weight = e.weight; out = not directed; into = true }
-
--- both halves of each edge behind the vertices where they are; the edges are numbered from k on
-abbrev pub half_pairs : Bool → ℕ → List Edge → List (ℕ × Half)
-half_pairs directed k [] = []
-half_pairs directed k (e ∷ edges) = (e.from.0, half_out directed k e) ∷ (e.to.0, half_into directed k e) ∷ half_pairs directed (suc k) edges
-
--- the same numbers, each once, ascending
-pub record AreDistinctOf (old new : List ℕ) : Type 0 where
-  pub ascending : AllPairs (λ u v. u < v) new
-  pub same : (u : ℕ) → list_any (nat_eq u) new ≡ list_any (nat_eq u) old
-  pub few : length new ≤ length old
-
--- the other ends of these half-edges, each once, ascending
-abbrev pub AreOthers : List Half → List Vertex → Type 0
-AreOthers halves others = AreDistinctOf (map (λ h. h.other.0) halves) (map (λ v. v.0) others)

@@ -1,13 +1,10 @@
 -- Where an identifier stands in a list of identifiers that ascends.
 use Rattle.std.specs.Prelude.{◌≡◌, ℕ, ◌+◌, ◌-◌, ◌/◌, ◌^◌, ◌<◌, ◌≤◌, List, length, slice_index, slice_get, Option, Some, MatchOption, Contains}
 use Rattle.gl_base.specs.declared.numbers.Vertex.{Vertex}
+use Rattle.gl_base.specs.Lists.{Ascends}
 use Rattle.graph_core.specs.declared.id_table.IdTable.{IdTable}
 use Rattle.graph_core.specs.declared.id_table.Form.{Form}
 use Rattle.graph_core.specs.declared.id_table.Form.TheVariants.{Consecutive, Ranged}
-
--- each identifier is below those after it
-abbrev pub Ascends : List ℕ → Type 0
-Ascends ids = (i j : ℕ) → i < j → j < length ids → slice_index ids i < slice_index ids j
 
 -- the vertex that has the identifier, and None where none has it
 abbrev pub IsVertexWith : List ℕ → ℕ → Option Vertex → Type 0
@@ -16,15 +13,6 @@ IsVertexWith ids id found = MatchOption found (¬ Contains ids id) (λ v. slice_
 -- the range of an identifier: its high bits, counted from the least identifier
 abbrev pub range_of : ℕ → ℕ → ℕ → ℕ
 range_of least shift id = (id - least) / 2 ^ shift
-
--- the starts say at which place each range begins: so far, for the first n identifiers
-pub record AreRangesTo (n : ℕ) (ids : List ℕ) (least shift : ℕ) (starts : List ℕ) : Type 0 where
-  pub ascending : (r : ℕ) → r + 1 < length starts → slice_index starts r ≤ slice_index starts (r + 1)
-  pub within : (r : ℕ) → r < length starts → slice_index starts r ≤ n
-  pub found : (k : ℕ) → k < n → range_of least shift (slice_index ids k) < length starts
-  pub begins : (k : ℕ) → k < n → slice_index starts (range_of least shift (slice_index ids k)) ≤ k
-  pub ends : (k : ℕ) → k < n → range_of least shift (slice_index ids k) + 1 < length starts → k < slice_index starts (range_of least shift (slice_index ids k) + 1)
-  pub next : (k : ℕ) → n ≤ k → k < length ids → length starts ≤ range_of least shift (slice_index ids k) + 1
 
 -- each identifier stands between the start of its range and the next one
 pub record AreRanges (ids : List ℕ) (least shift : ℕ) (starts : List ℕ) : Type 0 where

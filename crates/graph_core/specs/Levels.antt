@@ -1,6 +1,7 @@
 -- Levels count the edges of a walk, and distances sum their weights, as breadth-first search and single-source
 -- shortest paths of LDBC Graphalytics do.
-use Rattle.std.specs.Prelude.{◌≡◌, ℕ, ◌<◌, List, length, slice_index, sum_by}
+use Rattle.std.specs.Prelude.{ℕ, List, length, sum_by}
+use Rattle.gl_base.specs.Lists.{AreEach}
 use Rattle.graph_core.specs.DataGraph.{DataGraph, size}
 use Rattle.graph_core.specs.Walks.{IsLeast, IsLeastOrInf}
 
@@ -21,6 +22,5 @@ abbrev pub IsDistanceOrInf : DataGraph → ℕ → ℕ → ℕ → Type 0
 IsDistanceOrInf g a v x = IsLeastOrInf g (λ path. sum_by (λ e. e.weight) path) a v x
 
 -- each vertex has its level from a, and INF where no walk goes there
-pub record AreLevels (g : DataGraph) (a : ℕ) (numbers : List ℕ) : Type 0 where
-  pub count : length numbers ≡ size g
-  pub each : (v : ℕ) → v < size g → IsLevelOrInf g a v (slice_index numbers v)
+abbrev pub AreLevels : DataGraph → ℕ → List ℕ → Type 0
+AreLevels g a numbers = AreEach (size g) (λ v x. IsLevelOrInf g a v x) numbers

@@ -6,7 +6,6 @@ pub mod Colourings
 pub mod Halves
 pub mod Rows
 pub mod IdTable
-pub mod Sorting
 pub mod GraphLists
 pub mod Edges
 pub mod Neighbours
@@ -14,3 +13,4 @@ pub mod HalfRows
 pub mod Graphs
 pub mod GraphLaws
 pub mod Digest
+pub mod Inner

@@ -1,13 +1,13 @@
 //! Gives the edges of a list their vertex numbers, and sorts them.
 ghost use Rattle.std.specs.Prelude.{◌≡◌, ℕ, ◌+◌, ◌*◌, ◌^◌, ◌<◌, ◌≤◌, ◌||◌, nat_lt, length, IfOk};
 ghost use Rattle.graph_core.specs.IdTable.{IsTableOf};
-ghost use Rattle.graph_core.specs.Edges.{IsNumber, AreNumbered, StopsAt, AreEdges, edge_double};
+ghost use Rattle.graph_core.specs.Inner.NumberedEdges.{IsNumber, AreNumbered, StopsAt, SortsEdges, edge_double};
 
 use crate::edges::Edge;
 use crate::id_table::IdTable;
-use crate::sorting::{Unsorted, sorted};
+use crate::sorting::{DoubleAt, sorted};
 use crate::{EdgeIn, GraphFault};
-use gl_base::{MAX_VERTICES, NoMemory};
+use gl_base::{MAX_VERTICES, NoMemory, OrNoMemory};
 use std::alloc::Global;
 
 /// The edges of a graph with these identifiers, by ascending ends.
@@ -15,14 +15,14 @@ pub fn kept_edges(
     alloc: Global,
     table: &IdTable,
     ids: &[u64],
-    given: Vec<EdgeIn>,
+    listed: Vec<EdgeIn>,
     directed: bool,
 ) -> Result<Vec<Edge>, GraphFault>
     requires table { IsTableOf ids.now table.now }
-    ensures { AreEdges ids.now directed given.items result }
+    ensures { SortsEdges ids.now directed listed.items result }
 {
-    let Numbered { edges, fault } = number_all(alloc, table, ids, &given, directed)?;
-    drop(given);
+    let Numbered { edges, fault } = number_all(alloc, table, ids, &listed, directed)?;
+    drop(listed);
     match sorted(alloc, edges) {
         Err(unsorted) => Err(double_edge(unsorted)),
         Ok(edges) => match fault {
@@ -33,12 +33,12 @@ pub fn kept_edges(
 }
 
 /// Edges that cannot be sorted, as a fault of the graph.
-fn double_edge(unsorted: Unsorted) -> GraphFault
+fn double_edge(unsorted: OrNoMemory<DoubleAt>) -> GraphFault
     ensures { result ≡ edge_double unsorted }
 {
     match unsorted {
-        Unsorted::Double(place) => GraphFault::DoubleEdge(place),
-        Unsorted::NoMemory => GraphFault::NoMemory,
+        OrNoMemory::Fault(DoubleAt(place)) => GraphFault::DoubleEdge(place),
+        OrNoMemory::NoMemory => GraphFault::NoMemory,
     }
 }
 
@@ -53,16 +53,16 @@ fn number_all(
     alloc: Global,
     table: &IdTable,
     ids: &[u64],
-    given: &[EdgeIn],
+    listed: &[EdgeIn],
     directed: bool,
 ) -> Result<Numbered, NoMemory>
     requires table { IsTableOf ids.now table.now }
-    ensures edges { IfOk result (λ n. AreNumbered ids.now directed given.now n.edges.items) }
-    ensures stop { IfOk result (λ n. StopsAt ids.now given.now (length n.edges.items) n.fault) }
+    ensures edges { IfOk result (λ n. AreNumbered ids.now directed listed.now n.edges.items) }
+    ensures stop { IfOk result (λ n. StopsAt ids.now listed.now (length n.edges.items) n.fault) }
 {
-    let mut edges = Vec::with_capacity(alloc, given.len())?;
-    for place in 0..given.len() {
-        match number(table, ids, given[place], place, directed) {
+    let mut edges = Vec::with_capacity(alloc, listed.len())?;
+    for place in 0..listed.len() {
+        match number(table, ids, listed[place], place, directed) {
             Ok(edge) => edges.push(edge)?,
             Err(fault) => {
                 return Ok(Numbered {
@@ -79,24 +79,24 @@ fn number_all(
 fn number(
     table: &IdTable,
     ids: &[u64],
-    given: EdgeIn,
+    listed: EdgeIn,
     place: usize,
     directed: bool,
 ) -> Result<Edge, GraphFault>
     requires table { IsTableOf ids.now table.now }
-    ensures { IsNumber ids.now directed given place result }
+    ensures { IsNumber ids.now directed listed place result }
 {
-    let Some(from) = table.find(ids, given.from) else {
+    let Some(from) = table.find(ids, listed.from) else {
         return Err(GraphFault::UnknownVertex(place));
     };
-    let Some(to) = table.find(ids, given.to) else {
+    let Some(to) = table.find(ids, listed.to) else {
         return Err(GraphFault::UnknownVertex(place));
     };
-    if given.from == given.to {
+    if listed.from == listed.to {
         return Err(GraphFault::SelfLoop(place));
     }
-    let weight = given.weight;
-    if is_forward(given, directed) {
+    let weight = listed.weight;
+    if is_forward(listed, directed) {
         Ok(Edge { from, to, weight })
     } else {
         Ok(Edge {
@@ -107,9 +107,9 @@ fn number(
     }
 }
 
-/// Whether an edge is kept the way round it is given.
-fn is_forward(given: EdgeIn, directed: bool) -> bool
-    ensures { result ≡ (directed || nat_lt given.from given.to) }
+/// Whether an edge is kept the way round it is listed.
+fn is_forward(listed: EdgeIn, directed: bool) -> bool
+    ensures { result ≡ (directed || nat_lt listed.from listed.to) }
 {
-    directed || given.from < given.to
+    directed || listed.from < listed.to
 }

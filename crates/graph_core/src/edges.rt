@@ -11,7 +11,7 @@ pub struct Edge {
 }
 
 impl HasKey for Edge {
-    ghost use Rattle.graph_core.specs.Edges.{ends_key};
+    ghost use Rattle.graph_core.specs.Inner.NumberedEdges.{ends_key};
 
     ghost key = { ends_key };
 

@@ -1,16 +1,16 @@
 //! The data graph as a built structure.
-ghost use Rattle.std.specs.Prelude.{◌≡◌, ℕ, ◌^◌, ◌<◌, ◌≤◌, List, [], length, map, slice_index, slice_index_or, slice_get, vec_len, All, IfOk, IfErr, OnOk, Some, None};
+ghost use Rattle.std.specs.Prelude.{◌≡◌, ◌<◌, ◌≤◌, length, map, slice_index, vec_len, All, IfOk, IfErr, OnErr, OnOk, None};
 
 use crate::edge_lists::kept_edges;
 use crate::edges::Edge;
 use crate::half_rows::half_rows;
 use crate::halves::Half;
 use crate::id_table::IdTable;
-use crate::neighbours::neighbour_rows;
+use crate::neighbours::list_neighbours;
 use crate::rows::Rows;
 use crate::vertex_lists::sorted_ids;
 use crate::{EdgeIn, GraphFault};
-use gl_base::{EdgeNo, MAX_EDGES, MAX_ID, MAX_VERTICES, Vertex};
+use gl_base::{EdgeNo, MAX_EDGES, MAX_ID, MAX_VERTICES, NoMemory, Vertex};
 use std::alloc::Global;
 use std::marker::Model;
 
@@ -23,23 +23,23 @@ pub struct Graph {
     table: IdTable,
     edges: Vec<Edge>,
     halves: Rows<Half>,
-    neighbours: Rows<Vertex>,
 }
 
 impl Model for Graph {
     ghost use Rattle.graph_core.specs.DataGraph.{DataGraph};
-    ghost use Rattle.graph_core.specs.Graphs.{data_graph, IsKept};
+    ghost use Rattle.graph_core.specs.Graphs.{data_graph};
+    ghost use Rattle.graph_core.specs.Inner.GraphParts.{AreGraphParts};
 
     ghost Value = { DataGraph };
 
     ghost view = { λ g. data_graph g.directed g.ids.items g.edges.items };
 
-    ghost invariant = { λ g. IsKept (data_graph g.directed g.ids.items g.edges.items) g.table g.halves g.neighbours };
+    ghost invariant = { λ g. AreGraphParts (data_graph g.directed g.ids.items g.edges.items) g.table g.halves };
 }
 
 impl Graph {
     ghost use Rattle.graph_core.specs.DataGraph.{DataGraph, IsDataGraph, size};
-    ghost use Rattle.graph_core.specs.GraphLists.{IsGraphOf, graph_fault, Refuses};
+    ghost use Rattle.graph_core.specs.GraphLists.{IsGraphOf, graph_fault, NamesFirstFault};
     ghost use Rattle.graph_core.specs.Halves.{halves_of};
     ghost use Rattle.graph_core.specs.HalfRows.{data_half};
     ghost use Rattle.graph_core.specs.IdTable.{IsVertexWith};
@@ -60,20 +60,18 @@ impl Graph {
         requires ids { All (λ id. id ≤ MAX_ID) ids.items }
         ensures graph { IfOk result (IsGraphOf ids.items edges.items directed) }
         ensures no_fault { OnOk result (graph_fault ids.items edges.items directed ≡ None) }
-        ensures fault { IfErr result (Refuses (graph_fault ids.items edges.items directed)) }
+        ensures fault { IfErr result (NamesFirstFault (graph_fault ids.items edges.items directed)) }
     {
         let ids = sorted_ids(alloc, ids)?;
         let table = IdTable::new(alloc, &ids)?;
         let edges = kept_edges(alloc, &table, &ids, edges, directed)?;
         let halves = half_rows(alloc, ids.len(), &edges, directed)?;
-        let neighbours = neighbour_rows(alloc, &halves)?;
         Ok(Graph {
             directed,
             ids,
             table,
             edges,
             halves,
-            neighbours,
         })
     }
 
@@ -115,12 +113,15 @@ impl Graph {
         self.table.find(&self.ids, id)
     }
 
-    /// The neighbours of a vertex, ascending, each once.
-    pub fn neighbours(&self, v: Vertex) -> &[Vertex]
+    /// Lists the neighbours of a vertex, ascending, each once, in place of what the list had. After `NoMemory` the list
+    /// is unchanged.
+    pub fn list_neighbours(&self, v: Vertex, list: &mut Vec<Vertex>) -> Result<(), NoMemory>
         requires { v.0 < size self.now }
-        ensures { map (λ u. u.0) result.now ≡ neighbours_of self.now v.0 }
+        ensures neighbours { OnOk result (map (λ u. u.0) list.new.items ≡ neighbours_of self.now v.0) }
+        ensures unchanged { OnErr result (list.new.items ≡ list.old.items) }
     {
-        self.neighbours.row(v.0 as usize)
+        list_neighbours(list, self.halves.row(v.0 as usize))?;
+        Ok(())
     }
 
     /// The edges at a vertex, ascending.

@@ -27,7 +27,7 @@ pub struct HalvesOf<'a> {
 impl Keyed for HalvesOf<'_> {
     type Item = Half;
 
-    ghost use Rattle.graph_core.specs.HalfRows.{half_pairs};
+    ghost use Rattle.graph_core.specs.Inner.HalfPairs.{half_pairs};
 
     ghost list = { λ h. half_pairs h.directed 0 h.edges.now };
 

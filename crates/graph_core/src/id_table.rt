@@ -1,6 +1,7 @@
 //! Finds a vertex by its identifier, without a search through all of them.
 ghost use Rattle.std.specs.Prelude.{◌≡◌, ℕ, ◌+◌, ◌^◌, ◌<◌, ◌≤◌, length, slice_index, All, IfOk};
-ghost use Rattle.graph_core.specs.IdTable.{Ascends, AreRanges, IsFormOf, IsTableOf, IsVertexWith};
+ghost use Rattle.gl_base.specs.Lists.{Ascends};
+ghost use Rattle.graph_core.specs.IdTable.{AreRanges, IsFormOf, IsTableOf, IsVertexWith};
 
 use gl_base::{MAX_ID, NoMemory, Vertex};
 use std::alloc::Global;

@@ -1,10 +1,20 @@
 //! Lists by key in one flat list, each with its place there.
-ghost use Rattle.std.specs.Prelude.{◌≡◌, ℕ, suc, ◌+◌, ◌^◌, ◌<◌, List, [], ◌∷◌, ◌++◌, length, slice_index, slice_index_or, slice_range, slice_get, sum, sum_by, take, All, IfOk, OnOk, OnErr, Some};
-ghost use Rattle.graph_core.specs.Rows.{with_key, count_below, AreRowsFrom, AreStarts};
+ghost use Rattle.std.specs.Prelude.{◌≡◌, ℕ, suc, ◌+◌, ◌^◌, ◌<◌, List, [], length, slice_index, slice_index_or, slice_range, slice_get, sum, take, All, IfOk, Some};
+ghost use Rattle.graph_core.specs.Rows.{with_key};
+ghost use Rattle.graph_core.specs.Inner.RowSteps.{count_below, AreRowsAt, AreRowsFrom, AreStarts, place_in};
 
 use gl_base::NoMemory;
 use std::alloc::Global;
 use std::marker::Model;
+
+/// As many items as are placed at once where their keys lie apart.
+const MANY: usize = 1 << 21;
+
+/// How many keys are looked at to see whether keys lie apart.
+const SAMPLES: usize = 64;
+
+/// How far apart places, and keys, are near one another.
+const NEAR: usize = 64;
 
 /// A list of items that have keys, read by place.
 pub trait Keyed {
@@ -31,7 +41,8 @@ pub struct Rows<T> {
 
 impl<T> Model for Rows<T> {
     ghost use Rattle.std.specs.Prelude.{List, length};
-    ghost use Rattle.graph_core.specs.Rows.{rows_of, AreStarts};
+    ghost use Rattle.graph_core.specs.Rows.{rows_of};
+    ghost use Rattle.graph_core.specs.Inner.RowSteps.{AreStarts};
 
     ghost Value = { List (List T) };
 
@@ -60,30 +71,6 @@ impl<T: Copy> Rows<T> {
     }
 }
 
-impl<T: Copy> Rows<T> {
-    /// No rows, with room for so many rows and items.
-    pub fn with_room(alloc: Global, rows: usize, items: usize) -> Result<Rows<T>, NoMemory>
-        ensures { IfOk result (λ none. none ≡ []) }
-    {
-        let mut starts = Vec::with_capacity(alloc, rows.saturating_add(1))?;
-        starts.push(0)?;
-        let items = Vec::with_capacity(alloc, items)?;
-        Ok(Rows { starts, items })
-    }
-
-    /// Puts a row behind the others. After an error the rows are as before.
-    pub fn push(&mut self, row: &[T]) -> Result<(), NoMemory>
-        requires { sum_by length self.old + length row.now < 2 ^ 32 }
-        ensures ok { OnOk result (self.new ≡ self.old ++ row.now ∷ []) }
-        ensures err { OnErr result (self.new ≡ self.old) }
-    {
-        self.starts.reserve(1)?;
-        self.items.extend_from_slice(row)?;
-        self.starts.push(self.items.len() as u32)?;
-        Ok(())
-    }
-}
-
 impl<T> Rows<T> {
     /// How many rows there are.
     #[tactic(auto, using(crate::proofs::RowLemmas::length_of_rows))]
@@ -91,15 +78,6 @@ impl<T> Rows<T> {
         ensures { result ≡ length self.now }
     {
         self.starts.len() - 1
-    }
-
-    /// How many items there are in all rows.
-    #[tactic(auto, using(crate::proofs::RowLemmas::total_of_rows))]
-    pub fn item_count(&self) -> usize
-        ensures count { result ≡ sum_by length self.now }
-        ensures few { sum_by length self.now < 2 ^ 32 }
-    {
-        self.items.len()
     }
 
     /// The row with this number.
@@ -173,7 +151,7 @@ fn sum_up(starts: &mut [u32])
     }
 }
 
-/// As many items as are given, in any order.
+/// As many items as are listed, in any order.
 fn room_for<K: Keyed>(alloc: Global, keyed: &K) -> Result<Vec<K::Item>, NoMemory>
     ensures { IfOk result (λ items. length items.items ≡ length (K.list keyed.now)) }
 {
@@ -184,19 +162,86 @@ fn room_for<K: Keyed>(alloc: Global, keyed: &K) -> Result<Vec<K::Item>, NoMemory
     Ok(Vec::from_elem(alloc, any, keyed.len())?)
 }
 
-/// Puts each item before the start of its row, the last item first. So each row begins at its start in the end.
+/// Puts each item before the start of its row, the last item first, in parts of the rows one after another. So each row
+/// begins at its start in the end.
 fn place_items<K: Keyed>(starts: &mut [u32], items: &mut [K::Item], keyed: &K)
     requires keys { All (λ pair. pair.0 < length starts.old) (K.list keyed.now) }
     requires ends { AreRowsFrom (length (K.list keyed.now)) (K.list keyed.now) starts.old items.old }
     requires room { length items.old ≡ length (K.list keyed.now) }
     ensures { AreRowsFrom 0 (K.list keyed.now) starts.new items.new }
 {
+    let width = starts.len() / parts_of(keyed).max(1) + 1;
+    let mut low = 0;
+    while low < starts.len() {
+        let high = low + width.min(starts.len() - low);
+        place_part(starts, items, keyed, low, high);
+        low = high;
+    }
+}
+
+/// The same for the rows from `low` to below `high` alone.
+fn place_part<K: Keyed>(
+    starts: &mut [u32],
+    items: &mut [K::Item],
+    keyed: &K,
+    low: usize,
+    high: usize,
+)
+    requires keys { All (λ pair. pair.0 < length starts.old) (K.list keyed.now) }
+    requires room { length items.old ≡ length (K.list keyed.now) }
+    requires before { AreRowsAt (place_in low high (length (K.list keyed.now)) (length (K.list keyed.now))) (K.list keyed.now) starts.old items.old }
+    ensures rows { AreRowsAt (place_in low high 0 (length (K.list keyed.now))) (K.list keyed.now) starts.new items.new }
+{
     let mut place = keyed.len();
     while place > 0 {
         place -= 1;
         let (key, item) = keyed.at(place);
-        let at = starts[key as usize] - 1;
-        starts[key as usize] = at;
-        items[at as usize] = item;
+        let row = key as usize;
+        if low <= row && row < high {
+            let at = starts[row] - 1;
+            starts[row] = at;
+            items[at as usize] = item;
+        }
     }
+}
+
+/// In how many parts the rows are filled: in one where keys that stand near one another are near one another, or where
+/// the items are few, since then what is written lies together.
+fn parts_of<K: Keyed>(keyed: &K) -> usize {
+    if keyed.len() < MANY || !lie_apart(keyed) {
+        return 1;
+    }
+    keyed.len() / MANY
+}
+
+/// Whether more than a quarter of some keys, at places that are spread over the list, are far from all that stand behind
+/// them.
+fn lie_apart<K: Keyed>(keyed: &K) -> bool {
+    let step = keyed.len() / SAMPLES;
+    let mut left = SAMPLES / 4;
+    for sample in 0..SAMPLES {
+        let place = sample.saturating_mul(step);
+        if is_apart(keyed, place) || is_apart(keyed, place.saturating_add(1)) {
+            if left == 0 {
+                return true;
+            }
+            left -= 1;
+        }
+    }
+    false
+}
+
+/// Whether the key at a place is far from those at the next places.
+fn is_apart<K: Keyed>(keyed: &K, place: usize) -> bool {
+    if place >= keyed.len() {
+        return false;
+    }
+    let (key, _) = keyed.at(place);
+    for step in 1..NEAR.min(keyed.len() - place) {
+        let (other, _) = keyed.at(place + step);
+        if key.abs_diff(other) < NEAR as u32 {
+            return false;
+        }
+    }
+    true
 }

@@ -1,10 +1,11 @@
 //! Sorts lists by a key that no two items have, and finds the first key that stands twice.
-ghost use Rattle.std.specs.Prelude.{◌≡◌, ℕ, List, map, nat_eq, MatchBool, MatchOption, IfOk};
+ghost use Rattle.std.specs.Prelude.{◌≡◌, ℕ, map, nat_eq, MatchBool, MatchOption, IfOk, OnOk};
+ghost use Rattle.std.specs.List.Sorted.{IsPermutation, IsNonDecreasingBy};
 ghost use Rattle.std.specs.List.{IsDistinct};
-ghost use Rattle.graph_core.specs.Sorting.{Rises, IsFirstDouble, AreSorted};
+ghost use Rattle.graph_core.specs.Inner.SortedKeys.{Rises, IsFirstDouble, AreSorted};
 
-use gl_base::{NoMemory, Vertex};
-use std::alloc::{AllocError, Global};
+use gl_base::{NoMemory, OrNoMemory, Vertex};
+use std::alloc::Global;
 use std::collections::BTreeSet;
 
 /// A thing that is sorted by a number.
@@ -32,50 +33,54 @@ impl HasKey for Vertex {
     }
 }
 
-/// Why a list has no strict order.
+/// The key at this place stands before it too, and no earlier key does.
 #[derive(Clone, Copy, Debug, PartialEq, Eq)]
-pub enum Unsorted {
-    /// The key at this place stands before it too, and no earlier key does.
-    Double(usize),
-    NoMemory,
-}
-
-impl From<AllocError> for Unsorted {
-    ghost use Rattle.graph_core.specs.declared.sorting.Unsorted.TheVariants.{NoMemory};
-
-    ghost from_gives = { λ _ fault. fault ≡ NoMemory };
-
-    fn from(_: AllocError) -> Self {
-        Unsorted::NoMemory
-    }
-}
-
-impl From<NoMemory> for Unsorted {
-    ghost use Rattle.graph_core.specs.declared.sorting.Unsorted.TheVariants.{NoMemory};
-
-    ghost from_gives = { λ _ fault. fault ≡ NoMemory };
-
-    fn from(_: NoMemory) -> Self {
-        Unsorted::NoMemory
-    }
-}
+pub struct DoubleAt(pub usize);
 
 /// The items by ascending keys. Items that are in order already stay where they are.
-pub fn sorted<T: HasKey>(alloc: Global, items: Vec<T>) -> Result<Vec<T>, Unsorted>
+pub fn sorted<T: HasKey>(alloc: Global, items: Vec<T>) -> Result<Vec<T>, OrNoMemory<DoubleAt>>
     ensures { AreSorted T.key items.items result }
 {
     if rises(&items) {
         return Ok(items);
     }
     let mut sorted = Vec::from_slice(alloc, &items)?;
-    sorted.sort_unstable_by_key(|item| item.key());
+    sort(&mut sorted)?;
     if rises(&sorted) {
         return Ok(sorted);
     }
     match first_double(alloc, &items)? {
-        Some(place) => Err(Unsorted::Double(place)),
+        Some(place) => Err(OrNoMemory::Fault(DoubleAt(place))),
         None => unreachable!(),
     }
+}
+
+/// Puts the items in the order of their keys. Keys that seldom fall are long runs, which a stable sort keeps; on keys in
+/// no order the unstable one is faster.
+fn sort<T: HasKey>(items: &mut Vec<T>) -> Result<(), NoMemory>
+    ensures same { IsPermutation items.old.items items.new.items }
+    ensures up { OnOk result (IsNonDecreasingBy T.key items.new.items) }
+{
+    if fall_seldom(items) {
+        items.sort_by_key(|item| item.key())?;
+    } else {
+        items.sort_unstable_by_key(|item| item.key());
+    }
+    Ok(())
+}
+
+/// Whether at most one key in 16 is below the one before.
+fn fall_seldom<T: HasKey>(items: &[T]) -> bool {
+    let mut left = items.len() / 16;
+    for k in 1..items.len() {
+        if items[k - 1].key() > items[k].key() {
+            if left == 0 {
+                return false;
+            }
+            left -= 1;
+        }
+    }
+    true
 }
 
 /// Whether each key is below the next.

@@ -14,22 +14,25 @@ use Rattle.gl_base.specs.declared.text_faults.TextKind.TheVariants.{Unknown, Sel
 use Rattle.graph_core.specs.declared.graph_lists.EdgeIn.{EdgeIn}
 use Rattle.graph_core.specs.declared.graph_lists.GraphFault.{GraphFault}
 use Rattle.graph_core.specs.declared.graph_lists.GraphFault.TheVariants.{DoubleVertex, UnknownVertex, SelfLoop, DoubleEdge, NoMemory as NoMemoryForGraph}
+use Rattle.gl_base.specs.Lists.{Ascends}
 use Rattle.graph_core.specs.DataGraph.{DataGraph}
-use Rattle.graph_core.specs.IdTable.{Ascends}
-use Rattle.graph_core.specs.GraphLists.{first_fault, vertex_fault, edge_fault, is_same, graph_fault, Refuses}
+use Rattle.graph_core.specs.GraphLists.{first_fault, vertex_fault, edge_fault, same_ends, graph_fault, NamesFirstFault}
 use Rattle.graph_text.specs.declared.lists.Reading.{Reading}
 use Rattle.graph_text.specs.declared.lists.Reading.TheVariants.{Text, ReadFault, NoMemory}
 use Rattle.graph_text.specs.declared.said.Said.{Said}
 use Rattle.graph_text.specs.declared.said.Said.TheVariants.{Passed, Wrong, Late, Item}
 use Rattle.graph_text.specs.declared.said.Ending.TheVariants.{Full}
 use Rattle.graph_text.specs.Lines.{lines, ended_lines, fields}
-use Rattle.graph_text.specs.Firsts.{Rules, and_then, run}
-use Rattle.graph_text.specs.Edges.{edge_said, edge_behind, edge_rules, edges_of}
-use Rattle.graph_text.specs.Found.{Kept, Stop, Found, stop, collect, collect_line, nothing_kept, whole, cut, found_upto, found_in, bad_or, first_bad, ended, settled_by, settled}
-use Rattle.graph_text.specs.Steps.{found_by_bytes}
-use Rattle.graph_text.specs.RowRules.{edge_row}
-use Rattle.graph_text.specs.Texts.{FindsIn}
-use Rattle.graph_text.specs.EdgeAnswers.{AreFoundEdges, Builds, ReadsGraph, IsFaultIn, IsRefused}
+use Rattle.gl_base.specs.Results.{and_then}
+use Rattle.graph_text.specs.Firsts.{Rules, run}
+use Rattle.graph_text.specs.Edges.{edge_said, edge_fault_after, edge_rules, edges_of}
+use Rattle.graph_text.specs.Inner.Found.{Kept, Stop, Found, stop, collect, nothing_kept, whole, bad_or, first_bad, ended, settled_by, settled}
+use Rattle.graph_text.proofs.LinesFound.{collect_line, cut, found_upto, found_in}
+use Rattle.graph_text.specs.Inner.Steps.{found_by_bytes}
+use Rattle.graph_text.specs.Inner.RowRules.{edge_row}
+use Rattle.graph_text.specs.Inner.Texts.{FindsIn}
+use Rattle.graph_text.specs.Answers.{ReadsGraph}
+use Rattle.graph_text.specs.Inner.FoundEdges.{AreFoundEdges, Builds, IsFaultIn, IsEdgeRefusal}
 use Rattle.graph_text.proofs.RowLaws.{edge_law}
 use Rattle.graph_text.proofs.TextRuns.{found_read}
 use Rattle.graph_text.proofs.FirstFaults.{items_settled}
@@ -84,11 +87,11 @@ module _ (ids : List ℕ) (directed : Bool) where
   abbrev known : EdgeIn → Bool
   known e = list_any (λ id. id == e.from) ids && list_any (λ id. id == e.to) ids
 
-  bad_found : (before xs : List EdgeIn) → first_bad (edge_behind ids directed) before xs ≡ option_and_then place_of (first_fault (edge_fault ids directed) before xs)
+  bad_found : (before xs : List EdgeIn) → first_bad (edge_fault_after ids directed) before xs ≡ option_and_then place_of (first_fault (edge_fault ids directed) before xs)
   bad_found before [] = refl
   bad_found before (e ∷ xs) =
-      bad_by (known e) (e.from == e.to) (list_any (is_same directed e) before) (length before) (first_fault (edge_fault ids directed) (before ++ e ∷ []) xs)
-      (first_bad (edge_behind ids directed) (before ++ e ∷ []) xs) (bad_found (before ++ e ∷ []) xs)
+      bad_by (known e) (e.from == e.to) (list_any (same_ends directed e) before) (length before) (first_fault (edge_fault ids directed) (before ++ e ∷ []) xs)
+      (first_bad (edge_fault_after ids directed) (before ++ e ∷ []) xs) (bad_found (before ++ e ∷ []) xs)
 
   module _ (fault : GraphFault) where
     inside_by : (many : ℕ) (known loop again : Bool) (n : ℕ) (later : Option GraphFault) → n < many → (later ≡ Some fault → IsEdgeFault many fault)
@@ -101,17 +104,17 @@ module _ (ids : List ℕ) (directed : Bool) where
     inside_found : (before xs : List EdgeIn) (many : ℕ) → length before + length xs ≡ many → first_fault (edge_fault ids directed) before xs ≡ Some fault → IsEdgeFault many fault
     inside_found before [] many long h = cc
     inside_found before (e ∷ xs) many long h =
-        inside_by many (known e) (e.from == e.to) (list_any (is_same directed e) before) (length before) (first_fault (edge_fault ids directed) (before ++ e ∷ []) xs) (omega arith)
+        inside_by many (known e) (e.from == e.to) (list_any (same_ends directed e) before) (length before) (first_fault (edge_fault ids directed) (before ++ e ∷ []) xs) (omega arith)
         (inside_found (before ++ e ∷ []) xs many (omega (arith, length-append before (e ∷ [])))) h
 
   edges_only : (edges : List EdgeIn) → Ascends ids → graph_fault ids edges directed ≡ first_fault (edge_fault ids directed) [] edges
   edges_only edges ascends = ap (λ o. option_or o (first_fault (edge_fault ids directed) [] edges)) (no_double [] ids ascends)
 
-  edge_refusal : (edges : List EdgeIn) (fault : GraphFault) → Ascends ids → Refuses (graph_fault ids edges directed) fault → Refuses (first_fault (edge_fault ids directed) [] edges) fault
-  edge_refusal edges fault ascends h = subst (λ o. Refuses o fault) (edges_only edges ascends) h
+  edge_refusal : (edges : List EdgeIn) (fault : GraphFault) → Ascends ids → NamesFirstFault (graph_fault ids edges directed) fault → NamesFirstFault (first_fault (edge_fault ids directed) [] edges) fault
+  edge_refusal edges fault ascends h = subst (λ o. NamesFirstFault o fault) (edges_only edges ascends) h
 
   -- why edges make no graph
-  pub refused_is : (edges : List EdgeIn) (fault : GraphFault) (many : ℕ) → Ascends ids → length edges ≡ many → Refuses (graph_fault ids edges directed) fault → IsFaultIn many fault
+  pub refused_is : (edges : List EdgeIn) (fault : GraphFault) (many : ℕ) → Ascends ids → length edges ≡ many → NamesFirstFault (graph_fault ids edges directed) fault → IsFaultIn many fault
   refused_is edges (DoubleVertex place) many ascends long h = inside_found (DoubleVertex place) [] edges many (omega arith) (edge_refusal edges (DoubleVertex place) ascends h)
   refused_is edges (UnknownVertex place) many ascends long h = inside_found (UnknownVertex place) [] edges many (omega arith) (edge_refusal edges (UnknownVertex place) ascends h)
   refused_is edges (SelfLoop place) many ascends long h = inside_found (SelfLoop place) [] edges many (omega arith) (edge_refusal edges (SelfLoop place) ascends h)
@@ -124,8 +127,8 @@ module _ (ids : List ℕ) (directed : Bool) where
   wrong_at found fault place kind weighted is first =
       ap (settled_by (edge_rules ids directed weighted) found) (bad_found [] found.items ∙ ap (option_and_then place_of) first ∙ is)
 
-  pub graph_refused : (found : Found EdgeIn) (fault : GraphFault) (reading : Reading) → Ascends ids → Refuses (graph_fault ids found.items directed) fault
-      → IsRefused found.places fault reading → Builds ids directed found (Err reading)
+  pub graph_refused : (found : Found EdgeIn) (fault : GraphFault) (reading : Reading) → Ascends ids → NamesFirstFault (graph_fault ids found.items directed) fault
+      → IsEdgeRefusal found.places fault reading → Builds ids directed found (Err reading)
   graph_refused found (DoubleVertex place) reading ascends h is = absurd is
   graph_refused found (UnknownVertex place) reading ascends h is =
       subst (λ r. Builds ids directed found (Err r)) (sym is) (λ weighted. wrong_at found (UnknownVertex place) place Unknown weighted refl (edge_refusal found.items (UnknownVertex place) ascends h))
@@ -173,7 +176,7 @@ module _ (ids : List ℕ) (directed weighted : Bool) where
   r = edge_rules ids directed weighted
 
   few_next : (ls : List (List ℕ)) (found : Result (Kept EdgeIn) (Stop EdgeIn)) → Result-few found → ((s : Kept EdgeIn) → AreFew s.items s.places → Result-few (run (collect_line r) s ls))
-      → Result-few (and_then (λ t. run (collect_line r) t ls) found)
+      → Result-few (and_then found (λ t. run (collect_line r) t ls))
   few_next ls (Ok s) few again = again s few
   few_next ls (Err t) few again = few
 

@@ -11,12 +11,14 @@ use Rattle.graph_text.specs.declared.said.Said.TheVariants.{Passed, Wrong, Late,
 use Rattle.graph_text.specs.declared.said.Ending.{Ending}
 use Rattle.graph_text.specs.declared.said.Ending.TheVariants.{Fault, Late as LateAt, Full}
 use Rattle.graph_text.specs.Lines.{lines, ended_lines, fields}
-use Rattle.graph_text.specs.Firsts.{Rules, Judged, and_then, run, fault_at, or_kind, put, judge, judge_line, items_within, items_of}
-use Rattle.graph_text.specs.Found.{Kept, Stop, Found, collect, collect_line, nothing_kept, whole, cut, stopped, found_upto, found_in, bad_or, first_bad, ended, settled_by, settled}
+use Rattle.gl_base.specs.Results.{and_then}
+use Rattle.graph_text.specs.Firsts.{Rules, Judged, run, text_fault, or_kind, put, judge, judge_line, items_within, items_of}
+use Rattle.graph_text.specs.Inner.Found.{Kept, Stop, Found, collect, nothing_kept, whole, stopped, bad_or, first_bad, ended, settled_by, settled}
+use Rattle.graph_text.proofs.LinesFound.{collect_line, cut, found_upto, found_in}
 
 module _ {X : Type 0} (r : Rules X) where
   abbrev bad : List X → List X → Option (ℕ × TextKind)
-  bad before xs = first_bad r.behind before xs
+  bad before xs = first_bad r.fault_after before xs
 
   -- the first, and else the second
   or_later : Option (ℕ × TextKind) → Option (ℕ × TextKind) → Option (ℕ × TextKind)
@@ -27,12 +29,12 @@ module _ {X : Type 0} (r : Rules X) where
   unfolding or_later
   first_bad-append before [] ys = ap (λ zs. bad zs ys) (sym (append-nil before))
   first_bad-append before (x ∷ xs) ys =
-      elim (r.behind before x)
+      elim (r.fault_after before x)
       as (λ o. bad_or (length before) o (bad (before ++ x ∷ []) (xs ++ ys)) ≡ or_later (bad_or (length before) o (bad (before ++ x ∷ []) xs)) (bad (before ++ x ∷ xs) ys))
       [ None ↦ first_bad-append (before ++ x ∷ []) xs ys ∙ ap (λ zs. or_later (bad (before ++ x ∷ []) xs) (bad zs ys)) (append_assoc before (x ∷ []) xs) | Some kind ↦ refl ]
 
   -- one item more, behind items that are right, and behind others
-  bad_pushed : (items : List X) (x : X) → bad [] items ≡ None → bad [] (items ++ x ∷ []) ≡ bad_or (length items) (r.behind items x) None
+  bad_pushed : (items : List X) (x : X) → bad [] items ≡ None → bad [] (items ++ x ∷ []) ≡ bad_or (length items) (r.fault_after items x) None
   unfolding or_later
   bad_pushed items x right = first_bad-append [] items (x ∷ []) ∙ ap (λ o. or_later o (bad items (x ∷ []))) right
 
@@ -46,8 +48,8 @@ module _ {X : Type 0} (r : Rules X) where
     inside : place < length s.places
     there : get_or s.places place 0 ≡ line
 
-  settles_by : (f : Found X) (place line : ℕ) (kind : TextKind) → bad [] f.items ≡ Some (place, kind) → get_or f.places place 0 ≡ line → settled r f ≡ Err (fault_at r line kind)
-  settles_by f place line kind wrong there = ap (settled_by r f) wrong ∙ ap (λ n. Err (fault_at r n kind)) there
+  settles_by : (f : Found X) (place line : ℕ) (kind : TextKind) → bad [] f.items ≡ Some (place, kind) → get_or f.places place 0 ≡ line → settled r f ≡ Err (text_fault r line kind)
+  settles_by f place line kind wrong there = ap (settled_by r f) wrong ∙ ap (λ n. Err (text_fault r n kind)) there
 
   abbrev stop_at : Kept X → Ending X → Stop X
   stop_at s ending = record { items = s.items; places = s.places; ending = ending }
@@ -65,17 +67,17 @@ module _ {X : Type 0} (r : Rules X) where
   record AreEnds (end : Result (Kept X) (Stop X) → Found X) (judged : Result (Judged X) TextFault → Result (List X) TextFault) : Type 0 where
     stops : (t : Stop X) → end (Err t) ≡ stopped t
     faults : (f : TextFault) → judged (Err f) ≡ Err f
-    wrong : (s : Kept X) (place line : ℕ) (kind : TextKind) → IsAt s place line kind → settled r (end (Ok s)) ≡ Err (fault_at r line kind)
+    wrong : (s : Kept X) (place line : ℕ) (kind : TextKind) → IsAt s place line kind → settled r (end (Ok s)) ≡ Err (text_fault r line kind)
     right : (s : Kept X) → bad [] s.items ≡ None → judged (Ok (judged_at s)) ≡ settled r (end (Ok s))
 
   module _ (end : Result (Kept X) (Stop X) → Found X) (judged : Result (Judged X) TextFault → Result (List X) TextFault) (ends : AreEnds end judged) where
     abbrev found_from : List (List ℕ) → Result (Kept X) (Stop X) → Result (List X) TextFault
-    found_from ls found = settled r (end (and_then (λ t. run (collect_line r) t ls) found))
+    found_from ls found = settled r (end (and_then found (λ t. run (collect_line r) t ls)))
 
     abbrev judged_from : List (List ℕ) → Result (Judged X) TextFault → Result (List X) TextFault
-    judged_from ls found = judged (and_then (λ t. run (judge_line r) t ls) found)
+    judged_from ls found = judged (and_then found (λ t. run (judge_line r) t ls))
 
-    wrong_ends : (s : Kept X) (ending : Ending X) (place line : ℕ) (kind : TextKind) → IsAt s place line kind → settled r (end (Err (stop_at s ending))) ≡ Err (fault_at r line kind)
+    wrong_ends : (s : Kept X) (ending : Ending X) (place line : ℕ) (kind : TextKind) → IsAt s place line kind → settled r (end (Err (stop_at s ending))) ≡ Err (text_fault r line kind)
     wrong_ends s ending place line kind at = ap (settled r) (ends.stops (stop_at s ending)) ∙ settles_by (stopped (stop_at s ending)) place line kind at.wrong at.there
 
     right_ends : (s : Kept X) (ending : Ending X) → bad [] s.items ≡ None → settled r (end (Err (stop_at s ending))) ≡ ended r s.items (Some ending)
@@ -89,21 +91,21 @@ module _ {X : Type 0} (r : Rules X) where
     }
 
     -- an item that is wrong settles what is found, whatever comes behind it
-    wrong_settles : (ls : List (List ℕ)) (s : Kept X) (place line : ℕ) (kind : TextKind) → IsAt s place line kind → settled r (end (run (collect_line r) s ls)) ≡ Err (fault_at r line kind)
+    wrong_settles : (ls : List (List ℕ)) (s : Kept X) (place line : ℕ) (kind : TextKind) → IsAt s place line kind → settled r (end (run (collect_line r) s ls)) ≡ Err (text_fault r line kind)
     wrong_settles [] s place line kind at = ends.wrong s place line kind at
     wrong_settles (l ∷ ls) s place line kind at =
-        elim (r.says (fields l)) as (λ said. found_from ls (collect r.most s said) ≡ Err (fault_at r line kind)) [
+        elim (r.says (fields l)) as (λ said. found_from ls (collect r.most s said) ≡ Err (text_fault r line kind)) [
           | Passed ↦ wrong_settles ls (passed_at s) place line kind (record { wrong = at.wrong; inside = at.inside; there = at.there })
           | Wrong other ↦ wrong_ends s (Fault s.line other) place line kind at
           | Late x other ↦ wrong_ends s (LateAt s.line x other) place line kind at
           | Item x ↦ (elim (nat_lt (length s.items) r.most)
-              as (λ t. found_from ls (cond t (Ok (pushed_at s x)) (Err (stop_at s (Full s.line x)))) ≡ Err (fault_at r line kind)) [
+              as (λ t. found_from ls (cond t (Ok (pushed_at s x)) (Err (stop_at s (Full s.line x)))) ≡ Err (text_fault r line kind)) [
                 | true ↦ wrong_settles ls (pushed_at s x) place line kind (pushed_stays s x place line kind at)
                 | false ↦ wrong_ends s (Full s.line x) place line kind at
               ])
         ]
 
-    pushed_wrong : (s : Kept X) (x : X) (kind : TextKind) → bad [] s.items ≡ None → length s.places ≡ length s.items → r.behind s.items x ≡ Some kind
+    pushed_wrong : (s : Kept X) (x : X) (kind : TextKind) → bad [] s.items ≡ None → length s.places ≡ length s.items → r.fault_after s.items x ≡ Some kind
         → IsAt (pushed_at s x) (length s.items) s.line kind
     pushed_wrong s x kind right long wrong = record {
       wrong = bad_pushed s.items x right ∙ ap (λ o. bad_or (length s.items) o None) wrong;
@@ -112,20 +114,20 @@ module _ {X : Type 0} (r : Rules X) where
     }
 
     abbrev put_by : Bool → Kept X → X → Option TextKind → Result (Judged X) TextFault
-    put_by room s x (Some kind) = Err (fault_at r s.line kind)
-    put_by room s x None = cond room (Ok (judged_at (pushed_at s x))) (Err (fault_at r s.line TooMany))
+    put_by room s x (Some kind) = Err (text_fault r s.line kind)
+    put_by room s x None = cond room (Ok (judged_at (pushed_at s x))) (Err (text_fault r s.line TooMany))
 
     -- an item, where there is room and where there is none
-    item_same : (ls : List (List ℕ)) (s : Kept X) (x : X) (o : Option TextKind) (room : Bool) → bad [] s.items ≡ None → length s.places ≡ length s.items → r.behind s.items x ≡ o
+    item_same : (ls : List (List ℕ)) (s : Kept X) (x : X) (o : Option TextKind) (room : Bool) → bad [] s.items ≡ None → length s.places ≡ length s.items → r.fault_after s.items x ≡ o
         → (bad [] (s.items ++ x ∷ []) ≡ None → judged (run (judge_line r) (judged_at (pushed_at s x)) ls) ≡ settled r (end (run (collect_line r) (pushed_at s x) ls)))
         → judged_from ls (put_by room s x o) ≡ found_from ls (cond room (Ok (pushed_at s x)) (Err (stop_at s (Full s.line x))))
     item_same ls s x None true right long is again = again (bad_pushed s.items x right ∙ ap (λ o. bad_or (length s.items) o None) is)
     item_same ls s x None false right long is again =
-        ends.faults (fault_at r s.line TooMany) ∙ ap (λ o. Err (fault_at r s.line (or_kind o TooMany))) (sym is) ∙ sym (right_ends s (Full s.line x) right)
+        ends.faults (text_fault r s.line TooMany) ∙ ap (λ o. Err (text_fault r s.line (or_kind o TooMany))) (sym is) ∙ sym (right_ends s (Full s.line x) right)
     item_same ls s x (Some kind) true right long is again =
-        ends.faults (fault_at r s.line kind) ∙ sym (wrong_settles ls (pushed_at s x) (length s.items) s.line kind (pushed_wrong s x kind right long is))
+        ends.faults (text_fault r s.line kind) ∙ sym (wrong_settles ls (pushed_at s x) (length s.items) s.line kind (pushed_wrong s x kind right long is))
     item_same ls s x (Some kind) false right long is again =
-        ends.faults (fault_at r s.line kind) ∙ ap (λ o. Err (fault_at r s.line (or_kind o TooMany))) (sym is) ∙ sym (right_ends s (Full s.line x) right)
+        ends.faults (text_fault r s.line kind) ∙ ap (λ o. Err (text_fault r s.line (or_kind o TooMany))) (sym is) ∙ sym (right_ends s (Full s.line x) right)
 
     put_same : (s : Kept X) (x : X) (o : Option TextKind) → put r (judged_at s) x o ≡ put_by (nat_lt (length s.items) r.most) s x o
     put_same s x None = refl
@@ -137,18 +139,18 @@ module _ {X : Type 0} (r : Rules X) where
     lines_same (l ∷ ls) s right long =
         elim (r.says (fields l)) as (λ said. judged_from ls (judge r (judged_at s) said) ≡ found_from ls (collect r.most s said)) [
           | Passed ↦ lines_same ls (passed_at s) right long
-          | Wrong kind ↦ ends.faults (fault_at r s.line kind) ∙ sym (right_ends s (Fault s.line kind) right)
-          | Late x kind ↦ ends.faults (fault_at r s.line (or_kind (r.alone x) kind)) ∙ sym (right_ends s (LateAt s.line x kind) right)
-          | Item x ↦ ap (judged_from ls) (put_same s x (r.behind s.items x))
-              ∙ item_same ls s x (r.behind s.items x) (nat_lt (length s.items) r.most) right long refl
+          | Wrong kind ↦ ends.faults (text_fault r s.line kind) ∙ sym (right_ends s (Fault s.line kind) right)
+          | Late x kind ↦ ends.faults (text_fault r s.line (or_kind (r.fault_alone x) kind)) ∙ sym (right_ends s (LateAt s.line x kind) right)
+          | Item x ↦ ap (judged_from ls) (put_same s x (r.fault_after s.items x))
+              ∙ item_same ls s x (r.fault_after s.items x) (nat_lt (length s.items) r.most) right long refl
               (λ clean. lines_same ls (pushed_at s x) clean (omega (arith, length-append s.places (s.line ∷ []), length-append s.items (x ∷ []))))
         ]
 
   abbrev items_whole : Result (Judged X) TextFault → Result (List X) TextFault
-  items_whole judged = and_then (λ s. Ok s.items) judged
+  items_whole judged = and_then judged (λ s. Ok s.items)
 
   abbrev items_past : Result (Judged X) TextFault → Result (List X) TextFault
-  items_past judged = and_then (λ s. Err (fault_at r s.line TooLong)) judged
+  items_past judged = and_then judged (λ s. Err (text_fault r s.line TooLong))
 
   whole_ends : AreEnds whole items_whole
   whole_ends = record {

@@ -1,3 +1,6 @@
+pub mod PlainTexts
+pub mod LinesFound
+pub mod FieldRows
 pub mod Runs
 pub mod CutPieces
 pub mod LinePieces

@@ -10,10 +10,11 @@ use Rattle.graph_text.specs.declared.said.Row.{Row}
 use Rattle.graph_text.specs.declared.said.Said.{Said}
 use Rattle.graph_text.specs.declared.said.Halt.{Halt}
 use Rattle.graph_text.specs.declared.said.Halt.TheVariants.{Stopped, ReadFault, NoMemory}
-use Rattle.graph_text.specs.Firsts.{run, and_then}
-use Rattle.graph_text.specs.Found.{Kept, Stop, whole}
-use Rattle.graph_text.specs.Steps.{Text, byte_step, line_end, nothing_read, past, found_within, found_by_bytes}
-use Rattle.graph_text.specs.Texts.{kept_at, text_at, Gives, TakesPiece, IsTold, ReadsBytes}
+use Rattle.gl_base.specs.Results.{and_then}
+use Rattle.graph_text.specs.Firsts.{run}
+use Rattle.graph_text.specs.Inner.Found.{Kept, Stop, whole}
+use Rattle.graph_text.specs.Inner.Steps.{ReadText, byte_step, line_end, nothing_read, past, found_within, found_by_bytes}
+use Rattle.graph_text.specs.Inner.Texts.{kept_at, read_text, LeadsTo, TakesPiece, IsTold, ReadsBytes}
 use Rattle.graph_text.proofs.Runs.{run_joined}
 
 -- some of the first bytes were taken, at least one a turn, and they lead here
@@ -24,17 +25,17 @@ pub record SoFar (first left : Option (List ℕ)) (turns : ℕ) (leads : List �
   pub long : turns ≤ length taken
 
 -- these bytes lead here, with so much room behind them
-pub record Leads {X : Type 0} (most : ℕ) (says : Row → Said X) (room : ℕ) (here : Text X) (taken : List ℕ) : Type 0 where
+pub record Leads {X : Type 0} (most : ℕ) (says : Row → Said X) (room : ℕ) (here : ReadText X) (taken : List ℕ) : Type 0 where
   pub ran : run (byte_step most says) nothing_read taken ≡ Ok here
   pub space : length taken + room ≡ MAX_TEXT_BYTES
 
 -- a text of these bytes alone
-ends_within : {X : Type 0} (limit most : ℕ) (says : Row → Said X) (bytes : List ℕ) (t : Text X) (found : Result (Kept X) (Stop X)) → length bytes ≤ limit
+ends_within : {X : Type 0} (limit most : ℕ) (says : Row → Said X) (bytes : List ℕ) (t : ReadText X) (found : Result (Kept X) (Stop X)) → length bytes ≤ limit
     → run (byte_step most says) nothing_read bytes ≡ Ok t → line_end most says t ≡ found → found_within limit most says bytes ≡ whole found
 ends_within limit most says bytes t found short ran ends =
     let within : nat_le (length bytes) limit ≡ true = grind (arith, nat_tests) in
-    ap (λ b. cond b (whole (and_then (line_end most says) (run (byte_step most says) nothing_read bytes))) (past (run (byte_step most says) nothing_read (take limit bytes)))) within
-    ∙ ap (λ r. whole (and_then (line_end most says) r)) ran ∙ ap whole ends
+    ap (λ b. cond b (whole (and_then (run (byte_step most says) nothing_read bytes) (line_end most says))) (past (run (byte_step most says) nothing_read (take limit bytes)))) within
+    ∙ ap (λ r. whole (and_then r (line_end most says))) ran ∙ ap whole ends
 
 -- a source at its end has told all
 told_all : (first left : Option (List ℕ)) (taken : List ℕ) → Consumes first left taken → IsAtEnd left → IsTold first taken
@@ -49,9 +50,9 @@ nothing_more first mid left taken buf n none told more =
     subst (Consumes first left) e (Consumes-trans first mid left taken (take n buf) told more)
 
 -- the end of the source
-pub source_ends : {X : Type 0} (most : ℕ) (says : Row → Said X) (room : ℕ) (here : Text X) (new : Lines X) (result : Result (Unit {0}) (Halt X))
+pub source_ends : {X : Type 0} (most : ℕ) (says : Row → Said X) (room : ℕ) (here : ReadText X) (new : Lines X) (result : Result (Unit {0}) (Halt X))
     (first left : Option (List ℕ)) (taken : List ℕ) (before now : ℕ) → Leads most says room here taken → Consumes first left taken → IsAtEnd left
-    → Gives (line_end most says here) (kept_at new) result → ReadsBytes most says new result first before now
+    → LeadsTo (line_end most says here) (kept_at new) result → ReadsBytes most says new result first before now
 unfolding found_by_bytes
 source_ends most says room here new (Ok done) first left taken before now leads told end gives =
     (taken, ends_within MAX_TEXT_BYTES most says taken here _ (let e = leads.space in omega arith) leads.ran gives, told_all first left taken told end)
@@ -65,9 +66,9 @@ pub length_taken : (buf : List ℕ) (n : ℕ) → n ≤ length buf → length (t
 length_taken buf n h = rw length-take (omega arith)
 
 -- one piece more
-pub leads_more : {X : Type 0} (most : ℕ) (says : Row → Said X) (room : ℕ) (here : Text X) (new : Lines X) (number : Option ℕ) (taken piece : List ℕ)
+pub leads_more : {X : Type 0} (most : ℕ) (says : Row → Said X) (room : ℕ) (here : ReadText X) (new : Lines X) (number : Option ℕ) (taken piece : List ℕ)
     (count : ℕ) → Leads most says room here taken → length piece ≡ count → TakesPiece most says here piece room new (Ok number)
-    → Leads most says (room - count) (text_at new number) (taken ++ piece)
+    → Leads most says (room - count) (read_text new number) (taken ++ piece)
 leads_more most says room here new number taken piece count leads long takes = record {
   ran = run_joined (byte_step most says) nothing_read here _ taken piece leads.ran takes.1;
   space = (let e = leads.space in let fits = takes.0 in omega (arith, length-append taken piece));
@@ -79,7 +80,7 @@ told_rest (Some text) None taken h = absurd h
 told_rest (Some text) (Some rest) taken h = (rest, h)
 
 -- a piece that ends the reading
-pub piece_settles : {X : Type 0} (most : ℕ) (says : Row → Said X) (room : ℕ) (here : Text X) (new : Lines X) (error : Halt X)
+pub piece_settles : {X : Type 0} (most : ℕ) (says : Row → Said X) (room : ℕ) (here : ReadText X) (new : Lines X) (error : Halt X)
     (first left : Option (List ℕ)) (taken piece : List ℕ) (before now : ℕ) → Leads most says room here taken → Consumes first left (taken ++ piece)
     → TakesPiece most says here piece room new (Err error) → ReadsBytes most says new (Err error) first before now
 piece_settles most says room here new (Stopped ending) first left taken piece before now leads told takes =

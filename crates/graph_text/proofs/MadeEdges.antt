@@ -12,13 +12,14 @@ use Rattle.gl_base.specs.declared.jobs.MakePlan.{MakePlan}
 use Rattle.gl_base.specs.declared.limits.TheConstants.{MAX_ID, MAX_EDGES}
 use Rattle.gl_base.specs.declared.text_faults.TextKind.TheVariants.{Double, TooMany, TooLarge, SelfLoop, Unknown}
 use Rattle.graph_core.specs.declared.graph_lists.EdgeIn.{EdgeIn}
-use Rattle.graph_core.specs.GraphLists.{is_same}
+use Rattle.graph_core.specs.GraphLists.{same_ends}
 use Rattle.graph_text.specs.declared.said.Said.TheVariants.{Passed, Wrong, Item}
 use Rattle.graph_text.specs.Lines.{lines, fields, fields_after}
 use Rattle.graph_text.specs.Numerals.{value}
-use Rattle.graph_text.specs.Firsts.{Judged, and_then, run, judge, judge_line, put, fault_at}
-use Rattle.graph_text.specs.Edges.{edge_rules, edge_said, edge_alone, edge_behind, ends_said, weighed, weight_in, edges_of}
-use Rattle.graph_text.specs.Making.{IsInRanges, IsStride, HasWeights, edge_from, edge_to, edge_line, edge_weight, half_of, lines_from, made_edge, made_ids, made_list, weight_field, weight_told}
+use Rattle.gl_base.specs.Results.{and_then}
+use Rattle.graph_text.specs.Firsts.{Judged, run, judge, judge_line, put, text_fault}
+use Rattle.graph_text.specs.Edges.{edge_rules, edge_said, edge_fault_alone, edge_fault_after, ends_said, weighed, weight_in, edges_of}
+use Rattle.graph_text.specs.Making.{IsPlanInRange, IsStride, HasWeights, edge_from, edge_to, edge_line, edge_weight, offset_count, lines_from, made_edge, made_ids, made_list, weight_field, weight_read}
 use Rattle.graph_text.proofs.MadeLines.{Digits-all, Digits-comment, InLine, InLine-append, apart_test, decimal-InLine, decimal_digits, decimal_field, decimal_value, decimal_weight, fields-last, fields-next, lines-next, without_cr-same}
 use Rattle.graph_text.proofs.MadeVertices.{items-of_judged}
 use Rattle.graph_text.proofs.Strides.{no_double, no_loop}
@@ -65,12 +66,12 @@ body_fields from to number (Some most) i a b w =
     ∙ ap (λ (fs : List (List ℕ)). decimal from ∷ fs) (next_field to (decimal x) b)
     ∙ ap (λ (fs : List (List ℕ)). decimal from ∷ decimal to ∷ fs) (last_field x (omega (arith, small)))
 
-weight_read : (weighted : Bool) (number : ℕ) (weight : Option ℕ) (i : ℕ) → HasWeights weighted weight → IfSome weight (λ most. most < 2 ^ 32)
-    → weight_in weighted (end_of_line number weight i) ≡ Ok (weight_told weighted number weight i)
+weight_is_read : (weighted : Bool) (number : ℕ) (weight : Option ℕ) (i : ℕ) → HasWeights weighted weight → IfSome weight (λ most. most < 2 ^ 32)
+    → weight_in weighted (end_of_line number weight i) ≡ Ok (weight_read weighted number weight i)
 unfolding end_of_line
-weight_read false number weight i has w = refl
-weight_read true number None i has w = absurd has
-weight_read true number (Some most) i has w = decimal_weight (edge_weight number most i) (weight_small number most i w)
+weight_is_read false number weight i has w = refl
+weight_is_read true number None i has w = absurd has
+weight_is_read true number (Some most) i has w = decimal_weight (edge_weight number most i) (weight_small number most i w)
 
 -- what such a line says
 ends_read : (weighted : Bool) (from to : ℕ) (fs : List (List ℕ)) (weight : ℕ) → from ≤ MAX_ID → to ≤ MAX_ID → weight_in weighted fs ≡ Ok weight
@@ -95,14 +96,14 @@ ends_read weighted from to fs weight a b told =
     test n small = grind (arith, nat_tests)
 
 body_said : (weighted : Bool) (from to number : ℕ) (weight : Option ℕ) (i : ℕ) → from ≤ MAX_ID → to ≤ MAX_ID → IfSome weight (λ most. most < 2 ^ 32) → HasWeights weighted weight
-    → edge_said weighted (fields (decimal from ++ 32 ∷ decimal to ++ weight_field number weight i)) ≡ Item (record { from = from; to = to; weight = weight_told weighted number weight i })
+    → edge_said weighted (fields (decimal from ++ 32 ∷ decimal to ++ weight_field number weight i)) ≡ Item (record { from = from; to = to; weight = weight_read weighted number weight i })
 body_said weighted from to number weight i a b w has =
     let a_wide : from < 2 ^ 64 = omega (arith, a) in
     let b_wide : to < 2 ^ 64 = omega (arith, b) in
     let line = decimal from ++ 32 ∷ decimal to ++ weight_field number weight i in
     ap (λ (l : List ℕ). edge_said weighted (fields_after [] l)) (without_cr-same line (body_InLine from to number weight i a_wide b_wide w))
     ∙ ap (edge_said weighted) (body_fields from to number weight i a_wide b_wide w)
-    ∙ ends_read weighted from to (end_of_line number weight i) (weight_told weighted number weight i) a b (weight_read weighted number weight i has w)
+    ∙ ends_read weighted from to (end_of_line number weight i) (weight_read weighted number weight i) a b (weight_is_read weighted number weight i has w)
 
 -- each identifier is one of the vertices'
 or_true : (t : Bool) → (t || true) ≡ true
@@ -138,15 +139,15 @@ differ_by true false e f same back = pair_false e.from f.to e.to f.from back
 differ_by false true e f same back = pair_false e.to f.from e.from f.to (λ p q. back q p)
 differ_by false false e f same back = pair_false e.to f.to e.from f.from (λ p q. same q p)
 
-differ : (directed : Bool) (e f : EdgeIn) → (e.from ≡ f.from → e.to ≡ f.to → ⊥) → (e.from ≡ f.to → e.to ≡ f.from → ⊥) → is_same directed e f ≡ false
+differ : (directed : Bool) (e f : EdgeIn) → (e.from ≡ f.from → e.to ≡ f.to → ⊥) → (e.from ≡ f.to → e.to ≡ f.from → ⊥) → same_ends directed e f ≡ false
 differ directed e f same back = differ_by (directed || nat_lt e.from e.to) (directed || nat_lt f.from f.to) e f same back
 
 less_one : (a b : ℕ) → a + 1 ≡ b + 1 → a ≡ b
 less_one a b e = omega (arith, e)
 
 -- a made edge isn't one of those before it
-is_new : (weighted directed : Bool) (plan : MakePlan) (stride count i : ℕ) → IsInRanges plan → IsStride (half_of plan.vertices) stride → i < plan.edges → count ≤ i
-    → list_any (is_same directed (made_edge weighted plan stride i)) (made_list weighted plan stride count) ≡ false
+is_new : (weighted directed : Bool) (plan : MakePlan) (stride count i : ℕ) → IsPlanInRange plan → IsStride (offset_count plan.vertices) stride → i < plan.edges → count ≤ i
+    → list_any (same_ends directed (made_edge weighted plan stride i)) (made_list weighted plan stride count) ≡ false
 is_new weighted directed plan stride zero i ranges is inside before = refl
 is_new weighted directed plan stride (suc count) i ranges is inside before =
     let e = made_edge weighted plan stride i in
@@ -155,8 +156,8 @@ is_new weighted directed plan stride (suc count) i ranges is inside before =
     let other = differ directed e f
     (λ p q. clash (inl (less_one (edge_from plan i) (edge_from plan count) p, less_one (edge_to plan stride i) (edge_to plan stride count) q)))
     (λ p q. clash (inr (less_one (edge_from plan i) (edge_to plan stride count) p, less_one (edge_to plan stride i) (edge_from plan count) q))) in
-    list_any-append (is_same directed e) (made_list weighted plan stride count) (f ∷ [])
-    ∙ ap (λ t. t || list_any (is_same directed e) (f ∷ [])) (is_new weighted directed plan stride count i ranges is inside (omega (arith, before)))
+    list_any-append (same_ends directed e) (made_list weighted plan stride count) (f ∷ [])
+    ∙ ap (λ t. t || list_any (same_ends directed e) (f ∷ [])) (is_new weighted directed plan stride count i ranges is inside (omega (arith, before)))
     ∙ ap (λ t. t || false) other
 
 pub length-made_list : (weighted : Bool) (plan : MakePlan) (stride count : ℕ) → length (made_list weighted plan stride count) ≡ count
@@ -165,18 +166,18 @@ length-made_list weighted plan stride (suc count) =
     omega (arith, length-append (made_list weighted plan stride count) (made_edge weighted plan stride count ∷ []), length-made_list weighted plan stride count)
 
 -- nothing is wrong with it
-module _ (plan : MakePlan) (stride : ℕ) (directed weighted : Bool) (ranges : IsInRanges plan) (is : IsStride (half_of plan.vertices) stride) (has : HasWeights weighted plan.weight) where
+module _ (plan : MakePlan) (stride : ℕ) (directed weighted : Bool) (ranges : IsPlanInRange plan) (is : IsStride (offset_count plan.vertices) stride) (has : HasWeights weighted plan.weight) where
   some_vertices : (i : ℕ) → i < plan.edges → 0 < plan.vertices
   some_vertices i inside = go plan.vertices refl
     where
       go : (n : ℕ) → n ≡ plan.vertices → 0 < plan.vertices
-      go zero e = absurd (let none : 0 * half_of plan.vertices ≡ 0 = omega arith in let few = ranges.offsets in let same : plan.vertices * half_of plan.vertices ≡ 0 * half_of plan.vertices = ap (λ (k : ℕ). k * half_of plan.vertices) (sym e) in omega (arith, none, few, same, inside))
+      go zero e = absurd (let none : 0 * offset_count plan.vertices ≡ 0 = omega arith in let few = ranges.offsets in let same : plan.vertices * offset_count plan.vertices ≡ 0 * offset_count plan.vertices = ap (λ (k : ℕ). k * offset_count plan.vertices) (sym e) in omega (arith, none, few, same, inside))
       go (suc n) e = omega (arith, e)
 
   pub ends_in : (i : ℕ) → i < plan.edges → (edge_from plan i < plan.vertices) × (edge_to plan stride i < plan.vertices)
   ends_in i inside = let some = some_vertices i inside in (omega (arith, some), omega (arith, some))
 
-  alone : (i : ℕ) → i < plan.edges → edge_alone (made_ids plan.vertices) (made_edge weighted plan stride i) ≡ None
+  alone : (i : ℕ) → i < plan.edges → edge_fault_alone (made_ids plan.vertices) (made_edge weighted plan stride i) ≡ None
   alone i inside =
       let ids = made_ids plan.vertices in
       let a = edge_from plan i + 1 in
@@ -187,10 +188,10 @@ module _ (plan : MakePlan) (stride : ℕ) (directed weighted : Bool) (ranges : I
       ∙ ap (λ t. cond t (cond (a == b) (Some SelfLoop) None) (Some Unknown)) (known plan.vertices b (omega arith) (omega (arith, ends.1)))
       ∙ ap (λ t. cond t (Some SelfLoop) None) (apart_test a b (λ e. loop (less_one (edge_from plan i) (edge_to plan stride i) e)))
 
-  behind : (i : ℕ) → i < plan.edges → edge_behind (made_ids plan.vertices) directed (made_list weighted plan stride i) (made_edge weighted plan stride i) ≡ None
+  behind : (i : ℕ) → i < plan.edges → edge_fault_after (made_ids plan.vertices) directed (made_list weighted plan stride i) (made_edge weighted plan stride i) ≡ None
   behind i inside =
       let e = made_edge weighted plan stride i in
-      ap (λ o. option_or o (cond (list_any (is_same directed e) (made_list weighted plan stride i)) (Some Double) None)) (alone i inside)
+      ap (λ o. option_or o (cond (list_any (same_ends directed e) (made_list weighted plan stride i)) (Some Double) None)) (alone i inside)
       ∙ ap (λ t. cond t (Some Double) None) (is_new weighted directed plan stride i i ranges is inside (omega arith))
 
   abbrev after : ℕ → ℕ → Judged EdgeIn
@@ -210,7 +211,7 @@ module _ (plan : MakePlan) (stride : ℕ) (directed weighted : Bool) (ranges : I
       let grown : made_list weighted plan stride i ++ e ∷ [] ≡ made_list weighted plan stride (i + 1) = ap (made_list weighted plan stride) next in
       ap (judge r s) said
       ∙ ap (put r s e) (behind i inside)
-      ∙ ap (λ t. cond t (Ok (record { line = line + 1; items = made_list weighted plan stride i ++ e ∷ [] })) (Err (fault_at r line TooMany))) fits
+      ∙ ap (λ t. cond t (Ok (record { line = line + 1; items = made_list weighted plan stride i ++ e ∷ [] })) (Err (text_fault r line TooMany))) fits
       ∙ ap (λ (items : List EdgeIn). Ok (record { line = line + 1; items = items })) grown
     where
       room : (i : ℕ) → i < MAX_EDGES → nat_lt (length (made_list weighted plan stride i)) MAX_EDGES ≡ true
@@ -237,7 +238,7 @@ module _ (plan : MakePlan) (stride : ℕ) (directed weighted : Bool) (ranges : I
       let a : line + 1 + count ≡ line + suc count = omega arith in
       let b : i + 1 + count ≡ i + suc count = omega arith in
       ap (run step (after line i)) (first_edge i rest (omega (arith, few)))
-      ∙ ap (and_then (λ t. run step t (lines rest))) (edge-judged line i (omega (arith, few)))
+      ∙ ap (λ r. and_then r (λ t. run step t (lines rest))) (edge-judged line i (omega (arith, few)))
       ∙ edges-judged (line + 1) (i + 1) count (omega (arith, few))
       ∙ ap (λ l. Ok (after l (i + 1 + count))) a ∙ ap (λ k. Ok (after (line + suc count) k)) b
 

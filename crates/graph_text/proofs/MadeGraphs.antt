@@ -11,9 +11,9 @@ use Rattle.std.proofs.lemmas.Bool.Decides.{nat_tests}
 use Rattle.gl_base.specs.declared.jobs.MakePlan.{MakePlan}
 use Rattle.graph_core.specs.declared.graph_lists.EdgeIn.{EdgeIn}
 use Rattle.graph_core.specs.DataGraph.{DataEdge, DataGraph, IsBefore, IsEdge, IsDataGraph}
-use Rattle.graph_core.specs.GraphLists.{IsGraphOf, written, named}
-use Rattle.graph_text.specs.Tells.{TellGraph}
-use Rattle.graph_text.specs.Making.{IsInRanges, IsStride, HasWeights, HaveSameEnds, edge_from, edge_to, half_of, made_edge, made_edges, made_ids, made_list, made_vertices, weight_told}
+use Rattle.graph_core.specs.GraphLists.{IsGraphOf, lower_first, with_ids}
+use Rattle.graph_text.specs.GraphTexts.{DescribeGraph}
+use Rattle.graph_text.specs.Making.{IsPlanInRange, IsStride, HasWeights, HaveSameEnds, edge_from, edge_to, offset_count, made_edge, made_edges, made_ids, made_list, made_vertices, weight_read}
 use Rattle.graph_text.proofs.Strides.{no_double, no_loop}
 use Rattle.graph_text.proofs.MadeVertices.{length-made_ids, made_ids-are, made_ids-at, made_vertices-list}
 use Rattle.graph_text.proofs.MadeEdges.{ends_in, made_edges-read, weight_small}
@@ -140,16 +140,16 @@ kept_edge : (directed t : Bool) (a b weight n : ℕ) → a < n → b < n → a �
 kept_edge directed true a b weight n a_in b_in apart small up down = record { from = a_in; to = b_in; apart = apart; lower = λ e. up e refl; weight = small }
 kept_edge directed false a b weight n a_in b_in apart small up down = record { from = b_in; to = a_in; apart = λ e. apart (sym e); lower = λ e. down e refl; weight = small }
 
-lower_first : (directed : Bool) (a b : ℕ) → directed ≡ false → (directed || nat_lt (a + 1) (b + 1)) ≡ true → a < b
-lower_first true a b e t = cc
-lower_first false a b e t = grind (arith, nat_tests)
+from_below : (directed : Bool) (a b : ℕ) → directed ≡ false → (directed || nat_lt (a + 1) (b + 1)) ≡ true → a < b
+from_below true a b e t = cc
+from_below false a b e t = grind (arith, nat_tests)
 
 upper_first : (directed : Bool) (a b : ℕ) → a ≢ b → directed ≡ false → (directed || nat_lt (a + 1) (b + 1)) ≡ false → b < a
 upper_first true a b apart e t = cc
 upper_first false a b apart e t = let le : b + 1 ≤ a + 1 = grind (arith, nat_tests) in omega (arith, le, apart)
 
 kept_named : (t : Bool) (a b weight n : ℕ) → a < n → b < n
-    → named (made_ids n) (kept t a b weight) ≡ cond t (record { from = a + 1; to = b + 1; weight = weight }) (record { from = b + 1; to = a + 1; weight = weight })
+    → with_ids (made_ids n) (kept t a b weight) ≡ cond t (record { from = a + 1; to = b + 1; weight = weight }) (record { from = b + 1; to = a + 1; weight = weight })
 kept_named true a b weight n a_in b_in =
     ap (λ x. let e : EdgeIn = record { from = x; to = get_or (made_ids n) b 0; weight = weight } in e) (made_ids-at n a a_in)
     ∙ ap (λ y. let e : EdgeIn = record { from = a + 1; to = y; weight = weight } in e) (made_ids-at n b b_in)
@@ -157,14 +157,14 @@ kept_named false a b weight n a_in b_in =
     ap (λ x. let e : EdgeIn = record { from = x; to = get_or (made_ids n) a 0; weight = weight } in e) (made_ids-at n b b_in)
     ∙ ap (λ y. let e : EdgeIn = record { from = b + 1; to = y; weight = weight } in e) (made_ids-at n a a_in)
 
-told_small : (weighted : Bool) (number : ℕ) (weight : Option ℕ) (i : ℕ) → IfSome weight (λ most. most < 2 ^ 32) → weight_told weighted number weight i < 2 ^ 32
-told_small false number weight i w = omega arith
-told_small true number None i w = omega arith
-told_small true number (Some most) i w = let small = weight_small number most i w in omega (arith, small)
+read_small : (weighted : Bool) (number : ℕ) (weight : Option ℕ) (i : ℕ) → IfSome weight (λ most. most < 2 ^ 32) → weight_read weighted number weight i < 2 ^ 32
+read_small false number weight i w = omega arith
+read_small true number None i w = omega arith
+read_small true number (Some most) i w = let small = weight_small number most i w in omega (arith, small)
 
-module _ (plan : MakePlan) (stride : ℕ) (directed weighted : Bool) (ranges : IsInRanges plan) (is : IsStride (half_of plan.vertices) stride) (has : HasWeights weighted plan.weight) where
+module _ (plan : MakePlan) (stride : ℕ) (directed weighted : Bool) (ranges : IsPlanInRange plan) (is : IsStride (offset_count plan.vertices) stride) (has : HasWeights weighted plan.weight) where
   abbrev data_edge_of : ℕ → DataEdge
-  data_edge_of i = kept (directed || nat_lt (edge_from plan i + 1) (edge_to plan stride i + 1)) (edge_from plan i) (edge_to plan stride i) (weight_told weighted plan.number plan.weight i)
+  data_edge_of i = kept (directed || nat_lt (edge_from plan i + 1) (edge_to plan stride i + 1)) (edge_from plan i) (edge_to plan stride i) (weight_read weighted plan.number plan.weight i)
 
   clash : (i k : ℕ) → i < plan.edges → k < i → HaveSameEnds plan stride i k → ⊥
   clash i k inside below = no_double plan stride i k ranges is inside (omega (arith, inside, below)) (λ same. omega (arith, same, below))
@@ -173,7 +173,7 @@ module _ (plan : MakePlan) (stride : ℕ) (directed weighted : Bool) (ranges : I
   order i k inside below =
       order_of (data_edge_of i) (data_edge_of k)
       (kept_ends (directed || nat_lt (edge_from plan i + 1) (edge_to plan stride i + 1)) (directed || nat_lt (edge_from plan k + 1) (edge_to plan stride k + 1))
-      (edge_from plan i) (edge_to plan stride i) (edge_from plan k) (edge_to plan stride k) (weight_told weighted plan.number plan.weight i) (weight_told weighted plan.number plan.weight k)
+      (edge_from plan i) (edge_to plan stride i) (edge_from plan k) (edge_to plan stride k) (weight_read weighted plan.number plan.weight i) (weight_read weighted plan.number plan.weight k)
       (λ p q. clash i k inside below (inl (p, q))) (λ p q. clash i k inside below (inr (p, q))))
 
   is_edge : (i : ℕ) → i < plan.edges → IsEdge (length (made_ids plan.vertices)) directed (data_edge_of i)
@@ -181,28 +181,28 @@ module _ (plan : MakePlan) (stride : ℕ) (directed weighted : Bool) (ranges : I
       let ends = ends_in plan stride directed weighted ranges is has i inside in
       let long = length-made_ids plan.vertices in
       let loop = no_loop plan stride i ranges inside in
-      kept_edge directed (directed || nat_lt (edge_from plan i + 1) (edge_to plan stride i + 1)) (edge_from plan i) (edge_to plan stride i) (weight_told weighted plan.number plan.weight i) (length (made_ids plan.vertices))
-      (omega (arith, ends.0, long)) (omega (arith, ends.1, long)) loop (told_small weighted plan.number plan.weight i ranges.weight)
-      (λ e t. lower_first directed (edge_from plan i) (edge_to plan stride i) e t) (λ e t. upper_first directed (edge_from plan i) (edge_to plan stride i) loop e t)
+      kept_edge directed (directed || nat_lt (edge_from plan i + 1) (edge_to plan stride i + 1)) (edge_from plan i) (edge_to plan stride i) (weight_read weighted plan.number plan.weight i) (length (made_ids plan.vertices))
+      (omega (arith, ends.0, long)) (omega (arith, ends.1, long)) loop (read_small weighted plan.number plan.weight i ranges.weight)
+      (λ e t. from_below directed (edge_from plan i) (edge_to plan stride i) e t) (λ e t. upper_first directed (edge_from plan i) (edge_to plan stride i) loop e t)
 
-  one_edge : (i : ℕ) → i < plan.edges → written directed (made_edge weighted plan stride i) ≡ named (made_ids plan.vertices) (data_edge_of i)
+  one_edge : (i : ℕ) → i < plan.edges → lower_first directed (made_edge weighted plan stride i) ≡ with_ids (made_ids plan.vertices) (data_edge_of i)
   one_edge i inside =
       let ends = ends_in plan stride directed weighted ranges is has i inside in
-      sym (kept_named (directed || nat_lt (edge_from plan i + 1) (edge_to plan stride i + 1)) (edge_from plan i) (edge_to plan stride i) (weight_told weighted plan.number plan.weight i) plan.vertices ends.0 ends.1)
+      sym (kept_named (directed || nat_lt (edge_from plan i + 1) (edge_to plan stride i + 1)) (edge_from plan i) (edge_to plan stride i) (weight_read weighted plan.number plan.weight i) plan.vertices ends.0 ends.1)
 
-  all_edges : (count : ℕ) → count ≤ plan.edges → map (written directed) (made_list weighted plan stride count) ≡ map (named (made_ids plan.vertices)) (map data_edge_of (upto count))
+  all_edges : (count : ℕ) → count ≤ plan.edges → map (lower_first directed) (made_list weighted plan stride count) ≡ map (with_ids (made_ids plan.vertices)) (map data_edge_of (upto count))
   all_edges zero few = refl
   all_edges (suc count) few =
-      let w = written directed in
-      let n = named (made_ids plan.vertices) in
+      let w = lower_first directed in
+      let n = with_ids (made_ids plan.vertices) in
       map-append w (made_list weighted plan stride count) (made_edge weighted plan stride count ∷ [])
       ∙ ap (λ (xs : List EdgeIn). xs ++ w (made_edge weighted plan stride count) ∷ []) (all_edges count (omega (arith, few)))
       ∙ ap (λ (e : EdgeIn). map n (map data_edge_of (upto count)) ++ e ∷ []) (one_edge count (omega (arith, few)))
       ∙ sym (map-append n (map data_edge_of (upto count)) (data_edge_of count ∷ []))
       ∙ ap (map n) (sym (map-append data_edge_of (upto count) (count ∷ [])))
 
-  pub made_graph-told : (g : DataGraph) × TellGraph directed weighted (made_vertices plan) (made_edges plan stride) g
-  made_graph-told =
+  pub made_graph-described : (g : DataGraph) × DescribeGraph directed weighted (made_vertices plan) (made_edges plan stride) g
+  made_graph-described =
       let s = sorted data_edge_of plan.edges plan.edges (omega arith) order in
       let ids = made_ids plan.vertices in
       let edges = map data_edge_of s.js in
@@ -218,13 +218,13 @@ module _ (plan : MakePlan) (stride : ℕ) (directed weighted : Bool) (ranges : I
         edges = all_of data_edge_of (IsEdge (length ids) directed) s.js (λ k e. is_edge k (s.below k e));
         edges_ascending = pairs_of data_edge_of s.js s.chain;
       } in
-      let moved = IsPermutation-map (named ids) (map data_edge_of (upto plan.edges)) edges (IsPermutation-map data_edge_of (upto plan.edges) s.js s.same) in
-      let same_edges = subst (λ (xs : List EdgeIn). IsPermutation xs (map (named ids) edges)) (sym (all_edges plan.edges (omega arith))) moved in
+      let moved = IsPermutation-map (with_ids ids) (map data_edge_of (upto plan.edges)) edges (IsPermutation-map data_edge_of (upto plan.edges) s.js s.same) in
+      let same_edges = subst (λ (xs : List EdgeIn). IsPermutation xs (map (with_ids ids) edges)) (sym (all_edges plan.edges (omega arith))) moved in
       let of : IsGraphOf ids (made_list weighted plan stride plan.edges) directed g = record { graph = graph; same_ids = IsPermutation-refl ids; same_edges = same_edges; direction = refl } in (
         g,
         record {
           vertex_lines = made_vertices-list plan.vertices ranges.vertices;
-          given = made_list weighted plan stride plan.edges;
+          listed = made_list weighted plan stride plan.edges;
           edge_lines = made_edges-read plan stride directed weighted ranges is has;
           graph = of;
         },

@@ -11,7 +11,7 @@ use Rattle.gl_base.specs.declared.limits.TheConstants.{MAX_ID}
 use Rattle.gl_base.specs.declared.text_faults.TextKind.TheVariants.{Number, TooLarge}
 use Rattle.graph_text.specs.declared.said.Said.TheVariants.{Passed, Item}
 use Rattle.graph_text.specs.Lines.{is_empty, is_blank, is_comment, lines, lines_after, without_cr, with_field, fields, fields_after}
-use Rattle.graph_text.specs.Numerals.{value, id_of, number_of, weight_of, whole_part, is_whole, are_zeros}
+use Rattle.graph_text.specs.Numerals.{value, id_of, number_upto, field_weight, whole_part, is_whole, are_zeros}
 use Rattle.graph_text.specs.Vertices.{said_of, vertex_said}
 
 -- bytes that are digits
@@ -147,15 +147,15 @@ some_whole : (f : List ℕ) → 0 < length f → not (is_empty f) ≡ true
 some_whole [] some = absurd (omega (arith, some))
 some_whole (b ∷ f) some = refl
 
-pub decimal_weight : (n : ℕ) → n ≤ 4294967295 → weight_of (decimal n) ≡ Ok n
+pub decimal_weight : (n : ℕ) → n ≤ 4294967295 → field_weight (decimal n) ≡ Ok n
 decimal_weight n small =
     let wide : n < 2 ^ 64 = omega (arith, small) in
     let f = decimal n in
     let d = decimal_digits n wide in
     let within : nat_le n 4294967295 ≡ true = grind (arith, nat_tests) in
-    ap (λ (g : List ℕ). cond (not (is_empty g) && is_whole f) (number_of 4294967295 g) (Err Number)) (whole_part-digits f d)
-    ∙ ap (λ t. cond (t && is_whole f) (number_of 4294967295 f) (Err Number)) (some_whole f (decimal_is_IsNumeral n wide).0.0)
-    ∙ ap (λ t. cond t (number_of 4294967295 f) (Err Number)) (is_whole-digits f d)
+    ap (λ (g : List ℕ). cond (not (is_empty g) && is_whole f) (number_upto 4294967295 g) (Err Number)) (whole_part-digits f d)
+    ∙ ap (λ t. cond (t && is_whole f) (number_upto 4294967295 f) (Err Number)) (some_whole f (decimal_is_IsNumeral n wide).0.0)
+    ∙ ap (λ t. cond t (number_upto 4294967295 f) (Err Number)) (is_whole-digits f d)
     ∙ ap (λ t. cond t (cond (nat_le (value f) 4294967295) (Ok (value f)) (Err TooLarge)) (Err Number)) (Digits-all f d)
     ∙ ap (λ v. cond (nat_le v 4294967295) (Ok v) (Err TooLarge)) (decimal_value n wide)
     ∙ ap (λ t. cond t (Ok n) (Err TooLarge)) within

@@ -12,10 +12,11 @@ use Rattle.std.proofs.lemmas.Fmt.{length-decimal-le}
 use Rattle.gl_base.specs.declared.limits.TheConstants.{MAX_ID, MAX_VERTICES, MAX_TEXT_BYTES}
 use Rattle.gl_base.specs.declared.text_faults.TextKind.TheVariants.{Double, TooMany}
 use Rattle.graph_text.specs.Lines.{lines}
-use Rattle.graph_text.specs.Firsts.{Rules, Judged, and_then, run, judge, judge_line, judge_lines, items_of, put, fault_at}
+use Rattle.gl_base.specs.Results.{and_then}
+use Rattle.graph_text.specs.Firsts.{Rules, Judged, run, judge, judge_line, judge_lines, items_of, put, text_fault}
 use Rattle.graph_text.specs.Ids.{AreIds}
-use Rattle.graph_text.specs.Vertices.{vertex_rules, vertex_behind, vertices_of}
-use Rattle.graph_text.specs.Tells.{ListsIds}
+use Rattle.graph_text.specs.Vertices.{vertex_rules, vertex_fault_after, vertices_of}
+use Rattle.graph_text.specs.GraphTexts.{ListsIds}
 use Rattle.graph_text.specs.Making.{lines_from, vertex_line, made_ids}
 use Rattle.graph_text.proofs.MadeLines.{decimal_digits, Digits-InLine, lines-next, vertex_line-said}
 
@@ -42,12 +43,12 @@ vertex-judged : (line j : ℕ) → j < MAX_VERTICES → judge_line vertex_rules 
 vertex-judged line j room =
     let s : Judged ℕ = record { line = line; items = made_ids j } in
     let said = vertex_line-said (j + 1) (omega (arith, room)) in
-    let new : vertex_behind (made_ids j) (j + 1) ≡ None = ap (λ t. cond t (Some Double) None) (made_ids-new j (j + 1) (omega arith)) in
+    let new : vertex_fault_after (made_ids j) (j + 1) ≡ None = ap (λ t. cond t (Some Double) None) (made_ids-new j (j + 1) (omega arith)) in
     let fits : nat_lt (length (made_ids j)) MAX_VERTICES ≡ true = let long = length-made_ids j in grind (arith, nat_tests) in
     let grown : made_ids j ++ (j + 1) ∷ [] ≡ made_ids (j + 1) = rw add-one refl in
     ap (judge vertex_rules s) said
     ∙ ap (put vertex_rules s (j + 1)) new
-    ∙ ap (λ t. cond t (Ok (record { line = line + 1; items = made_ids j ++ (j + 1) ∷ [] })) (Err (fault_at vertex_rules line TooMany))) fits
+    ∙ ap (λ t. cond t (Ok (record { line = line + 1; items = made_ids j ++ (j + 1) ∷ [] })) (Err (text_fault vertex_rules line TooMany))) fits
     ∙ ap (λ (ids : List ℕ). Ok (record { line = line + 1; items = ids })) grown
 
 first_line : (j : ℕ) (rest : List ℕ) → j + 1 < 2 ^ 64 → lines (vertex_line j ++ rest) ≡ decimal (j + 1) ∷ lines rest
@@ -64,7 +65,7 @@ vertices-judged line j (suc count) room =
     let a : line + 1 + count ≡ line + suc count = omega arith in
     let b : j + 1 + count ≡ j + suc count = omega arith in
     ap (run (judge_line vertex_rules) (after line j)) (first_line j rest (omega (arith, room)))
-    ∙ ap (and_then (λ t. run (judge_line vertex_rules) t (lines rest))) (vertex-judged line j (omega (arith, room)))
+    ∙ ap (λ r. and_then r (λ t. run (judge_line vertex_rules) t (lines rest))) (vertex-judged line j (omega (arith, room)))
     ∙ vertices-judged (line + 1) (j + 1) count (omega (arith, room))
     ∙ ap (λ l. Ok (after l (j + 1 + count))) a ∙ ap (λ k. Ok (after (line + suc count) k)) b
 
@@ -109,4 +110,4 @@ made_ids-are n few = record {
 }
 
 pub made_vertices-list : (n : ℕ) → n ≤ MAX_VERTICES → ListsIds (lines_from vertex_line 0 n) (made_ids n)
-made_vertices-list n few = record { given = made_ids n; lines = made_vertices-read n few; same = IsPermutation-refl (made_ids n); are = made_ids-are n few }
+made_vertices-list n few = record { listed = made_ids n; lines = made_vertices-read n few; same = IsPermutation-refl (made_ids n); are = made_ids-are n few }

@@ -9,12 +9,13 @@ use Rattle.gl_base.specs.declared.text_faults.TextKind.TheVariants.{Fields, Numb
 use Rattle.graph_text.specs.declared.said.Row.TheVariants.{Nothing, One}
 use Rattle.graph_text.specs.declared.said.Said.TheVariants.{Passed, Wrong, Item}
 use Rattle.graph_text.specs.Lines.{is_empty, is_comment}
-use Rattle.graph_text.specs.Numerals.{value, number_of, id_of, weight_of, whole_part, is_whole, are_zeros}
+use Rattle.graph_text.specs.Numerals.{value, number_upto, id_of, field_weight, whole_part, is_whole, are_zeros}
 use Rattle.graph_text.specs.Vertices.{said_of, vertex_said}
-use Rattle.graph_text.specs.Steps.{grown, number_more, number_in, row_of, row_second, row_third, weight_number, digits, point, zeros, weight_more, weight_end}
+use Rattle.graph_text.specs.Inner.Steps.{grown, number_more, digits, point, zeros, weight_more, weight_end}
+use Rattle.graph_text.proofs.FieldRows.{field_number, row_of, row_second, row_third, weight_number}
 use Rattle.graph_text.specs.Edges.{weight_in, weighed, ends_said, edge_said}
 use Rattle.std.proofs.lemmas.Bool.{eqb-true}
-use Rattle.graph_text.specs.RowRules.{id_said, vertex_row, row_weight, row_ends, edge_row}
+use Rattle.graph_text.specs.Inner.RowRules.{id_said, vertex_row, row_weight, row_ends, edge_row}
 
 no_number : (f : List ℕ) → fold number_more None f ≡ None
 no_number [] = refl
@@ -33,7 +34,7 @@ number_from v (b ∷ f) =
     [ true ↦ ap (λ n. fold number_more (Some n) f) (capped v (b - 48)) ∙ number_from (v * 10 + (b - 48)) f | false ↦ no_number f ]
 
 -- the number of a field that is digits alone
-pub number_value : (f : List ℕ) → number_in f ≡ cond (list_all is_ascii_digit f) (Some (min (value f) INF)) None
+pub number_value : (f : List ℕ) → field_number f ≡ cond (list_all is_ascii_digit f) (Some (min (value f) INF)) None
 number_value f = number_from 0 f
 
 pub within : (v most : ℕ) → most < INF → ((nat_le v most ≡ true) × (nat_le (min v INF) most ≡ true) × (min v INF ≡ v)) ⊎ ((nat_le v most ≡ false) × (nat_le (min v INF) most ≡ false))
@@ -51,14 +52,14 @@ capped_id v = elim (within v MAX_ID (omega arith)) [
   | inr h ↦ rw (h.0, h.1) refl
 ]
 
-id_law : (f : List ℕ) → id_said (number_in f) ≡ said_of (id_of f)
+id_law : (f : List ℕ) → id_said (field_number f) ≡ said_of (id_of f)
 id_law f =
     ap id_said (number_value f)
     ∙ (elim (list_all is_ascii_digit f)
     as (λ t. id_said (cond t (Some (min (value f) INF)) None) ≡ said_of (cond t (cond (nat_le (value f) MAX_ID) (Ok (value f)) (Err TooLarge)) (Err Number)))
     [ true ↦ capped_id (value f) | false ↦ refl ])
 
-alone : (f : List ℕ) (fs : List (List ℕ)) → vertex_row (row_second (number_in f) fs) ≡ cond (is_empty fs) (said_of (id_of f)) (Wrong Fields)
+alone : (f : List ℕ) (fs : List (List ℕ)) → vertex_row (row_second (field_number f) fs) ≡ cond (is_empty fs) (said_of (id_of f)) (Wrong Fields)
 alone f [] = id_law f
 alone f (g ∷ []) = refl
 alone f (g ∷ h ∷ fs) = refl
@@ -68,7 +69,7 @@ pub vertex_law : (fs : List (List ℕ)) → vertex_row (row_of fs) ≡ vertex_sa
 vertex_law [] = refl
 vertex_law (f ∷ fs) =
     elim (is_comment f)
-    as (λ t. vertex_row (cond t Nothing (row_second (number_in f) fs)) ≡ cond t Passed (cond (is_empty fs) (said_of (id_of f)) (Wrong Fields)))
+    as (λ t. vertex_row (cond t Nothing (row_second (field_number f) fs)) ≡ cond t Passed (cond (is_empty fs) (said_of (id_of f)) (Wrong Fields)))
     [ true ↦ refl | false ↦ alone f fs ]
 
 -- a weight, up to its point and behind it
@@ -106,7 +107,7 @@ capped_weight v = elim (within v 4294967295 (omega arith)) [
   | inr h ↦ rw (h.0, h.1) refl
 ]
 
-whole_weight : (f : List ℕ) → row_weight true (Some (number_in f)) ≡ number_of 4294967295 f
+whole_weight : (f : List ℕ) → row_weight true (Some (field_number f)) ≡ number_upto 4294967295 f
 whole_weight f =
     ap (λ n. row_weight true (Some n)) (number_value f)
     ∙ (elim (list_all is_ascii_digit f)
@@ -123,15 +124,15 @@ dead_whole false = refl
 
 weight_begun : (b : ℕ) (f : List ℕ) (t : Bool) → (b == 46) ≡ t
     → row_weight true (Some (cond (is_whole f) (fold number_more (number_more (Some 0) b) (whole_part f)) None))
-    ≡ cond (not (is_empty (cond t [] (b ∷ whole_part f))) && cond t (are_zeros f) (is_whole f)) (number_of 4294967295 (cond t [] (b ∷ whole_part f))) (Err Number)
+    ≡ cond (not (is_empty (cond t [] (b ∷ whole_part f))) && cond t (are_zeros f) (is_whole f)) (number_upto 4294967295 (cond t [] (b ∷ whole_part f))) (Err Number)
 weight_begun b f true same =
     ap (λ n. row_weight true (Some (cond (is_whole f) (fold number_more n (whole_part f)) None))) (point_first b same)
     ∙ ap (λ n. row_weight true (Some (cond (is_whole f) n None))) (no_number (whole_part f)) ∙ dead_whole (is_whole f)
 weight_begun b f false same =
-    elim (is_whole f) as (λ t. row_weight true (Some (cond t (number_in (b ∷ whole_part f)) None)) ≡ cond t (number_of 4294967295 (b ∷ whole_part f)) (Err Number))
+    elim (is_whole f) as (λ t. row_weight true (Some (cond t (field_number (b ∷ whole_part f)) None)) ≡ cond t (number_upto 4294967295 (b ∷ whole_part f)) (Err Number))
     [ true ↦ whole_weight (b ∷ whole_part f) | false ↦ refl ]
 
-weight_law : (f : List ℕ) → row_weight true (Some (weight_number f)) ≡ weight_of f
+weight_law : (f : List ℕ) → row_weight true (Some (weight_number f)) ≡ field_weight f
 weight_law [] = refl
 weight_law (b ∷ f) = ap (λ n. row_weight true (Some n)) (weight_from (number_more (Some 0) b) f) ∙ weight_begun b f (b == 46) refl
 
@@ -141,9 +142,9 @@ ends_capped v w weight = elim (within v MAX_ID (omega arith)) [
   | inr h ↦ rw (h.0, h.1) refl
 ]
 
-ends_law : (f g : List ℕ) (weight : Result ℕ TextKind) → row_ends (number_in f) (number_in g) weight ≡ ends_said (list_all is_ascii_digit f && list_all is_ascii_digit g) f g weight
+ends_law : (f g : List ℕ) (weight : Result ℕ TextKind) → row_ends (field_number f) (field_number g) weight ≡ ends_said (list_all is_ascii_digit f && list_all is_ascii_digit g) f g weight
 ends_law f g weight =
-    ap (λ n. row_ends n (number_in g) weight) (number_value f) ∙ ap (λ n. row_ends (cond (list_all is_ascii_digit f) (Some (min (value f) INF)) None) n weight) (number_value g)
+    ap (λ n. row_ends n (field_number g) weight) (number_value f) ∙ ap (λ n. row_ends (cond (list_all is_ascii_digit f) (Some (min (value f) INF)) None) n weight) (number_value g)
     ∙ (elim (list_all is_ascii_digit f)
     as (λ t. row_ends (cond t (Some (min (value f) INF)) None) (cond (list_all is_ascii_digit g) (Some (min (value g) INF)) None) weight ≡ ends_said (t && list_all is_ascii_digit g) f g weight) [
       | true ↦ (elim (list_all is_ascii_digit g)
@@ -162,8 +163,8 @@ third_law true from to (h ∷ fs) = ap (row_ends from to) (weight_law h)
 pub edge_law : (weighted : Bool) (fs : List (List ℕ)) → edge_row weighted (row_of fs) ≡ edge_said weighted fs
 edge_law weighted [] = refl
 edge_law weighted (f ∷ []) =
-    elim (is_comment f) as (λ t. edge_row weighted (cond t Nothing (One (number_in f))) ≡ cond t Passed (Wrong Fields)) [ true ↦ refl | false ↦ refl ]
+    elim (is_comment f) as (λ t. edge_row weighted (cond t Nothing (One (field_number f))) ≡ cond t Passed (Wrong Fields)) [ true ↦ refl | false ↦ refl ]
 edge_law weighted (f ∷ g ∷ fs) =
     elim (is_comment f)
-    as (λ t. edge_row weighted (cond t Nothing (row_third (number_in f) (number_in g) fs)) ≡ cond t Passed (ends_said (list_all is_ascii_digit f && list_all is_ascii_digit g) f g (weight_in weighted fs)))
-    [ true ↦ refl | false ↦ third_law weighted (number_in f) (number_in g) fs ∙ ends_law f g (weight_in weighted fs) ]
+    as (λ t. edge_row weighted (cond t Nothing (row_third (field_number f) (field_number g) fs)) ≡ cond t Passed (ends_said (list_all is_ascii_digit f && list_all is_ascii_digit g) f g (weight_in weighted fs)))
+    [ true ↦ refl | false ↦ third_law weighted (field_number f) (field_number g) fs ∙ ends_law f g (weight_in weighted fs) ]

@@ -4,7 +4,8 @@ use Rattle.std.proofs.lemmas.Bool.{eqb-true}
 use Rattle.std.proofs.lemmas.List.Sums.{fold-append}
 use Rattle.graph_text.specs.declared.said.Row.TheVariants.{Nothing, One, Three}
 use Rattle.graph_text.specs.Lines.{is_blank, with_field, fields_after, without_cr, fields}
-use Rattle.graph_text.specs.Steps.{number_more, number_in, digits, weight_more, weight_number, row_of, row_second, row_third, Seen, begin, comment, first, behind_first, second, behind_second, third, behind_third, seen_more, row_seen, line_more, row_begun, nothing_begun}
+use Rattle.graph_text.specs.Inner.Steps.{number_more, digits, weight_more, Seen, begin, comment, first, behind_first, second, behind_second, third, behind_third, seen_more, row_seen, line_more, row_begun, nothing_begun}
+use Rattle.graph_text.proofs.FieldRows.{field_number, weight_number, row_of, row_second, row_third}
 
 -- a CR is left out where it is the last byte
 without_last_cr : (s : Seen) (l : List ℕ) → row_begun (fold line_more (record { seen = s; before_cr = None }) l) ≡ row_seen (fold seen_more s (without_cr l))
@@ -17,7 +18,7 @@ without_last_cr s (b ∷ c ∷ l) =
     ∙ (elim (b == 13) as (λ t. row_seen (fold seen_more (seen_more s b) (without_cr (c ∷ l))) ≡ row_seen (fold seen_more s (cond (t && false) [] (b ∷ without_cr (c ∷ l)))))
     [ true ↦ refl | false ↦ refl ])
 
-number_grows : (f : List ℕ) (c : ℕ) → number_more (number_in f) c ≡ number_in (f ++ c ∷ [])
+number_grows : (f : List ℕ) (c : ℕ) → number_more (field_number f) c ≡ field_number (f ++ c ∷ [])
 number_grows f c = sym (fold-append number_more (Some 0) f (c ∷ []))
 
 commented : (l : List ℕ) → row_seen (fold seen_more comment l) ≡ Nothing
@@ -52,13 +53,13 @@ behind_two m n (c ∷ l) =
     ≡ row_third m n (cond t (fields_after [] l) (fields_after (c ∷ []) l)))
     [ true ↦ behind_two m n l | false ↦ in_third m n c [] l ]
 
-in_second : (m : Option ℕ) (b : ℕ) (f l : List ℕ) → row_seen (fold seen_more (second m (number_in (b ∷ f))) l) ≡ row_second m (fields_after (b ∷ f) l)
+in_second : (m : Option ℕ) (b : ℕ) (f l : List ℕ) → row_seen (fold seen_more (second m (field_number (b ∷ f))) l) ≡ row_second m (fields_after (b ∷ f) l)
 in_second m b f [] = refl
 in_second m b f (c ∷ l) =
     elim (is_blank c)
-    as (λ t. row_seen (fold seen_more (cond t (behind_second m (number_in (b ∷ f))) (second m (number_more (number_in (b ∷ f)) c))) l)
+    as (λ t. row_seen (fold seen_more (cond t (behind_second m (field_number (b ∷ f))) (second m (number_more (field_number (b ∷ f)) c))) l)
     ≡ row_second m (cond t (with_field (b ∷ f) (fields_after [] l)) (fields_after ((b ∷ f) ++ c ∷ []) l))) [
-      | true ↦ behind_two m (number_in (b ∷ f)) l
+      | true ↦ behind_two m (field_number (b ∷ f)) l
       | false ↦ ap (λ n. row_seen (fold seen_more (second m n) l)) (number_grows (b ∷ f) c) ∙ in_second m b (f ++ c ∷ []) l
     ]
 
@@ -70,13 +71,13 @@ behind_one m (c ∷ l) =
     ≡ row_second m (cond t (fields_after [] l) (fields_after (c ∷ []) l)))
     [ true ↦ behind_one m l | false ↦ in_second m c [] l ]
 
-in_first : (b : ℕ) (f l : List ℕ) → (b == 35) ≡ false → row_seen (fold seen_more (first (number_in (b ∷ f))) l) ≡ row_of (fields_after (b ∷ f) l)
-in_first b f [] apart = ap (λ t. cond t Nothing (One (number_in (b ∷ f)))) (sym apart)
+in_first : (b : ℕ) (f l : List ℕ) → (b == 35) ≡ false → row_seen (fold seen_more (first (field_number (b ∷ f))) l) ≡ row_of (fields_after (b ∷ f) l)
+in_first b f [] apart = ap (λ t. cond t Nothing (One (field_number (b ∷ f)))) (sym apart)
 in_first b f (c ∷ l) apart =
     elim (is_blank c)
-    as (λ t. row_seen (fold seen_more (cond t (behind_first (number_in (b ∷ f))) (first (number_more (number_in (b ∷ f)) c))) l)
+    as (λ t. row_seen (fold seen_more (cond t (behind_first (field_number (b ∷ f))) (first (number_more (field_number (b ∷ f)) c))) l)
     ≡ row_of (cond t (with_field (b ∷ f) (fields_after [] l)) (fields_after ((b ∷ f) ++ c ∷ []) l))) [
-      | true ↦ behind_one (number_in (b ∷ f)) l ∙ ap (λ t. cond t Nothing (row_second (number_in (b ∷ f)) (fields_after [] l))) (sym apart)
+      | true ↦ behind_one (field_number (b ∷ f)) l ∙ ap (λ t. cond t Nothing (row_second (field_number (b ∷ f)) (fields_after [] l))) (sym apart)
       | false ↦ ap (λ n. row_seen (fold seen_more (first n) l)) (number_grows (b ∷ f) c) ∙ in_first b (f ++ c ∷ []) l apart
     ]
 

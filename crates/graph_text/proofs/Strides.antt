@@ -5,7 +5,7 @@ use Rattle.std.proofs.Math.Nat.{dvd-mod_iff, dvd-mul_left_of_dvd, dvd-mul_left, 
 use Rattle.std.proofs.lemmas.Nat.Gcd.{IsGcd-from_sub, IsGcd-from_zero, same_from_IsGcd}
 use Rattle.std.proofs.lemmas.Bool.{cases_eq, cases_lt}
 use Rattle.gl_base.specs.declared.jobs.MakePlan.{MakePlan}
-use Rattle.graph_text.specs.Making.{IsInRanges, IsStep, IsStride, HaveSameEnds, edge_from, edge_to, half_of, offset}
+use Rattle.graph_text.specs.Making.{IsPlanInRange, IsStep, IsStride, HaveSameEnds, edge_from, edge_to, offset_count, offset}
 
 one_divides : (n : ℕ) → 1 ∣ n
 one_divides n = dvd_of_mod-eq-zero 1 (omega arith)
@@ -84,9 +84,9 @@ offsets_apart number half stride i j is i_in j_in apart same =
     ]
 
 -- and below half of the vertices
-pub offset_small : (number vertices stride k : ℕ) → 0 < half_of vertices → (1 ≤ offset number (half_of vertices) stride k) × (offset number (half_of vertices) stride k * 2 < vertices)
+pub offset_small : (number vertices stride k : ℕ) → 0 < offset_count vertices → (1 ≤ offset number (offset_count vertices) stride k) × (offset number (offset_count vertices) stride k * 2 < vertices)
 offset_small number vertices stride k some =
-    let low : (number + k * stride) % half_of vertices < half_of vertices = omega (arith, some) in
+    let low : (number + k * stride) % offset_count vertices < offset_count vertices = omega (arith, some) in
     (omega arith, omega (arith, low, some))
 
 pub one_stride : (half t u : ℕ) → IsStride half t → IsStride half u → t ≡ u
@@ -127,8 +127,8 @@ no_way_back a b d e n to other d_some e_some d_in e_in (inr w) (inr v) start end
 -- an edge of a plan: there are vertices and offsets, and its turn is that of an offset
 record Stands (plan : MakePlan) (i : ℕ) : Type 0 where
   vertices : 0 < plan.vertices
-  offsets : 0 < half_of plan.vertices
-  turn : i / plan.vertices < half_of plan.vertices
+  offsets : 0 < offset_count plan.vertices
+  turn : i / plan.vertices < offset_count plan.vertices
 
 positive : (n h m i : ℕ) → i < m → m ≤ n * h → (0 < n) × (0 < h)
 positive zero h m i inside few = absurd (let none : 0 * h ≡ 0 = omega arith in omega (arith, inside, few, none))
@@ -144,21 +144,21 @@ turn_below n h m i some inside few = elim (cases_lt (i / n) h) [
       absurd (omega (arith, much, parts, inside, few))
 ]
 
-stands : (plan : MakePlan) (i : ℕ) → IsInRanges plan → i < plan.edges → Stands plan i
+stands : (plan : MakePlan) (i : ℕ) → IsPlanInRange plan → i < plan.edges → Stands plan i
 stands plan i ranges inside =
-    let some = positive plan.vertices (half_of plan.vertices) plan.edges i inside ranges.offsets in
-    record { vertices = some.0; offsets = some.1; turn = turn_below plan.vertices (half_of plan.vertices) plan.edges i some.0 inside ranges.offsets }
+    let some = positive plan.vertices (offset_count plan.vertices) plan.edges i inside ranges.offsets in
+    record { vertices = some.0; offsets = some.1; turn = turn_below plan.vertices (offset_count plan.vertices) plan.edges i some.0 inside ranges.offsets }
 
-edge_wraps : (plan : MakePlan) (stride i : ℕ) → Stands plan i → Wraps (edge_from plan i) (offset plan.number (half_of plan.vertices) stride (i / plan.vertices)) plan.vertices (edge_to plan stride i)
+edge_wraps : (plan : MakePlan) (stride i : ℕ) → Stands plan i → Wraps (edge_from plan i) (offset plan.number (offset_count plan.vertices) stride (i / plan.vertices)) plan.vertices (edge_to plan stride i)
 edge_wraps plan stride i s =
     let small = offset_small plan.number plan.vertices stride (i / plan.vertices) s.offsets in
-    wraps (edge_from plan i) (offset plan.number (half_of plan.vertices) stride (i / plan.vertices)) plan.vertices (omega (arith, s.vertices)) (omega (arith, small.1))
+    wraps (edge_from plan i) (offset plan.number (offset_count plan.vertices) stride (i / plan.vertices)) plan.vertices (omega (arith, s.vertices)) (omega (arith, small.1))
 
-pub no_loop : (plan : MakePlan) (stride i : ℕ) → IsInRanges plan → i < plan.edges → edge_from plan i ≢ edge_to plan stride i
+pub no_loop : (plan : MakePlan) (stride i : ℕ) → IsPlanInRange plan → i < plan.edges → edge_from plan i ≢ edge_to plan stride i
 no_loop plan stride i ranges inside =
     let s = stands plan i ranges inside in
     let small = offset_small plan.number plan.vertices stride (i / plan.vertices) s.offsets in
-    step_is_no_loop (edge_from plan i) (offset plan.number (half_of plan.vertices) stride (i / plan.vertices)) plan.vertices (edge_to plan stride i) small.0 (omega (arith, small.1)) (edge_wraps plan stride i s)
+    step_is_no_loop (edge_from plan i) (offset plan.number (offset_count plan.vertices) stride (i / plan.vertices)) plan.vertices (edge_to plan stride i) small.0 (omega (arith, small.1)) (edge_wraps plan stride i s)
 
 same_index : (n i j : ℕ) → i % n ≡ j % n → i / n ≡ j / n → i ≡ j
 same_index n i j low high =
@@ -167,11 +167,11 @@ same_index n i j low high =
     let c : i / n * n ≡ j / n * n = ap (λ (k : ℕ). k * n) high in
     sym a ∙ ap (λ (k : ℕ). k + i / n * n) low ∙ ap (λ (k : ℕ). j % n + k) c ∙ b
 
-pub no_double : (plan : MakePlan) (stride i j : ℕ) → IsInRanges plan → IsStride (half_of plan.vertices) stride → i < plan.edges → j < plan.edges → i ≢ j → HaveSameEnds plan stride i j → ⊥
+pub no_double : (plan : MakePlan) (stride i j : ℕ) → IsPlanInRange plan → IsStride (offset_count plan.vertices) stride → i < plan.edges → j < plan.edges → i ≢ j → HaveSameEnds plan stride i j → ⊥
 no_double plan stride i j ranges is i_in j_in apart (inl same) =
     let s = stands plan i ranges i_in in
     let t = stands plan j ranges j_in in
-    let h = half_of plan.vertices in
+    let h = offset_count plan.vertices in
     let d = offset_small plan.number plan.vertices stride (i / plan.vertices) s.offsets in
     let e = offset_small plan.number plan.vertices stride (j / plan.vertices) t.offsets in
     let steps = same_steps (edge_from plan i) (edge_from plan j) (offset plan.number h stride (i / plan.vertices)) (offset plan.number h stride (j / plan.vertices)) plan.vertices (edge_to plan stride i) (edge_to plan stride j)
@@ -183,7 +183,7 @@ no_double plan stride i j ranges is i_in j_in apart (inl same) =
 no_double plan stride i j ranges is i_in j_in apart (inr back) =
     let s = stands plan i ranges i_in in
     let t = stands plan j ranges j_in in
-    let h = half_of plan.vertices in
+    let h = offset_count plan.vertices in
     let d = offset_small plan.number plan.vertices stride (i / plan.vertices) s.offsets in
     let e = offset_small plan.number plan.vertices stride (j / plan.vertices) t.offsets in
     no_way_back (edge_from plan i) (edge_from plan j) (offset plan.number h stride (i / plan.vertices)) (offset plan.number h stride (j / plan.vertices)) plan.vertices (edge_to plan stride i) (edge_to plan stride j)

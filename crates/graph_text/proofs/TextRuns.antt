@@ -6,28 +6,31 @@ use Rattle.graph_text.specs.declared.said.Row.{Row}
 use Rattle.graph_text.specs.declared.said.Said.{Said}
 use Rattle.graph_text.specs.declared.said.Said.TheVariants.{Passed}
 use Rattle.graph_text.specs.Lines.{lines_after, lines, ended_lines, fields}
-use Rattle.graph_text.specs.Firsts.{Rules, and_then, run}
-use Rattle.graph_text.specs.Found.{Kept, Stop, Found, collect, collect_line, nothing_kept, whole, cut, found_upto, found_in}
-use Rattle.graph_text.specs.Steps.{row_of, line_more, nothing_begun, Text, line_end, byte_step, nothing_read, past, found_within, found_by_bytes}
+use Rattle.gl_base.specs.Results.{and_then}
+use Rattle.graph_text.specs.Firsts.{Rules, run}
+use Rattle.graph_text.specs.Inner.Found.{Kept, Stop, Found, collect, nothing_kept, whole}
+use Rattle.graph_text.proofs.LinesFound.{collect_line, cut, found_upto, found_in}
+use Rattle.graph_text.specs.Inner.Steps.{line_more, nothing_begun, ReadText, line_end, byte_step, nothing_read, past, found_within, found_by_bytes}
+use Rattle.graph_text.proofs.FieldRows.{row_of}
 use Rattle.graph_text.proofs.RowTexts.{row_read}
 
 module _ {X : Type 0} (r : Rules X) (says : Row → Said X) (law : (fs : List (List ℕ)) → says (row_of fs) ≡ r.says fs) (blank : r.says [] ≡ Passed) where
   -- a line that has begun with these bytes
-  abbrev begun_with : Kept X → List ℕ → Text X
+  abbrev begun_with : Kept X → List ℕ → ReadText X
   begun_with kept begun = record { kept = kept; begun = fold line_more nothing_begun begun }
 
   line_ends : (kept : Kept X) (l : List ℕ) → line_end r.most says (begun_with kept l) ≡ collect_line r kept l
   line_ends kept l = ap (λ row. collect r.most kept (says row)) (row_read l) ∙ ap (collect r.most kept) (law (fields l))
 
-  abbrev next : Kept X → Result (Text X) (Stop X)
+  abbrev next : Kept X → Result (ReadText X) (Stop X)
   next kept = Ok (record { kept = kept; begun = nothing_begun })
 
-  then_same : (found : Result (Kept X) (Stop X)) → and_then (λ t. Ok t) found ≡ found
+  then_same : (found : Result (Kept X) (Stop X)) → and_then found (λ t. Ok t) ≡ found
   then_same (Ok s) = refl
   then_same (Err e) = refl
 
-  abbrev ending : Result (Text X) (Stop X) → Found X
-  ending t = whole (and_then (line_end r.most says) t)
+  abbrev ending : Result (ReadText X) (Stop X) → Found X
+  ending t = whole (and_then t (line_end r.most says))
 
   one_more : (kept : Kept X) (begun : List ℕ) (b : ℕ) → begun_with kept (begun ++ b ∷ []) ≡ record { kept = kept; begun = line_more (fold line_more nothing_begun begun) b }
   one_more kept begun b = ap (λ x. record { kept = kept; begun = x }) (fold-append line_more nothing_begun begun (b ∷ []))
@@ -41,12 +44,12 @@ module _ {X : Type 0} (r : Rules X) (says : Row → Said X) (law : (fs : List (L
   read_whole kept begun [] = last_line kept begun
   read_whole kept begun (b ∷ bytes) =
       elim (b == 10)
-      as (λ t. ending (and_then (λ u. run (byte_step r.most says) u bytes) (cond t (and_then next (line_end r.most says (begun_with kept begun)))
-      (Ok (record { kept = kept; begun = line_more (fold line_more nothing_begun begun) b }))))
+      as (λ t. ending (and_then (cond t (and_then (line_end r.most says (begun_with kept begun)) next)
+      (Ok (record { kept = kept; begun = line_more (fold line_more nothing_begun begun) b }))) (λ u. run (byte_step r.most says) u bytes))
       ≡ whole (run (collect_line r) kept (cond t (begun ∷ lines_after true [] bytes) (lines_after true (begun ++ b ∷ []) bytes)))) [
-        | true ↦ ap (λ found. ending (and_then (λ u. run (byte_step r.most says) u bytes) (and_then next found))) (line_ends kept begun)
+        | true ↦ ap (λ found. ending (and_then (and_then found next) (λ u. run (byte_step r.most says) u bytes))) (line_ends kept begun)
             ∙ (elim (collect_line r kept begun)
-            as (λ found. ending (and_then (λ u. run (byte_step r.most says) u bytes) (and_then next found)) ≡ whole (and_then (λ k. run (collect_line r) k (lines_after true [] bytes)) found))
+            as (λ found. ending (and_then (and_then found next) (λ u. run (byte_step r.most says) u bytes)) ≡ whole (and_then found (λ k. run (collect_line r) k (lines_after true [] bytes))))
             [ Ok k ↦ read_whole k [] bytes | Err e ↦ refl ])
         | false ↦ ap (λ u. ending (run (byte_step r.most says) u bytes)) (sym (one_more kept begun b)) ∙ read_whole kept (begun ++ b ∷ []) bytes
       ]
@@ -56,12 +59,12 @@ module _ {X : Type 0} (r : Rules X) (says : Row → Said X) (law : (fs : List (L
   read_past kept begun [] = refl
   read_past kept begun (b ∷ bytes) =
       elim (b == 10)
-      as (λ t. past (and_then (λ u. run (byte_step r.most says) u bytes) (cond t (and_then next (line_end r.most says (begun_with kept begun)))
-      (Ok (record { kept = kept; begun = line_more (fold line_more nothing_begun begun) b }))))
+      as (λ t. past (and_then (cond t (and_then (line_end r.most says (begun_with kept begun)) next)
+      (Ok (record { kept = kept; begun = line_more (fold line_more nothing_begun begun) b }))) (λ u. run (byte_step r.most says) u bytes))
       ≡ cut (run (collect_line r) kept (cond t (begun ∷ lines_after false [] bytes) (lines_after false (begun ++ b ∷ []) bytes)))) [
-        | true ↦ ap (λ found. past (and_then (λ u. run (byte_step r.most says) u bytes) (and_then next found))) (line_ends kept begun)
+        | true ↦ ap (λ found. past (and_then (and_then found next) (λ u. run (byte_step r.most says) u bytes))) (line_ends kept begun)
             ∙ (elim (collect_line r kept begun)
-            as (λ found. past (and_then (λ u. run (byte_step r.most says) u bytes) (and_then next found)) ≡ cut (and_then (λ k. run (collect_line r) k (lines_after false [] bytes)) found))
+            as (λ found. past (and_then (and_then found next) (λ u. run (byte_step r.most says) u bytes)) ≡ cut (and_then found (λ k. run (collect_line r) k (lines_after false [] bytes))))
             [ Ok k ↦ read_past k [] bytes | Err e ↦ refl ])
         | false ↦ ap (λ u. past (run (byte_step r.most says) u bytes)) (sym (one_more kept begun b)) ∙ read_past kept (begun ++ b ∷ []) bytes
       ]

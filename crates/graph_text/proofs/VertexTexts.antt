@@ -13,7 +13,7 @@ use Rattle.gl_base.specs.declared.text_faults.TextKind.{TextKind}
 use Rattle.gl_base.specs.declared.text_faults.TextKind.TheVariants.{Number, TooLarge, Double, Fields}
 use Rattle.graph_core.specs.declared.graph_lists.GraphFault.{GraphFault}
 use Rattle.graph_core.specs.declared.graph_lists.GraphFault.TheVariants.{DoubleVertex, UnknownVertex, SelfLoop, DoubleEdge, NoMemory as NoMemoryForGraph}
-use Rattle.graph_core.specs.GraphLists.{first_fault, vertex_fault, Refuses}
+use Rattle.graph_core.specs.GraphLists.{first_fault, vertex_fault, NamesFirstFault}
 use Rattle.graph_text.specs.declared.lists.VertexList.{VertexList}
 use Rattle.graph_text.specs.declared.lists.Reading.{Reading}
 use Rattle.graph_text.specs.declared.lists.Reading.TheVariants.{Text, ReadFault, NoMemory}
@@ -23,15 +23,18 @@ use Rattle.graph_text.specs.declared.said.Ending.TheVariants.{Full}
 use Rattle.graph_text.specs.Ids.{AreIds}
 use Rattle.graph_text.specs.Lines.{is_empty, is_comment, lines, ended_lines, fields}
 use Rattle.graph_text.specs.Numerals.{value, id_of}
-use Rattle.graph_text.specs.Firsts.{and_then, run}
-use Rattle.graph_text.specs.Vertices.{said_of, vertex_said, vertex_behind, vertex_rules, vertices_of}
-use Rattle.graph_text.specs.Found.{Kept, Stop, Found, stop, collect, collect_line, nothing_kept, whole, cut, found_upto, found_in, bad_or, first_bad, ended, settled_by, settled}
-use Rattle.graph_text.specs.Steps.{found_by_bytes}
-use Rattle.graph_text.specs.RowRules.{vertex_row}
-use Rattle.graph_text.specs.Texts.{FindsIn}
-use Rattle.graph_text.specs.Answers.{AreFound, Lists, ReadsVertices, IsDoubleIn, IsUnsorted}
+use Rattle.gl_base.specs.Results.{and_then}
+use Rattle.graph_text.specs.Firsts.{run}
+use Rattle.graph_text.specs.Vertices.{said_of, vertex_said, vertex_fault_after, vertex_rules, vertices_of}
+use Rattle.graph_text.specs.Inner.Found.{Kept, Stop, Found, stop, collect, nothing_kept, whole, bad_or, first_bad, ended, settled_by, settled}
+use Rattle.graph_text.proofs.LinesFound.{collect_line, cut, found_upto, found_in}
+use Rattle.graph_text.specs.Inner.Steps.{found_by_bytes}
+use Rattle.graph_text.specs.Inner.RowRules.{vertex_row}
+use Rattle.graph_text.specs.Inner.Texts.{FindsIn}
+use Rattle.graph_text.specs.Answers.{ReadsVertices}
+use Rattle.graph_text.specs.Inner.FoundVertices.{AreFound, Lists, IsDoubleIn, IsUnsorted}
 use Rattle.gl_base.specs.declared.text_faults.TextFault.{TextFault}
-use Rattle.graph_core.specs.IdTable.{Ascends}
+use Rattle.gl_base.specs.Lists.{Ascends}
 use Rattle.graph_text.proofs.RowLaws.{vertex_law}
 use Rattle.graph_text.proofs.TextRuns.{found_read}
 use Rattle.graph_text.proofs.FirstFaults.{items_settled}
@@ -45,11 +48,11 @@ module _ (place : ℕ) where
   double_by n false later bad end again inside h = again h
 
   double_found : (before xs : List ℕ) → first_fault vertex_fault before xs ≡ Some (DoubleVertex place)
-      → (first_bad vertex_behind before xs ≡ Some (place, Double)) × (place < length before + length xs)
+      → (first_bad vertex_fault_after before xs ≡ Some (place, Double)) × (place < length before + length xs)
   double_found before [] h = cc
   double_found before (x ∷ xs) h =
       let long : length (before ++ x ∷ []) + length xs ≡ length before + length (x ∷ xs) = omega (arith, length-append before (x ∷ [])) in
-      double_by (length before) (list_any (λ other. other == x) before) (first_fault vertex_fault (before ++ x ∷ []) xs) (first_bad vertex_behind (before ++ x ∷ []) xs) (length before + length (x ∷ xs))
+      double_by (length before) (list_any (λ other. other == x) before) (first_fault vertex_fault (before ++ x ∷ []) xs) (first_bad vertex_fault_after (before ++ x ∷ []) xs) (length before + length (x ∷ xs))
       (λ later. let found = double_found (before ++ x ∷ []) xs later in (found.0, (let p = found.1 in omega arith))) (omega arith) h
 
 none_by : (n : ℕ) (t : Bool) (later : Option GraphFault) (bad : Option (ℕ × TextKind)) → (later ≡ None → bad ≡ None)
@@ -57,10 +60,10 @@ none_by : (n : ℕ) (t : Bool) (later : Option GraphFault) (bad : Option (ℕ ×
 none_by n true later bad again h = cc
 none_by n false later bad again h = again h
 
-none_found : (before xs : List ℕ) → first_fault vertex_fault before xs ≡ None → first_bad vertex_behind before xs ≡ None
+none_found : (before xs : List ℕ) → first_fault vertex_fault before xs ≡ None → first_bad vertex_fault_after before xs ≡ None
 none_found before [] h = refl
 none_found before (x ∷ xs) h =
-    none_by (length before) (list_any (λ other. other == x) before) (first_fault vertex_fault (before ++ x ∷ []) xs) (first_bad vertex_behind (before ++ x ∷ []) xs)
+    none_by (length before) (list_any (λ other. other == x) before) (first_fault vertex_fault (before ++ x ∷ []) xs) (first_bad vertex_fault_after (before ++ x ∷ []) xs)
     (none_found (before ++ x ∷ []) xs) h
 
 -- no other fault is one of identifiers
@@ -81,7 +84,7 @@ is_double before (x ∷ xs) fault h =
     kind_by (length before) (list_any (λ other. other == x) before) (first_fault vertex_fault (before ++ x ∷ []) xs) fault (is_double (before ++ x ∷ []) xs fault) h
 
 -- why identifiers cannot be sorted
-pub unsorted_is : (ids : List ℕ) (fault : GraphFault) (many : ℕ) → length ids ≡ many → Refuses (first_fault vertex_fault [] ids) fault → IsDoubleIn many fault
+pub unsorted_is : (ids : List ℕ) (fault : GraphFault) (many : ℕ) → length ids ≡ many → NamesFirstFault (first_fault vertex_fault [] ids) fault → IsDoubleIn many fault
 unsorted_is ids (DoubleVertex place) many long h = (let p = (double_found place [] ids h).1 in omega arith)
 unsorted_is ids (UnknownVertex place) many long h = is_double [] ids (UnknownVertex place) h
 unsorted_is ids (SelfLoop place) many long h = is_double [] ids (SelfLoop place) h
@@ -144,7 +147,7 @@ small_run [] s small = small
 small_run (l ∷ ls) s small = small_next (collect MAX_VERTICES s (vertex_said (fields l))) (small_collect s (vertex_said (fields l)) (small_said (fields l)) small) (small_run ls)
   where
     small_next : (found : Result (Kept ℕ) (Stop ℕ)) → Result-small found → ((s : Kept ℕ) → AreSmall s.items s.places → Result-small (run (collect_line vertex_rules) s ls))
-        → Result-small (and_then (λ t. run (collect_line vertex_rules) t ls) found)
+        → Result-small (and_then found (λ t. run (collect_line vertex_rules) t ls))
     small_next (Ok s) small again = again s small
     small_next (Err t) small again = small
 
@@ -194,7 +197,7 @@ vertices_answered found (Err ReadFault) text before now finds lists = absurd lis
 vertices_answered found (Err NoMemory) text before now finds lists = tt
 
 -- the list of what was found, in the cases of its sorting
-pub list_unsorted : (found : Found ℕ) (fault : GraphFault) (reading : Reading) → Refuses (first_fault vertex_fault [] found.items) fault → IsUnsorted found.places fault reading
+pub list_unsorted : (found : Found ℕ) (fault : GraphFault) (reading : Reading) → NamesFirstFault (first_fault vertex_fault [] found.items) fault → IsUnsorted found.places fault reading
     → Lists found (Err reading)
 list_unsorted found (DoubleVertex place) reading h is =
     subst (λ r. Lists found (Err r)) (sym is) (ap (settled_by vertex_rules found) (double_found place [] found.items h).0)

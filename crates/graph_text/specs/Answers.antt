@@ -1,20 +1,16 @@
 -- What the readers answer, where the source tells its bytes and where it does not.
-use Rattle.std.specs.Prelude.{◌≡◌, ℕ, ◌<◌, ◌≤◌, List, length, slice_index, All, Option, None, Result, Ok, Err, IfSome}
+use Rattle.std.specs.Prelude.{◌≡◌, ℕ, Bool, List, Option, Result, Ok, Err, IfSome}
 use Rattle.std.specs.List.Sorted.{IsPermutation}
-use Rattle.gl_base.specs.declared.limits.TheConstants.{MAX_ID, MAX_VERTICES}
-use Rattle.gl_base.specs.declared.text_faults.TextFault.{TextFault}
-use Rattle.gl_base.specs.declared.text_faults.TextKind.TheVariants.{Double}
-use Rattle.graph_core.specs.declared.graph_lists.GraphFault.{GraphFault}
-use Rattle.graph_core.specs.declared.graph_lists.GraphFault.TheVariants.{DoubleVertex, UnknownVertex, SelfLoop, DoubleEdge, NoMemory as NoMemoryForGraph}
 use Rattle.gl_outside.specs.Faults.{Rose}
-use Rattle.graph_text.specs.Ids.{AreIds}
-use Rattle.graph_text.specs.Vertices.{vertices_of, vertex_rules}
-use Rattle.graph_text.specs.Found.{Found, ended, settled}
-use Rattle.graph_text.specs.Firsts.{fault_at}
-use Rattle.graph_text.specs.declared.said.Ending.{Ending}
+use Rattle.graph_core.specs.declared.graph_lists.EdgeIn.{EdgeIn}
+use Rattle.graph_core.specs.DataGraph.{DataGraph, IsDataGraph}
+use Rattle.graph_core.specs.GraphLists.{IsGraphOf}
 use Rattle.graph_text.specs.declared.lists.VertexList.{VertexList}
 use Rattle.graph_text.specs.declared.lists.Reading.{Reading}
 use Rattle.graph_text.specs.declared.lists.Reading.TheVariants.{Text, ReadFault, NoMemory}
+use Rattle.graph_text.specs.Ids.{AreIds}
+use Rattle.graph_text.specs.Vertices.{vertices_of}
+use Rattle.graph_text.specs.Edges.{edges_of}
 
 -- what the reader of vertices answers to a text, where the count of faults went from `before` to `now`
 abbrev pub ReadsVertices : Result VertexList Reading → Option (List ℕ) → ℕ → ℕ → Type 0
@@ -24,36 +20,10 @@ ReadsVertices (Err (Text fault)) text before now = IfSome text (λ bytes. vertic
 ReadsVertices (Err ReadFault) text before now = Rose before now
 ReadsVertices (Err NoMemory) text before now = Unit {0}
 
--- identifiers that were found are within the limits, and each has its line
-pub record AreFound (found : Found ℕ) : Type 0 where
-  pub small : All (λ id. id ≤ MAX_ID) found.items
-  pub few : length found.items ≤ MAX_VERTICES
-  pub long : length found.places ≡ length found.items
-
--- the list of what was found
-abbrev pub Lists : Found ℕ → Result VertexList Reading → Type 0
-Lists found (Ok list) = (ids : List ℕ) × (settled vertex_rules found ≡ Ok ids) × IsPermutation ids list.ids.items
-Lists found (Err (Text fault)) = settled vertex_rules found ≡ Err fault
-Lists found (Err ReadFault) = ⊥
-Lists found (Err NoMemory) = Unit {0}
-
--- the text ended well, or with this fault
-abbrev pub Ends : List ℕ → Option (Ending ℕ) → Result (Unit {0}) TextFault → Type 0
-Ends ids ending (Ok well) = ending ≡ None
-Ends ids ending (Err fault) = ended vertex_rules ids ending ≡ Err fault
-
--- identifiers that cannot be sorted have a double at one of so many places
-abbrev pub IsDoubleIn : ℕ → GraphFault → Type 0
-IsDoubleIn many (DoubleVertex place) = place < many
-IsDoubleIn many (UnknownVertex place) = ⊥
-IsDoubleIn many (SelfLoop place) = ⊥
-IsDoubleIn many (DoubleEdge place) = ⊥
-IsDoubleIn many NoMemoryForGraph = Unit {0}
-
--- the fault of identifiers that cannot be sorted
-abbrev pub IsUnsorted : List ℕ → GraphFault → Reading → Type 0
-IsUnsorted places (DoubleVertex place) reading = reading ≡ Text (fault_at vertex_rules (slice_index places place) Double)
-IsUnsorted places (UnknownVertex place) reading = ⊥
-IsUnsorted places (SelfLoop place) reading = ⊥
-IsUnsorted places (DoubleEdge place) reading = ⊥
-IsUnsorted places NoMemoryForGraph reading = reading ≡ NoMemory
+-- what the reader of edges answers to a text, over these identifiers, where the count of faults went from `before` to `now`
+abbrev pub ReadsGraph : List ℕ → Bool → Bool → Result DataGraph Reading → Option (List ℕ) → ℕ → ℕ → Type 0
+ReadsGraph ids directed weighted (Ok g) text before now =
+    IsDataGraph g × IfSome text (λ bytes. (listed : List EdgeIn) × (edges_of ids directed weighted bytes ≡ Ok listed) × IsGraphOf ids listed directed g)
+ReadsGraph ids directed weighted (Err (Text fault)) text before now = IfSome text (λ bytes. edges_of ids directed weighted bytes ≡ Err fault)
+ReadsGraph ids directed weighted (Err ReadFault) text before now = Rose before now
+ReadsGraph ids directed weighted (Err NoMemory) text before now = Unit {0}

@@ -1,6 +1,6 @@
 -- Edge texts over the identifiers of vertices.
 use Rattle.std.specs.Prelude.{ℕ, ◌==◌, ◌&&◌, Bool, true, false, if◌then◌else◌, List, [], ◌∷◌, Option, None, Some, nat_le, Result, Ok, Err}
-use Rattle.std.specs.List.{list_any}
+use Rattle.std.specs.List.{list_any, list_all}
 use Rattle.std.specs.Option.{option_or}
 use Rattle.gl_base.specs.declared.limits.TheConstants.{MAX_EDGES, MAX_ID}
 use Rattle.gl_base.specs.declared.text_faults.TextFault.{TextFault}
@@ -8,20 +8,19 @@ use Rattle.gl_base.specs.declared.text_faults.TextFile.TheVariants.{Edges}
 use Rattle.gl_base.specs.declared.text_faults.TextKind.{TextKind}
 use Rattle.gl_base.specs.declared.text_faults.TextKind.TheVariants.{Fields, Number, TooLarge, Double, Unknown, SelfLoop, NoWeight}
 use Rattle.graph_core.specs.declared.graph_lists.EdgeIn.{EdgeIn}
-use Rattle.graph_core.specs.GraphLists.{is_same}
+use Rattle.graph_core.specs.GraphLists.{same_ends}
 use Rattle.graph_text.specs.declared.said.Said.{Said}
 use Rattle.graph_text.specs.declared.said.Said.TheVariants.{Passed, Wrong, Late, Item}
-use Rattle.std.specs.List.{list_all}
 use Rattle.std.specs.Char.{is_ascii_digit}
 use Rattle.graph_text.specs.Lines.{is_comment}
-use Rattle.graph_text.specs.Numerals.{value, weight_of}
+use Rattle.graph_text.specs.Numerals.{value, field_weight}
 use Rattle.graph_text.specs.Firsts.{Rules, items_of}
 
 -- the weight behind the ends: 1 where edges have none
 abbrev pub weight_in : Bool → List (List ℕ) → Result ℕ TextKind
 weight_in false fs = Ok 1
 weight_in true [] = Err NoWeight
-weight_in true (f ∷ fs) = weight_of f
+weight_in true (f ∷ fs) = field_weight f
 
 -- the edge, or a fault of its weight, which counts where nothing is wrong with the ends
 abbrev pub weighed : ℕ → ℕ → Result ℕ TextKind → Said EdgeIn
@@ -41,17 +40,17 @@ edge_said weighted (f ∷ g ∷ fs) =
     if is_comment f then Passed else ends_said (list_all is_ascii_digit f && list_all is_ascii_digit g) f g (weight_in weighted fs)
 
 -- both ends are vertices, and they differ
-abbrev pub edge_alone : List ℕ → EdgeIn → Option TextKind
-edge_alone ids e =
+abbrev pub edge_fault_alone : List ℕ → EdgeIn → Option TextKind
+edge_fault_alone ids e =
     if list_any (λ id. id == e.from) ids && list_any (λ id. id == e.to) ids then (if e.from == e.to then Some SelfLoop else None) else Some Unknown
 
 -- and no edge before has the same ends, either way round where edges have no direction
-abbrev pub edge_behind : List ℕ → Bool → List EdgeIn → EdgeIn → Option TextKind
-edge_behind ids directed before e = option_or (edge_alone ids e) (if list_any (is_same directed e) before then Some Double else None)
+abbrev pub edge_fault_after : List ℕ → Bool → List EdgeIn → EdgeIn → Option TextKind
+edge_fault_after ids directed before e = option_or (edge_fault_alone ids e) (if list_any (same_ends directed e) before then Some Double else None)
 
 abbrev pub edge_rules : List ℕ → Bool → Bool → Rules EdgeIn
 edge_rules ids directed weighted =
-    record { file = Edges; says = edge_said weighted; alone = edge_alone ids; behind = edge_behind ids directed; most = MAX_EDGES }
+    record { file = Edges; says = edge_said weighted; fault_alone = edge_fault_alone ids; fault_after = edge_fault_after ids directed; most = MAX_EDGES }
 
 -- the edges of an edge text in the order of its lines, or its first fault
 abbrev pub edges_of : List ℕ → Bool → Bool → List ℕ → Result (List EdgeIn) TextFault

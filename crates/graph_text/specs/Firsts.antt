@@ -1,5 +1,6 @@
 -- A text is read line by line, up to the first fault.
 use Rattle.std.specs.Prelude.{ℕ, ◌+◌, List, [], ◌∷◌, ◌++◌, length, take, nat_lt, nat_le, if◌then◌else◌, Option, None, Some, Result, Ok, Err}
+use Rattle.gl_base.specs.Results.{and_then}
 use Rattle.gl_base.specs.declared.limits.TheConstants.{MAX_TEXT_BYTES}
 use Rattle.gl_base.specs.declared.text_faults.TextFault.{TextFault}
 use Rattle.gl_base.specs.declared.text_faults.TextFile.{TextFile}
@@ -14,8 +15,8 @@ use Rattle.graph_text.specs.Lines.{lines, ended_lines, fields}
 pub record Rules (X : Type 0) : Type 0 where
   pub file : TextFile
   pub says : List (List ℕ) → Said X
-  pub alone : X → Option TextKind
-  pub behind : List X → X → Option TextKind
+  pub fault_alone : X → Option TextKind
+  pub fault_after : List X → X → Option TextKind
   pub most : ℕ
 
 -- the number of the next line, and the items so far
@@ -24,8 +25,8 @@ pub record Judged (X : Type 0) : Type 0 where
   pub items : List X
 
 -- the fault of a line
-abbrev pub fault_at : {X : Type 0} → Rules X → ℕ → TextKind → TextFault
-fault_at r line kind = record { file = r.file; line = line; kind = kind }
+abbrev pub text_fault : {X : Type 0} → Rules X → ℕ → TextKind → TextFault
+text_fault r line kind = record { file = r.file; line = line; kind = kind }
 
 -- the first of two faults
 abbrev pub or_kind : Option TextKind → TextKind → TextKind
@@ -34,25 +35,20 @@ or_kind (Some first) kind = first
 
 -- an item is taken where nothing is wrong with it and there is room
 abbrev pub put : {X : Type 0} → Rules X → Judged X → X → Option TextKind → Result (Judged X) TextFault
-put r s x (Some kind) = Err (fault_at r s.line kind)
-put r s x None = if nat_lt (length s.items) r.most then Ok (record { line = s.line + 1; items = s.items ++ x ∷ [] }) else Err (fault_at r s.line TooMany)
+put r s x (Some kind) = Err (text_fault r s.line kind)
+put r s x None = if nat_lt (length s.items) r.most then Ok (record { line = s.line + 1; items = s.items ++ x ∷ [] }) else Err (text_fault r s.line TooMany)
 
 -- a line is passed over, faulty, or an item
 abbrev pub judge : {X : Type 0} → Rules X → Judged X → Said X → Result (Judged X) TextFault
 judge r s Passed = Ok (record { line = s.line + 1; items = s.items })
-judge r s (Wrong kind) = Err (fault_at r s.line kind)
-judge r s (Late x kind) = Err (fault_at r s.line (or_kind (r.alone x) kind))
-judge r s (Item x) = put r s x (r.behind s.items x)
-
--- goes on where all went well
-abbrev pub and_then : {S T E : Type 0} → (S → Result T E) → Result S E → Result T E
-and_then f (Ok s) = f s
-and_then f (Err e) = Err e
+judge r s (Wrong kind) = Err (text_fault r s.line kind)
+judge r s (Late x kind) = Err (text_fault r s.line (or_kind (r.fault_alone x) kind))
+judge r s (Item x) = put r s x (r.fault_after s.items x)
 
 -- one step after another, up to the first error
 abbrev pub run : {S A E : Type 0} → (S → A → Result S E) → S → List A → Result S E
 run step s [] = Ok s
-run step s (x ∷ xs) = and_then (λ t. run step t xs) (step s x)
+run step s (x ∷ xs) = and_then (step s x) (λ t. run step t xs)
 
 -- a line
 abbrev pub judge_line : {X : Type 0} → Rules X → Judged X → List ℕ → Result (Judged X) TextFault
@@ -65,8 +61,8 @@ judge_lines r ls = run (judge_line r) (record { line = 1; items = [] }) ls
 -- The items of a text, or its first fault. Of a text that passes the limit only the lines count that end within it.
 abbrev pub items_within : {X : Type 0} → ℕ → Rules X → List ℕ → Result (List X) TextFault
 items_within limit r bytes =
-    if nat_le (length bytes) limit then and_then (λ s. Ok s.items) (judge_lines r (lines bytes))
-    else and_then (λ s. Err (fault_at r s.line TooLong)) (judge_lines r (ended_lines (take limit bytes)))
+    if nat_le (length bytes) limit then and_then (judge_lines r (lines bytes)) (λ s. Ok s.items)
+    else and_then (judge_lines r (ended_lines (take limit bytes))) (λ s. Err (text_fault r s.line TooLong))
 
 -- the same under the limit of all texts
 unfoldable pub items_of : {X : Type 0} → Rules X → List ℕ → Result (List X) TextFault

@@ -3,14 +3,9 @@ pub mod Numerals
 pub mod Firsts
 pub mod Vertices
 pub mod Edges
-pub mod Tells
-pub mod Found
-pub mod Steps
-pub mod Places
-pub mod Texts
+pub mod GraphTexts
 pub mod Ids
-pub mod RowRules
 pub mod Answers
-pub mod EdgeAnswers
 pub mod Making
 pub mod Writes
+pub mod Inner

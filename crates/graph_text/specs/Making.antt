@@ -6,15 +6,15 @@ use Rattle.graph_core.specs.declared.graph_lists.EdgeIn.{EdgeIn}
 use Rattle.gl_base.specs.declared.jobs.MakePlan.{MakePlan}
 
 -- half of the other vertices, rounded down: as many offsets there are
-abbrev pub half_of : ℕ → ℕ
-half_of vertices = (vertices - 1) / 2
+abbrev pub offset_count : ℕ → ℕ
+offset_count vertices = (vertices - 1) / 2
 
 -- each number of the plan is in its range
-pub record IsInRanges (plan : MakePlan) : Type 0 where
+pub record IsPlanInRange (plan : MakePlan) : Type 0 where
   pub number : plan.number < 2 ^ 32
   pub vertices : plan.vertices ≤ MAX_VERTICES
   pub edges : plan.edges ≤ MAX_EDGES
-  pub offsets : plan.edges ≤ plan.vertices * half_of plan.vertices
+  pub offsets : plan.edges ≤ plan.vertices * offset_count plan.vertices
   pub weight : IfSome plan.weight (λ most. most < 2 ^ 32)
 
 -- a number that may be the stride: from 1 and from 0.618 times `half` on, and without a common divisor with it
@@ -37,7 +37,7 @@ abbrev pub edge_from : MakePlan → ℕ → ℕ
 edge_from plan i = i % plan.vertices
 
 abbrev pub edge_to : MakePlan → ℕ → ℕ → ℕ
-edge_to plan stride i = (edge_from plan i + offset plan.number (half_of plan.vertices) stride (i / plan.vertices)) % plan.vertices
+edge_to plan stride i = (edge_from plan i + offset plan.number (offset_count plan.vertices) stride (i / plan.vertices)) % plan.vertices
 
 -- two edges have the same ends, either way round
 abbrev pub HaveSameEnds : MakePlan → ℕ → ℕ → ℕ → Type 0
@@ -74,10 +74,10 @@ made_ids zero = []
 made_ids (suc n) = made_ids n ++ suc n ∷ []
 
 -- the weight of edge i as a reader takes it: 1 where edges have none
-abbrev pub weight_told : Bool → ℕ → Option ℕ → ℕ → ℕ
-weight_told false number weight i = 1
-weight_told true number None i = 1
-weight_told true number (Some most) i = edge_weight number most i
+abbrev pub weight_read : Bool → ℕ → Option ℕ → ℕ → ℕ
+weight_read false number weight i = 1
+weight_read true number None i = 1
+weight_read true number (Some most) i = edge_weight number most i
 
 -- the text has weights, where they are asked for
 abbrev pub HasWeights : Bool → Option ℕ → Type 0
@@ -88,7 +88,7 @@ HasWeights true (Some most) = Unit {0}
 -- edge i by the identifiers of its ends
 abbrev pub made_edge : Bool → MakePlan → ℕ → ℕ → EdgeIn
 made_edge weighted plan stride i =
-    record { from = edge_from plan i + 1; to = edge_to plan stride i + 1; weight = weight_told weighted plan.number plan.weight i }
+    record { from = edge_from plan i + 1; to = edge_to plan stride i + 1; weight = weight_read weighted plan.number plan.weight i }
 
 -- the first edges, so many of them
 abbrev pub made_list : Bool → MakePlan → ℕ → ℕ → List EdgeIn

@@ -12,12 +12,12 @@ abbrev pub value : List ℕ → ℕ
 value digits = fold (λ n digit. n * 10 + (digit - 48)) 0 digits
 
 -- the number of a field that is digits alone, up to a limit
-abbrev pub number_of : ℕ → List ℕ → Result ℕ TextKind
-number_of most field = if list_all is_ascii_digit field then (if nat_le (value field) most then Ok (value field) else Err TooLarge) else Err Number
+abbrev pub number_upto : ℕ → List ℕ → Result ℕ TextKind
+number_upto most field = if list_all is_ascii_digit field then (if nat_le (value field) most then Ok (value field) else Err TooLarge) else Err Number
 
 -- an identifier
 abbrev pub id_of : List ℕ → Result ℕ TextKind
-id_of field = number_of MAX_ID field
+id_of field = number_upto MAX_ID field
 
 -- what stands before the first point
 abbrev pub whole_part : List ℕ → List ℕ
@@ -34,5 +34,5 @@ is_whole [] = true
 is_whole (byte ∷ field) = if byte == 46 then are_zeros field else is_whole field
 
 -- a weight: one or more digits, with a point and zeros behind them or not, up to 4294967295
-abbrev pub weight_of : List ℕ → Result ℕ TextKind
-weight_of field = if not (is_empty (whole_part field)) && is_whole field then number_of 4294967295 (whole_part field) else Err Number
+abbrev pub field_weight : List ℕ → Result ℕ TextKind
+field_weight field = if not (is_empty (whole_part field)) && is_whole field then number_upto 4294967295 (whole_part field) else Err Number

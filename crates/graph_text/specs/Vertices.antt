@@ -23,11 +23,11 @@ vertex_said [] = Passed
 vertex_said (f ∷ fs) = if is_comment f then Passed else (if is_empty fs then said_of (id_of f) else Wrong Fields)
 
 -- an identifier stands once
-abbrev pub vertex_behind : List ℕ → ℕ → Option TextKind
-vertex_behind ids id = if list_any (λ other. other == id) ids then Some Double else None
+abbrev pub vertex_fault_after : List ℕ → ℕ → Option TextKind
+vertex_fault_after ids id = if list_any (λ other. other == id) ids then Some Double else None
 
 abbrev pub vertex_rules : Rules ℕ
-vertex_rules = record { file = Vertices; says = vertex_said; alone = λ id. None; behind = vertex_behind; most = MAX_VERTICES }
+vertex_rules = record { file = Vertices; says = vertex_said; fault_alone = λ id. None; fault_after = vertex_fault_after; most = MAX_VERTICES }
 
 -- the identifiers of a vertex text in the order of its lines, or its first fault
 abbrev pub vertices_of : List ℕ → Result (List ℕ) TextFault

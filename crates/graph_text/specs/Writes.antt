@@ -6,7 +6,7 @@ use Rattle.gl_outside.specs.Faults.{Rose}
 use Rattle.gl_outside.specs.Fronts.{AppendsFront}
 use Rattle.graph_text.specs.declared.making.Writing.{Writing}
 use Rattle.graph_text.specs.declared.making.Writing.TheVariants.{WriteFault, NoMemory}
-use Rattle.graph_text.specs.Making.{IsStride, half_of, made_edges}
+use Rattle.graph_text.specs.Making.{IsStride, offset_count, made_edges}
 
 -- the whole text was appended, or a front of it where the sink failed or memory ran out
 abbrev pub Writes : Result (Unit {0}) Writing → List ℕ → Option (List ℕ) → Option (List ℕ) → ℕ → ℕ → Type 0
@@ -17,4 +17,4 @@ Writes (Err NoMemory) text old new before now = AppendsFront old new text
 -- the same of the edge text, with the stride
 abbrev pub WritesEdges : Result (Unit {0}) Writing → MakePlan → Option (List ℕ) → Option (List ℕ) → ℕ → ℕ → Type 0
 WritesEdges result plan old new before now =
-    (stride : ℕ) × IsStride (half_of plan.vertices) stride × Writes result (made_edges plan stride) old new before now
+    (stride : ℕ) × IsStride (offset_count plan.vertices) stride × Writes result (made_edges plan stride) old new before now

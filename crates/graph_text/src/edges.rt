@@ -2,13 +2,14 @@
 ghost use Rattle.std.specs.Prelude.{◌≡◌, ℕ, ◌≤◌, Bool, List, length, Option, Some, Err};
 ghost use Rattle.std.specs.List.{list_any};
 ghost use Rattle.std.specs.Io.KnownBytes.{Consumes};
-ghost use Rattle.graph_core.specs.GraphLists.{written as written_by, is_same as is_same_by};
-ghost use Rattle.graph_text.specs.Found.{ended as ended_by};
-ghost use Rattle.graph_text.specs.Edges.{edge_rules, edge_alone, edge_behind};
+ghost use Rattle.graph_core.specs.GraphLists.{lower_first, same_ends};
+ghost use Rattle.graph_text.specs.Inner.Found.{ended as ended_by};
+ghost use Rattle.graph_text.specs.Edges.{edge_rules, edge_fault_alone, edge_fault_after};
 ghost use Rattle.graph_text.specs.Firsts.{or_kind};
-ghost use Rattle.graph_text.specs.RowRules.{row_weight, row_ends};
-ghost use Rattle.graph_text.specs.Texts.{found_at};
-ghost use Rattle.graph_text.specs.EdgeAnswers.{ReadsGraph, AreFoundEdges, Builds, IsFaultIn, IsRefused, EndsEdges};
+ghost use Rattle.graph_text.specs.Inner.RowRules.{row_weight, row_ends};
+ghost use Rattle.graph_text.specs.Inner.Texts.{found_at};
+ghost use Rattle.graph_text.specs.Answers.{ReadsGraph};
+ghost use Rattle.graph_text.specs.Inner.FoundEdges.{AreFoundEdges, Builds, IsFaultIn, IsEdgeRefusal, EndsEdges};
 
 use crate::lines::{LineItem, Lines, read_lines};
 use crate::said::{Ending, Row, Said};
@@ -42,12 +43,12 @@ pub fn read_edges<S: Source>(
 {
     let mut lines = Lines::new(alloc);
     let ending = read_lines(source, weighted, &mut lines)?;
-    built(alloc, list, directed, lines, ending)
+    graph_of(alloc, list, directed, lines, ending)
 }
 
 impl LineItem for EdgeIn {
     ghost use Rattle.gl_base.specs.declared.limits.TheConstants.{MAX_EDGES};
-    ghost use Rattle.graph_text.specs.RowRules.{edge_row};
+    ghost use Rattle.graph_text.specs.Inner.RowRules.{edge_row};
 
     const MOST: usize = MAX_EDGES;
 
@@ -102,7 +103,7 @@ fn with_ends(from: Option<u64>, to: Option<u64>, weight: Result<u32, TextKind>) 
 }
 
 /// The graph of the edges that were found, or the first fault.
-fn built(
+fn graph_of(
     alloc: Global,
     list: VertexList,
     directed: bool,
@@ -112,9 +113,9 @@ fn built(
     requires { AreFoundEdges (found_at lines ending) }
     ensures { Builds list.ids.items directed (found_at lines ending) result }
 {
-    let ended = ended(ending, &list.ids, directed, &lines.items);
+    let ended = end_of_text(ending, &list.ids, directed, &lines.items);
     match Graph::build(alloc, list.ids, lines.items, directed) {
-        Err(fault) => Err(refused(fault, &lines.places)),
+        Err(fault) => Err(refusal(fault, &lines.places)),
         Ok(graph) => match ended {
             Ok(()) => Ok(graph),
             Err(fault) => Err(Reading::Text(fault)),
@@ -123,19 +124,19 @@ fn built(
 }
 
 /// The fault of edges that make no graph, each of which has its line.
-fn refused(fault: GraphFault, places: &[u32]) -> Reading
+fn refusal(fault: GraphFault, places: &[u32]) -> Reading
     requires { IsFaultIn (length places.now) fault }
-    ensures { IsRefused places.now fault result }
+    ensures { IsEdgeRefusal places.now fault result }
 {
     match fault {
         GraphFault::UnknownVertex(place) => {
-            Reading::Text(edge_fault(places[place], TextKind::Unknown))
+            Reading::Text(text_fault(places[place], TextKind::Unknown))
         }
         GraphFault::SelfLoop(place) => {
-            Reading::Text(edge_fault(places[place], TextKind::SelfLoop))
+            Reading::Text(text_fault(places[place], TextKind::SelfLoop))
         }
         GraphFault::DoubleEdge(place) => {
-            Reading::Text(edge_fault(places[place], TextKind::Double))
+            Reading::Text(text_fault(places[place], TextKind::Double))
         }
         GraphFault::NoMemory => Reading::NoMemory,
         GraphFault::DoubleVertex(_) => unreachable!(),
@@ -143,7 +144,7 @@ fn refused(fault: GraphFault, places: &[u32]) -> Reading
 }
 
 /// Whether the text ended well, where these edges stand in it.
-fn ended(
+fn end_of_text(
     ending: Option<Ending<EdgeIn>>,
     ids: &[u64],
     directed: bool,
@@ -153,18 +154,21 @@ fn ended(
 {
     match ending {
         None => Ok(()),
-        Some(Ending::Fault(line, kind)) => Err(edge_fault(line, kind)),
-        Some(Ending::Late(line, e, kind)) => Err(edge_fault(line, alone(ids, e).unwrap_or(kind))),
+        Some(Ending::Fault(line, kind)) => Err(text_fault(line, kind)),
+        Some(Ending::Late(line, e, kind)) => Err(text_fault(
+            line,
+            fault_alone(ids, e).unwrap_or(kind),
+        )),
         Some(Ending::Full(line, e)) => {
-            let wrong = behind(ids, directed, edges, e);
-            Err(edge_fault(line, wrong.unwrap_or(TextKind::TooMany)))
+            let wrong = fault_after(ids, directed, edges, e);
+            Err(text_fault(line, wrong.unwrap_or(TextKind::TooMany)))
         }
     }
 }
 
 /// What is wrong with the ends of an edge.
-fn alone(ids: &[u64], e: EdgeIn) -> Option<TextKind>
-    ensures { result ≡ edge_alone ids.now e }
+fn fault_alone(ids: &[u64], e: EdgeIn) -> Option<TextKind>
+    ensures { result ≡ edge_fault_alone ids.now e }
 {
     if !(ids.contains(&e.from) && ids.contains(&e.to)) {
         Some(TextKind::Unknown)
@@ -176,35 +180,35 @@ fn alone(ids: &[u64], e: EdgeIn) -> Option<TextKind>
 }
 
 /// What is wrong with an edge behind others.
-fn behind(ids: &[u64], directed: bool, edges: &[EdgeIn], e: EdgeIn) -> Option<TextKind>
-    ensures { result ≡ edge_behind ids.now directed edges.now e }
+fn fault_after(ids: &[u64], directed: bool, edges: &[EdgeIn], e: EdgeIn) -> Option<TextKind>
+    ensures { result ≡ edge_fault_after ids.now directed edges.now e }
 {
-    match alone(ids, e) {
+    match fault_alone(ids, e) {
         Some(kind) => Some(kind),
-        None if stands(directed, edges, e) => Some(TextKind::Double),
+        None if have_ends_of(directed, edges, e) => Some(TextKind::Double),
         None => None,
     }
 }
 
 /// Whether the edge is one of these.
-fn stands(directed: bool, edges: &[EdgeIn], e: EdgeIn) -> bool
-    ensures { result ≡ list_any (is_same_by directed e) edges.now }
+fn have_ends_of(directed: bool, edges: &[EdgeIn], e: EdgeIn) -> bool
+    ensures { result ≡ list_any (same_ends directed e) edges.now }
 {
-    edges.iter().any(|f| is_same(directed, e, *f))
+    edges.iter().any(|f| have_same_ends(directed, e, *f))
 }
 
 /// Whether two edges have the same ends, either way round where they have no direction.
-fn is_same(directed: bool, e: EdgeIn, f: EdgeIn) -> bool
-    ensures { result ≡ is_same_by directed e f }
+fn have_same_ends(directed: bool, e: EdgeIn, f: EdgeIn) -> bool
+    ensures { result ≡ same_ends directed e f }
 {
-    let e = written(directed, e);
-    let f = written(directed, f);
+    let e = lower_end_first(directed, e);
+    let f = lower_end_first(directed, f);
     e.from == f.from && e.to == f.to
 }
 
 /// The edge with its lower end first, where it has no direction.
-fn written(directed: bool, e: EdgeIn) -> EdgeIn
-    ensures { result ≡ written_by directed e }
+fn lower_end_first(directed: bool, e: EdgeIn) -> EdgeIn
+    ensures { result ≡ lower_first directed e }
 {
     if directed || e.from < e.to {
         return e;
@@ -217,7 +221,7 @@ fn written(directed: bool, e: EdgeIn) -> EdgeIn
 }
 
 /// A fault of the edge text.
-fn edge_fault(line: u32, kind: TextKind) -> TextFault
+fn text_fault(line: u32, kind: TextKind) -> TextFault
     ensures { result ≡ record { file = TextFile.Edges; line = line; kind = kind } }
 {
     TextFault {

@@ -1,8 +1,8 @@
 //! The fields of a line, byte by byte.
 ghost use Rattle.std.specs.Prelude.{◌≡◌, ℕ, ◌<◌, IsTrue, ◌≢◌, true, false, None};
-ghost use Rattle.graph_text.specs.Steps.{grown, number_more, begin, seen_more, row_seen};
+ghost use Rattle.graph_text.specs.Inner.Steps.{grown, number_more, begin, seen_more, row_seen};
 ghost use Rattle.graph_text.specs.Lines.{is_blank};
-ghost use Rattle.graph_text.specs.Places.{seen_at, seen_before, broken_place, IsInside};
+ghost use Rattle.graph_text.specs.Inner.Places.{seen_at, seen_before, broken_place, IsInsideField};
 
 use crate::said::Row;
 use gl_base::INF;
@@ -51,7 +51,7 @@ impl Fields {
     #[inline]
     pub(crate) fn take(&mut self, number: Option<u64>, byte: u8) -> Option<u64>
         ensures seen { seen_at self.new result ≡ seen_more (seen_at self.old number) byte }
-        ensures inside { IsInside self.new.place result }
+        ensures inside { IsInsideField self.new.place result }
     {
         if byte == b' ' || byte == b'\t' {
             self.leave(number);
@@ -111,7 +111,7 @@ impl Fields {
         requires behind_point { self.old.place ≡ Place.Point → byte ≢ 48 }
         requires zeros { self.old.place ≡ Place.Zeros → byte ≢ 48 }
         ensures seen { seen_at self.new result ≡ seen_more (seen_at self.old number) byte }
-        ensures inside { IsInside self.new.place result }
+        ensures inside { IsInsideField self.new.place result }
     {
         let number = match self.place {
             Place::First | Place::Second | Place::Digits => number,

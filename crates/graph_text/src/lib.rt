@@ -7,14 +7,15 @@ mod laws;
 mod lines;
 mod lists;
 mod making;
+mod plain;
 mod said;
 mod stride;
 mod vertices;
 
 pub use edges::read_edges;
 pub use laws::{
-    made_edges_are_apart, made_edges_are_told, made_graphs_are_told, made_vertices_are_listed,
-    offsets_are_apart, strides_are_unique,
+    made_edges_are_apart, made_edges_are_listed, made_texts_describe_graphs,
+    made_vertices_are_listed, offsets_are_apart, strides_are_unique,
 };
 pub use lists::{Reading, VertexList};
 pub use making::{Writing, make_edges, make_vertices};

@@ -5,13 +5,14 @@ ghost use Rattle.gl_base.specs.declared.limits.TheConstants.{MAX_TEXT_BYTES};
 ghost use Rattle.graph_text.specs.declared.said.Row.{Row};
 ghost use Rattle.graph_text.specs.declared.said.Said.{Said};
 ghost use Rattle.graph_text.specs.Firsts.{run};
-ghost use Rattle.graph_text.specs.Found.{collect};
-ghost use Rattle.graph_text.specs.Steps.{byte_step, line_end, nothing_read};
-ghost use Rattle.graph_text.specs.Places.{IsInside};
-ghost use Rattle.graph_text.specs.Texts.{text_at, kept_at, IsBetween, TakesItem, Gives, GivesText, TakesPiece, ReadsBytes, ReadsLines};
+ghost use Rattle.graph_text.specs.Inner.Found.{collect};
+ghost use Rattle.graph_text.specs.Inner.Steps.{byte_step, line_end, nothing_read};
+ghost use Rattle.graph_text.specs.Inner.Places.{IsInsideField};
+ghost use Rattle.graph_text.specs.Inner.Texts.{read_text, kept_at, IsBegunAs, IsBetween, TakesItem, TakesPlain, LeadsTo, LeadsToText, TakesPiece, ReadsBytes, ReadsLines};
 
 use crate::Reading;
 use crate::fields::{Fields, Place, broken, with_digit};
+use crate::plain::{PLAIN, plain_line};
 use crate::said::{Ending, Halt, Row, Said};
 use gl_base::{MAX_TEXT_BYTES, TextKind};
 use gl_outside::Source;
@@ -48,7 +49,7 @@ pub(crate) struct Lines<X> {
 impl<X: LineItem> Lines<X> {
     /// Nothing is read.
     pub(crate) fn new(alloc: Global) -> Self
-        ensures text { text_at result None ≡ nothing_read }
+        ensures text { read_text result None ≡ nothing_read }
     {
         Lines {
             items: Vec::new(alloc),
@@ -60,10 +61,12 @@ impl<X: LineItem> Lines<X> {
     }
 
     /// Keeps what a line says.
+    #[inline(always)]
     fn keep(&mut self, said: Said<X>) -> Result<(), Halt<X>>
         requires { self.old.line + 1 < 2 ^ 32 }
-        ensures kept { Gives (collect X.MOST (kept_at self.old) said) (kept_at self.new) result }
+        ensures kept { LeadsTo (collect X.MOST (kept_at self.old) said) (kept_at self.new) result }
         ensures line { self.new.line ≤ self.old.line + 1 }
+        ensures begun { IsBegunAs self.old self.new }
     {
         match said {
             Said::Passed => {}
@@ -76,9 +79,11 @@ impl<X: LineItem> Lines<X> {
     }
 
     /// Keeps an item and its line.
+    #[inline(always)]
     fn push(&mut self, x: X) -> Result<(), Halt<X>>
         ensures takes { TakesItem X.MOST (kept_at self.old) x (kept_at self.new) result }
         ensures line { self.new.line ≡ self.old.line }
+        ensures begun { IsBegunAs self.old self.new }
     {
         if self.items.len() >= X::MOST {
             return Err(Halt::Stopped(Ending::Full(self.line, x)));
@@ -97,7 +102,7 @@ impl<X: LineItem> Lines<X> {
     #[inline]
     fn end_line(&mut self, weighted: bool, number: Option<u64>) -> Result<(), Halt<X>>
         requires { self.old.line + 1 < 2 ^ 32 }
-        ensures kept { Gives (line_end X.MOST (X.says weighted) (text_at self.old number)) (kept_at self.new) result }
+        ensures kept { LeadsTo (line_end X.MOST (X.says weighted) (read_text self.old number)) (kept_at self.new) result }
         ensures line { self.new.line ≤ self.old.line + 1 }
     {
         let (place, number) = match self.before_cr {
@@ -117,7 +122,7 @@ impl<X: LineItem> Lines<X> {
     ) -> Result<Option<u64>, Halt<X>>
         requires between { IsBetween self.old number }
         requires room { self.old.line + 1 < 2 ^ 32 }
-        ensures takes { GivesText (byte_step X.MOST (X.says weighted) (text_at self.old number) byte) self.new result }
+        ensures takes { LeadsToText (byte_step X.MOST (X.says weighted) (read_text self.old number) byte) self.new result }
         ensures between { IfOk result (IsBetween self.new) }
         ensures line { self.new.line ≤ self.old.line + 1 }
     {
@@ -135,7 +140,7 @@ impl<X: LineItem> Lines<X> {
         byte: u8,
     ) -> Result<Option<u64>, Halt<X>>
         requires { self.old.line + 1 < 2 ^ 32 }
-        ensures takes { GivesText (byte_step X.MOST (X.says weighted) (text_at self.old number) byte) self.new result }
+        ensures takes { LeadsToText (byte_step X.MOST (X.says weighted) (read_text self.old number) byte) self.new result }
         ensures between { IfOk result (IsBetween self.new) }
         ensures line { self.new.line ≤ self.old.line + 1 }
     {
@@ -154,7 +159,34 @@ impl<X: LineItem> Lines<X> {
         Ok(self.fields.take(number, byte))
     }
 
-    /// Takes bytes in turn.
+    /// Takes the plain line at the front of the bytes, where no line is begun, and says how many bytes that are: none where
+    /// no plain line is found.
+    #[inline(always)]
+    fn take_plain(
+        &mut self,
+        weighted: bool,
+        number: Option<u64>,
+        bytes: &[u8],
+    ) -> Result<usize, Halt<X>>
+        requires room { self.old.line + 1 < 2 ^ 32 }
+        ensures takes { TakesPlain X.MOST (X.says weighted) self.old number bytes.now self.new result }
+        ensures line { self.new.line ≤ self.old.line + 1 }
+        ensures lines { IfOk result (λ taken. self.new.line ≤ self.old.line + taken) }
+    {
+        let (Place::Begin, None, None) = (self.fields.place, number, self.before_cr) else {
+            return Ok(0);
+        };
+        if bytes.len() < PLAIN {
+            return Ok(0);
+        }
+        let Some(line) = plain_line(bytes) else {
+            return Ok(0);
+        };
+        self.keep(X::said(line.row, weighted))?;
+        Ok(line.len)
+    }
+
+    /// Takes bytes in turn: whole plain lines, and else one byte at a time.
     fn take_bytes(
         &mut self,
         weighted: bool,
@@ -163,13 +195,20 @@ impl<X: LineItem> Lines<X> {
     ) -> Result<Option<u64>, Halt<X>>
         requires between { IsBetween self.old number }
         requires room { self.old.line + length bytes.now < 2 ^ 32 }
-        ensures takes { GivesText (run (byte_step X.MOST (X.says weighted)) (text_at self.old number) bytes.now) self.new result }
+        ensures takes { LeadsToText (run (byte_step X.MOST (X.says weighted)) (read_text self.old number) bytes.now) self.new result }
         ensures between { IfOk result (IsBetween self.new) }
         ensures line { self.new.line ≤ self.old.line + length bytes.now }
     {
         let mut number = number;
-        for byte in bytes {
-            number = self.take(weighted, number, *byte)?;
+        let mut at = 0;
+        while at < bytes.len() {
+            let taken = self.take_plain(weighted, number, &bytes[at..])?;
+            if taken > 0 {
+                at += taken;
+            } else {
+                number = self.take(weighted, number, bytes[at])?;
+                at += 1;
+            }
         }
         Ok(number)
     }
@@ -184,7 +223,7 @@ impl<X: LineItem> Lines<X> {
     ) -> Result<Option<u64>, Halt<X>>
         requires between { IsBetween self.old number }
         requires room { self.old.line + room < 2 ^ 32 }
-        ensures takes { TakesPiece X.MOST (X.says weighted) (text_at self.old number) piece.now room self.new result }
+        ensures takes { TakesPiece X.MOST (X.says weighted) (read_text self.old number) piece.now room self.new result }
         ensures between { IfOk result (IsBetween self.new) }
         ensures line { IfOk result (λ _. self.new.line ≤ self.old.line + length piece.now) }
     {
@@ -204,7 +243,7 @@ pub(crate) fn read_lines<S: Source, X: LineItem>(
     weighted: bool,
     lines: &mut Lines<X>,
 ) -> Result<Option<Ending<X>>, Reading>
-    requires { text_at lines.old None ≡ nothing_read }
+    requires { read_text lines.old None ≡ nothing_read }
     ensures answer { ReadsLines X.MOST (X.says weighted) lines.new result (S.left source.old) (S.faults source.old) (S.faults source.new) }
     ensures taken { (taken : List ℕ) × Consumes (S.left source.old) (S.left source.new) taken }
     ensures later { S.faults source.old ≤ S.faults source.new }
@@ -224,7 +263,7 @@ fn read_bytes<S: Source, X: LineItem>(
     weighted: bool,
     lines: &mut Lines<X>,
 ) -> Result<(), Halt<X>>
-    requires { text_at lines.old None ≡ nothing_read }
+    requires { read_text lines.old None ≡ nothing_read }
     ensures answer { ReadsBytes X.MOST (X.says weighted) lines.new result (S.left source.old) (S.faults source.old) (S.faults source.new) }
     ensures taken { (taken : List ℕ) × Consumes (S.left source.old) (S.left source.new) taken }
     ensures later { S.faults source.old ≤ S.faults source.new }

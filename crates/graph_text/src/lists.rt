@@ -2,6 +2,7 @@
 ghost use Rattle.graph_text.specs.Ids.{AreIds};
 
 use gl_base::TextFault;
+use thiserror::Error;
 
 /// The identifiers of the vertices, ascending.
 #[derive(Debug, Drop)]
@@ -11,12 +12,15 @@ pub struct VertexList {
 }
 
 /// Why a text was not read.
-#[derive(Clone, Copy, Debug, PartialEq, Eq)]
+#[derive(Clone, Copy, Debug, PartialEq, Eq, Error)]
 pub enum Reading {
     /// The text is refused, for this fault.
+    #[error("{0}")]
     Text(TextFault),
     /// The source failed.
+    #[error("a read failed")]
     ReadFault,
     /// There was not enough memory.
+    #[error("out of memory")]
     NoMemory,
 }

@@ -1,21 +1,25 @@
 //! Writes the texts of made graphs.
 ghost use Rattle.std.specs.Prelude.{◌≡◌, ◌≤◌, ◌<◌, ◌+◌, ◌*◌, ◌^◌, ◌∷◌, ◌++◌, [], decimal, OnOk, IfSome};
-ghost use Rattle.graph_text.specs.Making.{IsInRanges, half_of, edge_from, edge_to, edge_weight, edge_line, made_vertices, made_edges};
+ghost use Rattle.graph_text.specs.Making.{IsPlanInRange, offset_count, edge_from, edge_to, edge_weight, edge_line, made_vertices, made_edges};
 ghost use Rattle.graph_text.specs.Writes.{Writes, WritesEdges};
 
 use crate::stride::stride_of;
-use gl_base::{MakePlan, NoMemory};
+use gl_base::{MakePlan, NoMemory, push_decimal};
 use gl_outside::{Failed, PIECE, Sink, write_all, write_when_full};
-use itoa::Buffer;
 use std::alloc::Global;
+use thiserror::Error;
 
 /// As many bytes as a line has at most: three numbers of 10 digits, two blanks and LF.
 const LINE: usize = 33;
 
 /// Why a text was not written to its end.
-#[derive(Clone, Copy, Debug, PartialEq, Eq)]
+#[derive(Clone, Copy, Debug, PartialEq, Eq, Error)]
 pub enum Writing {
+    /// The sink failed.
+    #[error("a write failed")]
     WriteFault,
+    /// There was not enough memory.
+    #[error("out of memory")]
     NoMemory,
 }
 
@@ -42,14 +46,14 @@ impl From<NoMemory> for Writing {
 /// Writes the vertex text of a made graph: the identifiers from 1 to the number of vertices, one a line. Where the sink
 /// fails or memory runs out a front of it was written.
 pub fn make_vertices<K: Sink>(alloc: Global, sink: &mut K, plan: &MakePlan) -> Result<(), Writing>
-    requires { IsInRanges plan.now }
+    requires { IsPlanInRange plan.now }
     ensures written { Writes result (made_vertices plan.now) (K.held sink.old) (K.held sink.new) (K.faults sink.old) (K.faults sink.new) }
     ensures later { K.faults sink.old ≤ K.faults sink.new }
     ensures same { K.same sink.old sink.new }
 {
     let mut piece = Vec::with_capacity(alloc, PIECE).map_err(|_| Writing::NoMemory)?;
     for vertex in 0..plan.vertices {
-        push_number(&mut piece, vertex + 1)?;
+        push_decimal(&mut piece, vertex + 1)?;
         push_byte(&mut piece, b'\n')?;
         write_when_full(sink, &mut piece, LINE)?;
     }
@@ -60,7 +64,7 @@ pub fn make_vertices<K: Sink>(alloc: Global, sink: &mut K, plan: &MakePlan) -> R
 /// Writes the edge text of a made graph: for each edge the identifiers of its ends and, where the plan has weights, its
 /// weight. Where the sink fails or memory runs out a front of it was written.
 pub fn make_edges<K: Sink>(alloc: Global, sink: &mut K, plan: &MakePlan) -> Result<(), Writing>
-    requires { IsInRanges plan.now }
+    requires { IsPlanInRange plan.now }
     ensures written { WritesEdges result plan.now (K.held sink.old) (K.held sink.new) (K.faults sink.old) (K.faults sink.new) }
     ensures later { K.faults sink.old ≤ K.faults sink.new }
     ensures same { K.same sink.old sink.new }
@@ -76,8 +80,8 @@ fn write_edges<K: Sink>(
     plan: &MakePlan,
     stride: u64,
 ) -> Result<(), Writing>
-    requires plan { IsInRanges plan.now }
-    requires stride { stride ≤ half_of plan.now.vertices + 1 }
+    requires plan { IsPlanInRange plan.now }
+    requires stride { stride ≤ offset_count plan.now.vertices + 1 }
     ensures written { Writes result (made_edges plan.now stride) (K.held sink.old) (K.held sink.new) (K.faults sink.old) (K.faults sink.new) }
     ensures later { K.faults sink.old ≤ K.faults sink.new }
     ensures same { K.same sink.old sink.new }
@@ -93,33 +97,33 @@ fn write_edges<K: Sink>(
 
 /// How many offsets there are.
 fn half(vertices: u32) -> u64
-    ensures { result ≡ half_of vertices }
+    ensures { result ≡ offset_count vertices }
 {
     u64::from(vertices.saturating_sub(1) / 2)
 }
 
 /// Adds the line of an edge.
 fn push_edge(piece: &mut Vec<u8>, plan: &MakePlan, stride: u64, edge: u32) -> Result<(), NoMemory>
-    requires plan { IsInRanges plan.now }
-    requires stride { stride ≤ half_of plan.now.vertices + 1 }
+    requires plan { IsPlanInRange plan.now }
+    requires stride { stride ≤ offset_count plan.now.vertices + 1 }
     requires edge { edge < plan.now.edges }
     ensures { OnOk result (piece.new.items ≡ piece.old.items ++ edge_line plan.now stride edge) }
 {
     let (from, to) = ends_of(plan, stride, edge);
-    push_number(piece, from + 1)?;
+    push_decimal(piece, from + 1)?;
     push_byte(piece, b' ')?;
-    push_number(piece, to + 1)?;
+    push_decimal(piece, to + 1)?;
     if let Some(most) = plan.weight {
         push_byte(piece, b' ')?;
-        push_number(piece, weight_of(plan.number, most, edge))?;
+        push_decimal(piece, weight_of(plan.number, most, edge))?;
     }
     push_byte(piece, b'\n')
 }
 
 /// The two ends of an edge.
 fn ends_of(plan: &MakePlan, stride: u64, edge: u32) -> (u32, u32)
-    requires plan { IsInRanges plan.now }
-    requires stride { stride ≤ half_of plan.now.vertices + 1 }
+    requires plan { IsPlanInRange plan.now }
+    requires stride { stride ≤ offset_count plan.now.vertices + 1 }
     requires edge { edge < plan.now.edges }
     ensures from { result.0 ≡ edge_from plan.now edge }
     ensures to { result.1 ≡ edge_to plan.now stride edge }
@@ -138,15 +142,6 @@ fn weight_of(number: u32, most: u32, edge: u32) -> u32
 {
     let weight = (u64::from(number) + u64::from(edge) * 2654435761) % (u64::from(most) + 1);
     weight as u32
-}
-
-/// Adds a number in decimal.
-fn push_number(piece: &mut Vec<u8>, number: u32) -> Result<(), NoMemory>
-    ensures { OnOk result (piece.new.items ≡ piece.old.items ++ decimal number) }
-{
-    let mut digits = Buffer::new();
-    piece.extend_from_slice(digits.format(number).as_bytes())?;
-    Ok(())
 }
 
 /// Adds a byte.

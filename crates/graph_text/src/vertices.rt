@@ -1,11 +1,12 @@
 //! Reads vertex texts.
 ghost use Rattle.std.specs.Prelude.{◌≡◌, ℕ, ◌≤◌, List, length, Option, Some, Err};
 ghost use Rattle.std.specs.Io.KnownBytes.{Consumes};
-ghost use Rattle.graph_text.specs.Found.{ended as ended_by};
-ghost use Rattle.graph_text.specs.Vertices.{vertex_rules, vertex_behind};
+ghost use Rattle.graph_text.specs.Inner.Found.{ended as ended_by};
+ghost use Rattle.graph_text.specs.Vertices.{vertex_rules, vertex_fault_after};
 ghost use Rattle.graph_text.specs.Firsts.{or_kind};
-ghost use Rattle.graph_text.specs.Texts.{found_at};
-ghost use Rattle.graph_text.specs.Answers.{ReadsVertices, AreFound, Lists, IsDoubleIn, IsUnsorted, Ends};
+ghost use Rattle.graph_text.specs.Inner.Texts.{found_at};
+ghost use Rattle.graph_text.specs.Answers.{ReadsVertices};
+ghost use Rattle.graph_text.specs.Inner.FoundVertices.{AreFound, Lists, IsDoubleIn, IsUnsorted, Ends};
 
 use crate::lines::{LineItem, Lines, read_lines};
 use crate::said::{Ending, Row, Said};
@@ -31,12 +32,12 @@ pub fn read_vertices<S: Source>(alloc: Global, source: &mut S) -> Result<VertexL
 {
     let mut lines = Lines::new(alloc);
     let ending = read_lines(source, false, &mut lines)?;
-    listed(alloc, lines, ending)
+    list_of(alloc, lines, ending)
 }
 
 impl LineItem for u64 {
     ghost use Rattle.gl_base.specs.declared.limits.TheConstants.{MAX_VERTICES};
-    ghost use Rattle.graph_text.specs.RowRules.{vertex_row};
+    ghost use Rattle.graph_text.specs.Inner.RowRules.{vertex_row};
 
     const MOST: usize = MAX_VERTICES;
 
@@ -56,7 +57,7 @@ impl LineItem for u64 {
 }
 
 /// The list of the identifiers that were found, or the first fault.
-fn listed(
+fn list_of(
     alloc: Global,
     lines: Lines<u64>,
     ending: Option<Ending<u64>>,
@@ -64,9 +65,9 @@ fn listed(
     requires { AreFound (found_at lines ending) }
     ensures { Lists (found_at lines ending) result }
 {
-    let ended = ended(ending, &lines.items);
+    let ended = end_of_text(ending, &lines.items);
     match sorted_ids(alloc, lines.items) {
-        Err(fault) => Err(unsorted(fault, &lines.places)),
+        Err(fault) => Err(refusal(fault, &lines.places)),
         Ok(ids) => match ended {
             Ok(()) => Ok(VertexList { ids }),
             Err(fault) => Err(Reading::Text(fault)),
@@ -75,13 +76,13 @@ fn listed(
 }
 
 /// The fault of identifiers that cannot be sorted, each of which has its line.
-fn unsorted(fault: GraphFault, places: &[u32]) -> Reading
+fn refusal(fault: GraphFault, places: &[u32]) -> Reading
     requires { IsDoubleIn (length places.now) fault }
     ensures { IsUnsorted places.now fault result }
 {
     match fault {
         GraphFault::DoubleVertex(place) => {
-            Reading::Text(vertex_fault(places[place], TextKind::Double))
+            Reading::Text(text_fault(places[place], TextKind::Double))
         }
         GraphFault::NoMemory => Reading::NoMemory,
         _ => unreachable!(),
@@ -89,7 +90,7 @@ fn unsorted(fault: GraphFault, places: &[u32]) -> Reading
 }
 
 /// Whether the text ended well, where these identifiers stand in it.
-fn ended(ending: Option<Ending<u64>>, ids: &[u64]) -> Result<(), TextFault>
+fn end_of_text(ending: Option<Ending<u64>>, ids: &[u64]) -> Result<(), TextFault>
     ensures { Ends ids.now ending result }
 {
     match ending {
@@ -103,15 +104,15 @@ fn ending_fault(ending: Ending<u64>, ids: &[u64]) -> TextFault
     ensures { ended_by vertex_rules ids.now (Some ending) ≡ Err result }
 {
     match ending {
-        Ending::Fault(line, kind) => vertex_fault(line, kind),
-        Ending::Late(line, _, kind) => vertex_fault(line, kind),
-        Ending::Full(line, id) => vertex_fault(line, surplus(id, ids)),
+        Ending::Fault(line, kind) => text_fault(line, kind),
+        Ending::Late(line, _, kind) => text_fault(line, kind),
+        Ending::Full(line, id) => text_fault(line, surplus(id, ids)),
     }
 }
 
 /// What is wrong with an identifier behind as many as there may be.
 fn surplus(id: u64, ids: &[u64]) -> TextKind
-    ensures { result ≡ or_kind (vertex_behind ids.now id) TextKind.TooMany }
+    ensures { result ≡ or_kind (vertex_fault_after ids.now id) TextKind.TooMany }
 {
     if ids.contains(&id) {
         TextKind::Double
@@ -121,7 +122,7 @@ fn surplus(id: u64, ids: &[u64]) -> TextKind
 }
 
 /// A fault of the vertex text.
-fn vertex_fault(line: u32, kind: TextKind) -> TextFault
+fn text_fault(line: u32, kind: TextKind) -> TextFault
     ensures { result ≡ record { file = TextFile.Vertices; line = line; kind = kind } }
 {
     TextFault {

@@ -5,6 +5,7 @@ mod answers;
 mod hex;
 mod orders;
 mod reports;
+mod sizes;
 
 pub use answers::answer;
 pub use orders::order_bytes;

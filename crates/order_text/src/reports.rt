@@ -3,9 +3,9 @@ ghost use Rattle.std.specs.Prelude.{◌≡◌, ◌++◌, ◌∷◌, [], IfOk, On
 ghost use Rattle.order_text.specs.Reports.{report_line, report_text, hex_text};
 
 use crate::hex::push_hex;
-use gl_base::NoMemory;
+use gl_base::{NoMemory, push_decimal};
 use graph_core::Graph;
-use itoa::{Buffer, Integer};
+use itoa::Integer;
 use sha2::{Digest, Sha256};
 use std::alloc::Global;
 use sync_folds::Fold;
@@ -30,10 +30,9 @@ pub fn report(alloc: Global, graph: &Graph, fold: &Fold, answer: &[u8]) -> Resul
 fn push_number<I: Integer>(text: &mut Vec<u8>, name: &[u8], number: I) -> Result<(), NoMemory>
     ensures { OnOk result (text.new.items ≡ text.old.items ++ report_line name.now (I.text number)) }
 {
-    let mut digits = Buffer::new();
     text.extend_from_slice(name)?;
     text.push(b' ')?;
-    text.extend_from_slice(digits.format(number).as_bytes())?;
+    push_decimal(text, number)?;
     text.push(b'\n')?;
     Ok(())
 }

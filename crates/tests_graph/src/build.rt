@@ -54,8 +54,12 @@ pub fn neighbours(
     v: u32,
 ) -> Result<Vec<u32>, AllocError> {
     assert!(rt; v < graph.n());
+    let mut list = Vec::new(alloc);
+    graph
+        .list_neighbours(Vertex(v), &mut list)
+        .map_err(|_| AllocError)?;
     let mut numbers = Vec::new(alloc);
-    for u in graph.neighbours(Vertex(v)) {
+    for u in &list {
         numbers.push(u.0)?;
     }
     Ok(numbers)

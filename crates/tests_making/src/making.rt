@@ -1,6 +1,6 @@
 //! `make_vertices` and `make_edges`.
 ghost use Rattle.std.specs.Prelude.{IsTrue};
-ghost use Rattle.graph_text.specs.Making.{IsInRanges};
+ghost use Rattle.graph_text.specs.Making.{IsPlanInRange};
 
 use gl_base::{MakePlan, NoMemory};
 use gl_outside::{MemSink, PlainSource};
@@ -19,7 +19,7 @@ fn plan(number: u32, vertices: u32, edges: u32, weight: Option<u32>) -> MakePlan
 
 // Whether the numbers are in their ranges, as the calls ask.
 fn is_in_ranges(plan: MakePlan) -> bool
-    ensures { IsTrue result → IsInRanges plan }
+    ensures { IsTrue result → IsPlanInRange plan }
 {
     let half = plan.vertices.saturating_sub(1) / 2;
     plan.vertices <= 1048576

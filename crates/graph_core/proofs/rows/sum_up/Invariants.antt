@@ -1,4 +1,4 @@
-use Rattle.graph_core.specs.Rows.{IsSummedUpTo}
+use Rattle.graph_core.proofs.RowSums.{IsSummedUpTo}
 use Rattle.graph_core.proofs.rows.sum_up.Given as goal
 
 abbrev pub invariant-loop-k : goal.invariant-loop-k

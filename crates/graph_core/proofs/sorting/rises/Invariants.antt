@@ -1,5 +1,5 @@
 use Rattle.std.proofs.Common.{take}
-use Rattle.graph_core.specs.Sorting.{Rises}
+use Rattle.graph_core.specs.Inner.SortedKeys.{Rises}
 use Rattle.graph_core.proofs.sorting.rises.Given as goal
 
 abbrev pub invariant-loop-k : goal.invariant-loop-k

@@ -1,13 +1,13 @@
 use Rattle.std.proofs.Common.{◌+◌, ◌≤◌}
 use Rattle.gl_base.specs.declared.limits.TheConstants.{MAX_TEXT_BYTES}
-use Rattle.graph_text.specs.Texts.{text_at, IsBetween}
+use Rattle.graph_text.specs.Inner.Texts.{read_text, IsBetween}
 use Rattle.graph_text.proofs.LinePieces.{SoFar, Leads}
 use Rattle.graph_text.proofs.lines.read_bytes.Given as goal
 
 abbrev pub invariant-reading : goal.invariant-reading
 invariant-reading g l = record {
   text : SoFar (g.S.Source.left l.fn.source) (g.S.Source.left l.source) l._turn
-      (Leads g.X.LineItem.MOST (g.X.LineItem.says l.weighted) l.room (text_at l.lines l.number));
+      (Leads g.X.LineItem.MOST (g.X.LineItem.says l.weighted) l.room (read_text l.lines l.number));
   line : l.lines.line + l.room ≤ MAX_TEXT_BYTES + 1;
   between : IsBetween l.lines l.number;
   later : g.S.Source.faults l.fn.source ≤ g.S.Source.faults l.source;

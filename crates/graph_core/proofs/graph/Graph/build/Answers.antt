@@ -35,7 +35,7 @@ invariant_of-result c =
     record { few = omega (arith, c.requires.few); few_edges = omega (arith, c.requires.few_edges); small = c.requires.ids; same = c.in_ok-ids.ensures.0; up = c.in_ok-ids.ensures.1; kept = kept } in
     let found = rw c.deref.ensures.value at c.in_ok-table.ensures in
     let each = rw c.deref-3.ensures.value at c.in_ok-halves.ensures.each in
-    built_kept _ _ _ _ _ c.in_ok-table.table c.in_ok-halves.halves c.in_ok-neighbours.neighbours built found (omega (arith, c.in_ok-halves.ensures.len)) (λ v l. each v (omega (arith, l))) c.in_ok-neighbours.ensures.len c.in_ok-neighbours.ensures.each
+    built_kept _ _ _ _ _ c.in_ok-table.table c.in_ok-halves.halves built found (omega (arith, c.in_ok-halves.ensures.len)) (λ v l. each v (omega (arith, l)))
 
 pub returns-clause-graph : goal.returns-clause-graph
 returns-clause-graph c =

@@ -1,4 +1,4 @@
-use Rattle.graph_core.specs.IdTable.{AreRangesTo}
+use Rattle.graph_core.proofs.IdRanges.{AreRangesTo}
 use Rattle.graph_core.proofs.id_table.Ranges.new.Given as goal
 
 abbrev pub invariant-loop-k : goal.invariant-loop-k
