@@ -7,8 +7,8 @@ use Rattle.atom_file.specs.declared.runs.RecordKind.TheVariants.{Vertices, Ghost
 use Rattle.atom_file.specs.declared.runs.Place.{Place}
 use Rattle.atom_file.specs.Fields.{field}
 use Rattle.atom_file.specs.Faults.{header_fault, record_size, record_key, records_fault, atom_fault}
-use Rattle.atom_file.specs.Runs.{fault_from, IsRun, IsRunBetween, IsBelow}
-use Rattle.atom_file.specs.Counts.{AreCounts}
+use Rattle.atom_file.specs.Inner.Runs.{fault_from, IsRun, IsRunBetween, IsBelow}
+use Rattle.atom_file.specs.Inner.Counts.{AreCounts}
 use Rattle.atom_file.proofs.FieldLemmas.{IsBytes, field-lt}
 
 -- the tags that records have

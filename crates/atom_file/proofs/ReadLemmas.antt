@@ -13,8 +13,8 @@ use Rattle.atom_file.specs.declared.faults.AtomFault.TheVariants.{BadTag}
 use Rattle.atom_file.specs.Fields.{field}
 use Rattle.atom_file.specs.Atoms.{Atom, header_of, record_count, atom_bytes, IsAtom, AtomFits}
 use Rattle.atom_file.specs.Faults.{torn_fault, value_fault, header_fault}
-use Rattle.atom_file.specs.Runs.{IsRun}
-use Rattle.atom_file.specs.Counts.{AreCounts}
+use Rattle.atom_file.specs.Inner.Runs.{IsRun}
+use Rattle.atom_file.specs.Inner.Counts.{AreCounts}
 use Rattle.atom_file.specs.Views.{vertex_at, ghost_at, edge_at, records_in}
 use Rattle.atom_file.proofs.FieldLemmas.{IsBytes, IsBytes-drop, IsBytes-take, two, four, eight, big_bytes-field, field-lt}
 use Rattle.atom_file.proofs.RecordLemmas.{IsForm, vertex_form, ghost_form, edge_form}

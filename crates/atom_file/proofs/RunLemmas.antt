@@ -8,7 +8,7 @@ use Rattle.atom_file.specs.declared.runs.RecordKind.TheVariants.{Vertices, Ghost
 use Rattle.atom_file.specs.declared.runs.Place.{Place}
 use Rattle.atom_file.specs.Fields.{field}
 use Rattle.atom_file.specs.Faults.{record_size, record_key, record_fault, records_fault}
-use Rattle.atom_file.specs.Runs.{tag_of, size_of, fault_from, IsRunBetween}
+use Rattle.atom_file.specs.Inner.Runs.{tag_of, size_of, fault_from, IsRunBetween}
 
 -- the place behind a record
 abbrev pub behind : List ℕ → RecordKind → Place → Place

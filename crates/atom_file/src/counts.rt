@@ -1,7 +1,7 @@
 //! How many records of each kind a file has.
 ghost use Rattle.std.specs.Prelude.{◌≡◌, Some, None, IfOk, OnOk, IfErr};
 ghost use Rattle.atom_file.specs.Faults.{atom_fault};
-ghost use Rattle.atom_file.specs.Counts.{AreCounts};
+ghost use Rattle.atom_file.specs.Inner.Counts.{AreCounts};
 
 use crate::AtomFault;
 use crate::fields::u32_at;

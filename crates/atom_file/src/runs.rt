@@ -1,7 +1,7 @@
 //! Records of one kind that stand one after another.
 ghost use Rattle.std.specs.Prelude.{◌≡◌, ◌≢◌, ℕ, ◌+◌, ◌-◌, ◌<◌, ◌≤◌, length, slice_index, Some, None, IfOk, OnOk, IfErr};
 ghost use Rattle.atom_file.specs.Faults.{record_size, record_key, record_fault};
-ghost use Rattle.atom_file.specs.Runs.{tag_of, size_of, fault_from, IsRunBetween, IsBelow};
+ghost use Rattle.atom_file.specs.Inner.Runs.{tag_of, size_of, fault_from, IsRunBetween, IsBelow};
 
 use crate::AtomFault;
 use crate::fields::u32_at;

@@ -1,7 +1,7 @@
 use Rattle.std.proofs.Common.{◌≡◌, ◌+◌, ◌≤◌, length, slice_index, sym, ap, ◌∙◌, arith}
 use Rattle.std.proofs.lemmas.Result.{err_from_is_err_and}
 use Rattle.atom_file.specs.declared.runs.Place.{Place}
-use Rattle.atom_file.specs.Runs.{tag_of, size_of}
+use Rattle.atom_file.specs.Inner.Runs.{tag_of, size_of}
 use Rattle.atom_file.proofs.RunLemmas.{behind, fault_from-behind, fault_from-fault, Follows-more}
 use Rattle.atom_file.proofs.runs.run_of.Goals as goal
 

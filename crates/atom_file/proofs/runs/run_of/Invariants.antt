@@ -1,5 +1,5 @@
 use Rattle.std.proofs.Common.{◌≡◌, ◌≤◌, length}
-use Rattle.atom_file.specs.Runs.{fault_from}
+use Rattle.atom_file.specs.Inner.Runs.{fault_from}
 use Rattle.atom_file.proofs.RunLemmas.{Follows}
 use Rattle.atom_file.proofs.runs.run_of.Given as goal
 

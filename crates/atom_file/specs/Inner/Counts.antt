@@ -2,7 +2,7 @@
 use Rattle.std.specs.Prelude.{◌≡◌, ℕ, ◌+◌, ◌*◌, List, length, None}
 use Rattle.atom_file.specs.Fields.{field}
 use Rattle.atom_file.specs.Faults.{header_fault}
-use Rattle.atom_file.specs.Runs.{IsRun}
+use Rattle.atom_file.specs.Inner.Runs.{IsRun}
 
 -- behind a header without a fault stand so many vertices, so many ghosts and so many edges, and nothing else
 pub record AreCounts (bytes : List ℕ) (vertices ghosts edges : ℕ) : Type 0 where
