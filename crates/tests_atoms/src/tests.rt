@@ -4,7 +4,8 @@ ghost use Rattle.atom_file.specs.Atoms.{IsAtom, atom_bytes};
 
 use crate::files::{COUNTLESS, EMPTY, FALLEN, FIRST, SECOND, TWICE, UNKNOWN, WHOLE};
 use atom_file::{AtomFault, AtomView, write_atom};
-use gl_base::{AtomNo, EdgeLine, EdgeNo, GhostLine, NoMemory, Vertex, VertexLine};
+use atom_place::place;
+use gl_base::{AtomNo, EdgeLine, EdgeNo, GhostLine, MachineNo, NoMemory, Vertex, VertexLine};
 use std::alloc::Global;
 use std::test::Fail;
 
@@ -109,4 +110,15 @@ fn fault_where_raised(place: usize) -> Option<AtomFault> {
         78 => Some(AtomFault::BadTag(78)),
         _ => None,
     }
+}
+
+#[test]
+fn atoms_are_placed_heaviest_first(rt: HostRuntime) -> Result<(), Fail> {
+    let owners = place(rt.alloc(), &[5, 4, 3, 3], 2)?;
+    assert_eq!(rt; owners.as_slice(), [0, 1, 1, 0].map(MachineNo).as_slice());
+    let owners = place(rt.alloc(), &[2, 7, 2, 2], 3)?;
+    assert_eq!(rt; owners.as_slice(), [1, 0, 2, 1].map(MachineNo).as_slice());
+    let owners = place(rt.alloc(), &[], 3)?;
+    assert!(rt; owners.is_empty());
+    Ok(())
 }
