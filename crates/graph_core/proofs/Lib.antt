@@ -12,3 +12,5 @@ pub mod GraphLemmas
 pub mod WalkLaws
 pub mod VertexLaws
 pub mod SmallGraphs
+pub mod GrowthMarks
+pub mod GrowthLemmas

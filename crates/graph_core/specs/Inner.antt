@@ -4,3 +4,4 @@ pub mod SortedKeys
 pub mod HalfPairs
 pub mod NumberedEdges
 pub mod GraphParts
+pub mod GrowthMarks

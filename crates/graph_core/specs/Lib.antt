@@ -13,4 +13,5 @@ pub mod HalfRows
 pub mod Graphs
 pub mod GraphLaws
 pub mod Digest
+pub mod Growth
 pub mod Inner

@@ -10,7 +10,7 @@ use crate::neighbours::list_neighbours;
 use crate::rows::Rows;
 use crate::vertex_lists::sorted_ids;
 use crate::{EdgeIn, GraphFault};
-use gl_base::{EdgeNo, MAX_EDGES, MAX_ID, MAX_VERTICES, NoMemory, Vertex};
+use gl_base::{EdgeLine, EdgeNo, MAX_EDGES, MAX_ID, MAX_VERTICES, NoMemory, Vertex};
 use std::alloc::Global;
 use std::marker::Model;
 
@@ -44,7 +44,7 @@ impl Graph {
     ghost use Rattle.graph_core.specs.HalfRows.{data_half};
     ghost use Rattle.graph_core.specs.IdTable.{IsVertexWith};
     ghost use Rattle.graph_core.specs.Neighbours.{neighbours_of};
-    ghost use Rattle.graph_core.specs.Graphs.{HasEnds};
+    ghost use Rattle.graph_core.specs.Graphs.{HasEnds, IsEdgeLine};
 
     /// The graph of a list of identifiers and a list of edges between them. It refuses first the least place
     /// of an identifier that stands before it too; then the least place of an edge with an end that is no
@@ -139,5 +139,19 @@ impl Graph {
     {
         let edge = self.edges[e.0 as usize];
         (edge.from, edge.to)
+    }
+
+    /// An edge: its number, where it begins and ends, and its weight.
+    pub fn edge(&self, e: EdgeNo) -> EdgeLine
+        requires { e.0 < length self.now.edges }
+        ensures { IsEdgeLine self.now e.0 result }
+    {
+        let edge = self.edges[e.0 as usize];
+        EdgeLine {
+            edge: e,
+            from: edge.from,
+            to: edge.to,
+            weight: edge.weight,
+        }
     }
 }

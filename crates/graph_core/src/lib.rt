@@ -5,6 +5,7 @@ mod edge_lists;
 mod edges;
 mod graph;
 mod graph_lists;
+mod growing;
 mod half_rows;
 mod halves;
 mod id_table;
@@ -16,6 +17,7 @@ mod vertex_lists;
 
 pub use graph::Graph;
 pub use graph_lists::{EdgeIn, GraphFault};
+pub use growing::growth;
 pub use halves::Half;
 pub use id_table::IdTable;
 pub use laws::{

@@ -1,0 +1,5 @@
+pub mod Fields
+pub mod Atoms
+pub mod Faults
+pub mod Views
+pub mod Inner

@@ -1,0 +1,7 @@
+//! Tests of the files of atoms: worked rows, and which fault comes first.
+#![tactic(auto)]
+
+#[cfg(test)]
+mod files;
+#[cfg(test)]
+mod tests;

@@ -1,0 +1,124 @@
+//! Worked rows. Faults are those of the first faulty place.
+ghost use Rattle.std.specs.Prelude.{◌≡◌, IfOk};
+ghost use Rattle.atom_file.specs.Atoms.{IsAtom, atom_bytes};
+
+use crate::files::{COUNTLESS, EMPTY, FALLEN, FIRST, SECOND, TWICE, UNKNOWN, WHOLE};
+use atom_file::{AtomFault, AtomView, write_atom};
+use atom_place::place;
+use gl_base::{AtomNo, EdgeLine, EdgeNo, GhostLine, MachineNo, NoMemory, Vertex, VertexLine};
+use std::alloc::Global;
+use std::test::Fail;
+
+/// The first fault of a file.
+fn fault_of(bytes: &[u8]) -> Option<AtomFault> {
+    AtomView::read(bytes).err()
+}
+
+/// The file of the lines of an atom.
+fn written_again(alloc: Global, view: &AtomView<'_>) -> Result<Vec<u8>, NoMemory>
+    requires { IsAtom view.now }
+    ensures { IfOk result (λ file. file.items ≡ atom_bytes view.now) }
+{
+    let lines = view.lines(alloc)?;
+    write_atom(alloc, view.number(), &lines)
+}
+
+#[test]
+fn right_files_are_read_and_written_again(rt: HostRuntime) -> Result<(), Fail> {
+    let rows: [(&[u8], [u32; 3]); 4] = [
+        (&WHOLE, [4, 0, 2]),
+        (&FIRST, [2, 1, 2]),
+        (&SECOND, [2, 1, 1]),
+        (&EMPTY, [0, 0, 0]),
+    ];
+    for (bytes, counts) in rows {
+        let view = AtomView::read(bytes)?;
+        assert_eq!(rt; [view.vertices(), view.ghosts(), view.edges()], counts);
+        let file = written_again(rt.alloc(), &view)?;
+        assert_eq!(rt; file.as_slice(), bytes);
+    }
+    let view = AtomView::read(&FIRST)?;
+    assert!(rt; view.vertices() == 2 && view.ghosts() == 1 && view.edges() == 2);
+    assert_eq!(rt; view.number(), AtomNo(0));
+    assert_eq!(rt;
+        view.vertex_line(1),
+        VertexLine {
+            vertex: Vertex(1),
+            id: 2
+        }
+    );
+    assert_eq!(rt;
+        view.ghost_line(0),
+        GhostLine {
+            vertex: Vertex(2),
+            id: 3,
+            atom: AtomNo(1)
+        }
+    );
+    assert_eq!(rt;
+        view.edge_line(1),
+        EdgeLine {
+            edge: EdgeNo(1),
+            from: Vertex(1),
+            to: Vertex(2),
+            weight: 1,
+        }
+    );
+    Ok(())
+}
+
+#[test]
+fn the_first_fault_is_told(rt: HostRuntime) {
+    let rows: [(&[u8], AtomFault); 4] = [
+        (&COUNTLESS, AtomFault::Torn(20)),
+        (&FALLEN, AtomFault::OutOfOrder(35)),
+        (&TWICE, AtomFault::OutOfOrder(33)),
+        (&UNKNOWN, AtomFault::BadTag(20)),
+    ];
+    for (bytes, fault) in rows {
+        assert_eq!(rt; fault_of(bytes), Some(fault));
+    }
+    for length in 0..95usize {
+        assert_eq!(rt;
+            fault_of(&FIRST[..length]),
+            Some(AtomFault::Torn(length as u64))
+        );
+    }
+    let mut longer = [0; 96];
+    longer[..95].copy_from_slice(&FIRST);
+    assert_eq!(rt; fault_of(&longer), Some(AtomFault::Trailing(95)));
+    for place in 0..95usize {
+        let mut bytes = FIRST;
+        bytes[place] = bytes[place].wrapping_add(1);
+        assert_eq!(rt; fault_of(&bytes), fault_where_raised(place));
+    }
+}
+
+/// The first fault of the file `FIRST` where the byte at a place is raised by one. A Python program told them.
+fn fault_where_raised(place: usize) -> Option<AtomFault> {
+    match place {
+        0..8 => Some(AtomFault::BadTag(0)),
+        8..12 => Some(AtomFault::BadTag(8)),
+        14..16 => Some(AtomFault::BadTag(14)),
+        16..20 => Some(AtomFault::Torn(95)),
+        20 => Some(AtomFault::BadTag(35)),
+        21..25 => Some(AtomFault::OutOfOrder(33)),
+        33 => Some(AtomFault::BadTag(48)),
+        46 => Some(AtomFault::BadTag(63)),
+        61 => Some(AtomFault::BadTag(61)),
+        62..66 => Some(AtomFault::OutOfOrder(78)),
+        78 => Some(AtomFault::BadTag(78)),
+        _ => None,
+    }
+}
+
+#[test]
+fn atoms_are_placed_heaviest_first(rt: HostRuntime) -> Result<(), Fail> {
+    let owners = place(rt.alloc(), &[5, 4, 3, 3], 2)?;
+    assert_eq!(rt; owners.as_slice(), [0, 1, 1, 0].map(MachineNo).as_slice());
+    let owners = place(rt.alloc(), &[2, 7, 2, 2], 3)?;
+    assert_eq!(rt; owners.as_slice(), [1, 0, 2, 1].map(MachineNo).as_slice());
+    let owners = place(rt.alloc(), &[], 3)?;
+    assert!(rt; owners.is_empty());
+    Ok(())
+}
