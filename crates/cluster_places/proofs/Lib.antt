@@ -1,2 +1,5 @@
 pub mod Reaching
 pub mod Frames
+pub mod Going
+pub mod Seen
+pub mod Moving
