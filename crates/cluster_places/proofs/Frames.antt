@@ -105,7 +105,7 @@ pub not_claimed : (t : ScopeId) (c : Claim) → is_scope c.scope t ≡ false →
 not_claimed t c apart claims = rw apart refl
 
 module _ (st : Setting) (a : ℕ) (s : ScopeId) (v : ℕ) (t : ScopeId) (apart : is_scope t s ≡ false) where
-  readied : (part : Part) → SameFor t part (record part { ready = set_for part.ready s true })
+  pub readied : (part : Part) → SameFor t part (record part { ready = set_for part.ready s true })
   readied part =
       record { flight = refl; ready = set_for-other part.ready s true t apart; stand = refl; holder = λ x. refl; queue = λ x. refl; out = λ q. refl }
 

@@ -27,16 +27,16 @@ pub record InHand (st : Setting) (w : World) (a : ℕ) (part : Part) (s : ScopeI
   pub queue : (x : ℕ) → claims_of s ((set_at w.part a part (st.owner x)).queue x) ≡ []
   pub tokens : (p q : ℕ) → tokens_of s (w.link p q ++ (set_at w.part a part p).out q) ≡ []
 
-held-same : (v : ℕ) (one other : ℕ → Bool) (x : ℕ) → one x ≡ other x → held v one x ≡ held v other x
+pub held-same : (v : ℕ) (one other : ℕ → Bool) (x : ℕ) → one x ≡ other x → held v one x ≡ held v other x
 held-same v one other x same = ap (λ (test : Bool). some_if test (mode_at v x)) same
 
-asked_here : (s : ScopeId) (v : ℕ) (rest : List ℕ) → token_of s (Ask s v rest) ≡ IsAsked v rest ∷ []
+pub asked_here : (s : ScopeId) (v : ℕ) (rest : List ℕ) → token_of s (Ask s v rest) ≡ IsAsked v rest ∷ []
 asked_here s v rest = rw (same_scope s) refl
 
-ready_here : (s : ScopeId) → token_of s (Ready s) ≡ IsReady ∷ []
+pub ready_here : (s : ScopeId) → token_of s (Ready s) ≡ IsReady ∷ []
 ready_here s = rw (same_scope s) refl
 
-claimed_here : (s : ScopeId) (mode : Mode) → claims_of s (record { scope = s; mode = mode } ∷ []) ≡ record { scope = s; mode = mode } ∷ []
+pub claimed_here : (s : ScopeId) (mode : Mode) → claims_of s (record { scope = s; mode = mode } ∷ []) ≡ record { scope = s; mode = mode } ∷ []
 claimed_here s mode = rw (same_scope s) refl
 
 module _ (st : Setting) (is : IsSetting st) (w : World) (a : ℕ) (part : Part) (s : ScopeId) (v k : ℕ) (within : v < size st.graph) (hand : InHand st w a part s v k) where

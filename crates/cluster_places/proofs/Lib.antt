@@ -3,3 +3,8 @@ pub mod Frames
 pub mod Going
 pub mod Seen
 pub mod Moving
+pub mod Standing
+pub mod Delivering
+pub mod Granting
+pub mod Admitting
+pub mod Ending

@@ -21,7 +21,7 @@ asked_same v c one other is = (cc, cc)
 done_same : (v c : ℕ) → IsDone v ≡ IsDone c → v ≡ c
 done_same v c is = cc
 
-some_centre : (v c : ℕ) → Some v ≡ Some c → v ≡ c
+pub some_centre : (v c : ℕ) → Some v ≡ Some c → v ≡ c
 some_centre v c is = cc
 
 module _ (st : Setting) (s : ScopeId) where
