@@ -8,3 +8,6 @@ pub mod Delivering
 pub mod Granting
 pub mod Admitting
 pub mod Ending
+pub mod Excluding
+pub mod PlacesKept
+pub mod Fronts
