@@ -1,23 +1,22 @@
 -- A scope is admitted, and sets out to take its locks.
-use Rattle.std.proofs.Common.{◌≡◌, ◌≢◌, ◌⊎◌, ℕ, zero, suc, ◌<◌, ◌≤◌, ◌==◌, ◌&&◌, Bool, true, false, if◌then◌else◌, Option, None, Some, List, [], ◌∷◌, ◌++◌, refl, sym, ◌∙◌, ap, subst, ⊎_elim, inl, inr, arith}
+use Rattle.std.proofs.Common.{◌≡◌, ◌≢◌, ℕ, suc, ◌<◌, ◌≤◌, ◌==◌, ◌&&◌, Bool, true, false, if◌then◌else◌, Some, List, [], ◌∷◌, ◌++◌, refl, sym, ◌∙◌, ap, subst, ⊎_elim, inr, arith}
 use Rattle.std.proofs.lemmas.Bool.{cases_eq, eq-eqb, eqb-true, ne_eqb, and_parts, both_ways, false_from_ne_true}
 use Rattle.gl_base.specs.declared.scopes.ScopeId.{ScopeId}
-use Rattle.graph_core.specs.DataGraph.{size}
-use Rattle.cluster_core.specs.Messages.{Message, Ask}
-use Rattle.cluster_core.specs.Parts.{Part, Stand}
+use Rattle.cluster_core.specs.Messages.{Ask}
+use Rattle.cluster_core.specs.Parts.{Part}
 use Rattle.cluster_core.specs.Ranges.{set_at}
 use Rattle.cluster_core.specs.Settings.{Setting, IsSetting, Engine, Locking, is_in_scope}
 use Rattle.cluster_core.specs.Scopes.{is_scope, set_for, mode_at, takes_part, machines_from, is_before}
 use Rattle.cluster_core.specs.Effects.{put, goes_on, sets_out, next_scope, in_flight, admitted, admitted_by}
-use Rattle.cluster_core.specs.Worlds.{World, with_part, way}
+use Rattle.cluster_core.specs.Worlds.{World, with_part}
 use Rattle.cluster_core.specs.Actions.{MayAdmit}
-use Rattle.cluster_core.specs.Stages.{Token, IsAsked, Stage, Idle, Asks, Shows, sight_of, has_lock, centre_of, flying, held, some_if, one_if, tokens_of, claims_of}
+use Rattle.cluster_core.specs.Stages.{Token, IsAsked, Stage, Idle, Asks, Shows, sight_of, has_lock, flying, some_if, one_if, tokens_of, claims_of}
 use Rattle.cluster_core.specs.Places.{ArePlaces, IsStageOf, IsAtHome}
 use Rattle.cluster_core.proofs.Basics.{set_at-kept, set_at-here, set_at-there, set_for-same, set_for-other}
 use Rattle.cluster_core.proofs.Nearness.{next_machine, no_machine, owner_takes_part, scoped_itself}
 use Rattle.cluster_places.proofs.Reaching.{reached, below, before_is, reached-locks, reached-stage, reached-flying}
-use Rattle.cluster_places.proofs.Frames.{SameFor, shows_still, same_then, same_again, put-same, put-tokens, not_asked, goes_on-same}
-use Rattle.cluster_places.proofs.Going.{InHand, goes_on-shows, held-same, asked_here}
+use Rattle.cluster_places.proofs.Frames.{SameFor, shows_still, same_then, put-same, put-tokens, not_asked, goes_on-same}
+use Rattle.cluster_places.proofs.Going.{InHand, goes_on-shows, asked_here}
 use Rattle.cluster_places.proofs.Seen.{idle_or_busy, flying_seen, flying_home, some_centre}
 use Rattle.cluster_places.proofs.Moving.{one_moves}
 use Rattle.cluster_places.proofs.Standing.{serials_rise, goes_on-serial, shows_as}
@@ -85,14 +84,14 @@ module _ (st : Setting) (is : IsSetting st) (w : World) (stage : ScopeId → Sta
   admits_here rest next =
       let more : rest ≡ machines_from st v (suc a) = (next_machine st v 0 a rest next).3 in
       let hand : InHand st w a begun new_scope v 0 =
-          record {
-            flight = flight_here begun refl;
-            ready = set_at-kept (λ (r : Part). r.ready new_scope) w.part a begun refl a ∙ unseen.ready;
-            stand = λ b off. unseen.stand b;
-            holder = λ x. set_at-kept (λ (r : Part). r.holder x new_scope) w.part a begun refl (st.owner x) ∙ unseen.holder x ∙ sym (ap (λ (test : Bool). some_if test (mode_at v x)) (nothing_before a rest next x));
-            queue = λ x. set_at-kept (λ (r : Part). claims_of new_scope (r.queue x)) w.part a begun refl (st.owner x) ∙ unseen.queue x;
-            tokens = λ p q. set_at-kept (λ (r : Part). tokens_of new_scope (w.link p q ++ r.out q)) w.part a begun refl p ∙ unseen.tokens p q;
-          } in
+      record {
+        flight = flight_here begun refl;
+        ready = set_at-kept (λ (r : Part). r.ready new_scope) w.part a begun refl a ∙ unseen.ready;
+        stand = λ b off. unseen.stand b;
+        holder = λ x. set_at-kept (λ (r : Part). r.holder x new_scope) w.part a begun refl (st.owner x) ∙ unseen.holder x ∙ sym (ap (λ (test : Bool). some_if test (mode_at v x)) (nothing_before a rest next x));
+        queue = λ x. set_at-kept (λ (r : Part). claims_of new_scope (r.queue x)) w.part a begun refl (st.owner x) ∙ unseen.queue x;
+        tokens = λ p q. set_at-kept (λ (r : Part). tokens_of new_scope (w.link p q ++ r.out q)) w.part a begun refl p ∙ unseen.tokens p q;
+      } in
       admits (goes_on st a new_scope v 0 rest begun) (reached st new_scope v a 0)
       (subst (λ (ms : List ℕ). Shows st (with_part w a (goes_on st a new_scope v 0 ms begun)) new_scope (sight_of st new_scope (reached st new_scope v a 0))) (sym more) (goes_on-shows st is w a begun new_scope v 0 may.vertex hand))
       (λ t apart. goes_on-same st a new_scope v t apart 0 rest begun)
@@ -107,29 +106,29 @@ module _ (st : Setting) (is : IsSetting st) (w : World) (stage : ScopeId → Sta
       let new : Part = put b (Ask new_scope v rest) begun in
       let token : Token = IsAsked v rest in
       let told : (p q : ℕ) → tokens_of new_scope (w.link p q ++ (set_at w.part a new p).out q) ≡ one_if (p == a && q == b) token =
-          λ p q.
-          let read : Part → List Token = λ (r : Part). tokens_of new_scope (w.link p q ++ r.out q) in
-          ⊎_elim
-          (λ (here : p ≡ a).
-          let before : read (w.part a) ≡ [] = ap (λ (c : ℕ). tokens_of new_scope (w.link p q ++ (w.part c).out q)) (sym here) ∙ unseen.tokens p q in
-          let now : read (set_at w.part a new p) ≡ read (w.part a) ++ (if q == b then token ∷ [] else []) =
-              set_at-here read w.part a new p here ∙ put-tokens new_scope (w.link p q) (w.part a).out b (Ask new_scope v rest) q
-              ∙ ap (λ (front : List Token). read (w.part a) ++ (if q == b then front else [])) (asked_here new_scope v rest) in
-          let at : (p == a) ≡ true = eq-eqb p a here in
-          now ∙ (λ i. before i ++ (if q == b then token ∷ [] else [])) ∙ sym (ap (λ (test : Bool). one_if (test && q == b) token) at))
-          (λ (off : p ≢ a).
-          let away : (p == a) ≡ false = ne_eqb p a off in
-          set_at-there read w.part a new p off ∙ unseen.tokens p q ∙ sym (ap (λ (test : Bool). one_if (test && q == b) token) away))
-          (cases_eq p a) in
+      λ p q.
+      let read : Part → List Token = λ (r : Part). tokens_of new_scope (w.link p q ++ r.out q) in
+      ⊎_elim
+      (λ (here : p ≡ a).
+      let before : read (w.part a) ≡ [] = ap (λ (c : ℕ). tokens_of new_scope (w.link p q ++ (w.part c).out q)) (sym here) ∙ unseen.tokens p q in
+      let now : read (set_at w.part a new p) ≡ read (w.part a) ++ (if q == b then token ∷ [] else []) =
+      set_at-here read w.part a new p here ∙ put-tokens new_scope (w.link p q) (w.part a).out b (Ask new_scope v rest) q
+      ∙ ap (λ (front : List Token). read (w.part a) ++ (if q == b then front else [])) (asked_here new_scope v rest) in
+      let at : (p == a) ≡ true = eq-eqb p a here in
+      now ∙ (λ i. before i ++ (if q == b then token ∷ [] else [])) ∙ sym (ap (λ (test : Bool). one_if (test && q == b) token) at))
+      (λ (off : p ≢ a).
+      let away : (p == a) ≡ false = ne_eqb p a off in
+      set_at-there read w.part a new p off ∙ unseen.tokens p q ∙ sym (ap (λ (test : Bool). one_if (test && q == b) token) away))
+      (cases_eq p a) in
       let shown : Shows st (with_part w a new) new_scope (sight_of st new_scope (Asks v a b)) =
-          record {
-            flight = flight_here new refl;
-            ready = set_at-kept (λ (r : Part). r.ready new_scope) w.part a new refl a ∙ unseen.ready;
-            stand = λ c. set_at-kept (λ (r : Part). r.stand new_scope) w.part a new refl c ∙ unseen.stand c;
-            holder = λ x. set_at-kept (λ (r : Part). r.holder x new_scope) w.part a new refl (st.owner x) ∙ unseen.holder x ∙ sym (ap (λ (test : Bool). some_if test (mode_at v x)) (nothing_before b rest next x));
-            queue = λ x. set_at-kept (λ (r : Part). claims_of new_scope (r.queue x)) w.part a new refl (st.owner x) ∙ unseen.queue x;
-            tokens = λ p q. told p q ∙ ap (λ (ms : List ℕ). one_if (p == a && q == b) (IsAsked v ms)) h.3;
-          } in
+      record {
+        flight = flight_here new refl;
+        ready = set_at-kept (λ (r : Part). r.ready new_scope) w.part a new refl a ∙ unseen.ready;
+        stand = λ c. set_at-kept (λ (r : Part). r.stand new_scope) w.part a new refl c ∙ unseen.stand c;
+        holder = λ x. set_at-kept (λ (r : Part). r.holder x new_scope) w.part a new refl (st.owner x) ∙ unseen.holder x ∙ sym (ap (λ (test : Bool). some_if test (mode_at v x)) (nothing_before b rest next x));
+        queue = λ x. set_at-kept (λ (r : Part). claims_of new_scope (r.queue x)) w.part a new refl (st.owner x) ∙ unseen.queue x;
+        tokens = λ p q. told p q ∙ ap (λ (ms : List ℕ). one_if (p == a && q == b) (IsAsked v ms)) h.3;
+      } in
       admits new (Asks v a b)
       shown
       (λ t apart. put-same t b (Ask new_scope v rest) begun (not_asked t new_scope v rest apart))

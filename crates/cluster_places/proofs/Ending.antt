@@ -1,22 +1,20 @@
 -- A scope ends: its update, or its snapshot update, is made, and the other machines are told.
-use Rattle.std.proofs.Common.{◌≡◌, ◌≢◌, ◌⊎◌, ℕ, suc, ◌<◌, ◌≤◌, ◌==◌, ◌&&◌, not, Bool, true, false, if◌then◌else◌, Option, None, Some, List, [], ◌∷◌, ◌++◌, refl, sym, ◌∙◌, ap, subst, ⊎_elim, inl, inr, append_assoc, append-nil, arith}
+use Rattle.std.proofs.Common.{◌≡◌, ◌≢◌, ℕ, ◌≤◌, ◌==◌, ◌&&◌, not, Bool, true, false, if◌then◌else◌, None, Some, List, [], ◌∷◌, ◌++◌, refl, sym, ◌∙◌, ap, ⊎_elim, inl, append_assoc, append-nil, arith}
 use Rattle.std.proofs.lemmas.Bool.{cases_eq, cases_Bool, eq-eqb, ne_eqb, and_parts, and_from, and_left, and_right}
 use Rattle.gl_base.specs.declared.entries.Entry.{Entry}
-use Rattle.gl_base.specs.declared.scopes.Mode.{Mode}
 use Rattle.gl_base.specs.declared.scopes.ScopeId.{ScopeId}
-use Rattle.graph_core.specs.DataGraph.{size}
 use Rattle.cluster_core.specs.Messages.{Message, News, Done}
-use Rattle.cluster_core.specs.Parts.{Part, Stand}
+use Rattle.cluster_core.specs.Parts.{Part}
 use Rattle.cluster_core.specs.Ranges.{set_at}
 use Rattle.cluster_core.specs.Settings.{Setting, IsSetting, is_in_scope}
 use Rattle.cluster_core.specs.Scopes.{is_scope, set_for, mode_at, takes_part}
 use Rattle.cluster_core.specs.Effects.{released, tell, news_for, mark_news, updated, marked}
-use Rattle.cluster_core.specs.Worlds.{World, with_part, way}
-use Rattle.cluster_core.specs.Stages.{Token, IsDone, Stage, Idle, Stays, Ends, Shows, sight_of, has_lock, centre_of, flying, held, some_if, one_if, token_of, tokens_of, claims_of}
-use Rattle.cluster_core.specs.Places.{ArePlaces, IsStageOf, IsAtHome}
+use Rattle.cluster_core.specs.Worlds.{World, with_part}
+use Rattle.cluster_core.specs.Stages.{Token, IsDone, Stage, Stays, Ends, Shows, sight_of, has_lock, centre_of, some_if, one_if, tokens_of, claims_of}
+use Rattle.cluster_core.specs.Places.{ArePlaces, IsAtHome}
 use Rattle.cluster_core.proofs.Basics.{set_at-kept, set_at-here, set_at-there, set_for-same, set_for-other}
 use Rattle.cluster_core.proofs.Nearness.{owner_takes_part}
-use Rattle.cluster_places.proofs.Frames.{SameFor, shows_still, tokens_of-append, tokens_of-push}
+use Rattle.cluster_places.proofs.Frames.{SameFor, shows_still, tokens_of-push}
 use Rattle.cluster_places.proofs.Going.{held-same}
 use Rattle.cluster_places.proofs.Seen.{staying_stage}
 use Rattle.cluster_places.proofs.Moving.{one_moves}
@@ -87,7 +85,7 @@ module _ (st : Setting) (is : IsSetting st) (w : World) (stage : ScopeId → Sta
       ⊎_elim
       (λ (scoped : is_in_scope st u x ≡ true).
       let told : reaches (st.owner x) ≡ true =
-          and_from (takes_part st u (st.owner x)) (not (st.owner x == s.home.0)) (owner_takes_part st is u x stands.vertex scoped) (ap not (ne_eqb (st.owner x) s.home.0 off)) in
+      and_from (takes_part st u (st.owner x)) (not (st.owner x == s.home.0)) (owner_takes_part st is u x stands.vertex scoped) (ap not (ne_eqb (st.owner x) s.home.0 off)) in
       scoped ∙ sym (and_from (is_in_scope st u x) (reaches (st.owner x)) scoped told))
       (λ (away : is_in_scope st u x ≡ false). away ∙ sym (and_left (is_in_scope st u x) (reaches (st.owner x)) away))
       (cases_Bool (is_in_scope st u x))
@@ -100,30 +98,30 @@ module _ (st : Setting) (is : IsSetting st) (w : World) (stage : ScopeId → Sta
         ready = set_at-here (λ (r : Part). r.ready s) w.part s.home.0 made s.home.0 refl ∙ (λ i. end.ready i s) ∙ set_for-same (w.part s.home.0).ready s false;
         stand = λ b. set_at-kept (λ (r : Part). r.stand s) w.part s.home.0 made (λ i. end.stand i s) b ∙ seen.stand b;
         holder = λ x. ⊎_elim
-          (λ (here : st.owner x ≡ s.home.0).
-          set_at-here (λ (r : Part). r.holder x s) w.part s.home.0 made (st.owner x) here
-          ∙ (λ i. end.holder i x s)
-          ∙ set_for-same ((w.part s.home.0).holder x) s None
-          ∙ sym (ap (λ (test : Bool). some_if test (mode_at u x)) (and_right (is_in_scope st u x) (reaches (st.owner x)) (reaches_none (st.owner x) here))))
-          (λ (off : st.owner x ≢ s.home.0).
-          set_at-there (λ (r : Part). r.holder x s) w.part s.home.0 made (st.owner x) off
-          ∙ seen.holder x
-          ∙ held-same u (has_lock st (Stays u)) (has_lock st (Ends u reaches)) x (held_still x off))
-          (cases_eq (st.owner x) s.home.0);
+            (λ (here : st.owner x ≡ s.home.0).
+            set_at-here (λ (r : Part). r.holder x s) w.part s.home.0 made (st.owner x) here
+            ∙ (λ i. end.holder i x s)
+            ∙ set_for-same ((w.part s.home.0).holder x) s None
+            ∙ sym (ap (λ (test : Bool). some_if test (mode_at u x)) (and_right (is_in_scope st u x) (reaches (st.owner x)) (reaches_none (st.owner x) here))))
+            (λ (off : st.owner x ≢ s.home.0).
+            set_at-there (λ (r : Part). r.holder x s) w.part s.home.0 made (st.owner x) off
+            ∙ seen.holder x
+            ∙ held-same u (has_lock st (Stays u)) (has_lock st (Ends u reaches)) x (held_still x off))
+            (cases_eq (st.owner x) s.home.0);
         queue = λ x. set_at-kept (λ (r : Part). claims_of s (r.queue x)) w.part s.home.0 made (λ i. claims_of s (end.queue i x)) (st.owner x) ∙ seen.queue x;
         tokens = λ p q. ⊎_elim
-          (λ (here : p ≡ s.home.0).
-          let none : tokens_of s (w.link p q ++ (w.part s.home.0).out q) ≡ [] =
-              ap (λ (c : ℕ). tokens_of s (w.link p q ++ (w.part c).out q)) (sym here) ∙ seen.tokens p q in
-          set_at-here (λ (r : Part). tokens_of s (w.link p q ++ r.out q)) w.part s.home.0 made p here
-          ∙ (λ i. tokens_of s (w.link p q ++ end.out i q))
-          ∙ told_once s (news q) u (reaches q) (w.link p q) ((w.part s.home.0).out q) (end.centre q) none
-          ∙ sym (ap (λ (test : Bool). one_if (test && reaches q) (IsDone u)) (eq-eqb p s.home.0 here)))
-          (λ (off : p ≢ s.home.0).
-          set_at-there (λ (r : Part). tokens_of s (w.link p q ++ r.out q)) w.part s.home.0 made p off
-          ∙ seen.tokens p q
-          ∙ sym (ap (λ (test : Bool). one_if (test && reaches q) (IsDone u)) (ne_eqb p s.home.0 off)))
-          (cases_eq p s.home.0);
+            (λ (here : p ≡ s.home.0).
+            let none : tokens_of s (w.link p q ++ (w.part s.home.0).out q) ≡ [] =
+            ap (λ (c : ℕ). tokens_of s (w.link p q ++ (w.part c).out q)) (sym here) ∙ seen.tokens p q in
+            set_at-here (λ (r : Part). tokens_of s (w.link p q ++ r.out q)) w.part s.home.0 made p here
+            ∙ (λ i. tokens_of s (w.link p q ++ end.out i q))
+            ∙ told_once s (news q) u (reaches q) (w.link p q) ((w.part s.home.0).out q) (end.centre q) none
+            ∙ sym (ap (λ (test : Bool). one_if (test && reaches q) (IsDone u)) (eq-eqb p s.home.0 here)))
+            (λ (off : p ≢ s.home.0).
+            set_at-there (λ (r : Part). tokens_of s (w.link p q ++ r.out q)) w.part s.home.0 made p off
+            ∙ seen.tokens p q
+            ∙ sym (ap (λ (test : Bool). one_if (test && reaches q) (IsDone u)) (ne_eqb p s.home.0 off)))
+            (cases_eq p s.home.0);
       }
 
   pub end_keeps : ArePlaces st (with_part w s.home.0 made) (set_for stage s (Ends u reaches))

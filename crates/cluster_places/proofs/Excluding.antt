@@ -1,18 +1,17 @@
 -- Places of scopes exclude one another.
-use Rattle.std.proofs.Common.{◌≡◌, ◌≢◌, ◌⊎◌, ℕ, ◌<◌, ◌==◌, ◌&&◌, ◌||◌, if◌then◌else◌, Bool, true, false, Option, None, Some, List, [], ◌∷◌, ◌++◌, refl, sym, ◌∙◌, ap, subst, ⊎_elim, inl, inr}
+use Rattle.std.proofs.Common.{◌≡◌, ◌⊎◌, ℕ, ◌==◌, if◌then◌else◌, Bool, true, false, Some, List, [], ◌∷◌, ◌++◌, refl, sym, ◌∙◌, ap, subst, ⊎_elim, inl, inr}
 use Rattle.std.proofs.lemmas.Bool.{and_parts, and_from, or_cases, both_ways, false_from_ne_true, eqb-true}
 use Rattle.gl_base.specs.declared.scopes.Mode.{Mode}
 use Rattle.gl_base.specs.declared.scopes.Mode.TheVariants.{Reader, Writer}
 use Rattle.gl_base.specs.declared.scopes.ScopeId.{ScopeId}
-use Rattle.graph_core.specs.DataGraph.{size}
 use Rattle.cluster_core.specs.Messages.{Message, Ask, Ready, Done}
 use Rattle.cluster_core.specs.Settings.{Setting, IsSetting, is_near, is_in_scope}
 use Rattle.cluster_core.specs.Scopes.{mode_at}
 use Rattle.cluster_core.specs.Worlds.{World, way}
-use Rattle.cluster_core.specs.Stages.{Token, IsAsked, IsReady, IsDone, Stage, Idle, Asks, Waits, Returns, Stays, Ends, sight_of, has_lock, centre_of, held, some_if, one_if, token_of, tokens_of}
-use Rattle.cluster_core.specs.Places.{ArePlaces, IsAtHome, IsReadyFor, IsExclusive, is_done_near, done_near}
+use Rattle.cluster_core.specs.Stages.{Token, IsAsked, IsReady, IsDone, Stage, Idle, Asks, Waits, Returns, Stays, Ends, sight_of, has_lock, centre_of, some_if, one_if, token_of, tokens_of}
+use Rattle.cluster_core.specs.Places.{ArePlaces, IsAtHome, IsReadyFor, IsExclusive, done_near}
 use Rattle.cluster_core.proofs.Nearness.{near_turned, near_other, scoped_itself, scoped_near}
-use Rattle.cluster_places.proofs.Seen.{staying_stage, reader_elsewhere}
+use Rattle.cluster_places.proofs.Seen.{staying_stage}
 use Rattle.cluster_places.proofs.Delivering.{done_here}
 use Rattle.cluster_places.proofs.Standing.{stage_as}
 
@@ -113,7 +112,7 @@ module _ (st : Setting) (is : IsSetting st) (w : World) (stage : ScopeId → Sta
       let its_own : has_lock st (stage s) v ≡ true = ap (λ (x : Stage). has_lock st x v) at_s ∙ scoped_itself st is v in
       let owned : st.owner v ≡ s.home.0 = (home_of s v ready).owned in
       let the_other : has_lock st (stage t) v ≡ true =
-          ap (λ (x : Stage). has_lock st x v) e.1 ∙ and_from (is_in_scope st c v) (e.0 (st.owner v)) (scoped_near st is c v (near_turned st c v ∙ h.2)) (ap e.0 owned ∙ e.2) in
+      ap (λ (x : Stage). has_lock st x v) e.1 ∙ and_from (is_in_scope st c v) (e.0 (st.owner v)) (scoped_near st is c v (near_turned st c v ∙ h.2)) (ap e.0 owned ∙ e.2) in
       let same : s ≡ t = places.alone s t v (ap centre_of at_s) its_own the_other in
       let stages : Stays v ≡ Ends c e.0 = sym at_s ∙ ap stage same ∙ e.1 in
       cc)

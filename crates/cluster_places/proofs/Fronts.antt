@@ -1,13 +1,13 @@
 -- The front of each link may be received.
-use Rattle.std.proofs.Common.{◌≡◌, ◌≢◌, ◌⊎◌, ℕ, suc, ◌<◌, ◌≤◌, ◌==◌, ◌&&◌, Bool, true, false, Option, None, Some, List, [], ◌∷◌, refl, sym, ◌∙◌, ap, subst, ⊎_elim, inl, inr, arith, is_some}
+use Rattle.std.proofs.Common.{◌≡◌, ◌≢◌, ℕ, ◌<◌, Bool, false, List, ◌∷◌, sym, ◌∙◌, ap, subst, ⊎_elim, inl, inr, arith}
 use Rattle.std.specs.List.{AllByRecursion}
 use Rattle.std.proofs.lemmas.Bool.{cases_eq, and_parts, and_from, false_from_ne_true}
 use Rattle.gl_base.specs.declared.scopes.ScopeId.{ScopeId}
-use Rattle.cluster_core.specs.Messages.{Message, News, Ask, Ready, Done}
-use Rattle.cluster_core.specs.Settings.{Setting, IsSetting, is_in_scope, edge_at}
-use Rattle.cluster_core.specs.Scopes.{mode_at, takes_part, machines_from, is_before}
+use Rattle.cluster_core.specs.Messages.{Message, Ask, Ready, Done}
+use Rattle.cluster_core.specs.Settings.{Setting, IsSetting, is_in_scope}
+use Rattle.cluster_core.specs.Scopes.{mode_at, is_before}
 use Rattle.cluster_core.specs.Worlds.{World, way}
-use Rattle.cluster_core.specs.Stages.{IsAsked, IsReady, IsDone, Stage, Asks, Returns, Ends, has_lock, some_if, tokens_of}
+use Rattle.cluster_core.specs.Stages.{IsAsked, IsReady, IsDone, Stage, Asks, Returns, Ends, some_if, tokens_of}
 use Rattle.cluster_core.specs.Places.{ArePlaces}
 use Rattle.cluster_core.specs.Ways.{IsToldTo}
 use Rattle.cluster_core.specs.Receiving.{MayReceive}
@@ -42,9 +42,9 @@ module _ (st : Setting) (is : IsSetting st) (w : World) (stage : ScopeId → Sta
         stand = seen.stand q;
         holder = λ x owned. ap (λ (a : ℕ). (w.part a).holder x s) (sym owned) ∙ seen.holder x ∙ ap (λ (test : Bool). some_if test (mode_at v x)) (none_here v x owned);
         flight = ⊎_elim
-          (λ (home : s.home.0 ≡ q). inr (ap (λ (a : ℕ). (w.part a).flight s) (sym home) ∙ seen.flight))
-          (λ (off : s.home.0 ≢ q). inl off)
-          (cases_eq s.home.0 q);
+            (λ (home : s.home.0 ≡ q). inr (ap (λ (a : ℕ). (w.part a).flight s) (sym home) ∙ seen.flight))
+            (λ (off : s.home.0 ≢ q). inl off)
+            (cases_eq s.home.0 q);
         part_of = stands.1;
         rest_of = h.1;
       }
@@ -70,6 +70,6 @@ module _ (st : Setting) (is : IsSetting st) (w : World) (stage : ScopeId → Sta
         edges = about.edges;
         wakes = λ u woken. (about.wakes u woken).1;
         locks = λ x scoped owned.
-          ap (λ (a : ℕ). (w.part a).holder x s) (sym owned) ∙ seen.holder x
-          ∙ ap (λ (test : Bool). some_if test (mode_at c x)) (and_from (is_in_scope st c x) (h.0 (st.owner x)) scoped (ap h.0 owned ∙ h.3));
+            ap (λ (a : ℕ). (w.part a).holder x s) (sym owned) ∙ seen.holder x
+            ∙ ap (λ (test : Bool). some_if test (mode_at c x)) (and_from (is_in_scope st c x) (h.0 (st.owner x)) scoped (ap h.0 owned ∙ h.3));
       }

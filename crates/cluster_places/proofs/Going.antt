@@ -1,18 +1,18 @@
 -- What is to be seen of a scope that goes on from where it is.
-use Rattle.std.proofs.Common.{◌≡◌, ◌≢◌, ◌⊎◌, ℕ, suc, ◌<◌, ◌==◌, ◌&&◌, Bool, true, false, if◌then◌else◌, Option, None, Some, List, [], ◌∷◌, ◌++◌, refl, sym, ◌∙◌, ap, subst, ⊎_elim, append-nil}
-use Rattle.std.proofs.lemmas.Bool.{cases_eq, cases_Bool, eq-eqb, eqb-true, ne_eqb, and_left}
+use Rattle.std.proofs.Common.{◌≡◌, ◌≢◌, ℕ, suc, ◌<◌, ◌==◌, ◌&&◌, Bool, true, false, if◌then◌else◌, Option, None, Some, List, [], ◌∷◌, ◌++◌, refl, sym, ◌∙◌, ap, subst, ⊎_elim}
+use Rattle.std.proofs.lemmas.Bool.{cases_eq, eq-eqb, eqb-true, ne_eqb}
 use Rattle.gl_base.specs.declared.scopes.Claim.{Claim}
 use Rattle.gl_base.specs.declared.scopes.Mode.{Mode}
 use Rattle.gl_base.specs.declared.scopes.ScopeId.{ScopeId}
 use Rattle.graph_core.specs.DataGraph.{size}
-use Rattle.cluster_core.specs.Messages.{Message, Ask, Ready, Done}
-use Rattle.cluster_core.specs.Parts.{Part, Stand}
+use Rattle.cluster_core.specs.Messages.{Message, Ask, Ready}
+use Rattle.cluster_core.specs.Parts.{Part}
 use Rattle.cluster_core.specs.Ranges.{set_at}
 use Rattle.cluster_core.specs.Settings.{Setting, IsSetting}
-use Rattle.cluster_core.specs.Scopes.{is_scope, set_for, mode_at, own_from, machines_from}
-use Rattle.cluster_core.specs.Effects.{put, goes_away, asks_for, goes_on}
-use Rattle.cluster_core.specs.Worlds.{World, with_part, way}
-use Rattle.cluster_core.specs.Stages.{Token, IsAsked, IsReady, Stage, Asks, Waits, Returns, Stays, Sight, Shows, sight_of, has_lock, held, some_if, one_if, token_of, tokens_of, claims_of}
+use Rattle.cluster_core.specs.Scopes.{set_for, mode_at, own_from, machines_from}
+use Rattle.cluster_core.specs.Effects.{put, asks_for, goes_on}
+use Rattle.cluster_core.specs.Worlds.{World, with_part}
+use Rattle.cluster_core.specs.Stages.{Token, IsAsked, IsReady, Stage, Asks, Waits, Returns, Stays, Shows, sight_of, has_lock, held, some_if, one_if, token_of, tokens_of, claims_of}
 use Rattle.cluster_core.proofs.Basics.{set_at-same, set_at-other, set_at-cases, set_at-both, set_at-here, set_at-there, set_for-same, same_scope}
 use Rattle.cluster_core.proofs.Nearness.{is_own, next_machine}
 use Rattle.cluster_places.proofs.Reaching.{reached_by, reached, below, reached_by-locks}
@@ -62,24 +62,24 @@ module _ (st : Setting) (is : IsSetting st) (w : World) (a : ℕ) (part : Part) 
       let claim : Claim = record { scope = s; mode = mode_at v x } in
       let owned : st.owner x ≡ a = (is_own st v a k x at).3 in
       let stood : new.stand s ≡ Some (record { centre = v; lock = x; rest = machines_from st v (suc (st.owner x)) }) =
-          set_for-same part.stand s (Some (record { centre = v; lock = x; rest = rest })) ∙ (λ i. Some (record { centre = v; lock = x; rest = (sym next ∙ ap (λ (b : ℕ). machines_from st v (suc b)) (sym owned)) i })) in
+      set_for-same part.stand s (Some (record { centre = v; lock = x; rest = rest })) ∙ (λ i. Some (record { centre = v; lock = x; rest = (sym next ∙ ap (λ (b : ℕ). machines_from st v (suc b)) (sym owned)) i })) in
       let queued : claims_of s ((set_at w.part a new (st.owner x)).queue x) ≡ claim ∷ [] =
-          set_at-here (λ (p : Part). claims_of s (p.queue x)) w.part a new (st.owner x) owned
-          ∙ ap (claims_of s) (set_at-same part.queue x (part.queue x ++ claim ∷ []))
-          ∙ claims_of-append s (part.queue x) (claim ∷ [])
-          ∙ (λ i. (sym (set_at-here (λ (p : Part). claims_of s (p.queue x)) w.part a part (st.owner x) owned) ∙ hand.queue x) i ++ claimed_here s (mode_at v x) i) in
+      set_at-here (λ (p : Part). claims_of s (p.queue x)) w.part a new (st.owner x) owned
+      ∙ ap (claims_of s) (set_at-same part.queue x (part.queue x ++ claim ∷ []))
+      ∙ claims_of-append s (part.queue x) (claim ∷ [])
+      ∙ (λ i. (sym (set_at-here (λ (p : Part). claims_of s (p.queue x)) w.part a part (st.owner x) owned) ∙ hand.queue x) i ++ claimed_here s (mode_at v x) i) in
       record {
         flight = set_at-both (λ (p : Part). p.flight s) w.part a new part refl s.home.0 ∙ hand.flight;
         ready = set_at-both (λ (p : Part). p.ready s) w.part a new part refl s.home.0 ∙ hand.ready;
         stand = λ b. ⊎_elim
-          (λ (here : b ≡ a). rw (eq-eqb b (st.owner x) (here ∙ sym owned)) (set_at-here (λ (p : Part). p.stand s) w.part a new b here ∙ stood))
-          (λ (off : b ≢ a). rw (ne_eqb b (st.owner x) (λ same. off (same ∙ owned))) (set_at-there (λ (p : Part). p.stand s) w.part a new b off ∙ hand.stand b off))
-          (cases_eq b a);
+            (λ (here : b ≡ a). rw (eq-eqb b (st.owner x) (here ∙ sym owned)) (set_at-here (λ (p : Part). p.stand s) w.part a new b here ∙ stood))
+            (λ (off : b ≢ a). rw (ne_eqb b (st.owner x) (λ same. off (same ∙ owned))) (set_at-there (λ (p : Part). p.stand s) w.part a new b off ∙ hand.stand b off))
+            (cases_eq b a);
         holder = λ y. set_at-both (λ (p : Part). p.holder y s) w.part a new part refl (st.owner y) ∙ hand.holder y ∙ locks_of (Some x) rest at next y;
         queue = λ y. ⊎_elim
-          (λ (here : y ≡ x). rw (eq-eqb y x here) (subst (λ (z : ℕ). claims_of s ((set_at w.part a new (st.owner z)).queue z) ≡ claim ∷ []) (sym here) queued))
-          (λ (off : y ≢ x). rw (ne_eqb y x off) (set_at-both (λ (p : Part). claims_of s (p.queue y)) w.part a new part (ap (claims_of s) (set_at-other part.queue x (part.queue x ++ claim ∷ []) y off)) (st.owner y) ∙ hand.queue y))
-          (cases_eq y x);
+            (λ (here : y ≡ x). rw (eq-eqb y x here) (subst (λ (z : ℕ). claims_of s ((set_at w.part a new (st.owner z)).queue z) ≡ claim ∷ []) (sym here) queued))
+            (λ (off : y ≢ x). rw (ne_eqb y x off) (set_at-both (λ (p : Part). claims_of s (p.queue y)) w.part a new part (ap (claims_of s) (set_at-other part.queue x (part.queue x ++ claim ∷ []) y off)) (st.owner y) ∙ hand.queue y))
+            (cases_eq y x);
         tokens = λ p q. set_at-both (λ (r : Part). tokens_of s (w.link p q ++ r.out q)) w.part a new part refl p ∙ hand.tokens p q;
       }
 
@@ -92,7 +92,7 @@ module _ (st : Setting) (is : IsSetting st) (w : World) (a : ℕ) (part : Part) 
       (λ (here : p ≡ a).
       let before : read part ≡ [] = sym (set_at-here read w.part a part p here) ∙ hand.tokens p q in
       let now : read (set_at w.part a new p) ≡ read part ++ (if q == b then token_of s m else []) =
-          set_at-here read w.part a new p here ∙ put-tokens s (w.link p q) part.out b m q in
+      set_at-here read w.part a new p here ∙ put-tokens s (w.link p q) part.out b m q in
       ⊎_elim
       (λ (to : q ≡ b).
       let some : (if q == b then token_of s m else []) ≡ token ∷ [] = rw (eq-eqb q b to) is_token in

@@ -1,21 +1,18 @@
 -- A lock is granted: its scope goes on, and all are in their places again.
-use Rattle.std.proofs.Common.{◌≡◌, ◌≢◌, ◌⊎◌, ℕ, suc, ◌<◌, ◌≤◌, ◌==◌, ◌&&◌, Bool, true, false, if◌then◌else◌, Option, None, Some, List, [], ◌∷◌, ◌++◌, refl, sym, ◌∙◌, ap, subst, ⊎_elim, inl, inr, arith}
+use Rattle.std.proofs.Common.{◌≡◌, ◌≢◌, ℕ, suc, ◌<◌, ◌≤◌, ◌==◌, Bool, true, false, if◌then◌else◌, Option, Some, List, [], ◌∷◌, ◌++◌, refl, sym, ◌∙◌, ap, subst, ⊎_elim, inl, inr, arith}
 use Rattle.std.proofs.lemmas.Bool.{cases_eq, eq-eqb, ne_eqb, and_from}
 use Rattle.gl_base.specs.declared.scopes.Claim.{Claim}
 use Rattle.gl_base.specs.declared.scopes.Mode.{Mode}
-use Rattle.gl_base.specs.declared.scopes.Mode.TheVariants.{Reader, Writer}
 use Rattle.gl_base.specs.declared.scopes.ScopeId.{ScopeId}
-use Rattle.graph_core.specs.DataGraph.{size}
-use Rattle.cluster_core.specs.Messages.{Message}
 use Rattle.cluster_core.specs.Parts.{Part, Stand}
 use Rattle.cluster_core.specs.Ranges.{set_at}
 use Rattle.cluster_core.specs.Settings.{Setting, IsSetting, is_in_scope}
 use Rattle.cluster_core.specs.Scopes.{is_scope, set_for, mode_at, machines_from, is_before}
 use Rattle.cluster_core.specs.Effects.{goes_on, moves_on, takes_lock, first_granted, granted}
-use Rattle.cluster_core.specs.Worlds.{World, with_part, way}
+use Rattle.cluster_core.specs.Worlds.{World, with_part}
 use Rattle.cluster_core.specs.Actions.{MayGrant}
-use Rattle.cluster_core.specs.Stages.{Stage, Idle, Waits, Shows, sight_of, has_lock, centre_of, flying, held, some_if, tokens_of, claims_of}
-use Rattle.cluster_core.specs.Places.{ArePlaces, IsStageOf, IsAtHome}
+use Rattle.cluster_core.specs.Stages.{Stage, Waits, Shows, sight_of, has_lock, centre_of, flying, some_if, tokens_of, claims_of}
+use Rattle.cluster_core.specs.Places.{ArePlaces, IsAtHome}
 use Rattle.cluster_core.proofs.Basics.{set_at-same, set_at-other, set_at-kept, set_at-here, set_for-same, set_for-other, same_scope, apart_turned}
 use Rattle.cluster_places.proofs.Reaching.{reached, below, before_from, same_before, reached-locks, reached-stage, reached-centre, reached-flying}
 use Rattle.cluster_places.proofs.Frames.{SameFor, shows_still, same_then, goes_on-same, not_claimed}
@@ -38,10 +35,10 @@ module _ (st : Setting) (is : IsSetting st) (w : World) (stage : ScopeId → Sta
   waited : (v : ℕ) × (stage its ≡ Waits v x) × (may.claim.mode ≡ mode_at v x) × (claims_of its may.behind ≡ [])
   waited =
       let seen : (sight_of st its (stage its)).queue x ≡ may.claim ∷ claims_of its may.behind =
-          sym ((places.shows its).queue x)
-          ∙ ap (λ (b : ℕ). claims_of its ((w.part b).queue x)) may.owned
-          ∙ ap (claims_of its) may.first
-          ∙ own_claim may.claim may.behind in
+      sym ((places.shows its).queue x)
+      ∙ ap (λ (b : ℕ). claims_of its ((w.part b).queue x)) may.owned
+      ∙ ap (claims_of its) may.first
+      ∙ own_claim may.claim may.behind in
       waiting_stage st its (stage its) x may.claim (claims_of its may.behind) seen
 
   abbrev v : ℕ
@@ -81,9 +78,9 @@ module _ (st : Setting) (is : IsSetting st) (w : World) (stage : ScopeId → Sta
   locked_holder : (y : ℕ) → y ≡ x → locked.holder y its ≡ Some (mode_at v y)
   locked_holder y here =
       let at : locked.holder x its ≡ Some (mode_at v x) =
-          ap (λ (held_by : ScopeId → Option Mode). held_by its) (set_at-same (w.part a).holder x (set_for ((w.part a).holder x) its (Some may.claim.mode)))
-          ∙ set_for-same ((w.part a).holder x) its (Some may.claim.mode)
-          ∙ ap Some waited.2 in
+      ap (λ (held_by : ScopeId → Option Mode). held_by its) (set_at-same (w.part a).holder x (set_for ((w.part a).holder x) its (Some may.claim.mode)))
+      ∙ set_for-same ((w.part a).holder x) its (Some may.claim.mode)
+      ∙ ap Some waited.2 in
       subst (λ (z : ℕ). locked.holder z its ≡ Some (mode_at v z)) (sym here) at
 
   now_below : (y : ℕ) → y ≡ x → below st v a (suc x) y ≡ true
@@ -97,31 +94,31 @@ module _ (st : Setting) (is : IsSetting st) (w : World) (stage : ScopeId → Sta
         ready = set_at-kept (λ (r : Part). r.ready its) w.part a locked refl its.home.0 ∙ seen_waiting.ready;
         stand = λ b off. seen_waiting.stand b ∙ ap (λ (test : Bool). some_if test (record { centre = v; lock = x; rest = machines_from st v (suc (st.owner x)) })) (ne_eqb b (st.owner x) (λ same. off (same ∙ may.owned)));
         holder = λ y. ⊎_elim
-          (λ (here : y ≡ x).
-          set_at-here (λ (r : Part). r.holder y its) w.part a locked (st.owner y) (ap st.owner here ∙ may.owned)
-          ∙ locked_holder y here
-          ∙ sym (ap (λ (test : Bool). some_if test (mode_at v y)) (now_below y here)))
-          (λ (off : y ≢ x).
-          set_at-kept (λ (r : Part). r.holder y its) w.part a locked (ap (λ (held_by : ScopeId → Option Mode). held_by its) (set_at-other (w.part a).holder x (set_for ((w.part a).holder x) its (Some may.claim.mode)) y off)) (st.owner y)
-          ∙ seen_waiting.holder y
-          ∙ held-same v (below st v (st.owner x) x) (below st v a (suc x)) y (holds_more y off))
-          (cases_eq y x);
+            (λ (here : y ≡ x).
+            set_at-here (λ (r : Part). r.holder y its) w.part a locked (st.owner y) (ap st.owner here ∙ may.owned)
+            ∙ locked_holder y here
+            ∙ sym (ap (λ (test : Bool). some_if test (mode_at v y)) (now_below y here)))
+            (λ (off : y ≢ x).
+            set_at-kept (λ (r : Part). r.holder y its) w.part a locked (ap (λ (held_by : ScopeId → Option Mode). held_by its) (set_at-other (w.part a).holder x (set_for ((w.part a).holder x) its (Some may.claim.mode)) y off)) (st.owner y)
+            ∙ seen_waiting.holder y
+            ∙ held-same v (below st v (st.owner x) x) (below st v a (suc x)) y (holds_more y off))
+            (cases_eq y x);
         queue = λ y. ⊎_elim
-          (λ (here : y ≡ x).
-          set_at-here (λ (r : Part). claims_of its (r.queue y)) w.part a locked (st.owner y) (ap st.owner here ∙ may.owned)
-          ∙ subst (λ (z : ℕ). claims_of its (locked.queue z) ≡ []) (sym here) (ap (claims_of its) (set_at-same (w.part a).queue x may.behind) ∙ waited.3))
-          (λ (off : y ≢ x).
-          set_at-kept (λ (r : Part). claims_of its (r.queue y)) w.part a locked (ap (claims_of its) (set_at-other (w.part a).queue x may.behind y off)) (st.owner y)
-          ∙ seen_waiting.queue y
-          ∙ ap (λ (test : Bool). if test then record { scope = its; mode = mode_at v x } ∷ [] else []) (ne_eqb y x off))
-          (cases_eq y x);
+            (λ (here : y ≡ x).
+            set_at-here (λ (r : Part). claims_of its (r.queue y)) w.part a locked (st.owner y) (ap st.owner here ∙ may.owned)
+            ∙ subst (λ (z : ℕ). claims_of its (locked.queue z) ≡ []) (sym here) (ap (claims_of its) (set_at-same (w.part a).queue x may.behind) ∙ waited.3))
+            (λ (off : y ≢ x).
+            set_at-kept (λ (r : Part). claims_of its (r.queue y)) w.part a locked (ap (claims_of its) (set_at-other (w.part a).queue x may.behind y off)) (st.owner y)
+            ∙ seen_waiting.queue y
+            ∙ ap (λ (test : Bool). if test then record { scope = its; mode = mode_at v x } ∷ [] else []) (ne_eqb y x off))
+            (cases_eq y x);
         tokens = λ p q. set_at-kept (λ (r : Part). tokens_of its (w.link p q ++ r.out q)) w.part a locked refl p ∙ seen_waiting.tokens p q;
       }
 
   locked_same : (t : ScopeId) → is_scope t its ≡ false → SameFor t (w.part a) locked
   locked_same t apart =
       let fewer : claims_of t may.behind ≡ claims_of t ((w.part a).queue x) =
-          sym (ap (claims_of t) may.first ∙ not_claimed t may.claim (apart_turned t its apart) may.behind) in
+      sym (ap (claims_of t) may.first ∙ not_claimed t may.claim (apart_turned t its apart) may.behind) in
       record {
         flight = refl;
         ready = refl;
@@ -137,19 +134,21 @@ module _ (st : Setting) (is : IsSetting st) (w : World) (stage : ScopeId → Sta
       let seen = lock_seen st t (stage t) x has in
       let c : ℕ = seen.0 in
       let holds : (w.part a).holder x t ≡ Some (mode_at c x) =
-          ap (λ (b : ℕ). (w.part b).holder x t) (sym may.owned) ∙ (places.shows t).holder x ∙ seen.2 in
-      let both = may.together t (mode_at c x) holds in
-      ((λ same. reader_elsewhere v x (sym waited.2 ∙ both.1) (sym same)),
-      (λ centre. reader_elsewhere c x both.0 (some_centre x c (sym centre ∙ seen.1))))
+      ap (λ (b : ℕ). (w.part b).holder x t) (sym may.owned) ∙ (places.shows t).holder x ∙ seen.2 in
+      let both = may.together t (mode_at c x) holds in (
+        (λ same. reader_elsewhere v x (sym waited.2 ∙ both.1) (sym same)),
+        (λ centre. reader_elsewhere c x both.0 (some_centre x c (sym centre ∙ seen.1))),
+      )
 
   grant_fits : LocksFit st stage its (reached st its v a (suc x))
   grant_fits y has =
       let now : below st v a (suc x) y ≡ true = sym (reached-locks st is its v a (suc x) home.0.vertex y) ∙ has in
       ⊎_elim
       (λ (here : y ≡ x). inr (λ t apart also.
-      let both = read_by_both t (subst (λ (z : ℕ). has_lock st (stage t) z ≡ true) here also) in
-      ((λ centre. both.0 (some_centre v x (sym (reached-centre st its v a (suc x)) ∙ centre ∙ ap Some here))),
-      (λ centre. both.1 (centre ∙ ap Some here)))))
+      let both = read_by_both t (subst (λ (z : ℕ). has_lock st (stage t) z ≡ true) here also) in (
+        (λ centre. both.0 (some_centre v x (sym (reached-centre st its v a (suc x)) ∙ centre ∙ ap Some here))),
+        (λ centre. both.1 (centre ∙ ap Some here)),
+      )))
       (λ (off : y ≢ x). inl (ap (λ (z : Stage). has_lock st z y) waited.1 ∙ holds_more y off ∙ now, reached-centre st its v a (suc x) ∙ sym (ap centre_of waited.1)))
       (cases_eq y x)
 
@@ -160,12 +159,12 @@ module _ (st : Setting) (is : IsSetting st) (w : World) (stage : ScopeId → Sta
       let low : a < st.machines = subst (λ (b : ℕ). b < st.machines) may.owned (is.owner x may.vertex) in
       let rises : (b : ℕ) → (w.part b).serial ≤ (set_at w.part a new b).serial = serials_rise w a new (omega (arith, goes_on-serial st a its v (suc x) (machines_from st v (suc a)) locked)) in
       let kept : ArePlaces st (with_part w a new) (set_for stage its next) =
-          one_moves st w (with_part w a new) stage places its next
-          (goes_on-shows st is w a locked its v (suc x) home.0.vertex granted_hand)
-          (λ t apart shows. shows_still st w a new t (sight_of st t (stage t)) (same_then t (w.part a) locked new (locked_same t apart) (goes_on-same st a its v t apart (suc x) (machines_from st v (suc a)) locked)) shows)
-          (reached-stage st is its v a (suc x) home.0.vertex home.0 low)
-          rises
-          (λ busy. omega (arith, busy_low st w stage places its (Waits v x) waited.1 (λ idle. cc), rises its.home.0))
-          grant_fits
-          (λ u flies. inl (ap flying waited.1 ∙ sym (reached-flying st its v a (suc x)) ∙ flies)) in
+      one_moves st w (with_part w a new) stage places its next
+      (goes_on-shows st is w a locked its v (suc x) home.0.vertex granted_hand)
+      (λ t apart shows. shows_still st w a new t (sight_of st t (stage t)) (same_then t (w.part a) locked new (locked_same t apart) (goes_on-same st a its v t apart (suc x) (machines_from st v (suc a)) locked)) shows)
+      (reached-stage st is its v a (suc x) home.0.vertex home.0 low)
+      rises
+      (λ busy. omega (arith, busy_low st w stage places its (Waits v x) waited.1 (λ idle. cc), rises its.home.0))
+      grant_fits
+      (λ u flies. inl (ap flying waited.1 ∙ sym (reached-flying st its v a (suc x)) ∙ flies)) in
       (set_for stage its next, subst (λ (part : Part). ArePlaces st (with_part w a part) (set_for stage its next)) (sym grant_is) kept)

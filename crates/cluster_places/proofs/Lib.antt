@@ -11,3 +11,4 @@ pub mod Ending
 pub mod Excluding
 pub mod PlacesKept
 pub mod Fronts
+pub mod StepsKept

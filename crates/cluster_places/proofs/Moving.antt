@@ -1,5 +1,5 @@
 -- One scope moves from one stage to another, and the places stay places.
-use Rattle.std.proofs.Common.{◌≡◌, ◌≢◌, ◌⊎◌, ℕ, ◌<◌, ◌≤◌, Bool, true, false, Option, None, Some, refl, sym, ◌∙◌, ⊎_elim, inl, inr, arith}
+use Rattle.std.proofs.Common.{◌≡◌, ◌≢◌, ◌⊎◌, ℕ, ◌<◌, ◌≤◌, true, false, Some, refl, sym, ◌∙◌, ⊎_elim, arith}
 use Rattle.gl_base.specs.declared.scopes.ScopeId.{ScopeId}
 use Rattle.cluster_core.specs.Settings.{Setting}
 use Rattle.cluster_core.specs.Scopes.{is_scope, set_for}
@@ -81,7 +81,7 @@ module _ (st : Setting) (old new : World) (stage : ScopeId → Stage) (places : 
         shows = set_for-holds (λ (t : ScopeId) (x : Stage). Shows st new t (sight_of st t x)) stage s next shown (λ t apart. others t apart (places.shows t));
         stages = set_for-holds (λ (t : ScopeId) (x : Stage). IsStageOf st t x) stage s next stage_of (λ t apart. places.stages t);
         admitted = set_for-holds (λ (t : ScopeId) (x : Stage). x ≢ Idle → t.serial < (new.part t.home.0).serial) stage s next admitted
-          (λ t apart busy. omega (arith, places.admitted t busy, rises t.home.0));
+            (λ t apart busy. omega (arith, places.admitted t busy, rises t.home.0));
         single = still_single flies;
         alone = still_alone locks;
       }

@@ -1,13 +1,13 @@
 -- What is known of the places of scopes, whatever happens next.
-use Rattle.std.proofs.Common.{◌≡◌, ◌≢◌, ◌⊎◌, ℕ, ◌<◌, ◌≤◌, ◌==◌, Bool, true, false, if◌then◌else◌, Option, None, Some, List, [], ◌∷◌, ◌++◌, refl, sym, ◌∙◌, ap, subst, arith}
+use Rattle.std.proofs.Common.{◌≡◌, ◌≢◌, ℕ, ◌<◌, ◌≤◌, ◌==◌, Bool, true, false, if◌then◌else◌, Option, None, Some, List, [], ◌∷◌, ◌++◌, refl, sym, ◌∙◌, ap, subst, arith}
 use Rattle.gl_base.specs.declared.scopes.ScopeId.{ScopeId}
-use Rattle.cluster_core.specs.Messages.{Message, Ask, Ready, Done}
-use Rattle.cluster_core.specs.Parts.{Part, Stand}
+use Rattle.cluster_core.specs.Messages.{Ready}
+use Rattle.cluster_core.specs.Parts.{Part}
 use Rattle.cluster_core.specs.Ranges.{set_at}
 use Rattle.cluster_core.specs.Settings.{Setting}
 use Rattle.cluster_core.specs.Scopes.{set_for, own_from}
-use Rattle.cluster_core.specs.Effects.{put, goes_away, asks_for, goes_on}
-use Rattle.cluster_core.specs.Worlds.{World, with_part, way}
+use Rattle.cluster_core.specs.Effects.{put, asks_for, goes_on}
+use Rattle.cluster_core.specs.Worlds.{World, with_part}
 use Rattle.cluster_core.specs.Stages.{Stage, Idle, Shows, sight_of, tokens_of, claims_of}
 use Rattle.cluster_core.specs.Places.{ArePlaces, IsStageOf}
 use Rattle.cluster_core.proofs.Basics.{set_at-holds, set_at-kept}
@@ -34,15 +34,15 @@ pub places_by_parts : (st : Setting) (one other : World) (stage : ScopeId → St
 places_by_parts st one other stage parts links places =
     record {
       shows = λ s.
-        let h = places.shows s in
-        record {
-          flight = ap (λ (part : ℕ → Part). (part s.home.0).flight s) parts ∙ h.flight;
-          ready = ap (λ (part : ℕ → Part). (part s.home.0).ready s) parts ∙ h.ready;
-          stand = λ a. ap (λ (part : ℕ → Part). (part a).stand s) parts ∙ h.stand a;
-          holder = λ x. ap (λ (part : ℕ → Part). (part (st.owner x)).holder x s) parts ∙ h.holder x;
-          queue = λ x. ap (λ (part : ℕ → Part). claims_of s ((part (st.owner x)).queue x)) parts ∙ h.queue x;
-          tokens = λ p q. (λ i. tokens_of s (links i p q ++ (parts i p).out q)) ∙ h.tokens p q;
-        };
+          let h = places.shows s in
+          record {
+            flight = ap (λ (part : ℕ → Part). (part s.home.0).flight s) parts ∙ h.flight;
+            ready = ap (λ (part : ℕ → Part). (part s.home.0).ready s) parts ∙ h.ready;
+            stand = λ a. ap (λ (part : ℕ → Part). (part a).stand s) parts ∙ h.stand a;
+            holder = λ x. ap (λ (part : ℕ → Part). (part (st.owner x)).holder x s) parts ∙ h.holder x;
+            queue = λ x. ap (λ (part : ℕ → Part). claims_of s ((part (st.owner x)).queue x)) parts ∙ h.queue x;
+            tokens = λ p q. (λ i. tokens_of s (links i p q ++ (parts i p).out q)) ∙ h.tokens p q;
+          };
       stages = places.stages;
       admitted = λ s busy. subst (λ (part : ℕ → Part). s.serial < (part s.home.0).serial) (sym parts) (places.admitted s busy);
       single = places.single;
