@@ -12,3 +12,4 @@ pub mod Excluding
 pub mod PlacesKept
 pub mod Fronts
 pub mod StepsKept
+pub mod WorkedLocks
