@@ -9,7 +9,7 @@ use Rattle.cluster_core.specs.Parts.{Part, Stand}
 use Rattle.cluster_core.specs.Ranges.{set_at}
 use Rattle.cluster_core.specs.Settings.{Setting, Engine, Locking, Chromatic}
 use Rattle.cluster_core.specs.Scopes.{is_scope, set_for, own_from, machines_from}
-use Rattle.cluster_core.specs.Effects.{put, goes_away, asks_for, goes_on, sets_out, next_scope, in_flight, admitted, admitted_by, moves_on, takes_lock, first_granted, granted, received, begins, knows, learns, first_pending, first_unmarked, seed_if, is_at, updated, marked, pends_for}
+use Rattle.cluster_core.specs.Effects.{posts, goes_away, asks_for, goes_on, sets_out, next_scope, in_flight, admitted, admitted_by, moves_on, takes_lock, first_granted, granted, received, begins, knows, learns, first_pending, first_unmarked, seed_if, is_at, updated, marked, pends_for}
 use Rattle.cluster_core.specs.Worlds.{World, with_part}
 use Rattle.cluster_core.specs.Actions.{Action, Admit, Grant, Send, Deliver, Update, Mark, Begin, Hear, SendSection, Collect, Record, MayHappen, after, sends, delivers, updates, marks, hears, collects}
 use Rattle.cluster_core.specs.Stages.{Stage, flying}
@@ -39,7 +39,7 @@ kept_then one two three first then_ =
       serial = then_.serial ∙ first.serial;
     }
 
-home_kept : (a : ℕ) (s : ScopeId) (test : Bool) (part : Part) → IsKept part (if test then record part { ready = set_for part.ready s true } else put s.home.0 (Ready s) part)
+home_kept : (a : ℕ) (s : ScopeId) (test : Bool) (part : Part) → IsKept part (if test then record part { ready = set_for part.ready s true } else posts s.home.0 (Ready s) part)
 home_kept a s true part = record { flight = λ t. refl; pending = λ v is. is; task = λ v is. is; flying = refl; serial = refl }
 home_kept a s false part = record { flight = λ t. refl; pending = λ v is. is; task = λ v is. is; flying = refl; serial = refl }
 
@@ -53,7 +53,7 @@ asks_for_kept a s v [] None part =
 goes_on_kept : (st : Setting) (a : ℕ) (s : ScopeId) (v k : ℕ) (rest : List ℕ) (part : Part) → IsKept part (goes_on st a s v k rest part)
 goes_on_kept st a s v k rest part = asks_for_kept a s v rest (own_from st v a k) part
 
-first_kept : (st : Setting) (a b : ℕ) (s : ScopeId) (v : ℕ) (rest : List ℕ) (test : Bool) (part : Part) → IsKept part (if test then goes_on st a s v 0 rest part else put b (Ask s v rest) part)
+first_kept : (st : Setting) (a b : ℕ) (s : ScopeId) (v : ℕ) (rest : List ℕ) (test : Bool) (part : Part) → IsKept part (if test then goes_on st a s v 0 rest part else posts b (Ask s v rest) part)
 first_kept st a b s v rest true part = goes_on_kept st a s v 0 rest part
 first_kept st a b s v rest false part = record { flight = λ t. refl; pending = λ u is. is; task = λ u is. is; flying = refl; serial = refl }
 

@@ -9,7 +9,7 @@ use Rattle.cluster_core.specs.Replays.{IsReplay, IsTask, tasks_of}
 use Rattle.cluster_core.specs.Ways.{vertex_woken}
 use Rattle.cluster_core.specs.Worlds.{World, way}
 use Rattle.cluster_core.specs.Actions.{Action, Admit, IsItsTurn, after}
-use Rattle.cluster_core.specs.Runs.{IsStart, IsRun}
+use Rattle.cluster_core.specs.Runs.{IsStart, IsActionRun}
 use Rattle.cluster_core.specs.Stages.{Stage}
 use Rattle.cluster_core.specs.Places.{ArePlaces}
 use Rattle.cluster_places.proofs.PlacesKept.{action_keeps}
@@ -57,7 +57,7 @@ module _ (st : Setting) (is : IsSetting st) (locks : st.engine ≡ Locking) (roo
       (λ (still : IsStill w). over_or_due still)
       (moves st is w stage places due ticket)
 
-pub run_works : (st : Setting) → IsSetting st → st.engine ≡ Locking → 0 < st.pipeline → (actions : List Action) (old new : World) (stage : ScopeId → Stage) → ArePlaces st old stage → AreDue old → AreCounted st old → IsRun st old actions new → 0 < new.left → CanWork st new ⊎ IsOver st new
+pub run_works : (st : Setting) → IsSetting st → st.engine ≡ Locking → 0 < st.pipeline → (actions : List Action) (old new : World) (stage : ScopeId → Stage) → ArePlaces st old stage → AreDue old → AreCounted st old → IsActionRun st old actions new → 0 < new.left → CanWork st new ⊎ IsOver st new
 run_works st is locks room [] old new stage places due counted run ticket =
     subst (λ (w : World). 0 < w.left → CanWork st w ⊎ IsOver st w) (sym run) (works_or_over st is locks room old counted stage places due) ticket
 run_works st is locks room (action ∷ actions) old new stage places due counted run ticket =

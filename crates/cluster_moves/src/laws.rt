@@ -7,7 +7,7 @@ ghost use Rattle.graph_core.specs.DataGraph.{size};
 ghost use Rattle.cluster_core.specs.Actions.{Action, MayHappen, after};
 ghost use Rattle.cluster_core.specs.Places.{ArePlaces};
 ghost use Rattle.cluster_core.specs.Replays.{IsReplay, tasks_of};
-ghost use Rattle.cluster_core.specs.Runs.{IsStart, IsRun};
+ghost use Rattle.cluster_core.specs.Runs.{IsStart, IsActionRun};
 ghost use Rattle.cluster_core.specs.Settings.{Setting, IsSetting, Locking};
 ghost use Rattle.cluster_core.specs.Stages.{Stage};
 ghost use Rattle.cluster_core.specs.Worlds.{World};
@@ -43,7 +43,7 @@ pub fn starts_are_counted()
 /// all is over: no vertex is a task or pending, no scope is in flight, and no message on the way.
 pub fn never_stuck()
     ensures { (st : Setting) (start : World) (actions : List Action) (w : World) →
-        IsSetting st → st.engine ≡ Locking → 0 < st.pipeline → IsStart st start → IsRun st start actions w → 0 < w.left →
+        IsSetting st → st.engine ≡ Locking → 0 < st.pipeline → IsStart st start → IsActionRun st start actions w → 0 < w.left →
         CanWork st w ⊎ IsOver st w }
 {}
 
