@@ -10,9 +10,9 @@ use Rattle.cluster_model.specs.Calls.{Call, Report}
 use Rattle.cluster_model.specs.Clusters.{Cluster, with_calls, with_machine, with_messages, with_reports}
 use Rattle.cluster_model.specs.Leading.{hands_call, takes_report}
 use Rattle.cluster_model.specs.Machines.{Machine}
-use Rattle.cluster_model.specs.Working.{admits, fails, grants, hands, sections, makes_mark, makes_update, prompt, receives, takes_call, tells}
+use Rattle.cluster_model.specs.Working.{admits, fails, grants, hands, sections, makes_mark, makes_update, prompt, receives, takes_call, hands_report}
 use Rattle.cluster_model.specs.Events.{delivers_call, delivers_message, delivers_report, draws_ticket, makes, saves, sends_call, sends_message, sends_report}
-use Rattle.cluster_lists.specs.Lists.{ClusterLists, HasLink, HasSeat, Reading, cluster_of, link_at, with_call_list, with_lead, with_link_list, with_report_list, with_seat}
+use Rattle.cluster_lists.specs.Lists.{ClusterLists, HasLink, HasSeat, Reading, cluster_of, messages_at, with_call_list, with_lead, with_link_list, with_report_list, with_seat}
 use Rattle.cluster_lists.specs.LocalSteps.{LeadSteps, LinksStep, SeatsStep, machine_at}
 
 -- a list that is written at one place is read there and elsewhere
@@ -33,7 +33,7 @@ module _ {Seat : Type 0} (r : Reading Seat) where
   seat_stands c a seat m has is =
       λ i. record {
         machine = λ b. (read_set r.read c.seats a seat r.nobody has b ∙ ap (λ (x : Machine). set_at (cluster_of r c).machine a x b) is) i;
-        link = link_at c;
+        link = messages_at c;
         calls = (cluster_of r c).calls;
         reports = (cluster_of r c).reports;
         coordinator = c.coordinator;
@@ -46,19 +46,19 @@ module _ {Seat : Type 0} (r : Reading Seat) where
   link_stands : (c : ClusterLists Seat) (p q : ℕ) (messages : List Message) → HasLink c p q → cluster_of r (with_link_list c p q messages) ≡ with_messages (cluster_of r c) p q messages
   link_stands c p q messages has =
       let row : List (List Message) = slice_index_or c.links p [] in
-      let rows : (b d : ℕ) → link_at (with_link_list c p q messages) b d ≡ set_at (link_at c) p (set_at (link_at c p) q messages) b d =
+      let rows : (b d : ℕ) → messages_at (with_link_list c p q messages) b d ≡ set_at (messages_at c) p (set_at (messages_at c p) q messages) b d =
       λ b d.
       read_set (λ (list : List (List Message)). slice_index_or list d []) c.links p (slice_set row q messages) [] has.0 b
       ∙ ⊎_elim
       (λ (at : b ≡ p).
-      let old : ℕ → List Message = λ b. link_at c b d in
+      let old : ℕ → List Message = λ b. messages_at c b d in
       ap (set_at old p (slice_index_or (slice_set row q messages) d [])) at ∙ set_at-same old p (slice_index_or (slice_set row q messages) d [])
       ∙ read_set (λ (list : List Message). list) row q messages [] has.1 d
-      ∙ sym (ap (λ (line : ℕ → List Message). line d) (ap (set_at (link_at c) p (set_at (link_at c p) q messages)) at ∙ set_at-same (link_at c) p (set_at (link_at c p) q messages))))
+      ∙ sym (ap (λ (line : ℕ → List Message). line d) (ap (set_at (messages_at c) p (set_at (messages_at c p) q messages)) at ∙ set_at-same (messages_at c) p (set_at (messages_at c p) q messages))))
       (λ (off : b ≢ p).
-      let old : ℕ → List Message = λ b. link_at c b d in
+      let old : ℕ → List Message = λ b. messages_at c b d in
       set_at-other old p (slice_index_or (slice_set row q messages) d []) b off
-      ∙ sym (ap (λ (line : ℕ → List Message). line d) (set_at-other (link_at c) p (set_at (link_at c p) q messages) b off)))
+      ∙ sym (ap (λ (line : ℕ → List Message). line d) (set_at-other (messages_at c) p (set_at (messages_at c p) q messages) b off)))
       (cases_eq b p) in
       λ i. record {
         machine = (cluster_of r c).machine;
@@ -76,7 +76,7 @@ module _ {Seat : Type 0} (r : Reading Seat) where
   calls_stand c a calls low =
       λ i. record {
         machine = (cluster_of r c).machine;
-        link = link_at c;
+        link = messages_at c;
         calls = λ b. read_set (λ (list : List Call). list) c.calls a calls [] low b i;
         reports = (cluster_of r c).reports;
         coordinator = c.coordinator;
@@ -90,7 +90,7 @@ module _ {Seat : Type 0} (r : Reading Seat) where
   reports_stand c a reports low =
       λ i. record {
         machine = (cluster_of r c).machine;
-        link = link_at c;
+        link = messages_at c;
         calls = (cluster_of r c).calls;
         reports = λ b. read_set (λ (list : List Report). list) c.reports a reports [] low b i;
         coordinator = c.coordinator;
@@ -125,8 +125,8 @@ module _ {Seat : Type 0} (r : Reading Seat) where
     links_step =
         record {
           send = λ p q m behind seat has link first is.
-              link_stands (with_seat c p seat) p q (link_at c p q ++ m ∷ []) link
-              ∙ ap (λ (k : Cluster). with_messages k p q (link_at c p q ++ m ∷ [])) (seat_stands c p seat (hands q behind (machine_at r c p)) has is)
+              link_stands (with_seat c p seat) p q (messages_at c p q ++ m ∷ []) link
+              ∙ ap (λ (k : Cluster). with_messages k p q (messages_at c p q ++ m ∷ [])) (seat_stands c p seat (hands q behind (machine_at r c p)) has is)
               ∙ sym (ap (sends_message whole p q) first);
           deliver = λ p q m behind seat has link first is.
               link_stands (with_seat c q seat) p q behind link
@@ -134,7 +134,7 @@ module _ {Seat : Type 0} (r : Reading Seat) where
               ∙ sym (ap (delivers_message st whole p q) first);
           send_report = λ a report behind seat has low first is.
               reports_stand (with_seat c a seat) a (whole.reports a ++ report ∷ []) low
-              ∙ ap (λ (k : Cluster). with_reports k a (whole.reports a ++ report ∷ [])) (seat_stands c a seat (tells behind (machine_at r c a)) has is)
+              ∙ ap (λ (k : Cluster). with_reports k a (whole.reports a ++ report ∷ [])) (seat_stands c a seat (hands_report behind (machine_at r c a)) has is)
               ∙ sym (ap (sends_report whole a) first);
           deliver_call = λ a call behind seat has low first is.
               calls_stand (with_seat c a seat) a behind low

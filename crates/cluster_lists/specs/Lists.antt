@@ -28,15 +28,15 @@ abbrev pub seat_at : {Seat : Type 0} → Reading Seat → ClusterLists Seat → 
 seat_at r c a = slice_index_or c.seats a r.nobody
 
 -- what is on the link from p to q
-abbrev pub link_at : {Seat : Type 0} → ClusterLists Seat → ℕ → ℕ → List Message
-link_at c p q = slice_index_or (slice_index_or c.links p []) q []
+abbrev pub messages_at : {Seat : Type 0} → ClusterLists Seat → ℕ → ℕ → List Message
+messages_at c p q = slice_index_or (slice_index_or c.links p []) q []
 
 -- the cluster that the lists stand for
 abbrev pub cluster_of : {Seat : Type 0} → Reading Seat → ClusterLists Seat → Cluster
 cluster_of r c =
     record {
       machine = λ a. r.read (seat_at r c a);
-      link = link_at c;
+      link = messages_at c;
       calls = λ a. slice_index_or c.calls a [];
       reports = λ a. slice_index_or c.reports a [];
       coordinator = c.coordinator;

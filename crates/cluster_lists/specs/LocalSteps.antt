@@ -7,9 +7,9 @@ use Rattle.cluster_core.specs.Settings.{Setting}
 use Rattle.cluster_model.specs.Calls.{Call, Report}
 use Rattle.cluster_model.specs.Leading.{acknowledges, begins_snapshot, hands_call, puts_step, puts_wave, takes_report}
 use Rattle.cluster_model.specs.Machines.{Machine}
-use Rattle.cluster_model.specs.Working.{admits, fails, grants, hands, makes_mark, makes_update, prompt, receives, sections, takes_call, tells}
+use Rattle.cluster_model.specs.Working.{admits, fails, grants, hands, makes_mark, makes_update, prompt, receives, sections, takes_call, hands_report}
 use Rattle.cluster_model.specs.Events.{Event, Admit, Deliver, DeliverCall, DeliverReport, Fail, Grant, Mark, PutBegin, PutStep, PutWave, Record, Section, Send, SendCall, SendReport, Stop, Update, after_event}
-use Rattle.cluster_lists.specs.Lists.{ClusterLists, HasLink, HasSeat, Reading, cluster_of, link_at, seat_at, with_call_list, with_lead, with_link_list, with_report_list, with_seat, with_ticket}
+use Rattle.cluster_lists.specs.Lists.{ClusterLists, HasLink, HasSeat, Reading, cluster_of, messages_at, seat_at, with_call_list, with_lead, with_link_list, with_report_list, with_seat, with_ticket}
 
 -- the new lists stand for the cluster to which the event leads
 abbrev pub LeadTo : {Seat : Type 0} → Reading Seat → Setting → ClusterLists Seat → Event → ClusterLists Seat → Type 0
@@ -36,12 +36,12 @@ pub record SeatsStep {Seat : Type 0} (r : Reading Seat) (st : Setting) (c : Clus
 pub record LinksStep {Seat : Type 0} (r : Reading Seat) (st : Setting) (c : ClusterLists Seat) : Type 0 where
   pub send : (p q : ℕ) (m : Message) (behind : List Message) (seat : Seat) → HasSeat c p → HasLink c p q →
       (machine_at r c p).part.out q ≡ m ∷ behind → r.read seat ≡ hands q behind (machine_at r c p) →
-      LeadTo r st c (Send p q) (with_link_list (with_seat c p seat) p q (link_at c p q ++ m ∷ []))
+      LeadTo r st c (Send p q) (with_link_list (with_seat c p seat) p q (messages_at c p q ++ m ∷ []))
   pub deliver : (p q : ℕ) (m : Message) (behind : List Message) (seat : Seat) → HasSeat c q → HasLink c p q →
-      link_at c p q ≡ m ∷ behind → r.read seat ≡ prompt st q (receives st q m (machine_at r c q)) →
+      messages_at c p q ≡ m ∷ behind → r.read seat ≡ prompt st q (receives st q m (machine_at r c q)) →
       LeadTo r st c (Deliver p q) (with_link_list (with_seat c q seat) p q behind)
   pub send_report : (a : ℕ) (report : Report) (behind : List Report) (seat : Seat) → HasSeat c a → a < length c.reports →
-      (machine_at r c a).told ≡ report ∷ behind → r.read seat ≡ tells behind (machine_at r c a) →
+      (machine_at r c a).out ≡ report ∷ behind → r.read seat ≡ hands_report behind (machine_at r c a) →
       LeadTo r st c (SendReport a) (with_report_list (with_seat c a seat) a ((cluster_of r c).reports a ++ report ∷ []))
   pub deliver_call : (a : ℕ) (call : Call) (behind : List Call) (seat : Seat) → HasSeat c a → a < length c.calls →
       (cluster_of r c).calls a ≡ call ∷ behind → r.read seat ≡ prompt st a (takes_call st a call (machine_at r c a)) →
