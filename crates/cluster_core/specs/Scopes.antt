@@ -1,0 +1,41 @@
+-- Scopes of updates, and the canonical order in which a scope takes its locks: by the owner machine, and then by the vertex.
+use Rattle.std.specs.Prelude.{Bool, List, None, Option, Some, false, if◌then◌else◌, nat_lt, true, ℕ, ◌&&◌, ◌-◌, ◌==◌, ◌||◌}
+use Rattle.gl_base.specs.declared.scopes.Mode.{Mode}
+use Rattle.gl_base.specs.declared.scopes.Mode.TheVariants.{Reader, Writer}
+use Rattle.gl_base.specs.declared.scopes.ScopeId.{ScopeId}
+use Rattle.cluster_core.specs.Ranges.{all_passing, first_passing}
+use Rattle.cluster_core.specs.Settings.{Setting, is_in_scope}
+use Rattle.graph_core.specs.DataGraph.{size}
+
+-- the same scope
+abbrev pub is_scope : ScopeId → ScopeId → Bool
+is_scope s t = s.home.0 == t.home.0 && s.serial == t.serial
+
+-- x for s, and f for each other scope
+abbrev pub set_for : {X : Type 0} → (ScopeId → X) → ScopeId → X → ScopeId → X
+set_for f s x t = if is_scope t s then x else f t
+
+-- the scope of v locks v as a writer, and its neighbours as a reader
+abbrev pub mode_at : ℕ → ℕ → Mode
+mode_at v x = if x == v then Writer else Reader
+
+-- the first vertex from k on that machine a owns in the scope of v
+abbrev pub own_from : Setting → ℕ → ℕ → ℕ → Option ℕ
+own_from st v a k = first_passing (λ x. is_in_scope st v x && st.owner x == a) k (size st.graph - k)
+
+-- there is one
+abbrev pub is_found : Option ℕ → Bool
+is_found None = false
+is_found (Some x) = true
+
+-- machine a owns a vertex in the scope of v
+abbrev pub takes_part : Setting → ℕ → ℕ → Bool
+takes_part st v a = is_found (own_from st v a 0)
+
+-- the machines from a on that own a vertex in the scope of v, ascending
+abbrev pub machines_from : Setting → ℕ → ℕ → List ℕ
+machines_from st v a = all_passing (takes_part st v) a (st.machines - a)
+
+-- the lock of y comes before that of vertex k at machine a, in canonical order
+abbrev pub is_before : Setting → ℕ → ℕ → ℕ → Bool
+is_before st y a k = nat_lt (st.owner y) a || (st.owner y == a && nat_lt y k)

@@ -1,0 +1,11 @@
+pub mod TwoWaves
+pub mod Counting
+pub mod ByTicket
+pub mod Totals
+pub mod Calls
+pub mod Machines
+pub mod Working
+pub mod Rounds
+pub mod Leading
+pub mod Clusters
+pub mod Events
