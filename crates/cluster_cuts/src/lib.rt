@@ -1,0 +1,2 @@
+//! Marks and cuts of a cluster.
+#![tactic(auto)]
