@@ -1,18 +1,17 @@
 -- What a change of one part leaves to be seen of a scope that it doesn't concern.
-use Rattle.std.proofs.Common.{◌≡◌, ◌≢◌, ◌⊎◌, ℕ, suc, ◌==◌, Bool, true, false, if◌then◌else◌, Option, None, Some, List, [], ◌∷◌, ◌++◌, refl, sym, ◌∙◌, ap, subst, ⊎_elim, append_assoc, append-nil}
-use Rattle.std.proofs.lemmas.Bool.{cases_eq, cases_Bool, eq-eqb, ne_eqb}
+use Rattle.std.proofs.Common.{◌≡◌, ◌≢◌, ℕ, ◌==◌, Bool, true, false, if◌then◌else◌, Option, None, Some, List, [], ◌∷◌, ◌++◌, refl, sym, ◌∙◌, ap, ⊎_elim, append_assoc, append-nil}
+use Rattle.std.proofs.lemmas.Bool.{cases_eq, eq-eqb, ne_eqb}
 use Rattle.gl_base.specs.declared.scopes.Claim.{Claim}
-use Rattle.gl_base.specs.declared.scopes.Mode.{Mode}
 use Rattle.gl_base.specs.declared.scopes.ScopeId.{ScopeId}
-use Rattle.cluster_core.specs.Messages.{Message, Ask, Ready, Done}
+use Rattle.cluster_core.specs.Messages.{Message, Ask, Ready}
 use Rattle.cluster_core.specs.Parts.{Part, Stand}
 use Rattle.cluster_core.specs.Ranges.{set_at}
 use Rattle.cluster_core.specs.Settings.{Setting}
 use Rattle.cluster_core.specs.Scopes.{is_scope, set_for, mode_at, own_from}
 use Rattle.cluster_core.specs.Effects.{put, goes_away, asks_for, goes_on}
-use Rattle.cluster_core.specs.Worlds.{World, with_part, way}
+use Rattle.cluster_core.specs.Worlds.{World, with_part}
 use Rattle.cluster_core.specs.Stages.{Token, Sight, Shows, token_of, tokens_of, claims_of}
-use Rattle.cluster_core.proofs.Basics.{set_at-same, set_at-other, set_at-cases, set_at-kept, set_for-other, apart_turned}
+use Rattle.cluster_core.proofs.Basics.{set_at-kept, set_for-other, apart_turned}
 
 -- ---- tokens and claims of lists that grow
 
@@ -76,10 +75,10 @@ shows_still st w a new t seen same shows =
       holder = λ x. set_at-kept (λ (part : Part). part.holder x t) w.part a new (same.holder x) (st.owner x) ∙ shows.holder x;
       queue = λ x. set_at-kept (λ (part : Part). claims_of t (part.queue x)) w.part a new (same.queue x) (st.owner x) ∙ shows.queue x;
       tokens = λ p q.
-        let read : Part → List Token = λ part. tokens_of t (w.link p q ++ part.out q) in
-        let here : read new ≡ read (w.part a) =
-            tokens_of-append t (w.link p q) (new.out q) ∙ ap (λ (more : List Token). tokens_of t (w.link p q) ++ more) (same.out q) ∙ sym (tokens_of-append t (w.link p q) ((w.part a).out q)) in
-        set_at-kept read w.part a new here p ∙ shows.tokens p q;
+          let read : Part → List Token = λ part. tokens_of t (w.link p q ++ part.out q) in
+          let here : read new ≡ read (w.part a) =
+          tokens_of-append t (w.link p q) (new.out q) ∙ ap (λ (more : List Token). tokens_of t (w.link p q) ++ more) (same.out q) ∙ sym (tokens_of-append t (w.link p q) ((w.part a).out q)) in
+          set_at-kept read w.part a new here p ∙ shows.tokens p q;
     }
 
 -- ---- steps of another scope
@@ -105,7 +104,7 @@ pub not_claimed : (t : ScopeId) (c : Claim) → is_scope c.scope t ≡ false →
 not_claimed t c apart claims = rw apart refl
 
 module _ (st : Setting) (a : ℕ) (s : ScopeId) (v : ℕ) (t : ScopeId) (apart : is_scope t s ≡ false) where
-  readied : (part : Part) → SameFor t part (record part { ready = set_for part.ready s true })
+  pub readied : (part : Part) → SameFor t part (record part { ready = set_for part.ready s true })
   readied part =
       record { flight = refl; ready = set_for-other part.ready s true t apart; stand = refl; holder = λ x. refl; queue = λ x. refl; out = λ q. refl }
 

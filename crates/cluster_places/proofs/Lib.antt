@@ -1,2 +1,15 @@
 pub mod Reaching
 pub mod Frames
+pub mod Going
+pub mod Seen
+pub mod Moving
+pub mod Standing
+pub mod Delivering
+pub mod Granting
+pub mod Admitting
+pub mod Ending
+pub mod Excluding
+pub mod PlacesKept
+pub mod Fronts
+pub mod StepsKept
+pub mod WorkedLocks

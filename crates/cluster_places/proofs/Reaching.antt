@@ -1,11 +1,11 @@
 -- Where a scope goes once it has its locks below k at machine a, and which locks it has then.
-use Rattle.std.proofs.Common.{◌≡◌, ◌≢◌, ◌⊎◌, ℕ, zero, suc, ◌+◌, ◌-◌, ◌<◌, ◌≤◌, ◌==◌, ◌&&◌, ◌||◌, Bool, true, false, if◌then◌else◌, Option, None, Some, List, [], ◌∷◌, refl, sym, ◌∙◌, ap, subst, ⊎_elim, inl, inr, nat_lt, arith}
-use Rattle.std.proofs.lemmas.Bool.{cases_eq, cases_lt, cases_Bool, cases_order, eq-eqb, eqb-true, ne_eqb, and_parts, and_from, or_cases, or_left, or_right, both_ways, ltb-true, lt-ltb}
+use Rattle.std.proofs.Common.{◌≡◌, ◌≢◌, ◌⊎◌, ℕ, suc, ◌<◌, ◌≤◌, ◌==◌, ◌&&◌, Bool, true, false, if◌then◌else◌, Option, None, Some, List, [], ◌∷◌, refl, sym, ◌∙◌, ⊎_elim, inl, inr, nat_lt, arith}
+use Rattle.std.proofs.lemmas.Bool.{cases_eq, cases_lt, eq-eqb, eqb-true, and_parts, and_from, or_cases, or_left, or_right, both_ways, ltb-true, lt-ltb}
 use Rattle.gl_base.specs.declared.scopes.ScopeId.{ScopeId}
 use Rattle.graph_core.specs.DataGraph.{size}
 use Rattle.cluster_core.specs.Settings.{Setting, IsSetting, is_in_scope}
 use Rattle.cluster_core.specs.Scopes.{own_from, takes_part, machines_from, is_before}
-use Rattle.cluster_core.specs.Stages.{Stage, Idle, Asks, Waits, Returns, Stays, Ends, has_lock, centre_of, flying}
+use Rattle.cluster_core.specs.Stages.{Stage, Asks, Waits, Returns, Stays, has_lock, centre_of, flying}
 use Rattle.cluster_core.specs.Places.{IsAtHome, IsStageOf}
 use Rattle.cluster_core.proofs.Basics.{same_truth}
 use Rattle.cluster_core.proofs.Nearness.{is_own, none_own, next_machine, no_machine, owner_takes_part, part_low, scope_within}
