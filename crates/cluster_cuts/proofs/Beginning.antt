@@ -4,15 +4,12 @@ use Rattle.std.specs.List.{AllByRecursion}
 use Rattle.std.proofs.lemmas.Bool.{and_from}
 use Rattle.gl_base.specs.declared.scopes.Datum.{Datum}
 use Rattle.graph_core.specs.DataGraph.{size}
-use Rattle.seq_run.specs.Orders.{replay}
 use Rattle.seq_run.specs.States.{GraphState}
-use Rattle.cluster_core.specs.Actions.{marks}
 use Rattle.cluster_core.specs.Marks.{mark_of, IsMarking, AreMarks}
 use Rattle.cluster_core.specs.Recovering.{recovered, going_on}
 use Rattle.cluster_core.specs.Runs.{IsStart}
 use Rattle.cluster_core.specs.Settings.{Setting, IsSetting}
 use Rattle.cluster_core.specs.Snapshots.{IsConsistent, IsUnmarked}
-use Rattle.cluster_core.specs.Stages.{flying}
 use Rattle.cluster_core.specs.Worlds.{World, way}
 use Rattle.cluster_core.proofs.Nearness.{owner_takes_part, scoped_itself}
 use Rattle.cluster_numbers.proofs.Starting.{copies_start, replay_start}

@@ -137,7 +137,7 @@ module _ (st : Setting) (w : World) (marks : AreMarks st w) (a k : ℕ) (new : P
         marks = λ v within. learned_mark st w marks a k new learning low link orders v;
         saved = λ b within known. (
           le_antisymm (known_bounds st w marks a k new learning low link orders b within).1
-          (subst (λ n. n ≤ (world.part b).known) known (known_rises st w marks a k new learning low link orders b)),
+              (subst (λ n. n ≤ (world.part b).known) known (known_rises st w marks a k new learning low link orders b)),
           saved_kept st w marks a k new learning low link orders b known,
         );
         saved_was = learned_was;

@@ -1,5 +1,5 @@
 -- Cuts of an order that goes on.
-use Rattle.std.proofs.Common.{◌≡◌, ℕ, zero, suc, pred, ◌<◌, ◌≤◌, Bool, true, false, not, ◌≢◌, ◌⊎◌, List, [], ◌∷◌, ◌++◌, length, take, if◌then◌else◌, ◌==◌, sym, refl, ap, ◌∙◌, subst, ap₂, subst₂, inl, inr, ⊎_elim, le_trans, arith, eq-eqb, ne_eqb}
+use Rattle.std.proofs.Common.{◌≡◌, ℕ, zero, suc, pred, ◌<◌, ◌≤◌, Bool, true, false, ◌≢◌, ◌⊎◌, List, [], ◌∷◌, ◌++◌, length, take, if◌then◌else◌, ◌==◌, sym, refl, ap, ◌∙◌, subst, ap₂, subst₂, inl, inr, ⊎_elim, le_trans, arith, eq-eqb, ne_eqb}
 use Rattle.std.proofs.lemmas.Bool.{cases_eq, cases_Bool, cond-true, cond-false}
 use Rattle.gl_base.specs.declared.entries.Entry.{Entry}
 use Rattle.gl_base.specs.declared.entries.Entry.TheVariants.{Go, Restart}
@@ -136,8 +136,10 @@ good_left one other order m u t good v = ⊎_elim
     (λ (same : one v ≡ other v). inl (one_is ∙ ap pred (ap one (sym here) ∙ same ∙ ap other here) ∙ sym other_is))
     (λ (enough : (updates_of v (Go m u t ∷ order) ≤ one v) × (updates_of v (Go m u t ∷ order) ≤ other v)).
     let front = updates_front-same v order m u t (sym here) in
-    inr (subst (λ n. updates_of v order ≤ n) (sym one_is) (pred_enough (updates_of v order) (one u.0) (subst₂ (λ n k. n ≤ k) front (ap one here) enough.0)),
-    subst (λ n. updates_of v order ≤ n) (sym other_is) (pred_enough (updates_of v order) (other u.0) (subst₂ (λ n k. n ≤ k) front (ap other here) enough.1))))
+    inr (
+      subst (λ n. updates_of v order ≤ n) (sym one_is) (pred_enough (updates_of v order) (one u.0) (subst₂ (λ n k. n ≤ k) front (ap one here) enough.0)),
+      subst (λ n. updates_of v order ≤ n) (sym other_is) (pred_enough (updates_of v order) (other u.0) (subst₂ (λ n k. n ≤ k) front (ap other here) enough.1)),
+    ))
     (good v))
     (λ (there : v ≡ u.0 → ⊥).
     let one_is : left_of one u v ≡ one v = set_at-there (λ n. n) one u.0 (pred (one u.0)) v there in

@@ -14,7 +14,6 @@ use Rattle.seq_run.specs.States.{GraphState, near_of, new_number, after_update, 
 use Rattle.seq_run.proofs.GoingOn.{replay_from-append, tasks_from-append, valid_append}
 use Rattle.seq_run.proofs.Waking.{with_number-same, with_number-other}
 use Rattle.cluster_core.specs.Cuts.{updates_of, cut_of, HasMarkedEnd, IsCut}
-use Rattle.cluster_core.specs.Effects.{marked}
 use Rattle.cluster_core.specs.Marks.{mark_of}
 use Rattle.cluster_core.specs.Ranges.{set_at}
 use Rattle.cluster_core.specs.Replays.{replay_of, tasks_of}

@@ -4,9 +4,7 @@ use Rattle.std.proofs.lemmas.Bool.{cases_lt, cases_eq, cases_Bool, and_parts, or
 use Rattle.gl_base.specs.declared.entries.Entry.{Entry}
 use Rattle.gl_base.specs.declared.scopes.ScopeId.{ScopeId}
 use Rattle.graph_core.specs.DataGraph.{DataEdge, size}
-use Rattle.seq_run.specs.Orders.{replay}
 use Rattle.seq_run.specs.States.{GraphState}
-use Rattle.cluster_core.specs.Actions.{marks}
 use Rattle.cluster_core.specs.Copies.{AreCopies}
 use Rattle.cluster_core.specs.Cuts.{cut_of, HasMarkedEnd, IsToBeMarked, IsCut}
 use Rattle.cluster_core.specs.Effects.{ends, is_left, other_end, is_end, saves_edge, save, marked_datum, pends_for, mark_news, marked}
@@ -178,9 +176,13 @@ module _ (st : Setting) (is : IsSetting st) (w : World) (s : ScopeId) (v : ℕ) 
       let ends = between_end (edge_at st e) v x (edge_fits st is e low).apart between in
       let left : is_left st own v x ≡ true = left_from st is w s v within owned still copies order replay marks pends x (ends_near st is e v x low between) less in
       let saves : saves_edge st own v e ≡ true =
-      and_from (is_end (edge_at st e) v) (is_left st own v (other_end (edge_at st e) v)) ends.0 (subst (λ y. is_left st own v y ≡ true) (sym ends.1) left) in
-      (s.home.0, own.edge e, machine_low, known_still s.home.0 ∙ known_newest,
-      set_at-here (λ (p : Part). p.saved.edges e) w.part s.home.0 made s.home.0 refl ∙ cond-true (saves_edge st own v e) (Some (own.edge e)) (own.saved.edges e) saves)
+      and_from (is_end (edge_at st e) v) (is_left st own v (other_end (edge_at st e) v)) ends.0 (subst (λ y. is_left st own v y ≡ true) (sym ends.1) left) in (
+        s.home.0,
+        own.edge e,
+        machine_low,
+        known_still s.home.0 ∙ known_newest,
+        set_at-here (λ (p : Part). p.saved.edges e) w.part s.home.0 made s.home.0 refl ∙ cond-true (saves_edge st own v e) (Some (own.edge e)) (own.saved.edges e) saves,
+      )
 
   found_now : (e : ℕ) → e < length st.graph.edges → HasMarkedEnd st new e → IsFoundNow e
   found_now e low end = ⊎_elim
@@ -211,10 +213,12 @@ module _ (st : Setting) (is : IsSetting st) (w : World) (s : ScopeId) (v : ℕ) 
       ∙ pending_made u (or_left (pends_for st own v s.home.0 u) (own.pending u && not (u == v)) (and_from (st.owner u == s.home.0) (is_left st own v u) (eq-eqb (st.owner u) s.home.0 same) left))))
       (λ (other : st.owner u ≡ s.home.0 → ⊥).
       let part : takes_part st v (st.owner u) ≡ true = owner_takes_part st is v u within (scoped_near st is v u near) in
-      inr (s.home.0,
-      ap (vertex_named u) (way_told st is w s v within owned still copies news made is_made (st.owner u) (reaches_from st is w s v within owned still copies news made is_made (st.owner u) part other))
-      ∙ any-right (names_vertex u) (way w s.home.0 (st.owner u)) (Done s (news (st.owner u)) ∷ [])
-      (any_one (names_vertex u) (Done s (news (st.owner u))) ∙ and_from (st.owner u == st.owner u) (is_left st own v u) (eq-eqb (st.owner u) (st.owner u) refl) left)))
+      inr (
+        s.home.0,
+        ap (vertex_named u) (way_told st is w s v within owned still copies news made is_made (st.owner u) (reaches_from st is w s v within owned still copies news made is_made (st.owner u) part other))
+            ∙ any-right (names_vertex u) (way w s.home.0 (st.owner u)) (Done s (news (st.owner u)) ∷ [])
+            (any_one (names_vertex u) (Done s (news (st.owner u))) ∙ and_from (st.owner u == st.owner u) (is_left st own v u) (eq-eqb (st.owner u) (st.owner u) refl) left),
+      ))
       (cases_eq (st.owner u) s.home.0)
 
   named_still : (u p q : ℕ) → vertex_named u (way w p q) ≡ true → vertex_named u (way new p q) ≡ true

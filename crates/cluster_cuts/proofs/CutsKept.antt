@@ -8,7 +8,7 @@ use Rattle.gl_base.specs.declared.scopes.ScopeId.{ScopeId}
 use Rattle.gl_base.specs.declared.scopes.Datum.{Datum}
 use Rattle.graph_core.specs.DataGraph.{size}
 use Rattle.graph_core.proofs.HalvesLaws.{each-append}
-use Rattle.seq_run.specs.Orders.{replay, all_tasks, IsValidFrom}
+use Rattle.seq_run.specs.Orders.{all_tasks, IsValidFrom}
 use Rattle.seq_run.specs.States.{new_number}
 use Rattle.cluster_core.specs.Actions.{Action, Admit, Grant, Send, Deliver, Update, Mark, Begin, Hear, SendSection, Collect, Record, MaySend, MayRecord, MayHappen, sends, delivers, draws, marks, begins_one, hears, sends_section, collects, records, after}
 use Rattle.cluster_core.specs.Cuts.{updates_of, cut_of, HasMarkedEnd, IsToBeMarked, IsCut}
@@ -26,7 +26,7 @@ use Rattle.cluster_core.specs.Ways.{IsToldTo}
 use Rattle.cluster_core.specs.Worlds.{World, with_part, way}
 use Rattle.cluster_core.proofs.Basics.{set_at-cases, set_at-kept, set_at-here}
 use Rattle.cluster_core.proofs.Nearness.{near_turned, near_within}
-use Rattle.cluster_core.proofs.Taking.{same_way, taken, shorter}
+use Rattle.cluster_core.proofs.Taking.{same_way, taken}
 use Rattle.cluster_numbers.proofs.EdgeEnds.{edge_fits}
 use Rattle.cluster_numbers.proofs.Keeping.{numbers_quiet, updates_is, marks_is}
 use Rattle.cluster_numbers.proofs.NewsComes.{way_there, way_here, copies_come, replay_comes}

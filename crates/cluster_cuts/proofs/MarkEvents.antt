@@ -6,9 +6,9 @@ use Rattle.gl_base.specs.declared.scopes.ScopeId.{ScopeId}
 use Rattle.gl_base.specs.declared.scopes.Datum.{Datum}
 use Rattle.graph_core.specs.DataGraph.{size}
 use Rattle.graph_core.proofs.HalvesLaws.{each-append, each-weaker}
-use Rattle.cluster_core.specs.Actions.{MaySend, MayRecord, delivers, marks, begins_one, hears, sends_section, collects, records}
+use Rattle.cluster_core.specs.Actions.{MaySend, MayRecord, delivers, begins_one, hears, sends_section, collects, records}
 use Rattle.cluster_core.specs.Copies.{AreCopies}
-use Rattle.cluster_core.specs.Effects.{newer, begins, applied, received}
+use Rattle.cluster_core.specs.Effects.{newer, begins, applied}
 use Rattle.cluster_core.specs.Marks.{mark_of, IsMarking, IsInPlace, AreMarks}
 use Rattle.cluster_core.specs.Messages.{News, Section, Message, Ask, Ready, Done}
 use Rattle.cluster_core.specs.Parts.{Part}
@@ -58,9 +58,11 @@ module _ (st : Setting) (is : IsSetting st) (w : World) (p q : ℕ) (s : ScopeId
             (λ (named : news.pends u ≡ true).
             let its = told_front.0.1 u named in
             let fits = its_news.pends u named in
-            let low : mark_of st w u < max (w.part q).known news.number = below_max (mark_of st w u) news.number (w.part q).known 0 w.begun its.1 its.0 in
-            ((near_within st is news.centre u fits.0).0, fits.1,
-            subst (λ (d : Datum). d.mark < max (w.part q).known news.number) (ap (λ j. (w.part j).datum u) fits.1 ∙ sym (datum_same u fits.1)) low))
+            let low : mark_of st w u < max (w.part q).known news.number = below_max (mark_of st w u) news.number (w.part q).known 0 w.begun its.1 its.0 in (
+              (near_within st is news.centre u fits.0).0,
+              fits.1,
+              subst (λ (d : Datum). d.mark < max (w.part q).known news.number) (ap (λ j. (w.part j).datum u) fits.1 ∙ sym (datum_same u fits.1)) low,
+            ))
             (λ (was : (begins st q news.number (w.part q)).pending u ≡ true).
             let its = begun.pending u was in
             (its.0, its.1, subst (λ (d : Datum). d.mark < max (w.part q).known news.number) (sym (datum_same u its.1)) its.2))
@@ -109,11 +111,17 @@ module _ (st : Setting) (w : World) (marks : AreMarks st w) where
   marking_begun is over p q [] fit all = tt
   marking_begun is over p q (Ask t c rest ∷ ms) fit all = (tt, marking_begun is over p q ms fit.1 all.1)
   marking_begun is over p q (Ready t ∷ ms) fit all = (tt, marking_begun is over p q ms fit.1 all.1)
-  marking_begun is over p q (Done t news ∷ ms) fit all = ((le_trans all.0.0 (le_of_lt (lt-suc_self w.begun)), λ u named.
-      let inside = (near_within st is news.centre u (fit.0.pends u named).0).0 in
-      let low : mark_of st w u < w.begun = (all.0.1 u named).1 in
-      let high : w.acknowledged ≤ mark_of st w u = (marks.marks u inside).0 in
-      absurd (lt_irrefl _ (lt_of_lt_of_le low (subst (λ n. n ≤ mark_of st w u) over high)))), marking_begun is over p q ms fit.1 all.1)
+  marking_begun is over p q (Done t news ∷ ms) fit all = (
+    (
+      le_trans all.0.0 (le_of_lt (lt-suc_self w.begun)),
+      λ u named.
+          let inside = (near_within st is news.centre u (fit.0.pends u named).0).0 in
+          let low : mark_of st w u < w.begun = (all.0.1 u named).1 in
+          let high : w.acknowledged ≤ mark_of st w u = (marks.marks u inside).0 in
+          absurd (lt_irrefl _ (lt_of_lt_of_le low (subst (λ n. n ≤ mark_of st w u) over high))),
+    ),
+    marking_begun is over p q ms fit.1 all.1,
+  )
 
   pub marks_begin : IsSetting st → AreCopies st w → w.acknowledged ≡ w.begun → AreMarks st (begins_one w)
   marks_begin is copies over =

@@ -7,10 +7,8 @@ use Rattle.gl_base.specs.declared.scopes.ScopeId.{ScopeId}
 use Rattle.gl_base.specs.declared.scopes.Datum.{Datum}
 use Rattle.graph_core.specs.DataGraph.{size}
 use Rattle.graph_core.proofs.HalvesLaws.{each-append}
-use Rattle.seq_run.specs.Orders.{replay}
-use Rattle.cluster_core.specs.Actions.{marks}
 use Rattle.cluster_core.specs.Copies.{AreCopies}
-use Rattle.cluster_core.specs.Effects.{knows, ends, is_left, save, marked_datum, number_if, pends_for, mark_news, marked}
+use Rattle.cluster_core.specs.Effects.{ends, is_left, save, marked_datum, number_if, pends_for, mark_news, marked}
 use Rattle.cluster_core.specs.Marks.{mark_of, IsMarking, IsInPlace, AreMarks}
 use Rattle.cluster_core.specs.Messages.{News, Message, Ask, Ready, Done}
 use Rattle.cluster_core.specs.Parts.{Part}
@@ -105,14 +103,19 @@ module _ (st : Setting) (is : IsSetting st) (w : World) (s : ScopeId) (v : ℕ) 
   marking_more p q [] fit quiet all = tt
   marking_more p q (Ask t c rest ∷ ms) fit quiet all = (tt, marking_more p q ms fit.1 quiet all.1)
   marking_more p q (Ready t ∷ ms) fit quiet all = (tt, marking_more p q ms fit.1 quiet all.1)
-  marking_more p q (Done t n ∷ ms) fit quiet all = ((all.0.0, λ u named.
-      let its = all.0.1 u named in
-      let other : u ≢ v = λ same.
-      let fits = fit.0.pends u named in
-      let none = (or_parts (is_near st v n.centre) (done_near st v ms) (quiet (sym fits.1 ∙ ap st.owner same ∙ owned))).0 in
-      true≢false (sym (near_turned st v n.centre ∙ subst (λ x. is_near st n.centre x ≡ true) same fits.0) ∙ none) in
-      (its.0, subst (λ k. k < w.begun) (sym (mark_else u other)) its.1)),
-      marking_more p q ms fit.1 (λ same. (or_parts (is_near st v n.centre) (done_near st v ms) (quiet same)).1) all.1)
+  marking_more p q (Done t n ∷ ms) fit quiet all = (
+    (
+      all.0.0,
+      λ u named.
+          let its = all.0.1 u named in
+          let other : u ≢ v = λ same.
+          let fits = fit.0.pends u named in
+          let none = (or_parts (is_near st v n.centre) (done_near st v ms) (quiet (sym fits.1 ∙ ap st.owner same ∙ owned))).0 in
+          true≢false (sym (near_turned st v n.centre ∙ subst (λ x. is_near st n.centre x ≡ true) same fits.0) ∙ none) in
+          (its.0, subst (λ k. k < w.begun) (sym (mark_else u other)) its.1),
+    ),
+    marking_more p q ms fit.1 (λ same. (or_parts (is_near st v n.centre) (done_near st v ms) (quiet same)).1) all.1,
+  )
 
   number_found : (q u : ℕ) → u < size st.graph → pends_for st own v q u ≡ true → number_if (first_passing (pends_for st own v q) 0 (size st.graph)) own.known ≡ own.known
   number_found q u low named = found (first_passing (pends_for st own v q) 0 (size st.graph)) refl
@@ -126,9 +129,12 @@ module _ (st : Setting) (is : IsSetting st) (w : World) (s : ScopeId) (v : ℕ) 
   number_low (Some x) = le_of_eq home_newest.0
 
   news_marking : (q : ℕ) → IsMarking st world (Done s (news q))
-  news_marking q = (number_low (first_passing (pends_for st own v q) 0 (size st.graph)), λ u named.
-      let low = left_low u (and_parts (st.owner u == q) (is_left st own v u) named).1 in
-      (number_found q u (near_within st is v u low.0).0 named ∙ home_newest.0, subst (λ k. k < w.begun) (sym (mark_else u (apart_from u low.0))) low.1))
+  news_marking q = (
+    number_low (first_passing (pends_for st own v q) 0 (size st.graph)),
+    λ u named.
+        let low = left_low u (and_parts (st.owner u == q) (is_left st own v u) named).1 in
+        (number_found q u (near_within st is v u low.0).0 named ∙ home_newest.0, subst (λ k. k < w.begun) (sym (mark_else u (apart_from u low.0))) low.1),
+  )
 
   told_marking : (p q : ℕ) → AllByRecursion (IsMarking st world) (way world p q)
   told_marking p q =
@@ -148,15 +154,20 @@ module _ (st : Setting) (is : IsSetting st) (w : World) (s : ScopeId) (v : ℕ) 
       (λ (was : (pends_for st own v s.home.0 u || (own.pending u && not (u == v))) ≡ true). ⊎_elim
       (λ (named : pends_for st own v s.home.0 u ≡ true).
       let both = and_parts (st.owner u == s.home.0) (is_left st own v u) named in
-      let low = left_low u both.1 in
-      ((near_within st is v u low.0).0, eqb-true (st.owner u) s.home.0 both.0,
-      subst (λ (d : Datum). d.mark < own.known) (sym (set_at-other own.datum v (marked_datum own v) u (apart_from u low.0)))
-      (ltb-true (own.datum u).mark own.known (and_parts (is_near st v u) (nat_lt (own.datum u).mark own.known) both.1).1)))
+      let low = left_low u both.1 in (
+        (near_within st is v u low.0).0,
+        eqb-true (st.owner u) s.home.0 both.0,
+        subst (λ (d : Datum). d.mark < own.known) (sym (set_at-other own.datum v (marked_datum own v) u (apart_from u low.0)))
+            (ltb-true (own.datum u).mark own.known (and_parts (is_near st v u) (nat_lt (own.datum u).mark own.known) both.1).1),
+      ))
       (λ (old : (own.pending u && not (u == v)) ≡ true).
       let both = and_parts (own.pending u) (not (u == v)) old in
-      let its = marks.pending s.home.0 u both.0 in
-      (its.0, its.1, subst (λ (d : Datum). d.mark < own.known)
-      (sym (set_at-other own.datum v (marked_datum own v) u (λ same. true≢false (sym (eq-eqb u v same) ∙ not-true (u == v) both.1)))) its.2))
+      let its = marks.pending s.home.0 u both.0 in (
+        its.0,
+        its.1,
+        subst (λ (d : Datum). d.mark < own.known)
+            (sym (set_at-other own.datum v (marked_datum own v) u (λ same. true≢false (sym (eq-eqb u v same) ∙ not-true (u == v) both.1)))) its.2,
+      ))
       (or_cases (pends_for st own v s.home.0 u) (own.pending u && not (u == v)) was))
       (λ (seed : (u < size st.graph) × (st.owner u ≡ s.home.0) × ((unseeded.datum u).mark < unseeded.known)). seed)
       (seeded_pending st s.home.0 unseeded u yes_pends)
@@ -199,10 +210,12 @@ module _ (st : Setting) (is : IsSetting st) (w : World) (s : ScopeId) (v : ℕ) 
         told = told_marking;
         sent_low = λ b low. subst (λ n. (w.acknowledged ≤ n) × (n ≤ w.begun)) (sym (sent_same b)) (marks.sent_low b low);
         sent = λ b low its under.
-            let was = marks.sent b low (sym (sent_same b) ∙ its) under in
-            (known_same b ∙ was.0, λ u inside owner. ⊎_elim
-            (λ (same : u ≡ v). ap (mark_of st world) same ∙ mark_here)
-            (λ (other : u ≡ v → ⊥). mark_else u other ∙ was.1 u inside owner)
-            (cases_eq u v));
+            let was = marks.sent b low (sym (sent_same b) ∙ its) under in (
+              known_same b ∙ was.0,
+              λ u inside owner. ⊎_elim
+                  (λ (same : u ≡ v). ap (mark_of st world) same ∙ mark_here)
+                  (λ (other : u ≡ v → ⊥). mark_else u other ∙ was.1 u inside owner)
+                  (cases_eq u v),
+            );
         sections = in_place;
       }

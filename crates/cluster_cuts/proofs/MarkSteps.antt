@@ -5,7 +5,7 @@ use Rattle.std.proofs.lemmas.Bool.{and_parts, or_cases, or_right, cond-false}
 use Rattle.graph_core.specs.DataGraph.{size}
 use Rattle.graph_core.proofs.HalvesLaws.{each-weaker}
 use Rattle.cluster_core.specs.Actions.{marks}
-use Rattle.cluster_core.specs.Effects.{first_unmarked, first_pending, seed_if, is_at, seeded, nothing_saved, knows, begins, learns}
+use Rattle.cluster_core.specs.Effects.{first_unmarked, first_pending, seed_if, is_at, seeded, nothing_saved, knows, begins}
 use Rattle.cluster_core.specs.Marks.{mark_of, IsMarking, IsInPlace, AreMarks}
 use Rattle.cluster_core.specs.Messages.{Section, Message, Ask, Ready, Done}
 use Rattle.cluster_core.specs.Parts.{Part}
@@ -176,10 +176,12 @@ module _ (st : Setting) (w : World) (marks : AreMarks st w) (a k : ℕ) (new : P
 
   pub known_bounds : (b : ℕ) → b < st.machines → (w.acknowledged ≤ (world.part b).known) × ((world.part b).known ≤ w.begun)
   known_bounds b within =
-      let was = marks.known b within in
-      (le_trans was.0 (known_rises b), set_at-cases (λ (part : Part). part.known ≤ w.begun) w.part a new b
-      (λ same. max_below new.known (w.part a).known k w.begun learning.known (subst (λ j. (w.part j).known ≤ w.begun) same was.1) low)
-      (λ other. was.1))
+      let was = marks.known b within in (
+        le_trans was.0 (known_rises b),
+        set_at-cases (λ (part : Part). part.known ≤ w.begun) w.part a new b
+            (λ same. max_below new.known (w.part a).known k w.begun learning.known (subst (λ j. (w.part j).known ≤ w.begun) same was.1) low)
+            (λ other. was.1),
+      )
 
   -- who knew the newest snapshot still has what it saved
   pub saved_kept : (b : ℕ) → (w.part b).known ≡ w.begun → (world.part b).saved ≡ (w.part b).saved
