@@ -68,14 +68,14 @@ module _ (st : Setting) (is : IsSetting st) (w : World) (order : List Entry) (co
   delivered p q (Done s news) behind first =
       stays_on (delivers st w p q (Done s news ∷ behind)) (copies_come st is w p q s news behind first copies) (replay_comes st is w p q s news behind first copies order replay)
 
-  pub action_keeps : IsExclusive st w → (action : Action) → MayHappen st w action → GoesOnBy st order (after st w action)
-  action_keeps apart (Admit a v) may = quietly (with_part w a (admitted st a v (w.part a))) (part_quiet w a (admitted st a v (w.part a)) (admitted-quiet st a v (w.part a)))
-  action_keeps apart (Grant a x) may = quietly (with_part w a (granted st a x (w.part a))) (part_quiet w a (granted st a x (w.part a)) (granted-quiet st a x (w.part a)))
-  action_keeps apart (Send p q) may =
+  pub action_goes_on : IsExclusive st w → (action : Action) → MayHappen st w action → GoesOnBy st order (after st w action)
+  action_goes_on apart (Admit a v) may = quietly (with_part w a (admitted st a v (w.part a))) (part_quiet w a (admitted st a v (w.part a)) (admitted-quiet st a v (w.part a)))
+  action_goes_on apart (Grant a x) may = quietly (with_part w a (granted st a x (w.part a))) (part_quiet w a (granted st a x (w.part a)) (granted-quiet st a x (w.part a)))
+  action_goes_on apart (Send p q) may =
       subst (λ ms. GoesOnBy st order (sends w p q ms)) (sym may.first) (quietly (sends w p q (may.message ∷ may.behind)) (sent_quiet w p q may.message may.behind may.first))
-  action_keeps apart (Deliver p q) may =
+  action_goes_on apart (Deliver p q) may =
       subst (λ ms. GoesOnBy st order (delivers st w p q ms)) (sym may.first) (delivered p q may.message may.behind may.first)
-  action_keeps apart (Update s) may =
+  action_goes_on apart (Update s) may =
       let own = apart.owned s may.vertex (may.flight, may.ready) in
       let still : (p : ℕ) → done_near st may.vertex (way w p s.home.0) ≡ false = λ p. apart.done s may.vertex p (may.flight, may.ready) in
       subst (GoesOnBy st order) (sym (updates_is st w s may.vertex may.flight))
@@ -84,23 +84,23 @@ module _ (st : Setting) (is : IsSetting st) (w : World) (order : List Entry) (co
         copies = copies_updated st is w s may.vertex own.0 own.1 still copies order replay;
         replay = replay_made st is w s may.vertex own.0 own.1 still copies order replay may.task;
       })
-  action_keeps apart (Mark s) may =
+  action_goes_on apart (Mark s) may =
       let own = apart.owned s may.vertex (may.flight, may.ready) in
       let still : (p : ℕ) → done_near st may.vertex (way w p s.home.0) ≡ false = λ p. apart.done s may.vertex p (may.flight, may.ready) in
       subst (GoesOnBy st order) (sym (marks_is st w s may.vertex may.flight))
       (stays_on (marks st w s (Some may.vertex)) (copies_marked st is w s may.vertex own.0 own.1 still copies order replay) (replay_marked st is w s may.vertex own.0 own.1 still copies order replay))
-  action_keeps apart Begin may = quietly (begins_one w) (record { datum = λ a. refl; edge = λ a. refl; task = λ a. refl; log = λ a. refl; next = refl; news = λ p q. refl })
-  action_keeps apart (Hear a) may =
+  action_goes_on apart Begin may = quietly (begins_one w) (record { datum = λ a. refl; edge = λ a. refl; task = λ a. refl; log = λ a. refl; next = refl; news = λ p q. refl })
+  action_goes_on apart (Hear a) may =
       subst (λ ks. GoesOnBy st order (hears st w a ks)) (sym may.first)
       (quietly (hears st w a (may.number ∷ may.behind))
       (numbers_quiet w (hears st w a (may.number ∷ may.behind)) a (begins st a may.number (w.part a)) refl refl refl refl refl refl refl refl))
-  action_keeps apart (SendSection a) may =
+  action_goes_on apart (SendSection a) may =
       quietly (sends_section w a)
       (numbers_quiet w (sends_section w a) a (record (w.part a) { sent = (w.part a).known }) refl refl refl refl refl refl refl refl)
-  action_keeps apart (Collect a) may =
+  action_goes_on apart (Collect a) may =
       subst (λ ms. GoesOnBy st order (collects w a ms)) (sym may.first)
       (quietly (collects w a (may.section ∷ may.behind)) (record { datum = λ b. refl; edge = λ b. refl; task = λ b. refl; log = λ b. refl; next = refl; news = λ p q. refl }))
-  action_keeps apart Record may = quietly (records w) (record { datum = λ a. refl; edge = λ a. refl; task = λ a. refl; log = λ a. refl; next = refl; news = λ p q. refl })
+  action_goes_on apart Record may = quietly (records w) (record { datum = λ a. refl; edge = λ a. refl; task = λ a. refl; log = λ a. refl; next = refl; news = λ p q. refl })
 
   -- an update that may happen is fresh
   pub update_fresh : IsExclusive st w → (s : ScopeId) (may : MayUpdate s (w.part s.home.0) w.left) → IsFresh st (replay_of st order) (w.part s.home.0) may.vertex

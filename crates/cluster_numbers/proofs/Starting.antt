@@ -13,7 +13,7 @@ use Rattle.cluster_core.specs.Settings.{Setting, IsSetting}
 use Rattle.cluster_core.specs.Ways.{datum_told, edge_told, edge_changed, IsToldTo}
 use Rattle.cluster_core.specs.Worlds.{World, way}
 use Rattle.cluster_core.proofs.Nearness.{owner_takes_part, scoped_itself}
-use Rattle.cluster_numbers.proofs.Keeping.{GoesOnBy, action_keeps}
+use Rattle.cluster_numbers.proofs.Keeping.{GoesOnBy, action_goes_on}
 
 module _ (st : Setting) (is : IsSetting st) (w : World) (start : IsStart st w) where
   nothing : (p q : ℕ) → way w p q ≡ []
@@ -53,6 +53,6 @@ pub run_goes_on : (st : Setting) → IsSetting st → (actions : List Action) (o
 run_goes_on st is [] old new order copies replay run =
     record { rest = []; copies = subst (AreCopies st) (sym run) copies; replay = subst (IsReplay st new) (sym (append-nil order)) (subst (λ w. IsReplay st w order) (sym run) replay) }
 run_goes_on st is (action ∷ actions) old new order copies replay run =
-    let next = action_keeps st is old order copies replay run.0 action run.1 in
+    let next = action_goes_on st is old order copies replay run.0 action run.1 in
     let later = run_goes_on st is actions (after st old action) new (order ++ next.rest) next.copies next.replay run.2 in
     record { rest = next.rest ++ later.rest; copies = later.copies; replay = subst (IsReplay st new) (append_assoc order next.rest later.rest) later.replay }
