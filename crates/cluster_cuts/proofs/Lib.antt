@@ -8,3 +8,4 @@ pub mod CutMade
 pub mod CutsKept
 pub mod CutsGoOn
 pub mod Beginning
+pub mod WorkedCut

@@ -3,8 +3,10 @@
 //! Of the scopes it is used only that they exclude one another.
 #![tactic(auto)]
 
+mod examples;
 mod laws;
 
+pub use examples::a_snapshot_of_the_first_update;
 pub use laws::{
     actions_keep_consistence, cuts_go_on, later_cuts_have_more, records_are_cuts,
     recoveries_are_starts, runs_go_on, starts_are_consistent,
