@@ -14,7 +14,7 @@ use Rattle.cluster_core.specs.Settings.{Setting, IsSetting}
 use Rattle.cluster_core.specs.Snapshots.{IsConsistent}
 use Rattle.cluster_core.specs.Worlds.{World}
 use Rattle.cluster_core.proofs.Basics.{set_at-cases}
-use Rattle.cluster_cuts.specs.Goings.{AreUpdatesFrom, IsByOwner, StaysSo, UpdatesOne, BeginsOne, IsOneStep, GoesOn}
+use Rattle.cluster_cuts.specs.Goings.{AreUpdatesFrom, IsByOwner, IsOfVertexBelow, StaysSo, UpdatesOne, BeginsOne, IsOneStep, GoesOn}
 use Rattle.cluster_cuts.proofs.CutLists.{cuts_nest}
 use Rattle.cluster_cuts.proofs.CutsKept.{one_step}
 
@@ -33,6 +33,7 @@ module _ (st : Setting) (is : IsSetting st) (w : World) (kept : IsConsistent st 
         tickets = tt;
         drawn = stays.drawn ∙ pred_none w.next;
         owners = tt;
+        vertices = tt;
       }
 
   updates_goes : (next : IsConsistent st new) → UpdatesOne st w kept new next → GoesOn st w kept new
@@ -56,6 +57,7 @@ module _ (st : Setting) (is : IsSetting st) (w : World) (kept : IsConsistent st 
         tickets = (refl, tt);
         drawn = one.drawn ∙ (omega arith);
         owners = (sym one.owned, tt);
+        vertices = (one.within, tt);
       }
 
   begins_goes : (next : IsConsistent st new) → BeginsOne st w kept new next → GoesOn st w kept new
@@ -69,6 +71,7 @@ module _ (st : Setting) (is : IsSetting st) (w : World) (kept : IsConsistent st 
         tickets = tt;
         drawn = begins.drawn ∙ pred_none w.next;
         owners = tt;
+        vertices = tt;
       }
 
   pub step_goes : IsOneStep st w kept new → GoesOn st w kept new
@@ -98,12 +101,13 @@ goes_not st w kept =
       tickets = tt;
       drawn = pred_none w.next;
       owners = tt;
+      vertices = tt;
     }
 
-sum_of : (a b c x y : ℕ) → b ≡ a + x → c ≡ b + y → c ≡ a + (x + y)
+pub sum_of : (a b c x y : ℕ) → b ≡ a + x → c ≡ b + y → c ≡ a + (x + y)
 sum_of a b c x y one other = omega arith
 
-pub goes_then : (st : Setting) (a b c : World) (kept : IsConsistent st a) (one : GoesOn st a kept b) → GoesOn st b one.next c → GoesOn st a kept c
+abbrev pub goes_then : (st : Setting) (a b c : World) (kept : IsConsistent st a) (one : GoesOn st a kept b) → GoesOn st b one.next c → GoesOn st a kept c
 goes_then st a b c kept one other =
     record {
       next = other.next;
@@ -114,6 +118,7 @@ goes_then st a b c kept one other =
       tickets = updates_from-append a.next one.rest other.rest one.tickets (subst (λ n. AreUpdatesFrom n other.rest) one.drawn other.tickets);
       drawn = sum_of a.next b.next c.next (length one.rest) (length other.rest) one.drawn other.drawn ∙ ap (λ n. a.next + n) (sym (length-append one.rest other.rest));
       owners = each-append (IsByOwner st.owner) one.rest other.rest one.owners other.owners;
+      vertices = each-append (IsOfVertexBelow (size st.graph)) one.rest other.rest one.vertices other.vertices;
     }
 
 pub run_goes : (st : Setting) → IsSetting st → (actions : List Action) (old new : World) (kept : IsConsistent st old) → IsApartRun st old actions new → GoesOn st old kept new

@@ -25,6 +25,11 @@ abbrev pub IsByOwner : (ℕ → ℕ) → Entry → Type 0
 IsByOwner owner (Go machine vertex ticket) = machine.0 ≡ owner vertex.0
 IsByOwner owner (Restart ticket) = ⊤
 
+-- the update is of one of so many vertices
+abbrev pub IsOfVertexBelow : ℕ → Entry → Type 0
+IsOfVertexBelow n (Go machine vertex ticket) = vertex.0 < n
+IsOfVertexBelow n (Restart ticket) = ⊤
+
 -- ---- what one action does
 
 -- Order, cut and tickets stay as they are.
@@ -75,6 +80,7 @@ pub record GoesOn (st : Setting) (w : World) (kept : IsConsistent st w) (new : W
   pub tickets : AreUpdatesFrom w.next rest
   pub drawn : new.next ≡ w.next + length rest
   pub owners : AllByRecursion (IsByOwner st.owner) rest
+  pub vertices : AllByRecursion (IsOfVertexBelow (size st.graph)) rest
 
 -- ---- what is recorded
 

@@ -1,9 +1,11 @@
 //! Laws about what happens in a cluster from a start on. Each is the contract of a function that does nothing.
-ghost use Rattle.std.specs.Prelude.{◌≡◌, ℕ, ◌<◌, ◌↔◌, true, List, [], ◌∷◌};
+ghost use Rattle.std.specs.Prelude.{◌≡◌, ℕ, ◌+◌, ◌<◌, length, ◌↔◌, true, List, [], ◌∷◌};
+ghost use Rattle.std.specs.List.{AllByRecursion};
 ghost use Rattle.gl_base.specs.declared.entries.Entry.{Entry};
+ghost use Rattle.gl_base.specs.declared.jobs.FailureAt.{FailureAt};
 ghost use Rattle.gl_base.specs.declared.scopes.ScopeId.{ScopeId};
 ghost use Rattle.graph_core.specs.DataGraph.{size};
-ghost use Rattle.seq_run.specs.Orders.{all_tasks, IsValidFrom};
+ghost use Rattle.seq_run.specs.Orders.{all_tasks, replay, IsValidFrom};
 ghost use Rattle.cluster_core.specs.Actions.{Action, MayHappen, MayRecord, MayUpdate, after};
 ghost use Rattle.cluster_core.specs.Coherent.{IsCoherent};
 ghost use Rattle.cluster_core.specs.Cuts.{cut_of};
@@ -18,6 +20,8 @@ ghost use Rattle.cluster_core.specs.Stages.{Stage};
 ghost use Rattle.cluster_core.specs.Worlds.{World};
 ghost use Rattle.cluster_places.specs.Steps.{AreApart, IsInStep};
 ghost use Rattle.cluster_cuts.specs.Goings.{HoldCut};
+ghost use Rattle.cluster_runs.specs.Attempts.{Attempt, Beginning, IsAttempt, StopsAt};
+ghost use Rattle.cluster_runs.specs.Recorded.{AreRecorded, shared_of};
 
 /// A cluster starts coherent.
 pub fn starts_are_coherent()
@@ -74,4 +78,19 @@ pub fn snapshots_are_consistent()
         × IsValidFrom st.graph st.program st.start (all_tasks st.graph) order
         × IsValidFrom st.graph st.program st.start (all_tasks st.graph) (cut_of count order)
         × HoldCut st w count order }
+{}
+
+/// Whatever happens in a cluster from a start on, while scopes exclude one another, is an attempt of a call: its logs are the parts
+/// of one list of updates with the tickets from the next one on, its numbers are that list's, and each record holds the numbers of
+/// a cut that has what the cut before has. It is left to say that a machine stops where it reaches the count of a failure.
+pub fn runs_are_attempts()
+    ensures { (st : Setting) (failures : List FailureAt) (b : Beginning) (start : World) (actions : List Action) (new : World) →
+        IsSetting st → IsStart st start → IsUnmarked st start → IsApartRun st start actions new →
+        replay st.graph st.program b.front ≡ st.start → b.next ≡ start.next →
+        (a : Attempt)
+        × ((m : ℕ) → (new.part m).log ≡ entries_of m a.made)
+        × ((v : ℕ) → v < size st.graph → ((new.part (st.owner v)).datum v).value ≡ (replay_of st a.made).vertex v)
+        × (new.next ≡ b.next + length a.made)
+        × AreRecorded st start actions a.kept a.made
+        × (AllByRecursion (StopsAt b a.made) failures → IsAttempt (shared_of st failures) b a) }
 {}

@@ -6,5 +6,5 @@ mod laws;
 
 pub use laws::{
     actions_keep_coherence, coherent_clusters_receive, coherent_updates_are_fresh, runs_are_apart,
-    runs_are_serial, snapshots_are_consistent, starts_are_coherent,
+    runs_are_attempts, runs_are_serial, snapshots_are_consistent, starts_are_coherent,
 };
