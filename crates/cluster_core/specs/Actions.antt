@@ -194,5 +194,5 @@ after st w (Collect a) = collects w a (w.reports a)
 after st w Record = records w
 
 -- one action leads from a world to the next
-abbrev pub IsStep : Setting → World → Action → World → Type 0
-IsStep st old action new = MayHappen st old action × (new ≡ after st old action)
+abbrev pub IsActionStep : Setting → World → Action → World → Type 0
+IsActionStep st old action new = MayHappen st old action × (new ≡ after st old action)

@@ -2,7 +2,7 @@
 use Rattle.std.specs.List.{AllByRecursion}
 use Rattle.std.specs.Prelude.{false, length, true, ℕ, ◌<◌, ◌≡◌, ◌≢◌, ◌⊎◌}
 use Rattle.cluster_core.specs.Scopes.{takes_part}
-use Rattle.cluster_core.specs.Settings.{Setting, edge_at}
+use Rattle.cluster_core.specs.Settings.{Setting, nth_edge}
 use Rattle.cluster_core.specs.Ways.{IsToldTo, datum_told, edge_changed, edge_told}
 use Rattle.cluster_core.specs.Worlds.{World, way}
 use Rattle.graph_core.specs.DataGraph.{size}
@@ -13,11 +13,11 @@ edge_to_come w e a b = edge_told e (way w b a) ((w.part a).edge e)
 
 -- the owners of the two ends of edge e
 abbrev pub from_owner : Setting → ℕ → ℕ
-from_owner st e = st.owner (edge_at st e).from
+from_owner st e = st.owner (nth_edge st e).from
 
 -- the owner of its other end
 abbrev pub to_owner : Setting → ℕ → ℕ
-to_owner st e = st.owner (edge_at st e).to
+to_owner st e = st.owner (nth_edge st e).to
 
 -- the number of edge e, once all that is on the way has come
 abbrev pub agreed : Setting → World → ℕ → ℕ

@@ -5,7 +5,7 @@ use Rattle.gl_base.specs.declared.entries.Entry.TheVariants.{Go, Restart}
 use Rattle.cluster_core.specs.Marks.{mark_of, vertex_named}
 use Rattle.cluster_core.specs.Ranges.{set_at}
 use Rattle.cluster_core.specs.Replays.{replay_of, tasks_of}
-use Rattle.cluster_core.specs.Settings.{Setting, edge_at, is_near}
+use Rattle.cluster_core.specs.Settings.{Setting, nth_edge, is_near}
 use Rattle.cluster_core.specs.Worlds.{World, way}
 use Rattle.graph_core.specs.DataGraph.{size}
 use Rattle.seq_run.specs.Orders.{IsValidFrom, all_tasks}
@@ -37,7 +37,7 @@ Begins front whole = (rest : List Entry) × (whole ≡ front ++ rest)
 
 -- an end of edge e has the mark of the newest snapshot
 abbrev pub HasMarkedEnd : Setting → World → ℕ → Type 0
-HasMarkedEnd st w e = (mark_of st w (edge_at st e).from ≡ w.begun) ⊎ (mark_of st w (edge_at st e).to ≡ w.begun)
+HasMarkedEnd st w e = (mark_of st w (nth_edge st e).from ≡ w.begun) ⊎ (mark_of st w (nth_edge st e).to ≡ w.begun)
 
 -- u will have the mark: it is pending, or word of that is on the way to its owner
 abbrev pub IsToBeMarked : Setting → World → ℕ → Type 0
@@ -59,7 +59,7 @@ pub record IsCut (st : Setting) (w : World) (order : List Entry) (count : ℕ �
       ((replay_of st (cut_of count order)).edge e ≡ x) × HasMarkedEnd st w e
   pub edges_found : (e : ℕ) → e < length st.graph.edges → HasMarkedEnd st w e →
       (a : ℕ) × (x : ℕ) × (a < st.machines) × ((w.part a).known ≡ w.begun) × ((w.part a).saved.edges e ≡ Some x)
-  pub edges_else : (e : ℕ) → e < length st.graph.edges → mark_of st w (edge_at st e).from < w.begun → mark_of st w (edge_at st e).to < w.begun →
+  pub edges_else : (e : ℕ) → e < length st.graph.edges → mark_of st w (nth_edge st e).from < w.begun → mark_of st w (nth_edge st e).to < w.begun →
       (replay_of st (cut_of count order)).edge e ≡ (replay_of st order).edge e
   -- a vertex with no marked vertex around it is a task of the cut where it is one of the whole order
   pub tasks : (v : ℕ) → v < size st.graph → mark_of st w v < w.begun → ((u : ℕ) → is_near st v u ≡ true → mark_of st w u < w.begun) →

@@ -9,20 +9,20 @@ use Rattle.cluster_core.specs.Messages.{Ask, Done, Message, News, Ready, Section
 use Rattle.cluster_core.specs.Parts.{Part, Stand, lent}
 use Rattle.cluster_core.specs.Ranges.{first_passing, set_at}
 use Rattle.cluster_core.specs.Scopes.{machines_from, mode_at, own_from, set_for, takes_part}
-use Rattle.cluster_core.specs.Settings.{Chromatic, Engine, Locking, Setting, edge_at, is_near}
+use Rattle.cluster_core.specs.Settings.{Chromatic, Engine, Locking, Setting, nth_edge, is_near}
 use Rattle.graph_core.specs.DataGraph.{DataEdge, size}
 use Rattle.seq_run.specs.States.{after_update, new_number, wakes}
 
 -- a message for q goes to the outbox
-abbrev pub put : ℕ → Message → Part → Part
-put q m part = record part { out = set_at part.out q (part.out q ++ m ∷ []) }
+abbrev pub posts : ℕ → Message → Part → Part
+posts q m part = record part { out = set_at part.out q (part.out q ++ m ∷ []) }
 
 -- ---- a scope on its way through the locks
 
 -- the scope has all its locks here: it goes on to the next machine, or home
 abbrev pub goes_away : ℕ → ScopeId → ℕ → List ℕ → Part → Part
-goes_away a s v (b ∷ rest) part = put b (Ask s v rest) part
-goes_away a s v [] part = if s.home.0 == a then record part { ready = set_for part.ready s true } else put s.home.0 (Ready s) part
+goes_away a s v (b ∷ rest) part = posts b (Ask s v rest) part
+goes_away a s v [] part = if s.home.0 == a then record part { ready = set_for part.ready s true } else posts s.home.0 (Ready s) part
 
 -- the scope asks for the next lock here, where there is one
 abbrev pub asks_for : ℕ → ScopeId → ℕ → List ℕ → Option ℕ → Part → Part
@@ -40,7 +40,7 @@ goes_on st a s v k rest part = asks_for a s v rest (own_from st v a k) part
 -- a new scope sets out to the first of its machines
 abbrev pub sets_out : Setting → ℕ → ScopeId → ℕ → List ℕ → Part → Part
 sets_out st a s v [] part = part
-sets_out st a s v (b ∷ rest) part = if b == a then goes_on st a s v 0 rest part else put b (Ask s v rest) part
+sets_out st a s v (b ∷ rest) part = if b == a then goes_on st a s v 0 rest part else posts b (Ask s v rest) part
 
 -- the next scope of machine a, with this centre, is in flight
 abbrev pub next_scope : ℕ → Part → ScopeId
@@ -89,13 +89,13 @@ abbrev pub released : ScopeId → (ℕ → ScopeId → Option Mode) → ℕ → 
 released s holder x = set_for (holder x) s None
 
 -- a datum is taken where its version is greater
-abbrev pub newer : Datum → Option Datum → Datum
-newer old None = old
-newer old (Some new) = if nat_lt old.version new.version then new else old
+abbrev pub newer_datum : Datum → Option Datum → Datum
+newer_datum old None = old
+newer_datum old (Some new) = if nat_lt old.version new.version then new else old
 
 -- the datum of v, after this news
 abbrev pub datum_after : News → ℕ → Datum → Datum
-datum_after news v old = if v == news.centre then newer old news.datum else old
+datum_after news v old = if v == news.centre then newer_datum old news.datum else old
 
 -- the number of an edge, after what is told of it
 abbrev pub edge_after : Option ℕ → ℕ → ℕ
@@ -180,7 +180,7 @@ news_for st part v q =
     record {
       centre = v;
       datum = told_datum (part.datum v) (new_number st.graph st.program (lent part) v);
-      edges = λ e. told_edge (is_shared st v q (edge_at st e)) (part.edge e) ((after_update st.graph st.program (lent part) v).edge e);
+      edges = λ e. told_edge (is_shared st v q (nth_edge st e)) (part.edge e) ((after_update st.graph st.program (lent part) v).edge e);
       wakes = λ u. st.owner u == q && wakes st.graph st.program (lent part) v u;
       pends = λ u. false;
       number = 0;
@@ -238,7 +238,7 @@ is_end e v = e.from == v || e.to == v
 
 -- the snapshot update of v saves the number of v, and of each edge to a neighbour that has no mark yet
 abbrev pub saves_edge : Setting → Part → ℕ → ℕ → Bool
-saves_edge st part v e = is_end (edge_at st e) v && is_left st part v (other_end (edge_at st e) v)
+saves_edge st part v e = is_end (nth_edge st e) v && is_left st part v (other_end (nth_edge st e) v)
 
 -- what is saved, with the snapshot update of v
 abbrev pub save : Setting → Part → ℕ → Section

@@ -5,7 +5,7 @@ use Rattle.cluster_core.specs.Effects.{is_shared}
 use Rattle.cluster_core.specs.Messages.{Ask, Done, Message, News, Ready}
 use Rattle.cluster_core.specs.Parts.{Part}
 use Rattle.cluster_core.specs.Scopes.{machines_from, mode_at, takes_part}
-use Rattle.cluster_core.specs.Settings.{Setting, edge_at, is_in_scope}
+use Rattle.cluster_core.specs.Settings.{Setting, nth_edge, is_in_scope}
 
 -- The scope stands nowhere here and holds no lock here. If it was admitted here it is in flight, and this machine takes part in
 -- the scope; the rest are the machines of the scope above this one.
@@ -29,7 +29,7 @@ pub record MayLearn (st : Setting) (p a : ℕ) (part : Part) (s : ScopeId) (news
   pub owner : st.owner news.centre ≡ p
   pub copy : p ≢ a
   pub part_of : takes_part st news.centre a ≡ true
-  pub edges : (e : ℕ) → is_some (news.edges e) ≡ true → is_shared st news.centre a (edge_at st e) ≡ true
+  pub edges : (e : ℕ) → is_some (news.edges e) ≡ true → is_shared st news.centre a (nth_edge st e) ≡ true
   pub wakes : (u : ℕ) → news.wakes u ≡ true → st.owner u ≡ a
   pub locks : (x : ℕ) → is_in_scope st news.centre x ≡ true → st.owner x ≡ a → part.holder x s ≡ Some (mode_at news.centre x)
 

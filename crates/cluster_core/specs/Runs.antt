@@ -26,9 +26,9 @@ pub record IsStart (st : Setting) (w : World) : Type 0 where
   pub links : (p q : ℕ) → w.link p q ≡ []
 
 -- these actions, one after another, lead from one world to another
-abbrev pub IsRun : Setting → World → List Action → World → Type 0
-IsRun st old [] new = new ≡ old
-IsRun st old (action ∷ actions) new = MayHappen st old action × IsRun st (after st old action) actions new
+abbrev pub IsActionRun : Setting → World → List Action → World → Type 0
+IsActionRun st old [] new = new ≡ old
+IsActionRun st old (action ∷ actions) new = MayHappen st old action × IsActionRun st (after st old action) actions new
 
 -- the same, where in each world on the way no two ready scopes are near each other
 abbrev pub IsApartRun : Setting → World → List Action → World → Type 0

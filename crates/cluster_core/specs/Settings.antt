@@ -43,5 +43,5 @@ abbrev pub is_in_scope : Setting → ℕ → ℕ → Bool
 is_in_scope st v x = (x == v) || is_near st v x
 
 -- edge e, where there is one
-abbrev pub edge_at : Setting → ℕ → DataEdge
-edge_at st e = slice_index_or st.graph.edges e (record { from = 0; to = 0; weight = 0 })
+abbrev pub nth_edge : Setting → ℕ → DataEdge
+nth_edge st e = slice_index_or st.graph.edges e (record { from = 0; to = 0; weight = 0 })

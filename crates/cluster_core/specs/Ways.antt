@@ -4,7 +4,7 @@ use Rattle.std.specs.Prelude.{Bool, List, [], false, is_some, true, ℕ, ⊤, �
 use Rattle.gl_base.specs.declared.scopes.Datum.{Datum}
 use Rattle.cluster_core.specs.Effects.{datum_after, edge_after, is_shared}
 use Rattle.cluster_core.specs.Messages.{Ask, Done, Message, News, Ready}
-use Rattle.cluster_core.specs.Settings.{Setting, edge_at, is_near}
+use Rattle.cluster_core.specs.Settings.{Setting, nth_edge, is_near}
 
 -- the copy of the datum of v, with the messages applied in turn
 abbrev pub datum_told : ℕ → List Message → Datum → Datum
@@ -45,7 +45,7 @@ vertex_woken u messages = list_any (wakes_vertex u) messages
 pub record IsNewsFor (st : Setting) (p q : ℕ) (news : News) : Type 0 where
   pub centre : st.owner news.centre ≡ p
   pub apart : p ≢ q
-  pub edges : (e : ℕ) → is_some (news.edges e) ≡ true → is_shared st news.centre q (edge_at st e) ≡ true
+  pub edges : (e : ℕ) → is_some (news.edges e) ≡ true → is_shared st news.centre q (nth_edge st e) ≡ true
   pub wakes : (u : ℕ) → news.wakes u ≡ true → (is_near st news.centre u ≡ true) × (st.owner u ≡ q)
   pub pends : (u : ℕ) → news.pends u ≡ true → (is_near st news.centre u ≡ true) × (st.owner u ≡ q)
 

@@ -9,7 +9,7 @@ use Rattle.cluster_core.specs.Effects.{nothing_saved, marked}
 use Rattle.cluster_core.specs.Marks.{mark_of, vertex_named, AreMarks}
 use Rattle.cluster_core.specs.Messages.{Section, Message, Ask, Ready, Done}
 use Rattle.cluster_core.specs.Parts.{Part}
-use Rattle.cluster_core.specs.Settings.{Setting, IsSetting, edge_at}
+use Rattle.cluster_core.specs.Settings.{Setting, IsSetting, nth_edge}
 use Rattle.cluster_core.specs.Worlds.{World, way}
 use Rattle.cluster_core.proofs.Basics.{set_at-here, set_at-there}
 use Rattle.cluster_core.proofs.Nearness.{near_within}
@@ -50,14 +50,14 @@ module _ (st : Setting) (is : IsSetting st) (old new : World) (frame : IsCutFram
 
   end_was : (e : ℕ) → e < length st.graph.edges → HasMarkedEnd st new e → HasMarkedEnd st old e
   end_was e low end = ⊎_elim
-      (λ marked. inl (mark_was (edge_at st e).from (edge_fits st is e low).from marked))
-      (λ marked. inr (mark_was (edge_at st e).to (edge_fits st is e low).to marked))
+      (λ marked. inl (mark_was (nth_edge st e).from (edge_fits st is e low).from marked))
+      (λ marked. inr (mark_was (nth_edge st e).to (edge_fits st is e low).to marked))
       end
 
   end_now : (e : ℕ) → e < length st.graph.edges → HasMarkedEnd st old e → HasMarkedEnd st new e
   end_now e low end = ⊎_elim
-      (λ marked. inl (mark_now (edge_at st e).from (edge_fits st is e low).from marked))
-      (λ marked. inr (mark_now (edge_at st e).to (edge_fits st is e low).to marked))
+      (λ marked. inl (mark_now (nth_edge st e).from (edge_fits st is e low).from marked))
+      (λ marked. inr (mark_now (nth_edge st e).to (edge_fits st is e low).to marked))
       end
 
   pub cut_framed : (order : List Entry) (count : ℕ → ℕ) → IsCut st old order count → IsCut st new order count
@@ -79,7 +79,7 @@ module _ (st : Setting) (is : IsSetting st) (old new : World) (frame : IsCutFram
             let kept = frame.saved found.0 found.2 found.3 in
             (found.0, found.1, found.2, kept.0 ∙ sym frame.begun, ap (λ (x : Section). x.edges e) kept.1 ∙ found.4);
         edges_else = λ e low from to.
-            cut.edges_else e low (low_was (edge_at st e).from (edge_fits st is e low).from from) (low_was (edge_at st e).to (edge_fits st is e low).to to);
+            cut.edges_else e low (low_was (nth_edge st e).from (edge_fits st is e low).from from) (low_was (nth_edge st e).to (edge_fits st is e low).to to);
         tasks = λ v within low around. cut.tasks v within (low_was v within low) (λ u near. low_was u (near_within st is v u near).0 (around u near));
         spread = λ v u within marked near.
             let inside = (near_within st is v u near).0 in ⊎_elim

@@ -17,7 +17,7 @@ use Rattle.cluster_core.specs.Cuts.{updates_of, cut_of, HasMarkedEnd, IsCut}
 use Rattle.cluster_core.specs.Marks.{mark_of}
 use Rattle.cluster_core.specs.Ranges.{set_at}
 use Rattle.cluster_core.specs.Replays.{replay_of, tasks_of}
-use Rattle.cluster_core.specs.Settings.{Setting, IsSetting, is_near, edge_at}
+use Rattle.cluster_core.specs.Settings.{Setting, IsSetting, is_near, nth_edge}
 use Rattle.cluster_core.specs.Worlds.{World}
 use Rattle.cluster_core.proofs.Basics.{set_at-same, set_at-other}
 use Rattle.cluster_core.proofs.Nearness.{near_turned, near_within}
@@ -64,8 +64,8 @@ module _ (st : Setting) (is : IsSetting st) (w : World) (order : List Entry) (co
     other_low : (u : ℕ) → mark_of st w u < w.begun → u ≢ v
     other_low u low same = ne_of_lt low (ap (mark_of st w) same ∙ marked)
 
-    away_low : (e : ℕ) → mark_of st w (edge_at st e).from < w.begun → mark_of st w (edge_at st e).to < w.begun → ((edge_at st e).from ≢ v) × ((edge_at st e).to ≢ v)
-    away_low e from to = (other_low (edge_at st e).from from, other_low (edge_at st e).to to)
+    away_low : (e : ℕ) → mark_of st w (nth_edge st e).from < w.begun → mark_of st w (nth_edge st e).to < w.begun → ((nth_edge st e).from ≢ v) × ((nth_edge st e).to ≢ v)
+    away_low e from to = (other_low (nth_edge st e).from from, other_low (nth_edge st e).to to)
 
     -- who has no marked vertex around it is not woken
     asleep : (u : ℕ) → ((x : ℕ) → is_near st u x ≡ true → mark_of st w x < w.begun) → wakes st.graph st.program shown v u ≡ false
@@ -138,14 +138,14 @@ module _ (st : Setting) (is : IsSetting st) (w : World) (order : List Entry) (co
     own_same : shown_cut.vertex v ≡ shown.vertex v
     own_same = cut.vertices_else v within unmarked
 
-    ends_low : (e x : ℕ) → e < length st.graph.edges → IsBetween (edge_at st e) v x → (mark_of st w (edge_at st e).from < w.begun) × (mark_of st w (edge_at st e).to < w.begun)
+    ends_low : (e x : ℕ) → e < length st.graph.edges → IsBetween (nth_edge st e) v x → (mark_of st w (nth_edge st e).from < w.begun) × (mark_of st w (nth_edge st e).to < w.begun)
     ends_low e x low between =
         let its = around x (ends_near st is e v x low between) in ⊎_elim
-        (λ (z : ((edge_at st e).from ≡ v) × ((edge_at st e).to ≡ x)). (subst (λ y. mark_of st w y < w.begun) (sym z.0) unmarked, subst (λ y. mark_of st w y < w.begun) (sym z.1) its))
-        (λ (z : ((edge_at st e).to ≡ v) × ((edge_at st e).from ≡ x)). (subst (λ y. mark_of st w y < w.begun) (sym z.1) its, subst (λ y. mark_of st w y < w.begun) (sym z.0) unmarked))
+        (λ (z : ((nth_edge st e).from ≡ v) × ((nth_edge st e).to ≡ x)). (subst (λ y. mark_of st w y < w.begun) (sym z.0) unmarked, subst (λ y. mark_of st w y < w.begun) (sym z.1) its))
+        (λ (z : ((nth_edge st e).to ≡ v) × ((nth_edge st e).from ≡ x)). (subst (λ y. mark_of st w y < w.begun) (sym z.1) its, subst (λ y. mark_of st w y < w.begun) (sym z.0) unmarked))
         between
 
-    edge_same : (e x : ℕ) → e < length st.graph.edges → IsBetween (edge_at st e) v x → shown_cut.edge e ≡ shown.edge e
+    edge_same : (e x : ℕ) → e < length st.graph.edges → IsBetween (nth_edge st e) v x → shown_cut.edge e ≡ shown.edge e
     edge_same e x low between = let both = ends_low e x low between in cut.edges_else e low both.0 both.1
 
     abbrev near_with : DataHalf → ℕ → ℕ → Near
@@ -164,13 +164,13 @@ module _ (st : Setting) (is : IsSetting st) (w : World) (order : List Entry) (co
     cut_task = cut.tasks v within unmarked around ∙ task
 
     -- an edge with a marked end is not at v
-    away_marked : (e : ℕ) → e < length st.graph.edges → HasMarkedEnd st w e → ((edge_at st e).from ≢ v) × ((edge_at st e).to ≢ v)
+    away_marked : (e : ℕ) → e < length st.graph.edges → HasMarkedEnd st w e → ((nth_edge st e).from ≢ v) × ((nth_edge st e).to ≢ v)
     away_marked e low end = ⊎_elim
-        (λ (at : (x : ℕ) × IsBetween (edge_at st e) v x).
+        (λ (at : (x : ℕ) × IsBetween (nth_edge st e) v x).
         let both = ends_low e at.0 low at.1 in
-        absurd (⊎_elim (λ (marked : mark_of st w (edge_at st e).from ≡ w.begun). ne_of_lt both.0 marked) (λ (marked : mark_of st w (edge_at st e).to ≡ w.begun). ne_of_lt both.1 marked) end))
-        (λ (away : ((edge_at st e).from ≢ v) × ((edge_at st e).to ≢ v)). away)
-        (end_cases (edge_at st e) v)
+        absurd (⊎_elim (λ (marked : mark_of st w (nth_edge st e).from ≡ w.begun). ne_of_lt both.0 marked) (λ (marked : mark_of st w (nth_edge st e).to ≡ w.begun). ne_of_lt both.1 marked) end))
+        (λ (away : ((nth_edge st e).from ≢ v) × ((nth_edge st e).to ≢ v)). away)
+        (end_cases (nth_edge st e) v)
 
     pub longer_unmarked : IsCut st w longer one_more
     longer_unmarked =

@@ -15,7 +15,7 @@ use Rattle.cluster_core.specs.Places.{done_near}
 use Rattle.cluster_core.specs.Ranges.{set_at}
 use Rattle.cluster_core.specs.Replays.{replay_of, IsReplay}
 use Rattle.cluster_core.specs.Scopes.{takes_part}
-use Rattle.cluster_core.specs.Settings.{Setting, IsSetting, is_near, edge_at}
+use Rattle.cluster_core.specs.Settings.{Setting, IsSetting, is_near, nth_edge}
 use Rattle.cluster_core.specs.Worlds.{World, with_part, way}
 use Rattle.cluster_core.proofs.Basics.{set_at-same, set_at-other, set_at-cases, set_at-kept, set_at-here, set_at-there}
 use Rattle.cluster_core.proofs.Nearness.{near_within, owner_takes_part, scoped_near}
@@ -94,14 +94,14 @@ module _ (st : Setting) (is : IsSetting st) (w : World) (s : ScopeId) (v : ℕ) 
 
   end_now : (e : ℕ) → HasMarkedEnd st w e → HasMarkedEnd st new e
   end_now e end = ⊎_elim
-      (λ marked. inl (marked_now (edge_at st e).from marked))
-      (λ marked. inr (marked_now (edge_at st e).to marked))
+      (λ marked. inl (marked_now (nth_edge st e).from marked))
+      (λ marked. inr (marked_now (nth_edge st e).to marked))
       end
 
-  end_at : (e x : ℕ) → IsBetween (edge_at st e) v x → HasMarkedEnd st new e
+  end_at : (e x : ℕ) → IsBetween (nth_edge st e) v x → HasMarkedEnd st new e
   end_at e x between = ⊎_elim
-      (λ (z : ((edge_at st e).from ≡ v) × ((edge_at st e).to ≡ x)). inl (ap (mark_of st new) z.0 ∙ here_v))
-      (λ (z : ((edge_at st e).to ≡ v) × ((edge_at st e).from ≡ x)). inr (ap (mark_of st new) z.0 ∙ here_v))
+      (λ (z : ((nth_edge st e).from ≡ v) × ((nth_edge st e).to ≡ x)). inl (ap (mark_of st new) z.0 ∙ here_v))
+      (λ (z : ((nth_edge st e).to ≡ v) × ((nth_edge st e).from ≡ x)). inr (ap (mark_of st new) z.0 ∙ here_v))
       between
 
   low_or_marked : (u : ℕ) → u < size st.graph → (mark_of st w u < w.begun) ⊎ (mark_of st w u ≡ w.begun)
@@ -127,14 +127,14 @@ module _ (st : Setting) (is : IsSetting st) (w : World) (s : ScopeId) (v : ℕ) 
   edge_here : (e x : ℕ) → e < length st.graph.edges → (if saves_edge st own v e then Some (own.edge e) else own.saved.edges e) ≡ Some x → (shown_cut.edge e ≡ x) × HasMarkedEnd st new e
   edge_here e x low saved = ⊎_elim
       (λ (saves : saves_edge st own v e ≡ true).
-      let both = and_parts (is_end (edge_at st e) v) (is_left st own v (other_end (edge_at st e) v)) saves in
-      let y : ℕ = other_end (edge_at st e) v in
-      let between : IsBetween (edge_at st e) v y = end_between (edge_at st e) v both.0 in
+      let both = and_parts (is_end (nth_edge st e) v) (is_left st own v (other_end (nth_edge st e) v)) saves in
+      let y : ℕ = other_end (nth_edge st e) v in
+      let between : IsBetween (nth_edge st e) v y = end_between (nth_edge st e) v both.0 in
       let left = left_low st is w s v within owned still copies order replay marks pends y both.1 in
       let value : own.edge e ≡ x = some_same (own.edge e) x (sym (cond-true (saves_edge st own v e) (Some (own.edge e)) (own.saved.edges e) saves) ∙ saved) in
       let same : shown_cut.edge e ≡ (replay_of st order).edge e = ⊎_elim
-      (λ (z : ((edge_at st e).from ≡ v) × ((edge_at st e).to ≡ y)). cut.edges_else e low (subst (λ u. mark_of st w u < w.begun) (sym z.0) low_v) (subst (λ u. mark_of st w u < w.begun) (sym z.1) left.1))
-      (λ (z : ((edge_at st e).to ≡ v) × ((edge_at st e).from ≡ y)). cut.edges_else e low (subst (λ u. mark_of st w u < w.begun) (sym z.1) left.1) (subst (λ u. mark_of st w u < w.begun) (sym z.0) low_v))
+      (λ (z : ((nth_edge st e).from ≡ v) × ((nth_edge st e).to ≡ y)). cut.edges_else e low (subst (λ u. mark_of st w u < w.begun) (sym z.0) low_v) (subst (λ u. mark_of st w u < w.begun) (sym z.1) left.1))
+      (λ (z : ((nth_edge st e).to ≡ v) × ((nth_edge st e).from ≡ y)). cut.edges_else e low (subst (λ u. mark_of st w u < w.begun) (sym z.1) left.1) (subst (λ u. mark_of st w u < w.begun) (sym z.0) low_v))
       between in
       (same ∙ sym (replay.edges e low) ∙ copy_true st is w s v within owned still copies e y low between ∙ value, end_at e y between))
       (λ (none : saves_edge st own v e ≡ false).
@@ -171,12 +171,12 @@ module _ (st : Setting) (is : IsSetting st) (w : World) (s : ScopeId) (v : ℕ) 
       let now = saved_still found.0 e found.1 found.4 in
       (found.0, now.0, found.2, known_still found.0 ∙ found.3, now.1)
 
-  found_new : (e x : ℕ) → e < length st.graph.edges → IsBetween (edge_at st e) v x → mark_of st w x < w.begun → IsFoundNow e
+  found_new : (e x : ℕ) → e < length st.graph.edges → IsBetween (nth_edge st e) v x → mark_of st w x < w.begun → IsFoundNow e
   found_new e x low between less =
-      let ends = between_end (edge_at st e) v x (edge_fits st is e low).apart between in
+      let ends = between_end (nth_edge st e) v x (edge_fits st is e low).apart between in
       let left : is_left st own v x ≡ true = left_from st is w s v within owned still copies order replay marks pends x (ends_near st is e v x low between) less in
       let saves : saves_edge st own v e ≡ true =
-      and_from (is_end (edge_at st e) v) (is_left st own v (other_end (edge_at st e) v)) ends.0 (subst (λ y. is_left st own v y ≡ true) (sym ends.1) left) in (
+      and_from (is_end (nth_edge st e) v) (is_left st own v (other_end (nth_edge st e) v)) ends.0 (subst (λ y. is_left st own v y ≡ true) (sym ends.1) left) in (
         s.home.0,
         own.edge e,
         machine_low,
@@ -186,18 +186,18 @@ module _ (st : Setting) (is : IsSetting st) (w : World) (s : ScopeId) (v : ℕ) 
 
   found_now : (e : ℕ) → e < length st.graph.edges → HasMarkedEnd st new e → IsFoundNow e
   found_now e low end = ⊎_elim
-      (λ (at : (x : ℕ) × IsBetween (edge_at st e) v x). ⊎_elim
+      (λ (at : (x : ℕ) × IsBetween (nth_edge st e) v x). ⊎_elim
       (λ (less : mark_of st w at.0 < w.begun). found_new e at.0 low at.1 less)
       (λ (marked : mark_of st w at.0 ≡ w.begun). found_still e low (⊎_elim
-      (λ (z : ((edge_at st e).from ≡ v) × ((edge_at st e).to ≡ at.0)). inr (ap (mark_of st w) z.1 ∙ marked))
-      (λ (z : ((edge_at st e).to ≡ v) × ((edge_at st e).from ≡ at.0)). inl (ap (mark_of st w) z.1 ∙ marked))
+      (λ (z : ((nth_edge st e).from ≡ v) × ((nth_edge st e).to ≡ at.0)). inr (ap (mark_of st w) z.1 ∙ marked))
+      (λ (z : ((nth_edge st e).to ≡ v) × ((nth_edge st e).from ≡ at.0)). inl (ap (mark_of st w) z.1 ∙ marked))
       at.1))
       (low_or_marked at.0 (ends_within st is e v at.0 low at.1).1))
-      (λ (away : ((edge_at st e).from ≢ v) × ((edge_at st e).to ≢ v)). found_still e low (⊎_elim
-      (λ (marked : mark_of st new (edge_at st e).from ≡ w.begun). inl (sym (else_u (edge_at st e).from away.0) ∙ marked))
-      (λ (marked : mark_of st new (edge_at st e).to ≡ w.begun). inr (sym (else_u (edge_at st e).to away.1) ∙ marked))
+      (λ (away : ((nth_edge st e).from ≢ v) × ((nth_edge st e).to ≢ v)). found_still e low (⊎_elim
+      (λ (marked : mark_of st new (nth_edge st e).from ≡ w.begun). inl (sym (else_u (nth_edge st e).from away.0) ∙ marked))
+      (λ (marked : mark_of st new (nth_edge st e).to ≡ w.begun). inr (sym (else_u (nth_edge st e).to away.1) ∙ marked))
       end))
-      (end_cases (edge_at st e) v)
+      (end_cases (nth_edge st e) v)
 
   -- ---- who will be marked
 
@@ -262,7 +262,7 @@ module _ (st : Setting) (is : IsSetting st) (w : World) (s : ScopeId) (v : ℕ) 
         vertices_else = λ u low less. cut.vertices_else u low (low_was u less).1;
         edges_saved = edges_now;
         edges_found = found_now;
-        edges_else = λ e low from to. cut.edges_else e low (low_was (edge_at st e).from from).1 (low_was (edge_at st e).to to).1;
+        edges_else = λ e low from to. cut.edges_else e low (low_was (nth_edge st e).from from).1 (low_was (nth_edge st e).to to).1;
         tasks = λ u low less around. cut.tasks u low (low_was u less).1 (λ x near. (low_was x (around x near)).1);
         spread = spread_now;
       }

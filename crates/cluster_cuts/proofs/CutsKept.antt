@@ -20,7 +20,7 @@ use Rattle.cluster_core.specs.Places.{done_near, IsExclusive}
 use Rattle.cluster_core.specs.Ranges.{set_at}
 use Rattle.cluster_core.specs.Replays.{replay_of, tasks_of}
 use Rattle.cluster_core.specs.Scopes.{set_for}
-use Rattle.cluster_core.specs.Settings.{Setting, IsSetting, is_near, edge_at}
+use Rattle.cluster_core.specs.Settings.{Setting, IsSetting, is_near, nth_edge}
 use Rattle.cluster_core.specs.Snapshots.{IsConsistent}
 use Rattle.cluster_core.specs.Ways.{IsToldTo}
 use Rattle.cluster_core.specs.Worlds.{World, with_part, way}
@@ -219,8 +219,8 @@ module _ (st : Setting) (is : IsSetting st) (w : World) (kept : IsConsistent st 
 
   no_end_yet : (e : ℕ) → e < length st.graph.edges → HasMarkedEnd st (begins_one w) e → ⊥
   no_end_yet e low end = ⊎_elim
-      (λ (marked : mark_of st w (edge_at st e).from ≡ suc w.begun). ne_of_lt (no_mark_yet (edge_at st e).from (edge_fits st is e low).from) marked)
-      (λ (marked : mark_of st w (edge_at st e).to ≡ suc w.begun). ne_of_lt (no_mark_yet (edge_at st e).to (edge_fits st is e low).to) marked)
+      (λ (marked : mark_of st w (nth_edge st e).from ≡ suc w.begun). ne_of_lt (no_mark_yet (nth_edge st e).from (edge_fits st is e low).from) marked)
+      (λ (marked : mark_of st w (nth_edge st e).to ≡ suc w.begun). ne_of_lt (no_mark_yet (nth_edge st e).to (edge_fits st is e low).to) marked)
       end
 
   abbrev all_of : ℕ → ℕ
@@ -513,7 +513,7 @@ module _ (st : Setting) (is : IsSetting st) (w : World) (kept : IsConsistent st 
             let low = is.owner v within in
             ((w.part (st.owner v)).saved, (section_come st w kept.marks may (st.owner v) low).2, cut.vertices_saved v within (all_marked st w kept.marks is may v within));
         edges = λ e low.
-            let found = cut.edges_found e low (inl (all_marked st w kept.marks is may (edge_at st e).from (edge_fits st is e low).from)) in
+            let found = cut.edges_found e low (inl (all_marked st w kept.marks is may (nth_edge st e).from (edge_fits st is e low).from)) in
             let its = cut.edges_saved found.0 e found.1 found.2 low found.3 found.4 in
             (found.0, (w.part found.0).saved, found.2, (section_come st w kept.marks may found.0 found.2).2, found.4 ∙ ap Some (sym its.0));
       }

@@ -8,7 +8,7 @@ use Rattle.graph_core.specs.DataGraph.{size}
 use Rattle.graph_core.proofs.HalvesLaws.{each-append, each-weaker}
 use Rattle.cluster_core.specs.Actions.{MaySend, MayRecord, delivers, begins_one, hears, sends_section, collects, records}
 use Rattle.cluster_core.specs.Copies.{AreCopies}
-use Rattle.cluster_core.specs.Effects.{newer, begins, applied}
+use Rattle.cluster_core.specs.Effects.{newer_datum, begins, applied}
 use Rattle.cluster_core.specs.Marks.{mark_of, IsMarking, IsInPlace, AreMarks}
 use Rattle.cluster_core.specs.Messages.{News, Section, Message, Ask, Ready, Done}
 use Rattle.cluster_core.specs.Parts.{Part}
@@ -44,7 +44,7 @@ module _ (st : Setting) (is : IsSetting st) (w : World) (p q : ℕ) (s : ScopeId
   after_news = applied st q s news (w.part q)
 
   datum_same : (u : ℕ) → st.owner u ≡ q → after_news.datum u ≡ (w.part q).datum u
-  datum_same u owner = cond-false (u == news.centre) (newer ((w.part q).datum u) news.datum) ((w.part q).datum u) (ne_eqb u news.centre (other_vertex u owner))
+  datum_same u owner = cond-false (u == news.centre) (newer_datum ((w.part q).datum u) news.datum) ((w.part q).datum u) (ne_eqb u news.centre (other_vertex u owner))
 
   pub news_learn : IsLearning st q news.number (w.part q) after_news
   news_learn =

@@ -14,7 +14,7 @@ use Rattle.cluster_core.specs.Cuts.{cut_of}
 use Rattle.cluster_core.specs.Messages.{Section}
 use Rattle.cluster_core.specs.Ranges.{first_passing, all_passing}
 use Rattle.cluster_core.specs.Replays.{replay_of}
-use Rattle.cluster_core.specs.Runs.{IsStart, IsRun}
+use Rattle.cluster_core.specs.Runs.{IsStart, IsActionRun}
 use Rattle.cluster_core.specs.Scopes.{is_scope}
 use Rattle.cluster_core.specs.Settings.{IsSetting}
 use Rattle.cluster_core.specs.Snapshots.{IsUnmarked}
@@ -128,27 +128,27 @@ marked_at_first v low owned = first_mark_is v low owned ∙ sym first_known
 marked_at_second : (v : ℕ) → v < size on_two_machines.graph → on_two_machines.owner v ≡ 1 → (((after on_two_machines all_are_marked (SendSection 0)).part 1).datum v).mark ≡ ((after on_two_machines all_are_marked (SendSection 0)).part 1).known
 marked_at_second v low owned = second_mark_is v low owned ∙ sym second_known
 
-pub middle_may : IsRun on_two_machines at_first middle_update middle_updated
+pub middle_may : IsActionRun on_two_machines at_first middle_update middle_updated
 unfolding first_passing all_passing
 middle_may = (record { vertex = omega arith; owned = refl; due = inr refl; fresh = λ s is. none_flies 1 is; turn = omega arith }, (record { message = _; behind = _; first = refl }, (record { message = _; behind = _; first = refl }, (record { vertex = omega arith; owned = refl; claim = _; behind = _; first = refl; together = λ s mode is. absurd (none_holds mode is) }, (record { message = _; behind = _; first = refl }, (record { message = _; behind = _; first = refl }, (record { vertex = omega arith; owned = refl; claim = _; behind = _; first = refl; together = λ s mode is. absurd (none_holds mode is) }, (record { vertex = omega arith; owned = refl; claim = _; behind = _; first = refl; together = λ s mode is. absurd (none_holds mode is) }, (record { vertex = _; flight = refl; ready = refl; not_pending = refl; task = refl; ticket = omega arith }, (record { message = _; behind = _; first = refl }, (record { message = _; behind = _; first = refl }, refl)))))))))))
 
-pub mark_may : IsRun on_two_machines middle_updated middle_mark middle_marked
+pub mark_may : IsActionRun on_two_machines middle_updated middle_mark middle_marked
 unfolding first_passing all_passing
 mark_may = (refl, (record { number = _; behind = _; first = refl }, (record { vertex = omega arith; owned = refl; due = inl refl; fresh = λ s is. none_flies 1 (ended (is_scope s (scope_of 1 0)) _ 1 1 is); turn = omega arith }, (record { message = _; behind = _; first = refl }, (record { message = _; behind = _; first = refl }, (record { vertex = omega arith; owned = refl; claim = _; behind = _; first = refl; together = λ s mode is. absurd (none_holds mode (freed (is_scope s (scope_of 1 0)) _ Reader mode is)) }, (record { message = _; behind = _; first = refl }, (record { message = _; behind = _; first = refl }, (record { vertex = omega arith; owned = refl; claim = _; behind = _; first = refl; together = λ s mode is. absurd (none_holds mode (freed (is_scope s (scope_of 1 0)) _ Writer mode is)) }, (record { vertex = omega arith; owned = refl; claim = _; behind = _; first = refl; together = λ s mode is. absurd (none_holds mode (freed (is_scope s (scope_of 1 0)) _ Reader mode is)) }, (record { vertex = _; flight = refl; ready = refl; pending = refl }, refl)))))))))))
 
-pub ready_may : IsRun on_two_machines middle_marked last_locks last_ready
+pub ready_may : IsActionRun on_two_machines middle_marked last_locks last_ready
 unfolding first_passing all_passing
 ready_may = (record { vertex = omega arith; owned = refl; due = inl refl; fresh = λ s is. none_flies 2 (ended (is_scope s (scope_of 1 0)) _ 1 2 (ended (is_scope s (scope_of 1 1)) _ 1 2 is)); turn = omega arith }, (record { vertex = omega arith; owned = refl; claim = _; behind = _; first = refl; together = λ s mode is. absurd (none_holds mode (freed (is_scope s (scope_of 1 0)) _ Writer mode (freed (is_scope s (scope_of 1 1)) _ Writer mode is))) }, (record { vertex = omega arith; owned = refl; claim = _; behind = _; first = refl; together = λ s mode is. absurd (none_holds mode (freed (is_scope s (scope_of 1 0)) _ Reader mode (freed (is_scope s (scope_of 1 1)) _ Reader mode is))) }, refl)))
 
-pub last_may : IsRun on_two_machines last_ready last_update last_updated
+pub last_may : IsActionRun on_two_machines last_ready last_update last_updated
 unfolding first_passing all_passing
 last_may = (record { vertex = _; flight = refl; ready = refl; pending = refl }, (record { vertex = omega arith; owned = refl; due = inr refl; fresh = λ s is. none_flies 2 (ended (is_scope s (scope_of 1 0)) _ 1 2 (ended (is_scope s (scope_of 1 1)) _ 1 2 (ended (is_scope s (scope_of 1 2)) _ 2 2 is))); turn = omega arith }, (record { vertex = omega arith; owned = refl; claim = _; behind = _; first = refl; together = λ s mode is. absurd (none_holds mode (freed (is_scope s (scope_of 1 0)) _ Writer mode (freed (is_scope s (scope_of 1 1)) _ Writer mode (freed (is_scope s (scope_of 1 2)) _ Reader mode is)))) }, (record { vertex = omega arith; owned = refl; claim = _; behind = _; first = refl; together = λ s mode is. absurd (none_holds mode (freed (is_scope s (scope_of 1 0)) _ Reader mode (freed (is_scope s (scope_of 1 1)) _ Reader mode (freed (is_scope s (scope_of 1 2)) _ Writer mode is)))) }, (record { vertex = _; flight = refl; ready = refl; not_pending = refl; task = refl; ticket = omega arith }, refl)))))
 
-pub first_may : IsRun on_two_machines last_updated first_mark all_are_marked
+pub first_may : IsActionRun on_two_machines last_updated first_mark all_are_marked
 unfolding first_passing all_passing
 first_may = (record { message = _; behind = _; first = refl }, (record { message = _; behind = _; first = refl }, (record { vertex = omega arith; owned = refl; due = inl refl; fresh = λ s is. none_flies 0 is; turn = omega arith }, (record { vertex = omega arith; owned = refl; claim = _; behind = _; first = refl; together = λ s mode is. absurd (none_holds mode (freed (is_scope s (scope_of 1 0)) _ Reader mode (freed (is_scope s (scope_of 1 1)) _ Reader mode is))) }, (record { message = _; behind = _; first = refl }, (record { message = _; behind = _; first = refl }, (record { vertex = omega arith; owned = refl; claim = _; behind = _; first = refl; together = λ s mode is. absurd (none_holds mode (freed (is_scope s (scope_of 1 0)) _ Writer mode (freed (is_scope s (scope_of 1 1)) _ Writer mode (freed (is_scope s (scope_of 1 2)) _ Reader mode (freed (is_scope s (scope_of 1 3)) _ Reader mode is))))) }, (record { message = _; behind = _; first = refl }, (record { message = _; behind = _; first = refl }, (record { vertex = _; flight = refl; ready = refl; pending = refl }, (record { message = _; behind = _; first = refl }, (record { message = _; behind = _; first = refl }, (record { number = _; behind = _; first = refl }, refl)))))))))))))
 
-pub sections_may : IsRun on_two_machines all_are_marked sections_come sections_are_there
+pub sections_may : IsActionRun on_two_machines all_are_marked sections_come sections_are_there
 unfolding first_passing all_passing
 sections_may = (record { begun = omega arith; marked = marked_at_first; unsent = omega arith }, (record { begun = omega arith; marked = marked_at_second; unsent = omega arith }, (record { section = _; behind = _; first = refl }, (record { section = _; behind = _; first = refl }, refl))))
 

@@ -5,7 +5,7 @@ ghost use Rattle.gl_base.specs.declared.limits.TheConstants.{INF};
 ghost use Rattle.cluster_core.specs.Actions.{MayRecord, MayUpdate};
 ghost use Rattle.cluster_core.specs.Cuts.{cut_of};
 ghost use Rattle.cluster_core.specs.Replays.{replay_of};
-ghost use Rattle.cluster_core.specs.Runs.{IsRun, IsStart};
+ghost use Rattle.cluster_core.specs.Runs.{IsActionRun, IsStart};
 ghost use Rattle.cluster_core.specs.Settings.{IsSetting};
 ghost use Rattle.cluster_core.specs.Snapshots.{IsUnmarked};
 ghost use Rattle.cluster_cuts.specs.Goings.{HoldCut};
@@ -19,12 +19,12 @@ pub fn a_snapshot_of_the_first_update()
     ensures setting { IsSetting on_two_machines }
     ensures start { IsStart on_two_machines at_first }
     ensures unmarked { IsUnmarked on_two_machines at_first }
-    ensures middle_may { IsRun on_two_machines at_first middle_update middle_updated }
-    ensures mark_may { IsRun on_two_machines middle_updated middle_mark middle_marked }
-    ensures ready_may { IsRun on_two_machines middle_marked last_locks last_ready }
-    ensures last_may { IsRun on_two_machines last_ready last_update last_updated }
-    ensures first_may { IsRun on_two_machines last_updated first_mark all_are_marked }
-    ensures sections_may { IsRun on_two_machines all_are_marked sections_come sections_are_there }
+    ensures middle_may { IsActionRun on_two_machines at_first middle_update middle_updated }
+    ensures mark_may { IsActionRun on_two_machines middle_updated middle_mark middle_marked }
+    ensures ready_may { IsActionRun on_two_machines middle_marked last_locks last_ready }
+    ensures last_may { IsActionRun on_two_machines last_ready last_update last_updated }
+    ensures first_may { IsActionRun on_two_machines last_updated first_mark all_are_marked }
+    ensures sections_may { IsActionRun on_two_machines all_are_marked sections_come sections_are_there }
     ensures first_update { (((middle_updated.part 1).datum 1).value ≡ 4) × ((middle_updated.part 1).edge 0 ≡ 1) × ((middle_updated.part 1).edge 1 ≡ 0) }
     ensures pending { ((middle_marked.part 1).pending 2 ≡ true) × ((middle_marked.part 1).pending 1 ≡ false) × ((middle_marked.part 0).pending 0 ≡ false) }
     ensures known { ((middle_marked.part 0).known ≡ 0) × ((all_are_marked.part 0).known ≡ 1) }

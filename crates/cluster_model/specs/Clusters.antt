@@ -34,8 +34,8 @@ abbrev pub with_machine : Cluster → ℕ → Machine → Cluster
 with_machine c a m = record c { machine = set_at c.machine a m }
 
 -- the link from p to q has these messages
-abbrev pub with_link : Cluster → ℕ → ℕ → List Message → Cluster
-with_link c p q messages = record c { link = set_at c.link p (set_at (c.link p) q messages) }
+abbrev pub with_messages : Cluster → ℕ → ℕ → List Message → Cluster
+with_messages c p q messages = record c { link = set_at c.link p (set_at (c.link p) q messages) }
 
 -- the link from the coordinator to machine a has these calls
 abbrev pub with_calls : Cluster → ℕ → List Call → Cluster

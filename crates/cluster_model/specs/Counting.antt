@@ -1,7 +1,7 @@
 -- What the coordinator knows of its waves, and what is due.
 use Rattle.std.specs.Prelude.{Bool, None, false, length, not, slice_index_or, suc, true, ℕ, ◌<◌, ◌≡◌}
 use Rattle.gl_base.specs.declared.scopes.Counted.{Counted}
-use Rattle.cluster_model.specs.TwoWaves.{TwoWaves, answered, is_whole, no_waves, turned}
+use Rattle.cluster_model.specs.TwoWaves.{TwoWaves, answered, all_answered, no_waves, turned}
 
 -- What the coordinator has counted.
 pub record Counting : Type 0 where
@@ -22,7 +22,7 @@ count_wave c = record { put_out = suc c.put_out; waiting = true; waves = c.waves
 abbrev pub count_answer : Counting → ℕ → Counted → Counting
 count_answer c a counts =
     let waves = answered c.waves a counts in
-    record { put_out = c.put_out; waiting = not (is_whole waves.wave); waves = waves }
+    record { put_out = c.put_out; waiting = not (all_answered waves.wave); waves = waves }
 
 -- Counts of machine a for wave k may be received: it is the newest wave, and those of machine a are missing.
 pub record MayBeCounted (c : Counting) (a k : ℕ) : Type 0 where

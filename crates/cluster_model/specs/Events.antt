@@ -10,12 +10,12 @@ use Rattle.cluster_core.specs.Ranges.{first_passing}
 use Rattle.cluster_core.specs.Settings.{Setting}
 use Rattle.cluster_model.specs.ByTicket.{StandByTicket, restarts}
 use Rattle.cluster_model.specs.Calls.{Call, Report}
-use Rattle.cluster_model.specs.Clusters.{BaseView, Cluster, with_calls, with_coordinator, with_link, with_machine, with_reports}
-use Rattle.cluster_model.specs.Leading.{HasStoreRoom, RecordIsDue, Snapshot, SnapshotIsDue, WaveIsDue, begins_snapshot, first_coordinator, hands_call, learns, puts_step, puts_wave, records}
+use Rattle.cluster_model.specs.Clusters.{BaseView, Cluster, with_calls, with_coordinator, with_messages, with_machine, with_reports}
+use Rattle.cluster_model.specs.Leading.{HasStoreRoom, RecordIsDue, Snapshot, SnapshotIsDue, WaveIsDue, begins_snapshot, first_coordinator, hands_call, takes_report, puts_step, puts_wave, acknowledges}
 use Rattle.cluster_model.specs.Machines.{Machine}
 use Rattle.cluster_model.specs.Rounds.{StepIsDue}
 use Rattle.cluster_model.specs.Totals.{total}
-use Rattle.cluster_model.specs.Working.{or_zero, admits, fails, goes_back, grants, hands, has_room, hears, marks, prompt, receives, sections, tells, updates}
+use Rattle.cluster_model.specs.Working.{or_zero, admits, fails, goes_back, grants, hands, has_room, takes_call, makes_mark, prompt, receives, sections, tells, makes_update}
 use Rattle.seq_run.specs.States.{GraphState}
 
 -- what may happen in a cluster
@@ -130,15 +130,15 @@ MayDo st c (Recover base) = GoesBackTo st c base
 MayDo st c Stop = ⊤
 
 -- nothing happens after the end
-abbrev pub MayHappen : Setting → Cluster → Event → Type 0
-MayHappen st c event = (c.stopped ≡ false) × MayDo st c event
+abbrev pub MayOccur : Setting → Cluster → Event → Type 0
+MayOccur st c event = (c.stopped ≡ false) × MayDo st c event
 
 -- ---- what each does: at most one machine or the coordinator changes, and one link
 
 -- the first message of the outbox goes to the end of the link
-abbrev pub sends : Cluster → ℕ → ℕ → List Message → Cluster
-sends c p q [] = c
-sends c p q (m ∷ behind) = with_link (with_machine c p (hands q behind (c.machine p))) p q (c.link p q ++ m ∷ [])
+abbrev pub sends_message : Cluster → ℕ → ℕ → List Message → Cluster
+sends_message c p q [] = c
+sends_message c p q (m ∷ behind) = with_messages (with_machine c p (hands q behind (c.machine p))) p q (c.link p q ++ m ∷ [])
 
 -- and so does the first call
 abbrev pub sends_call : Cluster → ℕ → List Call → Cluster
@@ -151,34 +151,34 @@ sends_report c a [] = c
 sends_report c a (report ∷ behind) = with_reports (with_machine c a (tells behind (c.machine a))) a (c.reports a ++ report ∷ [])
 
 -- the first message of the link is received
-abbrev pub delivers : Setting → Cluster → ℕ → ℕ → List Message → Cluster
-delivers st c p q [] = c
-delivers st c p q (m ∷ behind) = with_link (with_machine c q (prompt st q (receives st q m (c.machine q)))) p q behind
+abbrev pub delivers_message : Setting → Cluster → ℕ → ℕ → List Message → Cluster
+delivers_message st c p q [] = c
+delivers_message st c p q (m ∷ behind) = with_messages (with_machine c q (prompt st q (receives st q m (c.machine q)))) p q behind
 
 -- and so is the first call
 abbrev pub delivers_call : Setting → Cluster → ℕ → List Call → Cluster
 delivers_call st c a [] = c
-delivers_call st c a (call ∷ behind) = with_calls (with_machine c a (prompt st a (hears st a call (c.machine a)))) a behind
+delivers_call st c a (call ∷ behind) = with_calls (with_machine c a (prompt st a (takes_call st a call (c.machine a)))) a behind
 
 -- and the first report
 abbrev pub delivers_report : Cluster → ℕ → List Report → Cluster
 delivers_report c a [] = c
-delivers_report c a (report ∷ behind) = with_reports (with_coordinator c (learns a report c.coordinator)) a behind
+delivers_report c a (report ∷ behind) = with_reports (with_coordinator c (takes_report a report c.coordinator)) a behind
 
 -- the next ticket is drawn
-abbrev pub draws : Cluster → Cluster
-draws c = record c { next = suc c.next; left = pred c.left }
+abbrev pub draws_ticket : Cluster → Cluster
+draws_ticket c = record c { next = suc c.next; left = pred c.left }
 
 -- the home of the scope makes the update of this centre, under the next ticket
 abbrev pub makes : Setting → Cluster → ScopeId → Option ℕ → Cluster
 makes st c s None = c
 makes st c s (Some v) =
-    draws (with_machine c s.home.0 (prompt st s.home.0 (updates st s.home.0 s v (Go s.home (record { 0 = v }) c.next) (c.machine s.home.0))))
+    draws_ticket (with_machine c s.home.0 (prompt st s.home.0 (makes_update st s.home.0 s v (Go s.home (record { 0 = v }) c.next) (c.machine s.home.0))))
 
 -- the home of the scope makes the snapshot update of this centre
 abbrev pub saves : Setting → Cluster → ScopeId → Option ℕ → Cluster
 saves st c s None = c
-saves st c s (Some v) = with_machine c s.home.0 (prompt st s.home.0 (marks st s.home.0 s v (c.machine s.home.0)))
+saves st c s (Some v) = with_machine c s.home.0 (prompt st s.home.0 (makes_mark st s.home.0 s v (c.machine s.home.0)))
 
 -- all machines go back to the base, the links are empty, and tickets go on
 abbrev pub recovers : Setting → BaseView → Cluster → Cluster
@@ -196,25 +196,25 @@ recovers st base c =
     }
 
 -- the effect of each event
-abbrev pub after : Setting → Cluster → Event → Cluster
-after st c (Admit a v) = with_machine c a (prompt st a (admits st a v (c.machine a)))
-after st c (Grant a x) = with_machine c a (prompt st a (grants st a x (c.machine a)))
-after st c (Send p q) = sends c p q ((c.machine p).part.out q)
-after st c (SendCall a) = sends_call c a (c.coordinator.out a)
-after st c (SendReport a) = sends_report c a (c.machine a).told
-after st c (Deliver p q) = delivers st c p q (c.link p q)
-after st c (DeliverCall a) = delivers_call st c a (c.calls a)
-after st c (DeliverReport a) = delivers_report c a (c.reports a)
-after st c (Update s) = makes st c s ((c.machine s.home.0).part.flight s)
-after st c (Mark s) = saves st c s ((c.machine s.home.0).part.flight s)
-after st c (Section a) = with_machine c a (prompt st a (sections (c.machine a)))
-after st c Record = with_coordinator c (records st c.coordinator)
-after st c PutBegin = with_coordinator c (begins_snapshot c.coordinator)
-after st c PutStep = with_coordinator c (puts_step st c.coordinator)
-after st c PutWave = with_coordinator c (puts_wave c.coordinator)
-after st c (Fail a) = with_machine c a (fails (c.machine a))
-after st c (Recover base) = recovers st base c
-after st c Stop = record c { stopped = true }
+abbrev pub after_event : Setting → Cluster → Event → Cluster
+after_event st c (Admit a v) = with_machine c a (prompt st a (admits st a v (c.machine a)))
+after_event st c (Grant a x) = with_machine c a (prompt st a (grants st a x (c.machine a)))
+after_event st c (Send p q) = sends_message c p q ((c.machine p).part.out q)
+after_event st c (SendCall a) = sends_call c a (c.coordinator.out a)
+after_event st c (SendReport a) = sends_report c a (c.machine a).told
+after_event st c (Deliver p q) = delivers_message st c p q (c.link p q)
+after_event st c (DeliverCall a) = delivers_call st c a (c.calls a)
+after_event st c (DeliverReport a) = delivers_report c a (c.reports a)
+after_event st c (Update s) = makes st c s ((c.machine s.home.0).part.flight s)
+after_event st c (Mark s) = saves st c s ((c.machine s.home.0).part.flight s)
+after_event st c (Section a) = with_machine c a (prompt st a (sections (c.machine a)))
+after_event st c Record = with_coordinator c (acknowledges st c.coordinator)
+after_event st c PutBegin = with_coordinator c (begins_snapshot c.coordinator)
+after_event st c PutStep = with_coordinator c (puts_step st c.coordinator)
+after_event st c PutWave = with_coordinator c (puts_wave c.coordinator)
+after_event st c (Fail a) = with_machine c a (fails (c.machine a))
+after_event st c (Recover base) = recovers st base c
+after_event st c Stop = record c { stopped = true }
 
 -- the setting of what follows: a recovery begins an attempt with its base
 abbrev pub setting_after : Setting → Event → Setting
@@ -240,4 +240,4 @@ setting_after st Stop = st
 -- these events, one after another, lead from one cluster to another
 abbrev pub IsCourse : Setting → Cluster → List Event → Cluster → Type 0
 IsCourse st old [] new = new ≡ old
-IsCourse st old (event ∷ events) new = MayHappen st old event × IsCourse (setting_after st event) (after st old event) events new
+IsCourse st old (event ∷ events) new = MayOccur st old event × IsCourse (setting_after st event) (after_event st old event) events new

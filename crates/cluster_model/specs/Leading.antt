@@ -79,7 +79,7 @@ abbrev pub HoldsAll : Setting → Coordinator → Type 0
 HoldsAll st c = sum_by updates_told c.rounds.counting.waves.wave ≡ entries_in st c
 
 -- the last two waves showed the end
-pub record IsQuiet (c : Coordinator) : Type 0 where
+pub record HasSeenTheEnd (c : Coordinator) : Type 0 where
   pub whole : c.rounds.counting.waiting ≡ false
   pub shown : ShowTheEnd c.rounds.counting.waves
 
@@ -89,7 +89,7 @@ pub record IsQuiet (c : Coordinator) : Type 0 where
 pub record SnapshotIsDue (st : Setting) (c : Coordinator) : Type 0 where
   pub stored : st.stored ≡ true
   pub none : c.acknowledged ≡ c.begun
-  pub wanted : (c.wanted ≡ true) ⊎ (IsQuiet c × ((HoldsAll st c → ⊥) ⊎ (c.snapshots ≡ [])))
+  pub wanted : (c.wanted ≡ true) ⊎ (HasSeenTheEnd c × ((HoldsAll st c → ⊥) ⊎ (c.snapshots ≡ [])))
 
 -- with locks waves and snapshots take turns
 abbrev pub IsWaveTime : Engine → Coordinator → Type 0
@@ -137,14 +137,14 @@ abbrev pub puts_wave : Coordinator → Coordinator
 puts_wave c = record c { rounds = with_wave c.rounds; out = λ a. c.out a ++ Wave c.rounds.counting.put_out ∷ [] }
 
 -- the report of machine a comes
-abbrev pub learns : ℕ → Report → Coordinator → Coordinator
-learns a (Saved k section entries) c = record c { come = set_at c.come a (Some (record { section = section; entries = entries })) }
-learns a (Count k counts) c = record c { rounds = with_counts c.rounds a counts }
-learns a (Want k) c = record c { wanted = c.wanted || k == c.acknowledged }
+abbrev pub takes_report : ℕ → Report → Coordinator → Coordinator
+takes_report a (Saved k section entries) c = record c { come = set_at c.come a (Some (record { section = section; entries = entries })) }
+takes_report a (Count k counts) c = record c { rounds = with_counts c.rounds a counts }
+takes_report a (Want k) c = record c { wanted = c.wanted || k == c.acknowledged }
 
 -- the snapshot under way is acknowledged
-abbrev pub records : Setting → Coordinator → Coordinator
-records st c =
+abbrev pub acknowledges : Setting → Coordinator → Coordinator
+acknowledges st c =
     record c {
       acknowledged = c.begun;
       come = λ a. None;

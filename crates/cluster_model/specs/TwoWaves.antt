@@ -45,8 +45,8 @@ pub record ShowTheEnd (w : TwoWaves) : Type 0 where
 -- ---- how counts come in
 
 -- each machine has answered
-abbrev pub is_whole : List (Option Counted) → Bool
-is_whole wave = list_all is_some wave
+abbrev pub all_answered : List (Option Counted) → Bool
+all_answered wave = list_all is_some wave
 
 -- no machine has answered
 abbrev pub no_counts : ℕ → List (Option Counted)
@@ -58,7 +58,7 @@ no_waves machines = record { before = no_counts machines; wave = no_counts machi
 
 -- after a whole wave the next one begins
 abbrev pub turned : TwoWaves → TwoWaves
-turned w = if is_whole w.wave then record { before = w.wave; wave = no_counts (length w.wave) } else w
+turned w = if all_answered w.wave then record { before = w.wave; wave = no_counts (length w.wave) } else w
 
 -- machine m answered c
 abbrev pub answered : TwoWaves → ℕ → Counted → TwoWaves

@@ -138,12 +138,12 @@ works_on st a s v entry m =
     }
 
 -- and where half of the window is full it asks for a snapshot
-abbrev pub updates : Setting → ℕ → ScopeId → ℕ → Entry → Machine → Machine
-updates st a s v entry m = asks st (works_on st a s v entry m)
+abbrev pub makes_update : Setting → ℕ → ScopeId → ℕ → Entry → Machine → Machine
+makes_update st a s v entry m = asks st (works_on st a s v entry m)
 
 -- machine a makes the snapshot update of v
-abbrev pub marks : Setting → ℕ → ScopeId → ℕ → Machine → Machine
-marks st a s v m =
+abbrev pub makes_mark : Setting → ℕ → ScopeId → ℕ → Machine → Machine
+makes_mark st a s v m =
     let part = marked st a s v m.part in
     record m { part = part; sent = m.sent + gained st m.part part; plans = ends_plan s m }
 
@@ -162,11 +162,11 @@ abbrev pub commits : ℕ → Machine → Machine
 commits k m = record m { acknowledged = k; unsure = rest_of m.unsure; wanted = false }
 
 -- machine a hears from the coordinator
-abbrev pub hears : Setting → ℕ → Call → Machine → Machine
-hears st a (Begin k) m = record m { part = begins st a k m.part; before = before_at k m; behind = behind_at k m }
-hears st a (Committed k) m = asks st (commits k m)
-hears st a (Wave k) m = record m { held = Some k }
-hears st a (Step colour) m = record m { part = steps_to colour m.part }
+abbrev pub takes_call : Setting → ℕ → Call → Machine → Machine
+takes_call st a (Begin k) m = record m { part = begins st a k m.part; before = before_at k m; behind = behind_at k m }
+takes_call st a (Committed k) m = asks st (commits k m)
+takes_call st a (Wave k) m = record m { held = Some k }
+takes_call st a (Step colour) m = record m { part = steps_to colour m.part }
 
 -- what is next for machine q goes away; what is next for the coordinator does
 abbrev pub hands : ℕ → List Message → Machine → Machine

@@ -12,7 +12,7 @@ use Rattle.update_api.specs.declared.woken.Woken.TheVariants.{Nobody, Ahead, Aro
 use Rattle.update_api.specs.declared.woken.Woken.{Woken}
 use Rattle.seq_run.specs.States.{GraphState, near_of, new_number, with_marks, after_update, is_woken, wakes}
 use Rattle.cluster_core.specs.Effects.{is_shared}
-use Rattle.cluster_core.specs.Settings.{Setting, IsSetting, is_near, edge_at}
+use Rattle.cluster_core.specs.Settings.{Setting, IsSetting, is_near, nth_edge}
 use Rattle.cluster_numbers.proofs.Passing.{any_at}
 
 -- the edge joins v with u, whichever way
@@ -61,36 +61,36 @@ with_marks-none p s own k (h ∷ halves) none =
 
 module _ (st : Setting) (is : IsSetting st) where
   -- the edge with a number, by whichever default it was read
-  pub edge_read : (k : ℕ) (e : DataEdge) → k < length st.graph.edges → slice_index_or st.graph.edges k e ≡ e → edge_at st k ≡ e
+  pub edge_read : (k : ℕ) (e : DataEdge) → k < length st.graph.edges → slice_index_or st.graph.edges k e ≡ e → nth_edge st k ≡ e
   edge_read k e within at = get_or_default st.graph.edges k (record { from = 0; to = 0; weight = 0 }) e within ∙ at
 
-  pub edge_fits : (k : ℕ) → k < length st.graph.edges → IsEdge (size st.graph) st.graph.directed (edge_at st k)
+  pub edge_fits : (k : ℕ) → k < length st.graph.edges → IsEdge (size st.graph) st.graph.directed (nth_edge st k)
   edge_fits k within = is.graph.edges k (record { from = 0; to = 0; weight = 0 }) within
 
   -- the two ends of an edge are near
-  pub ends_near : (k v u : ℕ) → k < length st.graph.edges → IsBetween (edge_at st k) v u → is_near st v u ≡ true
+  pub ends_near : (k v u : ℕ) → k < length st.graph.edges → IsBetween (nth_edge st k) v u → is_near st v u ≡ true
   ends_near k v u within between =
-      any_at (joins v u) st.graph.edges k (record { from = 0; to = 0; weight = 0 }) within (joins_between (edge_at st k) v u between)
+      any_at (joins v u) st.graph.edges k (record { from = 0; to = 0; weight = 0 }) within (joins_between (nth_edge st k) v u between)
 
-  pub ends_apart : (k v u : ℕ) → k < length st.graph.edges → IsBetween (edge_at st k) v u → v ≢ u
+  pub ends_apart : (k v u : ℕ) → k < length st.graph.edges → IsBetween (nth_edge st k) v u → v ≢ u
   ends_apart k v u within between same = ⊎_elim
-      (λ (w : ((edge_at st k).from ≡ v) × ((edge_at st k).to ≡ u)). (edge_fits k within).apart (w.0 ∙ same ∙ sym w.1))
-      (λ (w : ((edge_at st k).to ≡ v) × ((edge_at st k).from ≡ u)). (edge_fits k within).apart (w.1 ∙ sym same ∙ sym w.0))
+      (λ (w : ((nth_edge st k).from ≡ v) × ((nth_edge st k).to ≡ u)). (edge_fits k within).apart (w.0 ∙ same ∙ sym w.1))
+      (λ (w : ((nth_edge st k).to ≡ v) × ((nth_edge st k).from ≡ u)). (edge_fits k within).apart (w.1 ∙ sym same ∙ sym w.0))
       between
 
-  pub ends_within : (k v u : ℕ) → k < length st.graph.edges → IsBetween (edge_at st k) v u → (v < size st.graph) × (u < size st.graph)
+  pub ends_within : (k v u : ℕ) → k < length st.graph.edges → IsBetween (nth_edge st k) v u → (v < size st.graph) × (u < size st.graph)
   ends_within k v u within between = ⊎_elim
-      (λ (w : ((edge_at st k).from ≡ v) × ((edge_at st k).to ≡ u)).
+      (λ (w : ((nth_edge st k).from ≡ v) × ((nth_edge st k).to ≡ u)).
       (subst (λ x. x < size st.graph) w.0 (edge_fits k within).from, subst (λ x. x < size st.graph) w.1 (edge_fits k within).to))
-      (λ (w : ((edge_at st k).to ≡ v) × ((edge_at st k).from ≡ u)).
+      (λ (w : ((nth_edge st k).to ≡ v) × ((nth_edge st k).from ≡ u)).
       (subst (λ x. x < size st.graph) w.0 (edge_fits k within).to, subst (λ x. x < size st.graph) w.1 (edge_fits k within).from))
       between
 
   -- the edge of a half at v leads between v and the half's other end
-  pub half_between : (v : ℕ) (h : DataHalf) → IsHalfAt st.graph is.graph v h → (h.edge < length st.graph.edges) × IsBetween (edge_at st h.edge) v h.other
+  pub half_between : (v : ℕ) (h : DataHalf) → IsHalfAt st.graph is.graph v h → (h.edge < length st.graph.edges) × IsBetween (nth_edge st h.edge) v h.other
   half_between v h half =
       let number : h.edge ≡ half.place = half.number ∙ zero-add half.place in
-      let its : edge_at st h.edge ≡ half.edge = ap (edge_at st) number ∙ edge_read half.place half.edge half.within half.at in
+      let its : nth_edge st h.edge ≡ half.edge = ap (nth_edge st) number ∙ edge_read half.place half.edge half.within half.at in
       let between : IsBetween half.edge v h.other = ⊎_elim
       (λ (w : (half.edge.from ≡ v) × (h ≡ half_out st.graph.directed h.edge half.edge)). inl (w.0, sym (ap (λ (x : DataHalf). x.other) w.1)))
       (λ (w : (half.edge.to ≡ v) × (h ≡ half_into st.graph.directed h.edge half.edge)). inr (w.0, sym (ap (λ (x : DataHalf). x.other) w.1)))
@@ -98,13 +98,13 @@ module _ (st : Setting) (is : IsSetting st) where
       (subst (λ k. k < length st.graph.edges) (sym number) half.within, subst (λ e. IsBetween e v h.other) (sym its) between)
 
   -- an edge of which v is no end is none of its halves
-  pub no_half : (v k : ℕ) → ((edge_at st k).from ≢ v) × ((edge_at st k).to ≢ v) → AllByRecursion (λ h. h.edge ≢ k) (halves_of st.graph v)
+  pub no_half : (v k : ℕ) → ((nth_edge st k).from ≢ v) × ((nth_edge st k).to ≢ v) → AllByRecursion (λ h. h.edge ≢ k) (halves_of st.graph v)
   no_half v k away =
       each-weaker (IsHalfAt st.graph is.graph v) (λ h. h.edge ≢ k)
       (λ h half same. ⊎_elim
-      (λ (w : ((edge_at st k).from ≡ v) × ((edge_at st k).to ≡ h.other)). away.0 w.0)
-      (λ (w : ((edge_at st k).to ≡ v) × ((edge_at st k).from ≡ h.other)). away.1 w.0)
-      (subst (λ j. IsBetween (edge_at st j) v h.other) same (half_between v h half).1))
+      (λ (w : ((nth_edge st k).from ≡ v) × ((nth_edge st k).to ≡ h.other)). away.0 w.0)
+      (λ (w : ((nth_edge st k).to ≡ v) × ((nth_edge st k).from ≡ h.other)). away.1 w.0)
+      (subst (λ j. IsBetween (nth_edge st j) v h.other) same (half_between v h half).1))
       (halves_of st.graph v) (halves_are st.graph is.graph v)
 
   -- who is woken is near
@@ -125,7 +125,7 @@ module _ (st : Setting) (is : IsSetting st) where
   wakes_near s v u woken = woken_near (st.program.woken (s.vertex v) (new_number st.graph st.program s v)) v u woken
 
   -- an update writes no other edge
-  pub edge_kept : (s : GraphState) (v k : ℕ) → ((edge_at st k).from ≢ v) × ((edge_at st k).to ≢ v) → (after_update st.graph st.program s v).edge k ≡ s.edge k
+  pub edge_kept : (s : GraphState) (v k : ℕ) → ((nth_edge st k).from ≢ v) × ((nth_edge st k).to ≢ v) → (after_update st.graph st.program s v).edge k ≡ s.edge k
   edge_kept s v k away = with_marks-none st.program s (new_number st.graph st.program s v) k (halves_of st.graph v) (no_half v k away)
 
   pub shared_ends : (c q : ℕ) (e : DataEdge) → is_shared st c q e ≡ true → (u : ℕ) × IsBetween e c u × (st.owner u ≡ q)

@@ -8,11 +8,11 @@ use Rattle.gl_base.specs.declared.scopes.Datum.{Datum}
 use Rattle.seq_run.specs.Orders.{replay}
 use Rattle.cluster_core.specs.Actions.{delivers}
 use Rattle.cluster_core.specs.Copies.{edge_to_come, from_owner, to_owner, AreCopies}
-use Rattle.cluster_core.specs.Effects.{newer, edge_after, applied}
+use Rattle.cluster_core.specs.Effects.{newer_datum, edge_after, applied}
 use Rattle.cluster_core.specs.Messages.{News, Message, Done}
 use Rattle.cluster_core.specs.Parts.{Part}
 use Rattle.cluster_core.specs.Replays.{IsTask, IsReplay}
-use Rattle.cluster_core.specs.Settings.{Setting, IsSetting, edge_at}
+use Rattle.cluster_core.specs.Settings.{Setting, IsSetting, nth_edge}
 use Rattle.cluster_core.specs.Ways.{datum_told, edge_told, edge_changed, vertex_woken, IsNewsFor, IsToldTo}
 use Rattle.cluster_core.specs.Worlds.{World, way}
 use Rattle.cluster_core.proofs.Basics.{set_at-cases, set_at-kept, set_at-here, set_at-there}
@@ -51,7 +51,7 @@ module _ (st : Setting) (is : IsSetting st) (w : World) (p q : ℕ) (s : ScopeId
   -- each datum stays but the copy of the centre here
   pub datum_kept : (b v : ℕ) → (b ≡ q → v ≢ news.centre) → (new.part b).datum v ≡ (w.part b).datum v
   datum_kept b v other = set_at-cases (λ (part : Part). part.datum v ≡ (w.part b).datum v) w.part q after_news b
-      (λ same. cond-false (v == news.centre) (newer ((w.part q).datum v) news.datum) ((w.part q).datum v) (ne_eqb v news.centre (other same)) ∙ ap (λ j. (w.part j).datum v) (sym same))
+      (λ same. cond-false (v == news.centre) (newer_datum ((w.part q).datum v) news.datum) ((w.part q).datum v) (ne_eqb v news.centre (other same)) ∙ ap (λ j. (w.part j).datum v) (sym same))
       (λ there. refl)
 
   -- and so the owners' data stay
@@ -84,7 +84,7 @@ module _ (st : Setting) (is : IsSetting st) (w : World) (p q : ℕ) (s : ScopeId
   untold : (told : Option ℕ) (x : ℕ) → (is_some told ≡ true → ⊥) → edge_after told x ≡ x
   untold told x none = edge_not_told told x (false_from_ne_true (is_some told) none)
 
-  edge_stays : (e x y : ℕ) → IsBetween (edge_at st e) x y → edge_to_come new e (st.owner x) (st.owner y) ≡ edge_to_come w e (st.owner x) (st.owner y)
+  edge_stays : (e x y : ℕ) → IsBetween (nth_edge st e) x y → edge_to_come new e (st.owner x) (st.owner y) ≡ edge_to_come w e (st.owner x) (st.owner y)
   edge_stays e x y between = ⊎_elim
       (λ (both : (st.owner y ≡ p) × (st.owner x ≡ q)).
       subst₂ (λ i j. edge_told e (way new i j) ((new.part j).edge e) ≡ edge_told e (way w i j) ((w.part j).edge e)) (sym both.0) (sym both.1) (edge_here e))
@@ -98,20 +98,20 @@ module _ (st : Setting) (is : IsSetting st) (w : World) (p q : ℕ) (s : ScopeId
       -- the news tell of the edge only where the owner of its other end is p
       none_here : st.owner x ≡ q → (st.owner y ≢ p) ⊎ (st.owner x ≢ q) → is_some (news.edges e) ≡ true → ⊥
       none_here here other some =
-          let (u, its, owner) = shared_ends st is news.centre q (edge_at st e) (its_news.edges e some) in
+          let (u, its, owner) = shared_ends st is news.centre q (nth_edge st e) (its_news.edges e some) in
           ⊎_elim
           (λ (no : st.owner y ≢ p). ⊎_elim
           (λ (w : (x ≡ news.centre) × (y ≡ u)). its_news.apart (sym its_news.centre ∙ ap st.owner (sym w.0) ∙ here))
           (λ (w : (x ≡ u) × (y ≡ news.centre)). no (ap st.owner w.1 ∙ its_news.centre))
-          (between_same (edge_at st e) x y news.centre u between its))
+          (between_same (nth_edge st e) x y news.centre u between its))
           (λ (no : st.owner x ≢ q). no here)
           other
 
   from_stays : (e : ℕ) → edge_to_come new e (from_owner st e) (to_owner st e) ≡ edge_to_come w e (from_owner st e) (to_owner st e)
-  from_stays e = edge_stays e (edge_at st e).from (edge_at st e).to (inl (refl, refl))
+  from_stays e = edge_stays e (nth_edge st e).from (nth_edge st e).to (inl (refl, refl))
 
   to_stays : (e : ℕ) → edge_to_come new e (to_owner st e) (from_owner st e) ≡ edge_to_come w e (to_owner st e) (from_owner st e)
-  to_stays e = edge_stays e (edge_at st e).to (edge_at st e).from (inr (refl, refl))
+  to_stays e = edge_stays e (nth_edge st e).to (nth_edge st e).from (inr (refl, refl))
 
   changed_less : (e i j : ℕ) → edge_changed e (way w i j) ≡ false → edge_changed e (way new i j) ≡ false
   changed_less e i j none = ⊎_elim

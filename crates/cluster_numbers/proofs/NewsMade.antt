@@ -9,12 +9,12 @@ use Rattle.graph_core.specs.DataGraph.{size}
 use Rattle.graph_core.proofs.HalvesLaws.{each-append}
 use Rattle.seq_run.specs.States.{new_number, after_update, wakes}
 use Rattle.cluster_core.specs.Copies.{edge_to_come, from_owner, to_owner, agreed, AreCopies}
-use Rattle.cluster_core.specs.Effects.{newer, edge_after, renewed, told_datum, is_shared, told_edge, news_for, tell, updated, is_left, marked_datum, mark_news, marked}
+use Rattle.cluster_core.specs.Effects.{newer_datum, edge_after, renewed, told_datum, is_shared, told_edge, news_for, tell, updated, is_left, marked_datum, mark_news, marked}
 use Rattle.cluster_core.specs.Messages.{News, Message, Ask, Ready, Done}
 use Rattle.cluster_core.specs.Parts.{Part, lent}
 use Rattle.cluster_core.specs.Places.{done_near}
 use Rattle.cluster_core.specs.Scopes.{takes_part}
-use Rattle.cluster_core.specs.Settings.{Setting, IsSetting, is_near, edge_at}
+use Rattle.cluster_core.specs.Settings.{Setting, IsSetting, is_near, nth_edge}
 use Rattle.cluster_core.specs.Ways.{datum_told, edge_told, changes_edge, edge_changed, IsNewsFor, IsToldTo}
 use Rattle.cluster_core.specs.Worlds.{World, with_part, way}
 use Rattle.cluster_core.proofs.Basics.{set_at-same, set_at-other, set_at-cases, set_at-kept, set_at-here, set_at-there}
@@ -25,7 +25,7 @@ use Rattle.cluster_numbers.proofs.Told.{datum_told-append, edge_told-append, edg
 
 -- ---- what is told is what was written
 
-newer_told : (old : Datum) (new : ℕ) → newer old (told_datum old new) ≡ renewed old new
+newer_told : (old : Datum) (new : ℕ) → newer_datum old (told_datum old new) ≡ renewed old new
 newer_told old new = ⊎_elim
     (λ (same : new ≡ old.value). rw (eq-eqb new old.value same) refl)
     (λ (other : new ≡ old.value → ⊥). rw (ne_eqb new old.value other, lt-ltb old.version (suc old.version) (omega arith)) refl)
@@ -56,10 +56,10 @@ told_where_shared false old new some = some
 -- ---- an edge of true copies
 
 -- what an edge comes to is the same at the owners of its two ends
-pub agreed_between : (st : Setting) (w : World) → AreCopies st w → (e x y : ℕ) → e < length st.graph.edges → IsBetween (edge_at st e) x y → agreed st w e ≡ edge_to_come w e (st.owner x) (st.owner y)
+pub agreed_between : (st : Setting) (w : World) → AreCopies st w → (e x y : ℕ) → e < length st.graph.edges → IsBetween (nth_edge st e) x y → agreed st w e ≡ edge_to_come w e (st.owner x) (st.owner y)
 agreed_between st w copies e x y within between = ⊎_elim
-    (λ (z : ((edge_at st e).from ≡ x) × ((edge_at st e).to ≡ y)). ap₂ (λ a b. edge_to_come w e (st.owner a) (st.owner b)) z.0 z.1)
-    (λ (z : ((edge_at st e).to ≡ x) × ((edge_at st e).from ≡ y)). copies.edges_agree e within ∙ ap₂ (λ a b. edge_to_come w e (st.owner a) (st.owner b)) z.0 z.1)
+    (λ (z : ((nth_edge st e).from ≡ x) × ((nth_edge st e).to ≡ y)). ap₂ (λ a b. edge_to_come w e (st.owner a) (st.owner b)) z.0 z.1)
+    (λ (z : ((nth_edge st e).to ≡ x) × ((nth_edge st e).from ≡ y)). copies.edges_agree e within ∙ ap₂ (λ a b. edge_to_come w e (st.owner a) (st.owner b)) z.0 z.1)
     between
 
 -- copies go by the parts and the links alone
@@ -86,10 +86,10 @@ pub record IsMade (st : Setting) (a : ℕ) (s : ScopeId) (v : ℕ) (news : ℕ �
   pub out : made.out ≡ tell st a v s news old.out
   pub centre : (q : ℕ) → (news q).centre ≡ v
   pub datum_else : (y : ℕ) → y ≢ v → made.datum y ≡ old.datum y
-  pub told : (q : ℕ) → newer (old.datum v) (news q).datum ≡ made.datum v
-  pub edge_else : (e : ℕ) → ((edge_at st e).from ≢ v) × ((edge_at st e).to ≢ v) → made.edge e ≡ old.edge e
-  pub shared : (e q : ℕ) → is_some ((news q).edges e) ≡ true → is_shared st v q (edge_at st e) ≡ true
-  pub edges : (e q : ℕ) → is_shared st v q (edge_at st e) ≡ true → edge_after ((news q).edges e) (old.edge e) ≡ made.edge e
+  pub told : (q : ℕ) → newer_datum (old.datum v) (news q).datum ≡ made.datum v
+  pub edge_else : (e : ℕ) → ((nth_edge st e).from ≢ v) × ((nth_edge st e).to ≢ v) → made.edge e ≡ old.edge e
+  pub shared : (e q : ℕ) → is_some ((news q).edges e) ≡ true → is_shared st v q (nth_edge st e) ≡ true
+  pub edges : (e q : ℕ) → is_shared st v q (nth_edge st e) ≡ true → edge_after ((news q).edges e) (old.edge e) ≡ made.edge e
   pub wakes : (q u : ℕ) → (news q).wakes u ≡ true → (is_near st v u ≡ true) × (st.owner u ≡ q)
   pub pends : (q u : ℕ) → (news q).pends u ≡ true → (is_near st v u ≡ true) × (st.owner u ≡ q)
 
@@ -104,7 +104,7 @@ update_made st is a s v entry old =
       datum_else = λ y other. set_at-other old.datum v (renewed (old.datum v) new) y other;
       told = λ q. newer_told (old.datum v) new ∙ sym (set_at-same old.datum v (renewed (old.datum v) new));
       edge_else = λ e away. edge_kept st is (lent old) v e away;
-      shared = λ e q some. told_where_shared (is_shared st v q (edge_at st e)) (old.edge e) (edge e) some;
+      shared = λ e q some. told_where_shared (is_shared st v q (nth_edge st e)) (old.edge e) (edge e) some;
       edges = λ e q shared. ap (λ b. edge_after (told_edge b (old.edge e) (edge e)) (old.edge e)) shared ∙ edge_told_after (old.edge e) (edge e);
       wakes = λ q u woken.
           let both = and_parts (st.owner u == q) (wakes st.graph st.program (lent old) v u) woken in
@@ -136,7 +136,7 @@ module _ (st : Setting) (is : IsSetting st) (w : World) (s : ScopeId) (v : ℕ) 
   home = s.home.0
 
   -- no message to the owner of v changes an edge at v
-  no_news : (e x p : ℕ) (ms : List Message) → e < length st.graph.edges → IsBetween (edge_at st e) v x → AllByRecursion (IsToldTo st p home) ms → done_near st v ms ≡ false → edge_changed e ms ≡ false
+  no_news : (e x p : ℕ) (ms : List Message) → e < length st.graph.edges → IsBetween (nth_edge st e) v x → AllByRecursion (IsToldTo st p home) ms → done_near st v ms ≡ false → edge_changed e ms ≡ false
   no_news e x p [] low between all none = refl
   no_news e x p (Ask t c rest ∷ ms) low between all none = no_news e x p ms low between all.1 none
   no_news e x p (Ready t ∷ ms) low between all none = no_news e x p ms low between all.1 none
@@ -144,18 +144,18 @@ module _ (st : Setting) (is : IsSetting st) (w : World) (s : ScopeId) (v : ℕ) 
       let parts = or_parts (is_near st v news.centre) (done_near st v ms) none in
       or_from (is_some (news.edges e)) (edge_changed e ms)
       (false_from_ne_true (is_some (news.edges e)) (λ some.
-      let (u, its, owner) = shared_ends st is news.centre home (edge_at st e) (all.0.edges e some) in
+      let (u, its, owner) = shared_ends st is news.centre home (nth_edge st e) (all.0.edges e some) in
       ⊎_elim
       (λ (z : (v ≡ news.centre) × (x ≡ u)). all.0.apart (sym all.0.centre ∙ ap st.owner (sym z.0) ∙ owned))
       (λ (z : (v ≡ u) × (x ≡ news.centre)). true≢false (sym (subst (λ c. is_near st v c ≡ true) z.1 (ends_near st is e v x low between)) ∙ parts.0))
-      (between_same (edge_at st e) v x news.centre u between its)))
+      (between_same (nth_edge st e) v x news.centre u between its)))
       (no_news e x p ms low between all.1 parts.1)
 
-  pub unchanged : (e x p : ℕ) → e < length st.graph.edges → IsBetween (edge_at st e) v x → edge_changed e (way w p home) ≡ false
+  pub unchanged : (e x p : ℕ) → e < length st.graph.edges → IsBetween (nth_edge st e) v x → edge_changed e (way w p home) ≡ false
   unchanged e x p low between = no_news e x p (way w p home) low between (copies.told p home) (still p)
 
   -- the copy of an edge at v, at the owner of v, is the number that it comes to
-  pub copy_true : (e x : ℕ) → e < length st.graph.edges → IsBetween (edge_at st e) v x → agreed st w e ≡ (w.part home).edge e
+  pub copy_true : (e x : ℕ) → e < length st.graph.edges → IsBetween (nth_edge st e) v x → agreed st w e ≡ (w.part home).edge e
   copy_true e x low between =
       agreed_between st w copies e v x low between ∙ ap (λ a. edge_to_come w e a (st.owner x)) owned
       ∙ edge_told-same e (way w (st.owner x) home) ((w.part home).edge e) (unchanged e x (st.owner x) low between)
@@ -217,7 +217,7 @@ module _ (st : Setting) (is : IsSetting st) (w : World) (s : ScopeId) (v : ℕ) 
         record {
           centre = ap st.owner (is_made.centre q) ∙ owned;
           apart = reaches_apart q yes_told;
-          edges = λ e some. subst (λ c. is_shared st c q (edge_at st e) ≡ true) (sym (is_made.centre q)) (is_made.shared e q some);
+          edges = λ e some. subst (λ c. is_shared st c q (nth_edge st e) ≡ true) (sym (is_made.centre q)) (is_made.shared e q some);
           wakes = λ u yes_wakes. subst (λ c. (is_near st c u ≡ true) × (st.owner u ≡ q)) (sym (is_made.centre q)) (is_made.wakes q u yes_wakes);
           pends = λ u yes_pends. subst (λ c. (is_near st c u ≡ true) × (st.owner u ≡ q)) (sym (is_made.centre q)) (is_made.pends q u yes_pends);
         }
@@ -240,12 +240,12 @@ module _ (st : Setting) (is : IsSetting st) (w : World) (s : ScopeId) (v : ℕ) 
     datum_written = set_at-here (λ (part : Part). part.datum v) w.part home made (st.owner v) owned
 
     told_other : (q y : ℕ) (d : Datum) → y ≢ v → datum_told y (Done s (news q) ∷ []) d ≡ d
-    told_other q y d other = cond-false (y == (news q).centre) (newer d (news q).datum) d (ne_eqb y (news q).centre (λ same. other (same ∙ is_made.centre q)))
+    told_other q y d other = cond-false (y == (news q).centre) (newer_datum d (news q).datum) d (ne_eqb y (news q).centre (λ same. other (same ∙ is_made.centre q)))
 
     told_own : (q : ℕ) (d : Datum) → d ≡ (w.part home).datum v → datum_told v (Done s (news q) ∷ []) d ≡ made.datum v
     told_own q d same =
-        cond-true (v == (news q).centre) (newer d (news q).datum) d (eq-eqb v (news q).centre (sym (is_made.centre q)))
-        ∙ ap (λ x. newer x (news q).datum) same ∙ is_made.told q
+        cond-true (v == (news q).centre) (newer_datum d (news q).datum) d (eq-eqb v (news q).centre (sym (is_made.centre q)))
+        ∙ ap (λ x. newer_datum x (news q).datum) same ∙ is_made.told q
 
     copy_written : (b : ℕ) → takes_part st v b ≡ true → b ≢ st.owner v → datum_told v (way new (st.owner v) b) ((new.part b).datum v) ≡ made.datum v
     copy_written b part apart =
@@ -278,82 +278,82 @@ module _ (st : Setting) (is : IsSetting st) (w : World) (s : ScopeId) (v : ℕ) 
     edge_here e = set_at-here (λ (part : Part). part.edge e) w.part home made home refl
 
     -- of an edge at v, as its owner has it, and as the owner of the other end has it
-    own_edge : (e x : ℕ) → e < length st.graph.edges → IsBetween (edge_at st e) v x → edge_to_come new e home (st.owner x) ≡ made.edge e
+    own_edge : (e x : ℕ) → e < length st.graph.edges → IsBetween (nth_edge st e) v x → edge_to_come new e home (st.owner x) ≡ made.edge e
     own_edge e x low between =
         ap₂ (λ ms n. edge_told e ms n) (way_else (st.owner x) home (inr reaches_none)) (edge_here e)
         ∙ edge_told-same e (way w (st.owner x) home) (made.edge e) (unchanged e x (st.owner x) low between)
 
-    other_edge : (e x : ℕ) → e < length st.graph.edges → IsBetween (edge_at st e) v x → edge_to_come new e (st.owner x) home ≡ made.edge e
+    other_edge : (e x : ℕ) → e < length st.graph.edges → IsBetween (nth_edge st e) v x → edge_to_come new e (st.owner x) home ≡ made.edge e
     other_edge e x low between = ⊎_elim
         (λ (same : st.owner x ≡ home). subst₂ (λ i j. edge_to_come new e i j ≡ made.edge e) (sym same) same (own_edge e x low between))
         (λ (other : st.owner x ≡ home → ⊥).
         let part : takes_part st v (st.owner x) ≡ true = owner_takes_part st is v x within (scoped_near st is v x (ends_near st is e v x low between)) in
-        let turned : IsBetween (edge_at st e) x v = ⊎_elim (λ z. inr (z.1, z.0)) (λ z. inl (z.1, z.0)) between in
+        let turned : IsBetween (nth_edge st e) x v = ⊎_elim (λ z. inr (z.1, z.0)) (λ z. inl (z.1, z.0)) between in
         let was : edge_told e (way w home (st.owner x)) ((w.part (st.owner x)).edge e) ≡ (w.part home).edge e =
         ap (λ p. edge_to_come w e (st.owner x) p) (sym owned) ∙ sym (agreed_between st w copies e x v low turned) ∙ copy_true e x low between in
         ap₂ (λ ms n. edge_told e ms n) (way_told (st.owner x) (reaches_from (st.owner x) part other)) (set_at-there (λ (p : Part). p.edge e) w.part home made (st.owner x) other)
         ∙ edge_told-append e (way w home (st.owner x)) (Done s (news (st.owner x)) ∷ []) ((w.part (st.owner x)).edge e)
-        ∙ ap (edge_after ((news (st.owner x)).edges e)) was ∙ is_made.edges e (st.owner x) (shared_from st is v x (edge_at st e) between))
+        ∙ ap (edge_after ((news (st.owner x)).edges e)) was ∙ is_made.edges e (st.owner x) (shared_from st is v x (nth_edge st e) between))
         (cases_eq (st.owner x) home)
 
     -- of an edge that is not at v nothing is told, and nothing changes
-    not_told : (e q : ℕ) → ((edge_at st e).from ≢ v) × ((edge_at st e).to ≢ v) → is_some ((news q).edges e) ≡ false
-    not_told e q away = false_from_ne_true (is_some ((news q).edges e)) (λ some. true≢false (sym (is_made.shared e q some) ∙ not_shared st is v q (edge_at st e) away))
+    not_told : (e q : ℕ) → ((nth_edge st e).from ≢ v) × ((nth_edge st e).to ≢ v) → is_some ((news q).edges e) ≡ false
+    not_told e q away = false_from_ne_true (is_some ((news q).edges e)) (λ some. true≢false (sym (is_made.shared e q some) ∙ not_shared st is v q (nth_edge st e) away))
 
-    pub edge_else : (e y z : ℕ) → ((edge_at st e).from ≢ v) × ((edge_at st e).to ≢ v) → edge_to_come new e y z ≡ edge_to_come w e y z
+    pub edge_else : (e y z : ℕ) → ((nth_edge st e).from ≢ v) × ((nth_edge st e).to ≢ v) → edge_to_come new e y z ≡ edge_to_come w e y z
     edge_else e y z away =
         ap (edge_told e (way new z y)) (set_at-kept (λ (part : Part). part.edge e) w.part home made (is_made.edge_else e away) y)
         ∙ way_by (λ ms. edge_told e ms ((w.part y).edge e) ≡ edge_to_come w e y z) z y
         (λ same yes_told. edge_told-append e (way w z y) (Done s (news y) ∷ []) ((w.part y).edge e) ∙ edge_not_told ((news y).edges e) (edge_to_come w e y z) (not_told e y away))
         refl
 
-    changed_else : (e p q : ℕ) → ((edge_at st e).from ≢ v) × ((edge_at st e).to ≢ v) → edge_changed e (way w p q) ≡ false → edge_changed e (way new p q) ≡ false
+    changed_else : (e p q : ℕ) → ((nth_edge st e).from ≢ v) × ((nth_edge st e).to ≢ v) → edge_changed e (way w p q) ≡ false → edge_changed e (way new p q) ≡ false
     changed_else e p q away none =
         way_by (λ ms. edge_changed e ms ≡ false) p q
         (λ same yes_told. any-neither (changes_edge e) (way w p q) (Done s (news q) ∷ []) none (any_one (changes_edge e) (Done s (news q)) ∙ not_told e q away))
         none
 
-    pub agreed_here : (e x : ℕ) → e < length st.graph.edges → IsBetween (edge_at st e) v x → agreed st new e ≡ made.edge e
+    pub agreed_here : (e x : ℕ) → e < length st.graph.edges → IsBetween (nth_edge st e) v x → agreed st new e ≡ made.edge e
     agreed_here e x low between = ⊎_elim
-        (λ (z : ((edge_at st e).from ≡ v) × ((edge_at st e).to ≡ x)).
+        (λ (z : ((nth_edge st e).from ≡ v) × ((nth_edge st e).to ≡ x)).
         ap₂ (λ a b. edge_to_come new e (st.owner a) (st.owner b)) z.0 z.1 ∙ ap (λ a. edge_to_come new e a (st.owner x)) owned ∙ own_edge e x low between)
-        (λ (z : ((edge_at st e).to ≡ v) × ((edge_at st e).from ≡ x)).
+        (λ (z : ((nth_edge st e).to ≡ v) × ((nth_edge st e).from ≡ x)).
         ap₂ (λ a b. edge_to_come new e (st.owner a) (st.owner b)) z.1 z.0 ∙ ap (edge_to_come new e (st.owner x)) owned ∙ other_edge e x low between)
         between
 
-    turned_here : (e x : ℕ) → e < length st.graph.edges → IsBetween (edge_at st e) v x → edge_to_come new e (to_owner st e) (from_owner st e) ≡ made.edge e
+    turned_here : (e x : ℕ) → e < length st.graph.edges → IsBetween (nth_edge st e) v x → edge_to_come new e (to_owner st e) (from_owner st e) ≡ made.edge e
     turned_here e x low between = ⊎_elim
-        (λ (z : ((edge_at st e).from ≡ v) × ((edge_at st e).to ≡ x)).
+        (λ (z : ((nth_edge st e).from ≡ v) × ((nth_edge st e).to ≡ x)).
         ap₂ (λ a b. edge_to_come new e (st.owner a) (st.owner b)) z.1 z.0 ∙ ap (edge_to_come new e (st.owner x)) owned ∙ other_edge e x low between)
-        (λ (z : ((edge_at st e).to ≡ v) × ((edge_at st e).from ≡ x)).
+        (λ (z : ((nth_edge st e).to ≡ v) × ((nth_edge st e).from ≡ x)).
         ap₂ (λ a b. edge_to_come new e (st.owner a) (st.owner b)) z.0 z.1 ∙ ap (λ a. edge_to_come new e a (st.owner x)) owned ∙ own_edge e x low between)
         between
 
     edges_after : (e : ℕ) → e < length st.graph.edges → edge_to_come new e (from_owner st e) (to_owner st e) ≡ edge_to_come new e (to_owner st e) (from_owner st e)
     edges_after e low = ⊎_elim
-        (λ (at : (x : ℕ) × IsBetween (edge_at st e) v x). agreed_here e at.0 low at.1 ∙ sym (turned_here e at.0 low at.1))
-        (λ (away : ((edge_at st e).from ≢ v) × ((edge_at st e).to ≢ v)).
+        (λ (at : (x : ℕ) × IsBetween (nth_edge st e) v x). agreed_here e at.0 low at.1 ∙ sym (turned_here e at.0 low at.1))
+        (λ (away : ((nth_edge st e).from ≢ v) × ((nth_edge st e).to ≢ v)).
         edge_else e (from_owner st e) (to_owner st e) away ∙ copies.edges_agree e low ∙ sym (edge_else e (to_owner st e) (from_owner st e) away))
-        (end_cases (edge_at st e) v)
+        (end_cases (nth_edge st e) v)
 
     -- the way to the owner of v changes no edge at v
-    way_home : (e x : ℕ) → e < length st.graph.edges → IsBetween (edge_at st e) v x → edge_changed e (way new (st.owner x) (st.owner v)) ≡ false
+    way_home : (e x : ℕ) → e < length st.graph.edges → IsBetween (nth_edge st e) v x → edge_changed e (way new (st.owner x) (st.owner v)) ≡ false
     way_home e x low between =
         ap (λ q. edge_changed e (way new (st.owner x) q)) owned ∙ ap (edge_changed e) (way_else (st.owner x) home (inr reaches_none)) ∙ unchanged e x (st.owner x) low between
 
     one_way_after : (e : ℕ) → e < length st.graph.edges → (edge_changed e (way new (from_owner st e) (to_owner st e)) ≡ false) ⊎ (edge_changed e (way new (to_owner st e) (from_owner st e)) ≡ false)
     one_way_after e low = ⊎_elim
-        (λ (at : (x : ℕ) × IsBetween (edge_at st e) v x). ⊎_elim
-        (λ (z : ((edge_at st e).from ≡ v) × ((edge_at st e).to ≡ at.0)).
+        (λ (at : (x : ℕ) × IsBetween (nth_edge st e) v x). ⊎_elim
+        (λ (z : ((nth_edge st e).from ≡ v) × ((nth_edge st e).to ≡ at.0)).
         inr (ap₂ (λ a b. edge_changed e (way new (st.owner a) (st.owner b))) z.1 z.0 ∙ way_home e at.0 low at.1))
-        (λ (z : ((edge_at st e).to ≡ v) × ((edge_at st e).from ≡ at.0)).
+        (λ (z : ((nth_edge st e).to ≡ v) × ((nth_edge st e).from ≡ at.0)).
         inl (ap₂ (λ a b. edge_changed e (way new (st.owner a) (st.owner b))) z.1 z.0 ∙ way_home e at.0 low at.1))
         at.1)
-        (λ (away : ((edge_at st e).from ≢ v) × ((edge_at st e).to ≢ v)). ⊎_elim
+        (λ (away : ((nth_edge st e).from ≢ v) × ((nth_edge st e).to ≢ v)). ⊎_elim
         (λ none. inl (changed_else e (from_owner st e) (to_owner st e) away none))
         (λ none. inr (changed_else e (to_owner st e) (from_owner st e) away none))
         (copies.one_way e low))
-        (end_cases (edge_at st e) v)
+        (end_cases (nth_edge st e) v)
 
     pub copies_made : AreCopies st new
     copies_made = record { told = told_more; vertices_agree = vertices_after; edges_agree = edges_after; one_way = one_way_after }

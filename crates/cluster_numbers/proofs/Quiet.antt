@@ -3,7 +3,7 @@ use Rattle.std.proofs.Common.{◌≡◌, ℕ, suc, Bool, true, List, [], ◌∷�
 use Rattle.std.proofs.lemmas.Bool.{cond_both}
 use Rattle.gl_base.specs.declared.scopes.ScopeId.{ScopeId}
 use Rattle.gl_base.specs.declared.scopes.Claim.{Claim}
-use Rattle.cluster_core.specs.Effects.{put, goes_away, asks_for, goes_on, sets_out, next_scope, in_flight, admitted_by, admitted, moves_on, takes_lock, first_granted, granted}
+use Rattle.cluster_core.specs.Effects.{posts, goes_away, asks_for, goes_on, sets_out, next_scope, in_flight, admitted_by, admitted, moves_on, takes_lock, first_granted, granted}
 use Rattle.cluster_core.specs.Messages.{Message, Ask, Ready, Done}
 use Rattle.cluster_core.specs.Parts.{Stand, Part}
 use Rattle.cluster_core.specs.Ranges.{set_at}
@@ -50,7 +50,7 @@ quiet_then a b c one other =
       out = λ q. other.out q ∙ one.out q;
     }
 
-pub put-quiet : (b : ℕ) (m : Message) (part : Part) → dones (m ∷ []) ≡ [] → IsQuiet part (put b m part)
+pub put-quiet : (b : ℕ) (m : Message) (part : Part) → dones (m ∷ []) ≡ [] → IsQuiet part (posts b m part)
 put-quiet b m part none =
     record {
       datum = refl;
@@ -83,7 +83,7 @@ module _ (st : Setting) (a : ℕ) (s : ScopeId) (v : ℕ) where
   goes_away-quiet : (rest : List ℕ) (part : Part) → IsQuiet part (goes_away a s v rest part)
   goes_away-quiet (b ∷ rest) part = put-quiet b (Ask s v rest) part refl
   goes_away-quiet [] part =
-      cond_both (s.home.0 == a) (record part { ready = set_for part.ready s true }) (put s.home.0 (Ready s) part) (IsQuiet part)
+      cond_both (s.home.0 == a) (record part { ready = set_for part.ready s true }) (posts s.home.0 (Ready s) part) (IsQuiet part)
       (λ yes_home. ready-quiet part (set_for part.ready s true)) (λ not_home. put-quiet s.home.0 (Ready s) part refl)
 
   asks_for-quiet : (rest : List ℕ) (first : Option ℕ) (part : Part) → IsQuiet part (asks_for a s v rest first part)
@@ -100,7 +100,7 @@ module _ (st : Setting) (a : ℕ) (s : ScopeId) (v : ℕ) where
   sets_out-quiet : (machines : List ℕ) (part : Part) → IsQuiet part (sets_out st a s v machines part)
   sets_out-quiet [] part = ready-quiet part part.ready
   sets_out-quiet (b ∷ rest) part =
-      cond_both (b == a) (goes_on st a s v 0 rest part) (put b (Ask s v rest) part) (IsQuiet part)
+      cond_both (b == a) (goes_on st a s v 0 rest part) (posts b (Ask s v rest) part) (IsQuiet part)
       (λ here. goes_on-quiet 0 rest part) (λ there. put-quiet b (Ask s v rest) part refl)
 
 module _ (st : Setting) (a : ℕ) where

@@ -24,7 +24,7 @@ use Rattle.cluster_core.specs.Parts.{Part, lent}
 use Rattle.cluster_core.specs.Places.{done_near}
 use Rattle.cluster_core.specs.Replays.{is_of, ticket_of, entries_of, replay_of, tasks_of, IsTask, IsReplay, IsFresh}
 use Rattle.cluster_core.specs.Scopes.{takes_part}
-use Rattle.cluster_core.specs.Settings.{Setting, IsSetting, is_near, edge_at}
+use Rattle.cluster_core.specs.Settings.{Setting, IsSetting, is_near, nth_edge}
 use Rattle.cluster_core.specs.Ways.{wakes_vertex, vertex_woken, IsToldTo}
 use Rattle.cluster_core.specs.Worlds.{World, with_part, way}
 use Rattle.cluster_core.proofs.Basics.{set_at-same, set_at-cases, set_at-kept, set_at-here, set_at-there}
@@ -73,7 +73,7 @@ module _ (st : Setting) (is : IsSetting st) (w : World) (s : ScopeId) (v : ℕ) 
   near_number : (u : ℕ) → is_near st v u ≡ true → (own_part.datum u).value ≡ numbers.vertex u
   near_number u near = ap (λ (d : Datum). d.value) (true_datum u near) ∙ replay.numbers u (near_within st is v u near).0
 
-  own_edge_number : (e x : ℕ) → e < length st.graph.edges → IsBetween (edge_at st e) v x → own_part.edge e ≡ numbers.edge e
+  own_edge_number : (e x : ℕ) → e < length st.graph.edges → IsBetween (nth_edge st e) v x → own_part.edge e ≡ numbers.edge e
   own_edge_number e x low between = sym (copy_true st is w s v within owned still copies e x low between) ∙ replay.edges e low
 
   own_number : (own_part.datum v).value ≡ numbers.vertex v
@@ -147,14 +147,14 @@ module _ (st : Setting) (is : IsSetting st) (w : World) (s : ScopeId) (v : ℕ) 
 
   edges_longer : (e : ℕ) → e < length st.graph.edges → agreed st world e ≡ (replay_of st longer).edge e
   edges_longer e low = ⊎_elim
-      (λ (at : (x : ℕ) × IsBetween (edge_at st e) v x).
+      (λ (at : (x : ℕ) × IsBetween (nth_edge st e) v x).
       agreed_here st is w s v within owned still copies the_news the_part is_made e at.0 low at.1
       ∙ edge_after-same st.graph st.program (lent own_part) numbers v e own_number near_same (own_edge_number e at.0 low at.1)
       ∙ sym (ap (λ (g : GraphState). g.edge e) replay_longer))
-      (λ (away : ((edge_at st e).from ≢ v) × ((edge_at st e).to ≢ v)).
+      (λ (away : ((nth_edge st e).from ≢ v) × ((nth_edge st e).to ≢ v)).
       edge_else st is w s v within owned still copies the_news the_part is_made e (from_owner st e) (to_owner st e) away
       ∙ replay.edges e low ∙ sym (edge_kept st is numbers v e away) ∙ sym (ap (λ (g : GraphState). g.edge e) replay_longer))
-      (end_cases (edge_at st e) v)
+      (end_cases (nth_edge st e) v)
 
   -- ---- tasks
 
@@ -291,11 +291,11 @@ module _ (st : Setting) (is : IsSetting st) (w : World) (s : ScopeId) (v : ℕ) 
 
   edge_number : (e : ℕ) → e < length st.graph.edges → agreed st marked_world e ≡ agreed st w e
   edge_number e low = ⊎_elim
-      (λ (at : (x : ℕ) × IsBetween (edge_at st e) v x).
+      (λ (at : (x : ℕ) × IsBetween (nth_edge st e) v x).
       agreed_here st is w s v within owned still copies told mark_part mark_is_made e at.0 low at.1 ∙ sym (copy_true st is w s v within owned still copies e at.0 low at.1))
-      (λ (away : ((edge_at st e).from ≢ v) × ((edge_at st e).to ≢ v)).
+      (λ (away : ((nth_edge st e).from ≢ v) × ((nth_edge st e).to ≢ v)).
       edge_else st is w s v within owned still copies told mark_part mark_is_made e (from_owner st e) (to_owner st e) away)
-      (end_cases (edge_at st e) v)
+      (end_cases (nth_edge st e) v)
 
   woken_same : (u p q : ℕ) → vertex_woken u (way marked_world p q) ≡ vertex_woken u (way w p q)
   woken_same u p q =

@@ -3,7 +3,7 @@ use Rattle.std.proofs.Common.{◌≡◌, ℕ, true, false, ◌||◌, ◌≢◌, 
 use Rattle.std.specs.List.{AllByRecursion}
 use Rattle.std.proofs.lemmas.Bool.{or_parts, cond-false}
 use Rattle.gl_base.specs.declared.scopes.Datum.{Datum}
-use Rattle.cluster_core.specs.Effects.{newer, datum_after, edge_after}
+use Rattle.cluster_core.specs.Effects.{newer_datum, datum_after, edge_after}
 use Rattle.cluster_core.specs.Messages.{Message, Ask, Ready, Done}
 use Rattle.cluster_core.specs.Places.{done_near}
 use Rattle.cluster_core.specs.Settings.{Setting, is_near}
@@ -85,4 +85,4 @@ datum_told-same st v u (Ready s ∷ ms) d near none = datum_told-same st v u ms 
 datum_told-same st v u (Done s news ∷ ms) d near none =
     let parts = or_parts (is_near st v news.centre) (done_near st v ms) none in
     let other : u ≢ news.centre = λ same. true≢false (sym (subst (λ x. is_near st v x ≡ true) same near) ∙ parts.0) in
-    ap (datum_told u ms) (cond-false (u == news.centre) (newer d news.datum) d (ne_eqb u news.centre other)) ∙ datum_told-same st v u ms d near parts.1
+    ap (datum_told u ms) (cond-false (u == news.centre) (newer_datum d news.datum) d (ne_eqb u news.centre other)) ∙ datum_told-same st v u ms d near parts.1

@@ -7,7 +7,7 @@ use Rattle.cluster_core.specs.Parts.{Part}
 use Rattle.cluster_core.specs.Ranges.{set_at}
 use Rattle.cluster_core.specs.Settings.{Setting, IsSetting, Engine, Locking, is_in_scope}
 use Rattle.cluster_core.specs.Scopes.{is_scope, set_for, mode_at, takes_part, machines_from, is_before}
-use Rattle.cluster_core.specs.Effects.{put, goes_on, sets_out, next_scope, in_flight, admitted, admitted_by}
+use Rattle.cluster_core.specs.Effects.{posts, goes_on, sets_out, next_scope, in_flight, admitted, admitted_by}
 use Rattle.cluster_core.specs.Worlds.{World, with_part}
 use Rattle.cluster_core.specs.Actions.{MayAdmit}
 use Rattle.cluster_core.specs.Stages.{Token, IsAsked, Stage, Idle, Asks, Shows, sight_of, has_lock, flying, some_if, one_if, tokens_of, claims_of}
@@ -100,10 +100,10 @@ module _ (st : Setting) (is : IsSetting st) (w : World) (stage : ScopeId → Sta
       (λ x. reached-locks st is new_scope v a 0 may.vertex x ∙ nothing_before a rest next x)
       (reached-flying st new_scope v a 0)
 
-  admits_there : (b : ℕ) (rest : List ℕ) → machines_from st v 0 ≡ b ∷ rest → ArePlaces st (with_part w a (put b (Ask new_scope v rest) begun)) (set_for stage new_scope (Asks v a b))
+  admits_there : (b : ℕ) (rest : List ℕ) → machines_from st v 0 ≡ b ∷ rest → ArePlaces st (with_part w a (posts b (Ask new_scope v rest) begun)) (set_for stage new_scope (Asks v a b))
   admits_there b rest next =
       let h = next_machine st v 0 b rest next in
-      let new : Part = put b (Ask new_scope v rest) begun in
+      let new : Part = posts b (Ask new_scope v rest) begun in
       let token : Token = IsAsked v rest in
       let told : (p q : ℕ) → tokens_of new_scope (w.link p q ++ (set_at w.part a new p).out q) ≡ one_if (p == a && q == b) token =
       λ p q.
@@ -137,7 +137,7 @@ module _ (st : Setting) (is : IsSetting st) (w : World) (stage : ScopeId → Sta
       (nothing_before b rest next)
       refl
 
-  admits_first : (b : ℕ) (rest : List ℕ) → machines_from st v 0 ≡ b ∷ rest → (test : Bool) → (b == a) ≡ test → (next : Stage) × ArePlaces st (with_part w a (if test then goes_on st a new_scope v 0 rest begun else put b (Ask new_scope v rest) begun)) (set_for stage new_scope next)
+  admits_first : (b : ℕ) (rest : List ℕ) → machines_from st v 0 ≡ b ∷ rest → (test : Bool) → (b == a) ≡ test → (next : Stage) × ArePlaces st (with_part w a (if test then goes_on st a new_scope v 0 rest begun else posts b (Ask new_scope v rest) begun)) (set_for stage new_scope next)
   admits_first b rest next true at = (reached st new_scope v a 0, admits_here rest (next ∙ (λ i. eqb-true b a at i ∷ rest)))
   admits_first b rest next false at = (Asks v a b, admits_there b rest next)
 

@@ -71,7 +71,7 @@ lock_if : (test : Bool) (v y : ℕ) (mode : Mode) → some_if test (mode_at v y)
 lock_if true v y mode is = (refl, cc)
 lock_if false v y mode is = cc
 
-holder_has : (st : Setting) (s : ScopeId) (x : Stage) (y : ℕ) (mode : Mode) → (sight_of st s x).holder y ≡ Some mode → (c : ℕ) × (centre_of x ≡ Some c) × (has_lock st x y ≡ true) × (mode_at c y ≡ mode)
+pub holder_has : (st : Setting) (s : ScopeId) (x : Stage) (y : ℕ) (mode : Mode) → (sight_of st s x).holder y ≡ Some mode → (c : ℕ) × (centre_of x ≡ Some c) × (has_lock st x y ≡ true) × (mode_at c y ≡ mode)
 holder_has st s Idle y mode is = cc
 holder_has st s (Asks v from to) y mode is = let h = lock_if (has_lock st (Asks v from to) y) v y mode is in (v, refl, h.0, h.1)
 holder_has st s (Waits v lock) y mode is = let h = lock_if (has_lock st (Waits v lock) y) v y mode is in (v, refl, h.0, h.1)

@@ -8,7 +8,7 @@ use Rattle.cluster_core.specs.Parts.{Part, Stand}
 use Rattle.cluster_core.specs.Ranges.{set_at}
 use Rattle.cluster_core.specs.Settings.{Setting}
 use Rattle.cluster_core.specs.Scopes.{is_scope, set_for, mode_at, own_from}
-use Rattle.cluster_core.specs.Effects.{put, goes_away, asks_for, goes_on}
+use Rattle.cluster_core.specs.Effects.{posts, goes_away, asks_for, goes_on}
 use Rattle.cluster_core.specs.Worlds.{World, with_part}
 use Rattle.cluster_core.specs.Stages.{Token, Sight, Shows, token_of, tokens_of, claims_of}
 use Rattle.cluster_core.proofs.Basics.{set_at-kept, set_for-other, apart_turned}
@@ -83,7 +83,7 @@ shows_still st w a new t seen same shows =
 
 -- ---- steps of another scope
 
-pub put-same : (t : ScopeId) (b : ℕ) (m : Message) (part : Part) → token_of t m ≡ [] → SameFor t part (put b m part)
+pub put-same : (t : ScopeId) (b : ℕ) (m : Message) (part : Part) → token_of t m ≡ [] → SameFor t part (posts b m part)
 put-same t b m part none =
     record {
       flight = refl;
@@ -108,7 +108,7 @@ module _ (st : Setting) (a : ℕ) (s : ScopeId) (v : ℕ) (t : ScopeId) (apart :
   readied part =
       record { flight = refl; ready = set_for-other part.ready s true t apart; stand = refl; holder = λ x. refl; queue = λ x. refl; out = λ q. refl }
 
-  home_same : (test : Bool) (part : Part) → SameFor t part (if test then record part { ready = set_for part.ready s true } else put s.home.0 (Ready s) part)
+  home_same : (test : Bool) (part : Part) → SameFor t part (if test then record part { ready = set_for part.ready s true } else posts s.home.0 (Ready s) part)
   home_same true part = readied part
   home_same false part = put-same t s.home.0 (Ready s) part (not_ready t s apart)
 

@@ -10,7 +10,7 @@ use Rattle.cluster_core.specs.Parts.{Part}
 use Rattle.cluster_core.specs.Ranges.{set_at}
 use Rattle.cluster_core.specs.Settings.{Setting, IsSetting}
 use Rattle.cluster_core.specs.Scopes.{set_for, mode_at, own_from, machines_from}
-use Rattle.cluster_core.specs.Effects.{put, asks_for, goes_on}
+use Rattle.cluster_core.specs.Effects.{posts, asks_for, goes_on}
 use Rattle.cluster_core.specs.Worlds.{World, with_part}
 use Rattle.cluster_core.specs.Stages.{Token, IsAsked, IsReady, Stage, Asks, Waits, Returns, Stays, Shows, sight_of, has_lock, held, some_if, one_if, token_of, tokens_of, claims_of}
 use Rattle.cluster_core.proofs.Basics.{set_at-same, set_at-other, set_at-cases, set_at-both, set_at-here, set_at-there, set_for-same, same_scope}
@@ -84,9 +84,9 @@ module _ (st : Setting) (is : IsSetting st) (w : World) (a : ℕ) (part : Part) 
       }
 
   -- a message of the scope is all that is told of it
-  tells : (b : ℕ) (m : Message) (token : Token) → token_of s m ≡ token ∷ [] → (p q : ℕ) → tokens_of s (w.link p q ++ (set_at w.part a (put b m gone) p).out q) ≡ one_if (p == a && q == b) token
+  tells : (b : ℕ) (m : Message) (token : Token) → token_of s m ≡ token ∷ [] → (p q : ℕ) → tokens_of s (w.link p q ++ (set_at w.part a (posts b m gone) p).out q) ≡ one_if (p == a && q == b) token
   tells b m token is_token p q =
-      let new : Part = put b m gone in
+      let new : Part = posts b m gone in
       let read : Part → List Token = λ (r : Part). tokens_of s (w.link p q ++ r.out q) in
       ⊎_elim
       (λ (here : p ≡ a).
@@ -109,9 +109,9 @@ module _ (st : Setting) (is : IsSetting st) (w : World) (a : ℕ) (part : Part) 
       (cases_eq p a)
 
   -- what is seen where nothing is told, and where a message is
-  asks_next : (b : ℕ) (rest : List ℕ) → own_from st v a k ≡ None → machines_from st v (suc a) ≡ b ∷ rest → rest ≡ machines_from st v (suc b) → Shows st (with_part w a (put b (Ask s v rest) gone)) s (sight_of st s (Asks v a b))
+  asks_next : (b : ℕ) (rest : List ℕ) → own_from st v a k ≡ None → machines_from st v (suc a) ≡ b ∷ rest → rest ≡ machines_from st v (suc b) → Shows st (with_part w a (posts b (Ask s v rest) gone)) s (sight_of st s (Asks v a b))
   asks_next b rest none next more =
-      let new : Part = put b (Ask s v rest) gone in
+      let new : Part = posts b (Ask s v rest) gone in
       record {
         flight = set_at-both (λ (p : Part). p.flight s) w.part a new part refl s.home.0 ∙ hand.flight;
         ready = set_at-both (λ (p : Part). p.ready s) w.part a new part refl s.home.0 ∙ hand.ready;
@@ -121,7 +121,7 @@ module _ (st : Setting) (is : IsSetting st) (w : World) (a : ℕ) (part : Part) 
         tokens = λ p q. tells b (Ask s v rest) (IsAsked v rest) (asked_here s v rest) p q ∙ ap (λ (ms : List ℕ). one_if (p == a && q == b) (IsAsked v ms)) more;
       }
 
-  goes_home : own_from st v a k ≡ None → machines_from st v (suc a) ≡ [] → (test : Bool) → (s.home.0 == a) ≡ test → Shows st (with_part w a (if test then record gone { ready = set_for gone.ready s true } else put s.home.0 (Ready s) gone)) s (sight_of st s (if test then Stays v else Returns v a))
+  goes_home : own_from st v a k ≡ None → machines_from st v (suc a) ≡ [] → (test : Bool) → (s.home.0 == a) ≡ test → Shows st (with_part w a (if test then record gone { ready = set_for gone.ready s true } else posts s.home.0 (Ready s) gone)) s (sight_of st s (if test then Stays v else Returns v a))
   goes_home none end true at =
       let new : Part = record gone { ready = set_for gone.ready s true } in
       let here : s.home.0 ≡ a = eqb-true s.home.0 a at in
@@ -135,7 +135,7 @@ module _ (st : Setting) (is : IsSetting st) (w : World) (a : ℕ) (part : Part) 
         tokens = λ p q. set_at-both (λ (r : Part). tokens_of s (w.link p q ++ r.out q)) w.part a new part refl p ∙ hand.tokens p q;
       }
   goes_home none end false at =
-      let new : Part = put s.home.0 (Ready s) gone in
+      let new : Part = posts s.home.0 (Ready s) gone in
       let returns : reached_by s v a None [] ≡ Returns v a = rw at refl in
       record {
         flight = set_at-both (λ (p : Part). p.flight s) w.part a new part refl s.home.0 ∙ hand.flight;

@@ -14,7 +14,7 @@ use Rattle.cluster_core.specs.Worlds.{World, with_part}
 use Rattle.cluster_core.specs.Actions.{Action, Admit, Grant, Send, Deliver, Update, Mark, Begin, Hear, SendSection, Collect, Record, MayHappen, after, sends, delivers, updates, marks, hears, collects, draws}
 use Rattle.cluster_core.specs.Stages.{Stage, Idle, Ends, tokens_of, claims_of}
 use Rattle.cluster_core.specs.Places.{ArePlaces}
-use Rattle.cluster_core.specs.Runs.{IsStart, IsRun}
+use Rattle.cluster_core.specs.Runs.{IsStart, IsActionRun}
 use Rattle.cluster_places.specs.Steps.{IsOfColour, IsInStep}
 use Rattle.cluster_places.proofs.Standing.{places_by_parts, aside_keeps}
 use Rattle.cluster_places.proofs.Delivering.{send_keeps, deliver_keeps, none_flies}
@@ -99,7 +99,7 @@ module _ (st : Setting) (w : World) (start : IsStart st w) where
         news = λ p q. subst (AllByRecursion (IsOfColour colour step)) (λ i. sym (start.links p q) i ++ sym (start.outboxes p q) i) tt;
       }
 
-pub runs_keep : (st : Setting) → IsSetting st → st.engine ≡ Locking → (actions : List Action) (old new : World) → Placed st old → IsRun st old actions new → Placed st new
+pub runs_keep : (st : Setting) → IsSetting st → st.engine ≡ Locking → (actions : List Action) (old new : World) → Placed st old → IsActionRun st old actions new → Placed st new
 runs_keep st is locks [] old new placed run = subst (Placed st) (sym run) placed
 runs_keep st is locks (action ∷ actions) old new placed run =
     runs_keep st is locks actions (after st old action) new (action_keeps st is locks old placed.0 placed.1 action run.0) run.1

@@ -6,7 +6,7 @@ use Rattle.cluster_core.specs.Parts.{Part}
 use Rattle.cluster_core.specs.Ranges.{set_at}
 use Rattle.cluster_core.specs.Settings.{Setting}
 use Rattle.cluster_core.specs.Scopes.{set_for, own_from}
-use Rattle.cluster_core.specs.Effects.{put, asks_for, goes_on}
+use Rattle.cluster_core.specs.Effects.{posts, asks_for, goes_on}
 use Rattle.cluster_core.specs.Worlds.{World, with_part}
 use Rattle.cluster_core.specs.Stages.{Stage, Idle, Shows, sight_of, tokens_of, claims_of}
 use Rattle.cluster_core.specs.Places.{ArePlaces, IsStageOf}
@@ -17,7 +17,7 @@ use Rattle.cluster_places.proofs.Frames.{SameFor, shows_still}
 pub serials_rise : (w : World) (a : ℕ) (new : Part) → (w.part a).serial ≤ new.serial → (b : ℕ) → (w.part b).serial ≤ (set_at w.part a new b).serial
 serials_rise w a new rise b = set_at-holds (λ (b : ℕ) (part : Part). (w.part b).serial ≤ part.serial) w.part a new b rise (λ off. omega arith)
 
-home_serial : (a : ℕ) (s : ScopeId) (test : Bool) (part : Part) → (if test then record part { ready = set_for part.ready s true } else put s.home.0 (Ready s) part).serial ≡ part.serial
+home_serial : (a : ℕ) (s : ScopeId) (test : Bool) (part : Part) → (if test then record part { ready = set_for part.ready s true } else posts s.home.0 (Ready s) part).serial ≡ part.serial
 home_serial a s true part = refl
 home_serial a s false part = refl
 

@@ -13,7 +13,7 @@ use Rattle.cluster_core.specs.Messages.{Message, News, Section, Ask, Ready, Done
 use Rattle.cluster_core.specs.Parts.{Part, Stand}
 use Rattle.cluster_core.specs.Settings.{Setting, Engine, Chromatic, is_near}
 use Rattle.cluster_core.specs.Scopes.{set_for, takes_part, own_from}
-use Rattle.cluster_core.specs.Effects.{put, goes_away, asks_for, goes_on, next_scope, admitted, admitted_by, moves_on, takes_lock, first_granted, granted, begins, tell, updated, marked, news_for, mark_news, received}
+use Rattle.cluster_core.specs.Effects.{posts, goes_away, asks_for, goes_on, next_scope, admitted, admitted_by, moves_on, takes_lock, first_granted, granted, begins, tell, updated, marked, news_for, mark_news, received}
 use Rattle.cluster_core.specs.Worlds.{World, with_part, way}
 use Rattle.cluster_core.specs.Actions.{Action, Admit, Grant, Send, Deliver, Update, Mark, Begin, Hear, SendSection, Collect, Record, MayHappen, IsItsTurn, after, sends, delivers, updates, marks, hears, collects, draws}
 use Rattle.cluster_core.specs.Places.{IsExclusive, done_near}
@@ -110,7 +110,7 @@ module _ (st : Setting) (colour : ℕ → ℕ) (step : ℕ) where
       }
 
   -- a request and word of locks tell of no update
-  put_stays : (a b : ℕ) (m : Message) (part : Part) → IsOfColour colour step m → StaysIn a part (put b m part)
+  put_stays : (a b : ℕ) (m : Message) (part : Part) → IsOfColour colour step m → StaysIn a part (posts b m part)
   put_stays a b m part fits =
       record {
         closed = refl;
@@ -121,7 +121,7 @@ module _ (st : Setting) (colour : ℕ → ℕ) (step : ℕ) where
             (λ off. all);
       }
 
-  home_stays : (a : ℕ) (s : ScopeId) (test : Bool) (part : Part) → StaysIn a part (if test then record part { ready = set_for part.ready s true } else put s.home.0 (Ready s) part)
+  home_stays : (a : ℕ) (s : ScopeId) (test : Bool) (part : Part) → StaysIn a part (if test then record part { ready = set_for part.ready s true } else posts s.home.0 (Ready s) part)
   home_stays a s true part = record { closed = refl; at = refl; flights = λ s v is. inl is; out = λ q all. all }
   home_stays a s false part = put_stays a s.home.0 (Ready s) part tt
 
@@ -129,7 +129,7 @@ module _ (st : Setting) (colour : ℕ → ℕ) (step : ℕ) where
   asks_for_stays a s v rest (Some x) part = record { closed = refl; at = refl; flights = λ s v is. inl is; out = λ q all. all }
   asks_for_stays a s v (b ∷ rest) None part =
       let gone : Part = record part { stand = set_for part.stand s None } in
-      stays_then a part gone (put b (Ask s v rest) gone) (record { closed = refl; at = refl; flights = λ s v is. inl is; out = λ q all. all }) (put_stays a b (Ask s v rest) gone tt)
+      stays_then a part gone (posts b (Ask s v rest) gone) (record { closed = refl; at = refl; flights = λ s v is. inl is; out = λ q all. all }) (put_stays a b (Ask s v rest) gone tt)
   asks_for_stays a s v [] None part =
       let gone : Part = record part { stand = set_for part.stand s None } in
       stays_then a part gone (goes_away a s v [] gone) (record { closed = refl; at = refl; flights = λ s v is. inl is; out = λ q all. all }) (home_stays a s (s.home.0 == a) gone)

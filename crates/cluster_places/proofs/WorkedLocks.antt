@@ -10,7 +10,7 @@ use Rattle.gl_base.specs.declared.scopes.Claim.{Claim}
 use Rattle.gl_base.specs.declared.scopes.Mode.{Mode}
 use Rattle.gl_base.specs.declared.scopes.Mode.TheVariants.{Reader, Writer}
 use Rattle.cluster_core.specs.Ranges.{first_passing, all_passing}
-use Rattle.cluster_core.specs.Runs.{IsStart, IsRun}
+use Rattle.cluster_core.specs.Runs.{IsStart, IsActionRun}
 use Rattle.cluster_core.specs.Actions.{MayGrant, GoTogether}
 use Rattle.cluster_core.specs.Scopes.{is_scope}
 use Rattle.cluster_core.specs.Settings.{IsSetting}
@@ -51,7 +51,7 @@ none_held : (test : Bool) (mine mode : Mode) → (if test then None else (if tes
 none_held true mine mode is = cc
 none_held false mine mode is = cc
 
-pub second_may : IsRun on_four_machines first_world second_updates while_second_flies
+pub second_may : IsActionRun on_four_machines first_world second_updates while_second_flies
 unfolding first_passing all_passing
 second_may = (
   record { vertex = omega arith; owned = refl; due = inr refl; fresh = λ s is. none_flies 1 is; turn = omega arith },
@@ -97,7 +97,7 @@ second_may = (
   ),
 )
 
-pub fourth_may : IsRun on_four_machines while_second_flies fourth_asks while_fourth_waits
+pub fourth_may : IsActionRun on_four_machines while_second_flies fourth_asks while_fourth_waits
 unfolding first_passing all_passing
 fourth_may = (
   record { vertex = omega arith; owned = refl; due = inr refl; fresh = λ s is. none_flies 3 is; turn = omega arith },
@@ -128,7 +128,7 @@ fourth_may = (
   ),
 )
 
-pub at_last_may : IsRun on_four_machines while_fourth_waits fourth_updates at_last
+pub at_last_may : IsActionRun on_four_machines while_fourth_waits fourth_updates at_last
 unfolding first_passing all_passing
 at_last_may = (
   record { message = _; behind = _; first = refl },

@@ -2,7 +2,7 @@
 ghost use Rattle.std.specs.Prelude.{◌≡◌, Some, List, [], ◌∷◌, length};
 ghost use Rattle.gl_base.specs.declared.scopes.Mode.TheVariants.{Reader, Writer};
 ghost use Rattle.cluster_core.specs.Actions.{MayGrant};
-ghost use Rattle.cluster_core.specs.Runs.{IsStart, IsRun};
+ghost use Rattle.cluster_core.specs.Runs.{IsStart, IsActionRun};
 ghost use Rattle.cluster_core.specs.Settings.{IsSetting};
 ghost use Rattle.cluster_places.specs.FourVertices.{at_last, first_world, fourth, fourth_asks, fourth_updates, on_four_machines, second, second_updates, while_fourth_waits, while_second_flies};
 
@@ -12,15 +12,15 @@ ghost use Rattle.cluster_places.specs.FourVertices.{at_last, first_world, fourth
 pub fn locks_wait_for_news()
     ensures setting { IsSetting on_four_machines }
     ensures start { IsStart on_four_machines first_world }
-    ensures second_may { IsRun on_four_machines first_world second_updates while_second_flies }
-    ensures fourth_may { IsRun on_four_machines while_second_flies fourth_asks while_fourth_waits }
+    ensures second_may { IsActionRun on_four_machines first_world second_updates while_second_flies }
+    ensures fourth_may { IsActionRun on_four_machines while_second_flies fourth_asks while_fourth_waits }
     ensures labels_then { (((while_fourth_waits.part 1).datum 1).value ≡ 1)
         × (((while_fourth_waits.part 3).datum 1).value ≡ 2)
         × (((while_fourth_waits.part 3).datum 3).value ≡ 4) }
     ensures held_then { ((while_fourth_waits.part 3).holder 3 second ≡ Some Reader)
         × ((while_fourth_waits.part 3).queue 3 ≡ record { scope = fourth; mode = Writer } ∷ []) }
     ensures not_now { MayGrant on_four_machines 3 3 (while_fourth_waits.part 3) → ⊥ }
-    ensures at_last_may { IsRun on_four_machines while_fourth_waits fourth_updates at_last }
+    ensures at_last_may { IsActionRun on_four_machines while_fourth_waits fourth_updates at_last }
     ensures labels_at_last { (((at_last.part 3).datum 1).value ≡ 1)
         × (((at_last.part 3).datum 3).value ≡ 1)
         × (length (at_last.part 3).log ≡ 1)

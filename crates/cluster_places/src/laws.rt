@@ -9,7 +9,7 @@ ghost use Rattle.cluster_core.specs.Actions.{Action, MayHappen, after};
 ghost use Rattle.cluster_core.specs.Messages.{Message};
 ghost use Rattle.cluster_core.specs.Places.{ArePlaces, IsExclusive};
 ghost use Rattle.cluster_core.specs.Receiving.{MayReceive};
-ghost use Rattle.cluster_core.specs.Runs.{IsStart, IsRun};
+ghost use Rattle.cluster_core.specs.Runs.{IsStart, IsActionRun};
 ghost use Rattle.cluster_core.specs.Settings.{Setting, IsSetting, Locking, Chromatic};
 ghost use Rattle.cluster_core.specs.Stages.{Stage, Idle};
 ghost use Rattle.cluster_core.specs.Ways.{IsToldTo};
@@ -42,7 +42,7 @@ pub fn starts_are_placed()
 /// Where scopes take locks, they exclude one another after every list of actions from a start on.
 pub fn locks_exclude_whatever_happens()
     ensures { (st : Setting) (start : World) (actions : List Action) (w : World) →
-        IsSetting st → st.engine ≡ Locking → IsStart st start → IsRun st start actions w → IsExclusive st w }
+        IsSetting st → st.engine ≡ Locking → IsStart st start → IsActionRun st start actions w → IsExclusive st w }
 {}
 
 /// While each scope is in its place, and what is on the way concerns the machine at its end, that machine may receive the first

@@ -7,7 +7,7 @@ use Rattle.cluster_core.specs.Messages.{Message}
 use Rattle.cluster_core.specs.Places.{IsExclusive}
 use Rattle.cluster_core.specs.Receiving.{MayReceive}
 use Rattle.cluster_core.specs.Replays.{replay_of, IsFresh}
-use Rattle.cluster_core.specs.Runs.{IsStart, IsRun}
+use Rattle.cluster_core.specs.Runs.{IsStart, IsActionRun}
 use Rattle.cluster_core.specs.Settings.{Locking, Setting, IsSetting}
 use Rattle.cluster_core.specs.Stages.{Idle}
 use Rattle.cluster_core.specs.Worlds.{World}
@@ -38,7 +38,7 @@ module _ (st : Setting) (is : IsSetting st) (locks : st.engine ≡ Locking) (w :
   pub coherent_front : (p q : ℕ) (m : Message) (behind : List Message) → w.link p q ≡ m ∷ behind → MayReceive st p q (w.part q) m
   coherent_front p q m behind first = front st is w coherent.stage coherent.places p q (coherent.copies.told p q) m behind first
 
-pub coherent_run : (st : Setting) → IsSetting st → st.engine ≡ Locking → (actions : List Action) (old new : World) → IsCoherent st old → IsRun st old actions new → IsCoherent st new
+pub coherent_run : (st : Setting) → IsSetting st → st.engine ≡ Locking → (actions : List Action) (old new : World) → IsCoherent st old → IsActionRun st old actions new → IsCoherent st new
 coherent_run st is locks [] old new coherent run = subst (IsCoherent st) (sym run) coherent
 coherent_run st is locks (action ∷ actions) old new coherent run =
     coherent_run st is locks actions (after st old action) new (coherent_next st is locks old coherent action run.0) run.1

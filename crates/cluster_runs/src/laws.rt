@@ -13,7 +13,7 @@ ghost use Rattle.cluster_core.specs.Messages.{Message};
 ghost use Rattle.cluster_core.specs.Places.{ArePlaces};
 ghost use Rattle.cluster_core.specs.Receiving.{MayReceive};
 ghost use Rattle.cluster_core.specs.Replays.{IsFresh, IsTask, entries_of, replay_of, tasks_of};
-ghost use Rattle.cluster_core.specs.Runs.{IsApartRun, IsRun, IsStart};
+ghost use Rattle.cluster_core.specs.Runs.{IsApartRun, IsActionRun, IsStart};
 ghost use Rattle.cluster_core.specs.Settings.{Chromatic, IsSetting, Locking, Setting};
 ghost use Rattle.cluster_core.specs.Snapshots.{IsUnmarked};
 ghost use Rattle.cluster_core.specs.Stages.{Stage};
@@ -49,9 +49,9 @@ pub fn coherent_clusters_receive()
 /// With locks, and within one step of colours, scopes exclude one another in each world that a run comes through.
 pub fn runs_are_apart()
     ensures locks { (st : Setting) (old : World) (actions : List Action) (new : World) (stage : ScopeId → Stage) →
-        IsSetting st → st.engine ≡ Locking → ArePlaces st old stage → IsRun st old actions new → IsApartRun st old actions new }
+        IsSetting st → st.engine ≡ Locking → ArePlaces st old stage → IsActionRun st old actions new → IsApartRun st old actions new }
     ensures step { (st : Setting) (colour : ℕ → ℕ) (colours step : ℕ) (old : World) (actions : List Action) (new : World) →
-        st.engine ≡ Chromatic colour colours → AreApart st colour → IsInStep st colour step old → IsRun st old actions new →
+        st.engine ≡ Chromatic colour colours → AreApart st colour → IsInStep st colour step old → IsActionRun st old actions new →
         IsApartRun st old actions new }
 {}
 
@@ -60,7 +60,7 @@ pub fn runs_are_apart()
 /// the way.
 pub fn runs_are_serial()
     ensures { (st : Setting) (start : World) (actions : List Action) (w : World) →
-        IsSetting st → st.engine ≡ Locking → IsStart st start → IsRun st start actions w →
+        IsSetting st → st.engine ≡ Locking → IsStart st start → IsActionRun st start actions w →
         (order : List Entry)
         × IsValidFrom st.graph st.program st.start (all_tasks st.graph) order
         × ((a : ℕ) → (w.part a).log ≡ entries_of a order)
@@ -72,7 +72,7 @@ pub fn runs_are_serial()
 /// an order whose parts are the logs, and the cut is a valid order.
 pub fn snapshots_are_consistent()
     ensures { (st : Setting) (start : World) (actions : List Action) (w : World) →
-        IsSetting st → st.engine ≡ Locking → IsStart st start → IsUnmarked st start → IsRun st start actions w → MayRecord st w →
+        IsSetting st → st.engine ≡ Locking → IsStart st start → IsUnmarked st start → IsActionRun st start actions w → MayRecord st w →
         (order : List Entry) × (count : ℕ → ℕ)
         × ((a : ℕ) → (w.part a).log ≡ entries_of a order)
         × IsValidFrom st.graph st.program st.start (all_tasks st.graph) order

@@ -1,0 +1,4 @@
+pub mod SomethingMoves
+pub mod DueKept
+pub mod CountedKept
+pub mod NeverStuck

@@ -1,0 +1,10 @@
+-- What is kept from action to action is enough for one more.
+use Rattle.cluster_core.specs.Stages.{Idle}
+use Rattle.cluster_places.proofs.PlacesKept.{start_placed}
+use Rattle.cluster_moves.proofs.CountedKept.{start_counted}
+use Rattle.cluster_moves.proofs.NeverStuck.{start_due, run_works}
+use Rattle.cluster_moves.proofs.laws.never_stuck.Goals as goal
+
+pub returns : goal.returns
+returns c = λ st start actions w is locks room is_start run ticket.
+    run_works st is locks room actions start w (λ s. Idle) (start_placed st start is_start) (start_due st start is_start) (start_counted st start is_start) run ticket
