@@ -14,3 +14,4 @@ pub mod VertexLaws
 pub mod SmallGraphs
 pub mod GrowthMarks
 pub mod GrowthLemmas
+pub mod DigestLemmas

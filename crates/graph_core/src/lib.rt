@@ -1,6 +1,7 @@
 //! The data graph, and what walks, levels, distances, components and colourings of it are.
 #![tactic(auto)]
 
+mod digesting;
 mod edge_lists;
 mod edges;
 mod graph;
@@ -15,6 +16,7 @@ mod rows;
 mod sorting;
 mod vertex_lists;
 
+pub use digesting::digest;
 pub use graph::Graph;
 pub use graph_lists::{EdgeIn, GraphFault};
 pub use growing::growth;

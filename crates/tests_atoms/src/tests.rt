@@ -3,9 +3,12 @@ ghost use Rattle.std.specs.Prelude.{◌≡◌, IfOk};
 ghost use Rattle.atom_file.specs.Atoms.{IsAtom, atom_bytes};
 
 use crate::files::{COUNTLESS, EMPTY, FALLEN, FIRST, SECOND, TWICE, UNKNOWN, WHOLE};
+use crate::graphs::graph_of;
+use atom_cut::atoms_by_growth;
 use atom_file::{AtomFault, AtomView, write_atom};
 use atom_place::place;
 use gl_base::{AtomNo, EdgeLine, EdgeNo, GhostLine, MachineNo, NoMemory, Vertex, VertexLine};
+use graph_core::growth;
 use std::alloc::Global;
 use std::test::Fail;
 
@@ -120,5 +123,78 @@ fn atoms_are_placed_heaviest_first(rt: HostRuntime) -> Result<(), Fail> {
     assert_eq!(rt; owners.as_slice(), [1, 0, 2, 1].map(MachineNo).as_slice());
     let owners = place(rt.alloc(), &[], 3)?;
     assert!(rt; owners.is_empty());
+    Ok(())
+}
+
+/// A graph, where its growth begins, its growth order, a number of atoms, and the atom of each vertex.
+struct Cut<'a> {
+    count: u64,
+    edges: &'a [(u64, u64)],
+    directed: bool,
+    first: u32,
+    order: &'a [u32],
+    atoms: u16,
+    of: &'a [u16],
+}
+
+const CUTS: [Cut<'static>; 5] = [
+    Cut {
+        count: 5,
+        edges: &[(2, 0), (0, 3), (1, 4)],
+        directed: true,
+        first: 2,
+        order: &[2, 0, 3, 1, 4],
+        atoms: 1,
+        of: &[0, 0, 0, 0, 0],
+    },
+    Cut {
+        count: 5,
+        edges: &[(0, 4), (4, 2), (1, 3)],
+        directed: false,
+        first: 0,
+        order: &[0, 4, 2, 1, 3],
+        atoms: 2,
+        of: &[0, 1, 0, 1, 0],
+    },
+    Cut {
+        count: 4,
+        edges: &[(0, 3), (0, 1), (0, 2)],
+        directed: false,
+        first: 1,
+        order: &[1, 0, 2, 3],
+        atoms: 2,
+        of: &[0, 0, 1, 1],
+    },
+    Cut {
+        count: 3,
+        edges: &[(0, 1), (1, 2)],
+        directed: false,
+        first: 0,
+        order: &[0, 1, 2],
+        atoms: 5,
+        of: &[0, 1, 3],
+    },
+    Cut {
+        count: 0,
+        edges: &[],
+        directed: false,
+        first: 0,
+        order: &[],
+        atoms: 3,
+        of: &[],
+    },
+];
+
+#[test]
+fn graphs_grow_and_are_cut(rt: HostRuntime) -> Result<(), Fail> {
+    for cut in &CUTS {
+        let graph = graph_of(&rt, rt.alloc(), cut.count, cut.edges, cut.directed)?;
+        assert!(rt; graph.n() == 0 || cut.first < graph.n());
+        let order = growth(rt.alloc(), &graph, Vertex(cut.first))?;
+        assert!(rt; order.iter().map(|v| v.0).eq(cut.order.iter().copied()));
+        assert!(rt; 1 <= cut.atoms);
+        let of = atoms_by_growth(rt.alloc(), &graph, cut.atoms)?;
+        assert!(rt; of.iter().map(|a| a.0).eq(cut.of.iter().copied()));
+    }
     Ok(())
 }
