@@ -1,0 +1,83 @@
+//! Whether scenarios pass.
+use crate::playing::play;
+use crate::reading::read_scenarios;
+use crate::scenario::Scenario;
+use crate::sections::read_sections;
+use std::alloc::{AllocError, Global};
+use std::rt::Files;
+use std::{fs, io};
+
+/// What a scenario has to do.
+#[derive(Clone, Copy)]
+pub enum Hope {
+    Passes,
+    /// It differs in one part.
+    Fails,
+    /// The reader refuses it.
+    IsRefused,
+}
+
+/// How many scenarios did what they had to, and how many did not.
+#[derive(Clone, Copy)]
+pub struct Tally {
+    pub passed: u64,
+    pub failed: u64,
+}
+
+impl Hope {
+    /// What a word of the command line says of the files behind it.
+    pub fn of_word(word: &str) -> Option<Hope> {
+        match word {
+            "--wrong" => Some(Hope::Fails),
+            "--malformed" => Some(Hope::IsRefused),
+            _ => None,
+        }
+    }
+}
+
+/// Plays the scenarios of a file, and prints a line for whatever is not as it had to be.
+pub fn play_file<R: Files + Print + AllocGlobal>(
+    rt: &R,
+    file: &str,
+    hope: Hope,
+    tally: &mut Tally,
+) -> io::Result<()> {
+    let text = fs::read_to_string(rt, file)?;
+    let sections = read_sections(rt.alloc(), text.as_str())?;
+    for scenario in read_scenarios(rt.alloc(), &sections)?.iter() {
+        let complaints = judge(rt.alloc(), scenario, hope)?;
+        for complaint in complaints.iter() {
+            let (line, name) = (scenario.line, scenario.name);
+            println!(rt; "{file}:{line}: {name}: {complaint}")?;
+        }
+        if complaints.is_empty() {
+            tally.passed = tally.passed.saturating_add(1);
+        } else {
+            tally.failed = tally.failed.saturating_add(1);
+        }
+    }
+    Ok(())
+}
+
+/// What is not as it had to be.
+fn judge(alloc: Global, scenario: &Scenario<'_>, hope: Hope) -> Result<Vec<String>, AllocError> {
+    let mut complaints = Vec::new(alloc);
+    match (&scenario.wrong, hope) {
+        (Some(_), Hope::IsRefused) => {}
+        (Some(wrong), _) => {
+            let (line, why) = (wrong.line, wrong.why);
+            complaints.push(format!(in alloc; "line {line}: {why}")?)?;
+        }
+        (None, Hope::IsRefused) => {
+            complaints.push(String::from_str(alloc, "it is not refused")?)?;
+        }
+        (None, Hope::Passes) => complaints = play(alloc, scenario)?,
+        (None, Hope::Fails) => {
+            let count = play(alloc, scenario)?.len();
+            if count != 1 {
+                complaints.push(format!(in alloc; "{count} differences in place of one")?)?;
+            }
+        }
+    }
+    Ok(complaints)
+}

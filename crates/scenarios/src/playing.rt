@@ -1,0 +1,171 @@
+//! The calls of a scenario.
+use crate::comparing::compare;
+use crate::parts::Part;
+use crate::scenario::{Calls, Fault, Scenario, Step, Want};
+use engine_cli::{Ended, engine};
+use gl_outside::{MemFiles, MemSink, OpenGate};
+use std::alloc::{AllocError, Global};
+
+/// As many words as the engine does not take.
+const TOO_MANY_WORDS: usize = 4294967295;
+
+/// What a call left.
+#[derive(Drop)]
+pub struct Left {
+    pub ended: Ended,
+    pub files: MemFiles,
+    pub out: MemSink,
+    pub note: MemSink,
+}
+
+/// A step, the names of the scenario's files, and what the step before left.
+#[derive(Drop)]
+pub struct Scene<'a> {
+    step: &'a Step<'a>,
+    pub names: &'a [&'a str],
+    files: &'a MemFiles,
+}
+
+impl Scene<'_> {
+    /// What a file has before the call.
+    pub fn bytes(&self, name: &str) -> Option<&[u8]> {
+        let mut bytes = self.files.bytes(name);
+        for put in self.step.puts.iter() {
+            if put.name == name {
+                bytes = put.bytes;
+            }
+        }
+        bytes
+    }
+}
+
+/// Makes the calls of a scenario, and tells each difference between what they left and what they had to.
+pub fn play(alloc: Global, scenario: &Scenario<'_>) -> Result<Vec<String>, AllocError> {
+    let names = names_of(alloc, scenario)?;
+    let mut differences = Vec::new(alloc);
+    let mut files = MemFiles::new(alloc, Vec::new(alloc), Vec::new(alloc));
+    for step in scenario.steps.iter() {
+        let scene = Scene {
+            step,
+            names: &names,
+            files: &files,
+        };
+        files = play_step(alloc, &scene, &mut differences)?;
+    }
+    Ok(differences)
+}
+
+/// The names of the files that a scenario speaks of.
+fn names_of<'a>(alloc: Global, scenario: &Scenario<'a>) -> Result<Vec<&'a str>, AllocError> {
+    let mut names = Vec::new(alloc);
+    for step in scenario.steps.iter() {
+        for put in step.puts.iter() {
+            add_name(&mut names, put.name)?;
+        }
+        add_names(&mut names, &step.wants)?;
+        if let Some(turns) = &step.turns {
+            add_names(&mut names, &turns.wants)?;
+        }
+    }
+    Ok(names)
+}
+
+fn add_names<'a>(names: &mut Vec<&'a str>, wants: &[Want<'a>]) -> Result<(), AllocError> {
+    for want in wants {
+        if let Part::File(name) = want.part {
+            add_name(names, name)?;
+        }
+    }
+    Ok(())
+}
+
+/// Adds a name that is not there.
+fn add_name<'a>(names: &mut Vec<&'a str>, name: &'a str) -> Result<(), AllocError> {
+    for other in names.iter() {
+        if *other == name {
+            return Ok(());
+        }
+    }
+    names.push(name)?;
+    Ok(())
+}
+
+/// Makes the call of a step, before it those in which one call fails, and answers the files that it left.
+fn play_step(
+    alloc: Global,
+    scene: &Scene<'_>,
+    differences: &mut Vec<String>,
+) -> Result<MemFiles, AllocError> {
+    let mut fault = None;
+    if let Some(turns) = &scene.step.turns {
+        let calls = turns.calls;
+        for place in 0..turns.count {
+            let number = place.saturating_add(1);
+            let left = make_call(alloc, scene, Some(Fault { calls, number }))?;
+            compare(alloc, scene, &left, &turns.wants, differences)?;
+        }
+        let number = turns.count.saturating_add(1);
+        fault = Some(Fault { calls, number });
+    }
+    let left = make_call(alloc, scene, fault)?;
+    compare(alloc, scene, &left, &scene.step.wants, differences)?;
+    let Left { files, .. } = left;
+    Ok(files)
+}
+
+/// Makes a call, where one more call may fail.
+fn make_call(alloc: Global, scene: &Scene<'_>, fault: Option<Fault>) -> Result<Left, AllocError> {
+    let step = scene.step;
+    let mut faults = Vec::from_slice(alloc, &step.faults)?;
+    if let Some(fault) = fault {
+        faults.push(fault)?;
+    }
+    let mut files = files_of(alloc, scene, &faults)?;
+    let mut out = MemSink::new(
+        alloc,
+        numbers(alloc, &faults, Calls::Out)?,
+        step.room_of_out,
+    );
+    let mut note = MemSink::new(
+        alloc,
+        numbers(alloc, &faults, Calls::Note)?,
+        step.room_of_note,
+    );
+    let words = match &step.words {
+        Some(words) if words.len() < TOO_MANY_WORDS => words.as_slice(),
+        _ => &[],
+    };
+    let ended = engine(alloc, words, &mut files, &mut out, &mut note, &OpenGate);
+    Ok(Left {
+        ended,
+        files,
+        out,
+        note,
+    })
+}
+
+/// The numbers of the calls that fail.
+fn numbers(alloc: Global, faults: &[Fault], calls: Calls) -> Result<Vec<u64>, AllocError> {
+    let mut numbers = Vec::new(alloc);
+    for fault in faults {
+        if fault.calls == calls {
+            numbers.push(fault.number)?;
+        }
+    }
+    Ok(numbers)
+}
+
+/// The files that are there.
+fn files_of(alloc: Global, scene: &Scene<'_>, faults: &[Fault]) -> Result<MemFiles, AllocError> {
+    let reads = numbers(alloc, faults, Calls::Reads)?;
+    let writes = numbers(alloc, faults, Calls::Writes)?;
+    let mut files = MemFiles::new(alloc, reads, writes);
+    for name in scene.names {
+        if let Some(bytes) = scene.bytes(name) {
+            let Ok(()) = files.put(name, Vec::from_slice(alloc, bytes)?) else {
+                return Err(AllocError);
+            };
+        }
+    }
+    Ok(files)
+}
