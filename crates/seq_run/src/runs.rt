@@ -1,5 +1,5 @@
 //! Runs of updates, one after another.
-ghost use Rattle.std.specs.Prelude.{◌≡◌, ℕ, ◌<◌, ◌≤◌, ◌↔◌, true, false, List, [], ◌∷◌, length, IfOk, IfSome, OnOk, OnErr, IsOk, IsErrOf, MatchOption};
+ghost use Rattle.std.specs.Prelude.{◌≡◌, ℕ, ◌<◌, ◌≤◌, ◌↔◌, true, false, List, [], ◌∷◌, length, slice_index, IfOk, IfSome, OnOk, OnErr, IsOk, IsErrOf, MatchOption};
 ghost use Rattle.graph_core.specs.DataGraph.{size, IsDataGraph};
 ghost use Rattle.seq_run.specs.Orders.{IsValidOrder};
 ghost use Rattle.seq_run.specs.Runs.{replayed, tasks_left, with_updates, HasTask, HasNoTask, IsUpdates, WentOn, AreNumbers};
@@ -11,7 +11,7 @@ use crate::steps::update_vertex;
 use crate::task_queue::TaskQueue;
 use crate::woken_tasks::wake;
 use gl_base::{Entry, MachineNo, NoMemory, Vertex};
-use graph_core::Graph;
+use graph_core::{Graph, growth};
 use std::alloc::Global;
 use std::marker::Model;
 use update_api::{Link, Program};
@@ -49,20 +49,24 @@ pub struct Played {
 }
 
 impl<'a, P: Program> SeqRun<'a, P> {
-    /// A run before its first update. Every vertex is a task.
+    /// A run before its first update. Every vertex is a task. They wait in the order of growth from the vertex with the least
+    /// start number: most are updated behind a neighbour that has its last number then, so labels and levels change seldom.
     pub fn new(alloc: Global, graph: &'a Graph, program: P) -> Result<Self, NoMemory>
         ensures graph { IfOk result (λ run. run.graph ≡ graph.now) }
         ensures program { IfOk result (λ run. run.program ≡ program) }
         ensures order { IfOk result (λ run. run.order ≡ []) }
     {
+        let values = start_values(alloc, graph, &program)?;
+        let first = least_start(&values, graph.n());
+        let vertices = growth(alloc, graph, first)?;
         Ok(SeqRun {
             graph,
             program,
             links: Vec::new(alloc),
-            values: start_values(alloc, graph, &program)?,
+            values,
             edges: Vec::from_elem(alloc, 0, graph.m() as usize)?,
             order: Vec::new(alloc),
-            tasks: TaskQueue::all(alloc, graph.n())?,
+            tasks: TaskQueue::all(alloc, &vertices)?,
         })
     }
 
@@ -192,4 +196,19 @@ fn start_values<P: Program>(alloc: Global, graph: &Graph, program: &P) -> Result
         values.push(program.start(graph.id(Vertex(v))))?;
     }
     Ok(values)
+}
+
+/// The first of the vertices with the least start number, and vertex 0 where there is none.
+fn least_start(values: &[u64], count: u32) -> Vertex
+    requires { length values.now ≡ count }
+    ensures inside { 0 < count → result.0 < count }
+    ensures least { (v : ℕ) → v < count → slice_index values.now result.0 ≤ slice_index values.now v }
+{
+    let mut least = 0;
+    for v in 0..count {
+        if values[v as usize] < values[least as usize] {
+            least = v;
+        }
+    }
+    Vertex(least)
 }

@@ -1,6 +1,7 @@
 //! The tasks of a run, first in, first out.
 ghost use Rattle.std.specs.Prelude.{◌≡◌, ℕ, ◌<◌, true, false, length, map, slice_set, nat_lt, IfOk, MatchOption};
 ghost use Rattle.std.specs.VecDeque.{deque_capacity};
+ghost use Rattle.graph_core.specs.Growth.{vertex_numbers, ListsEach};
 ghost use Rattle.seq_run.specs.Inner.TaskQueues.{flag, is_task, is_queued, IsQueueOf, IsTaskFirst};
 
 use gl_base::{NoMemory, Vertex};
@@ -40,24 +41,24 @@ impl Model for TaskQueue {
 }
 
 impl TaskQueue {
-    /// A queue in which every vertex below `count` is a task.
-    pub fn all(alloc: Global, count: u32) -> Result<TaskQueue, NoMemory>
-        ensures count { IfOk result (λ tasks. length tasks ≡ count) }
-        ensures all { IfOk result (λ tasks. (u : ℕ) → flag tasks u ≡ nat_lt u count) }
+    /// A queue in which every vertex of a graph is a task. They wait as they stand in the list, which has each once.
+    pub fn all(alloc: Global, vertices: &[Vertex]) -> Result<TaskQueue, NoMemory>
+        requires { ListsEach (length vertices.now) (vertex_numbers vertices.now) }
+        ensures count { IfOk result (λ tasks. length tasks ≡ length vertices.now) }
+        ensures all { IfOk result (λ tasks. (u : ℕ) → flag tasks u ≡ nat_lt u (length vertices.now)) }
     {
-        let mut tasks = TaskQueue::none(alloc, count)?;
-        for v in 0..count {
-            tasks.add(Vertex(v));
+        let mut tasks = TaskQueue::none(alloc, vertices.len())?;
+        for vertex in vertices {
+            tasks.add(*vertex);
         }
         Ok(tasks)
     }
 
     /// A queue for so many vertices, of which none is a task.
-    fn none(alloc: Global, count: u32) -> Result<TaskQueue, NoMemory>
+    fn none(alloc: Global, count: usize) -> Result<TaskQueue, NoMemory>
         ensures count { IfOk result (λ tasks. length tasks ≡ count) }
         ensures none { IfOk result (λ tasks. (u : ℕ) → flag tasks u ≡ false) }
     {
-        let count = count as usize;
         Ok(TaskQueue {
             standings: Vec::from_elem(alloc, Standing::Outside, count)?,
             queue: VecDeque::with_capacity(alloc, count)?,

@@ -1,6 +1,8 @@
-use Rattle.std.proofs.Common.{◌≡◌, ℕ, length, nat_lt}
+use Rattle.std.proofs.Common.{◌≡◌, ℕ, length, take}
+use Rattle.graph_core.specs.Growth.{is_listed, vertex_numbers}
 use Rattle.seq_run.specs.Inner.TaskQueues.{flag}
 use Rattle.seq_run.proofs.task_queue.TaskQueue.all.Given as goal
 
-abbrev pub invariant-loop-v : goal.invariant-loop-v
-invariant-loop-v l = (length l.tasks ≡ l.count) × ((u : ℕ) → flag l.tasks u ≡ nat_lt u l.v)
+abbrev pub invariant-loop-vertex : goal.invariant-loop-vertex
+invariant-loop-vertex l =
+    (length l.tasks ≡ length l.vertices) × ((u : ℕ) → flag l.tasks u ≡ is_listed (vertex_numbers (take l.vertex-index l.vertices)) u)
