@@ -1,6 +1,6 @@
 //! The atom of each vertex.
 ghost use Rattle.std.specs.Prelude.{◌≡◌, ℕ, ◌*◌, ◌/◌, ◌^◌, ◌<◌, ◌≤◌, length, slice_index, All, IfOk};
-ghost use Rattle.graph_core.specs.Growth.{vertex_numbers, ListsEach};
+ghost use Rattle.graph_core.specs.Growth.{numbers_of, ListsEach};
 ghost use Rattle.atom_cut.specs.Cuts.{atom_numbers, IsCut};
 
 use gl_base::{AtomNo, NoMemory, Vertex};
@@ -25,9 +25,9 @@ pub fn atoms_by_growth(alloc: Global, graph: &Graph, atoms: u16) -> Result<Vec<A
 fn assign(order: &[Vertex], atoms: u16, of: &mut [AtomNo])
     requires some { 1 ≤ atoms }
     requires few { length of.old < 2 ^ 32 }
-    requires once { ListsEach (length of.old) (vertex_numbers order.now) }
+    requires once { ListsEach (length of.old) (numbers_of order.now) }
     requires below { All (λ a. a.0 < atoms) of.old }
-    ensures place { (p : ℕ) → p < length of.old → slice_index (atom_numbers of.new) (slice_index (vertex_numbers order.now) p) ≡ p * atoms / length of.old }
+    ensures place { (p : ℕ) → p < length of.old → slice_index (atom_numbers of.new) (slice_index (numbers_of order.now) p) ≡ p * atoms / length of.old }
     ensures below { All (λ a. a.0 < atoms) of.new }
 {
     for (place, vertex) in order.iter().enumerate() {
