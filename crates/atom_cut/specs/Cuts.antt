@@ -9,6 +9,6 @@ abbrev pub atom_numbers : List AtomNo → List ℕ
 atom_numbers atoms = map (λ a. a.0) atoms
 
 -- the vertex at each place of the order of growth, from the least vertex on, is in the atom that the place falls to
-pub record IsCut (g : DataGraph) (atoms : ℕ) (of : List ℕ) : Type 0 where
+pub record IsGrowthCut (g : DataGraph) (atoms : ℕ) (of : List ℕ) : Type 0 where
   pub each : length of ≡ size g
   pub place : (p : ℕ) → p < size g → slice_index of (slice_index (growth_order g 0) p) ≡ p * atoms / size g

@@ -1,7 +1,7 @@
 //! The atom of each vertex.
 ghost use Rattle.std.specs.Prelude.{◌≡◌, ℕ, ◌*◌, ◌/◌, ◌^◌, ◌<◌, ◌≤◌, length, slice_index, All, IfOk};
-ghost use Rattle.graph_core.specs.Growth.{vertex_numbers, ListsEach};
-ghost use Rattle.atom_cut.specs.Cuts.{atom_numbers, IsCut};
+ghost use Rattle.graph_core.specs.Growth.{numbers_of, ListsEach};
+ghost use Rattle.atom_cut.specs.Cuts.{atom_numbers, IsGrowthCut};
 
 use gl_base::{AtomNo, NoMemory, Vertex};
 use graph_core::{Graph, growth};
@@ -11,7 +11,7 @@ use std::alloc::Global;
 /// the atom p * atoms / n, rounded down.
 pub fn atoms_by_growth(alloc: Global, graph: &Graph, atoms: u16) -> Result<Vec<AtomNo>, NoMemory>
     requires { 1 ≤ atoms }
-    ensures cut { IfOk result (λ of. IsCut graph.now atoms (atom_numbers of.items)) }
+    ensures cut { IfOk result (λ of. IsGrowthCut graph.now atoms (atom_numbers of.items)) }
     ensures below { IfOk result (λ of. All (λ a. a.0 < atoms) of.items) }
 {
     let count = graph.n() as usize;
@@ -25,9 +25,9 @@ pub fn atoms_by_growth(alloc: Global, graph: &Graph, atoms: u16) -> Result<Vec<A
 fn assign(order: &[Vertex], atoms: u16, of: &mut [AtomNo])
     requires some { 1 ≤ atoms }
     requires few { length of.old < 2 ^ 32 }
-    requires once { ListsEach (length of.old) (vertex_numbers order.now) }
+    requires once { ListsEach (length of.old) (numbers_of order.now) }
     requires below { All (λ a. a.0 < atoms) of.old }
-    ensures place { (p : ℕ) → p < length of.old → slice_index (atom_numbers of.new) (slice_index (vertex_numbers order.now) p) ≡ p * atoms / length of.old }
+    ensures place { (p : ℕ) → p < length of.old → slice_index (atom_numbers of.new) (slice_index (numbers_of order.now) p) ≡ p * atoms / length of.old }
     ensures below { All (λ a. a.0 < atoms) of.new }
 {
     for (place, vertex) in order.iter().enumerate() {

@@ -10,7 +10,7 @@ use Rattle.std.proofs.lemmas.List.Sums.{count_by-le-length, sum_by-cons}
 use Rattle.gl_base.specs.declared.numbers.Vertex.{Vertex}
 use Rattle.graph_core.specs.DataGraph.{DataGraph, size}
 use Rattle.graph_core.specs.Neighbours.{neighbours_of}
-use Rattle.graph_core.specs.Growth.{vertex_numbers, is_listed, unlisted, seeded, extended, listed_after, growth_order, ListsEach}
+use Rattle.graph_core.specs.Growth.{numbers_of, is_listed, unlisted, seeded, extended, listed_after, growth_order, ListsEach}
 use Rattle.graph_core.specs.Inner.GrowthMarks.{AreMarks, IsGrowing}
 
 -- the first of ascending numbers that passes a test
@@ -133,7 +133,7 @@ neighbours_ascend g v row is =
     subst (AllPairs (λ a b. a < b)) (sym is) (AllPairs-filter (λ a b. a < b) _ (range_with_len 0 (size g)) (range_ascends 0 (size g)))
 
 -- and are vertices
-pub neighbours_below : (g : DataGraph) (v limit : ℕ) (row : List Vertex) → size g ≡ limit → vertex_numbers row ≡ neighbours_of g v → All (λ (u : Vertex). u.0 < limit) row
+pub neighbours_below : (g : DataGraph) (v limit : ℕ) (row : List Vertex) → size g ≡ limit → numbers_of row ≡ neighbours_of g v → All (λ (u : Vertex). u.0 < limit) row
 neighbours_below g v limit row room is =
     let number : Vertex → ℕ = λ u. u.0 in
     let all : All (λ u. u < limit) (neighbours_of g v) = All-filter _ (λ u. u < limit) (range_with_len 0 (size g)) (All-from_recursion (λ u. u < limit) (range_with_len 0 (size g)) (range_below 0 (size g) limit (omega arith))) in

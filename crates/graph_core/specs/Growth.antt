@@ -6,8 +6,8 @@ use Rattle.graph_core.specs.DataGraph.{DataGraph, size}
 use Rattle.graph_core.specs.Neighbours.{neighbours_of}
 
 -- the numbers of vertices
-abbrev pub vertex_numbers : List Vertex → List ℕ
-vertex_numbers vertices = map (λ v. v.0) vertices
+abbrev pub numbers_of : List Vertex → List ℕ
+numbers_of vertices = map (λ v. v.0) vertices
 
 -- the vertex stands in the list
 abbrev pub is_listed : List ℕ → ℕ → Bool

@@ -1,7 +1,7 @@
 //! The order of growth: breadth-first over the whole graph.
 ghost use Rattle.std.specs.Prelude.{◌≡◌, ℕ, ◌<◌, ◌++◌, ◌∷◌, [], false, true, length, replicate, slice_index_or, All, AllPairs, IfOk, OnOk};
 ghost use Rattle.graph_core.specs.DataGraph.{size};
-ghost use Rattle.graph_core.specs.Growth.{vertex_numbers, unlisted, extended, listed_after, growth_order, ListsEach};
+ghost use Rattle.graph_core.specs.Growth.{numbers_of, unlisted, extended, listed_after, growth_order, ListsEach};
 ghost use Rattle.graph_core.specs.Inner.GrowthMarks.{AreMarks, IsNextSeed};
 
 use crate::Graph;
@@ -13,8 +13,8 @@ use std::alloc::Global;
 /// is not listed.
 pub fn growth(alloc: Global, graph: &Graph, first: Vertex) -> Result<Vec<Vertex>, NoMemory>
     requires { 0 < size graph.now → first.0 < size graph.now }
-    ensures order { IfOk result (λ order. vertex_numbers order.items ≡ growth_order graph.now first.0) }
-    ensures each { IfOk result (λ order. ListsEach (size graph.now) (vertex_numbers order.items)) }
+    ensures order { IfOk result (λ order. numbers_of order.items ≡ growth_order graph.now first.0) }
+    ensures each { IfOk result (λ order. ListsEach (size graph.now) (numbers_of order.items)) }
 {
     let count = graph.n() as usize;
     let mut listed = Vec::with_capacity(alloc, count)?;
@@ -36,8 +36,8 @@ fn list_all(
     requires none { listed.old.items ≡ [] }
     requires room { length marks.old ≡ size graph.now }
     requires blank { marks.old ≡ replicate (length marks.old) false }
-    ensures order { OnOk result (vertex_numbers listed.new.items ≡ growth_order graph.now first.0) }
-    ensures each { OnOk result (ListsEach (size graph.now) (vertex_numbers listed.new.items)) }
+    ensures order { OnOk result (numbers_of listed.new.items ≡ growth_order graph.now first.0) }
+    ensures each { OnOk result (ListsEach (size graph.now) (numbers_of listed.new.items)) }
 {
     if marks.is_empty() {
         return Ok(());
@@ -59,9 +59,9 @@ fn list_from(
 ) -> Result<(), NoMemory>
     requires inside { seed.0 < length marks.old }
     requires room { length marks.old ≡ size graph.now }
-    requires marks { AreMarks (vertex_numbers listed.old.items) marks.old }
-    ensures marks { OnOk result (AreMarks (vertex_numbers listed.new.items) marks.new) }
-    ensures grown { OnOk result ((first : ℕ) → IsNextSeed graph.now first seed.0 (vertex_numbers listed.old.items) marks.old → vertex_numbers listed.new.items ≡ listed_after graph.now first (length listed.new.items)) }
+    requires marks { AreMarks (numbers_of listed.old.items) marks.old }
+    ensures marks { OnOk result (AreMarks (numbers_of listed.new.items) marks.new) }
+    ensures grown { OnOk result ((first : ℕ) → IsNextSeed graph.now first seed.0 (numbers_of listed.old.items) marks.old → numbers_of listed.new.items ≡ listed_after graph.now first (length listed.new.items)) }
     ensures kept { OnOk result ((v : ℕ) → slice_index_or marks.old v false ≡ true → slice_index_or marks.new v false ≡ true) }
     ensures seed { OnOk result (slice_index_or marks.new seed.0 false ≡ true) }
 {
@@ -87,9 +87,9 @@ fn list_around(
 ) -> Result<(), NoMemory>
     requires inside { place < length listed.old.items }
     requires room { length marks.old ≡ size graph.now }
-    requires marks { AreMarks (vertex_numbers listed.old.items) marks.old }
-    ensures listed { OnOk result (vertex_numbers listed.new.items ≡ extended graph.now place (vertex_numbers listed.old.items)) }
-    ensures marks { OnOk result (AreMarks (vertex_numbers listed.new.items) marks.new) }
+    requires marks { AreMarks (numbers_of listed.old.items) marks.old }
+    ensures listed { OnOk result (numbers_of listed.new.items ≡ extended graph.now place (numbers_of listed.old.items)) }
+    ensures marks { OnOk result (AreMarks (numbers_of listed.new.items) marks.new) }
     ensures kept { OnOk result ((v : ℕ) → slice_index_or marks.old v false ≡ true → slice_index_or marks.new v false ≡ true) }
 {
     graph.list_neighbours(listed[place], around)?;
@@ -103,10 +103,10 @@ fn list_new(
     marks: &mut [bool],
 ) -> Result<(), NoMemory>
     requires inside { All (λ v. v.0 < length marks.old) vertices.now }
-    requires ascending { AllPairs (λ u v. u < v) (vertex_numbers vertices.now) }
-    requires marks { AreMarks (vertex_numbers listed.old.items) marks.old }
-    ensures listed { OnOk result (vertex_numbers listed.new.items ≡ vertex_numbers listed.old.items ++ unlisted (vertex_numbers listed.old.items) (vertex_numbers vertices.now)) }
-    ensures marks { OnOk result (AreMarks (vertex_numbers listed.new.items) marks.new) }
+    requires ascending { AllPairs (λ u v. u < v) (numbers_of vertices.now) }
+    requires marks { AreMarks (numbers_of listed.old.items) marks.old }
+    ensures listed { OnOk result (numbers_of listed.new.items ≡ numbers_of listed.old.items ++ unlisted (numbers_of listed.old.items) (numbers_of vertices.now)) }
+    ensures marks { OnOk result (AreMarks (numbers_of listed.new.items) marks.new) }
     ensures kept { OnOk result ((v : ℕ) → slice_index_or marks.old v false ≡ true → slice_index_or marks.new v false ≡ true) }
 {
     for vertex in vertices {
@@ -118,9 +118,9 @@ fn list_new(
 /// Lists a vertex, where it is not listed.
 fn list_one(vertex: Vertex, listed: &mut Vec<Vertex>, marks: &mut [bool]) -> Result<(), NoMemory>
     requires inside { vertex.0 < length marks.old }
-    requires marks { AreMarks (vertex_numbers listed.old.items) marks.old }
-    ensures listed { OnOk result (vertex_numbers listed.new.items ≡ vertex_numbers listed.old.items ++ unlisted (vertex_numbers listed.old.items) (vertex.0 ∷ [])) }
-    ensures marks { OnOk result (AreMarks (vertex_numbers listed.new.items) marks.new) }
+    requires marks { AreMarks (numbers_of listed.old.items) marks.old }
+    ensures listed { OnOk result (numbers_of listed.new.items ≡ numbers_of listed.old.items ++ unlisted (numbers_of listed.old.items) (vertex.0 ∷ [])) }
+    ensures marks { OnOk result (AreMarks (numbers_of listed.new.items) marks.new) }
     ensures kept { OnOk result ((v : ℕ) → slice_index_or marks.old v false ≡ true → slice_index_or marks.new v false ≡ true) }
     ensures marked { OnOk result (slice_index_or marks.new vertex.0 false ≡ true) }
 {
