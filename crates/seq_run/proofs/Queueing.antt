@@ -6,7 +6,7 @@ use Rattle.std.proofs.lemmas.List.{take_more, map-append, get_or-set_same, get_o
 use Rattle.std.proofs.lemmas.List.Sums.{sum_by-cons, sum_by_push, sum_by-set, sum_by-le}
 use Rattle.std.proofs.lemmas.List.Folds.{sum_by-replicate}
 use Rattle.gl_base.specs.declared.numbers.Vertex.{Vertex}
-use Rattle.graph_core.specs.Growth.{is_listed, vertex_numbers}
+use Rattle.graph_core.specs.Growth.{is_listed, numbers_of}
 use Rattle.graph_core.proofs.GrowthMarks.{is_listed-push}
 use Rattle.seq_run.specs.Inner.TaskQueues.{flag, bit, times, IsQueueOf, IsTaskFirst}
 
@@ -188,9 +188,9 @@ either false true = refl
 either false false = refl
 
 -- the vertices up to this place of a list were added, one after another
-pub added_listed : (flags : List Bool) (vertices : List Vertex) (i u : ℕ) (d : Vertex) → i < length vertices → (slice_index_or vertices i d).0 < length flags → flag flags u ≡ is_listed (vertex_numbers (take i vertices)) u → flag (slice_set flags (slice_index_or vertices i d).0 true) u ≡ is_listed (vertex_numbers (take (i + 1) vertices)) u
+pub added_listed : (flags : List Bool) (vertices : List Vertex) (i u : ℕ) (d : Vertex) → i < length vertices → (slice_index_or vertices i d).0 < length flags → flag flags u ≡ is_listed (numbers_of (take i vertices)) u → flag (slice_set flags (slice_index_or vertices i d).0 true) u ≡ is_listed (numbers_of (take (i + 1) vertices)) u
 added_listed flags vertices i u d within inside before =
     let v : Vertex = slice_index_or vertices i d in
-    let longer : vertex_numbers (take (i + 1) vertices) ≡ vertex_numbers (take i vertices) ++ v.0 ∷ [] = ap vertex_numbers (take_more vertices i d within) ∙ map-append (λ (w : Vertex). w.0) (take i vertices) (v ∷ []) in
-    flag-set flags v.0 u true inside ∙ rw before (either (u == v.0) (is_listed (vertex_numbers (take i vertices)) u))
-    ∙ sym (ap (λ (list : List ℕ). is_listed list u) longer ∙ is_listed-push (vertex_numbers (take i vertices)) v.0 u)
+    let longer : numbers_of (take (i + 1) vertices) ≡ numbers_of (take i vertices) ++ v.0 ∷ [] = ap numbers_of (take_more vertices i d within) ∙ map-append (λ (w : Vertex). w.0) (take i vertices) (v ∷ []) in
+    flag-set flags v.0 u true inside ∙ rw before (either (u == v.0) (is_listed (numbers_of (take i vertices)) u))
+    ∙ sym (ap (λ (list : List ℕ). is_listed list u) longer ∙ is_listed-push (numbers_of (take i vertices)) v.0 u)

@@ -1,7 +1,7 @@
 //! The tasks of a run, first in, first out.
 ghost use Rattle.std.specs.Prelude.{◌≡◌, ℕ, ◌<◌, true, false, length, map, slice_set, nat_lt, IfOk, MatchOption};
 ghost use Rattle.std.specs.VecDeque.{deque_capacity};
-ghost use Rattle.graph_core.specs.Growth.{vertex_numbers, ListsEach};
+ghost use Rattle.graph_core.specs.Growth.{numbers_of, ListsEach};
 ghost use Rattle.seq_run.specs.Inner.TaskQueues.{flag, is_task, is_queued, IsQueueOf, IsTaskFirst};
 
 use gl_base::{NoMemory, Vertex};
@@ -43,7 +43,7 @@ impl Model for TaskQueue {
 impl TaskQueue {
     /// A queue in which every vertex of a graph is a task. They wait as they stand in the list, which has each once.
     pub fn all(alloc: Global, vertices: &[Vertex]) -> Result<TaskQueue, NoMemory>
-        requires { ListsEach (length vertices.now) (vertex_numbers vertices.now) }
+        requires { ListsEach (length vertices.now) (numbers_of vertices.now) }
         ensures count { IfOk result (λ tasks. length tasks ≡ length vertices.now) }
         ensures all { IfOk result (λ tasks. (u : ℕ) → flag tasks u ≡ nat_lt u (length vertices.now)) }
     {

@@ -2,7 +2,7 @@ use Rattle.std.proofs.Common.{◌≡◌, ◌∙◌, sym, ap, subst, nat_lt, leng
 use Rattle.std.proofs.Math.ListN.{replicate}
 use Rattle.std.proofs.lemmas.List.{get_or-replicate, length-map, length-replicate}
 use Rattle.gl_base.specs.declared.numbers.Vertex.{Vertex}
-use Rattle.graph_core.specs.Growth.{ListsEach, vertex_numbers}
+use Rattle.graph_core.specs.Growth.{ListsEach, numbers_of}
 use Rattle.seq_run.proofs.runs.SeqRun.new.Goals as goal
 
 pub invariant_of-result : goal.invariant_of-result
@@ -28,4 +28,4 @@ pub all-requires : goal.all-requires
 all-requires g c =
     let listed = c.in_ok-vertices.ensures.each in
     let many = sym (length-map c.in_ok-vertices.vertices.items (λ (v : Vertex). v.0)) ∙ listed.count in
-    rw c.deref-2.ensures.value (subst (λ n. ListsEach n (vertex_numbers c.in_ok-vertices.vertices.items)) (sym many) listed)
+    rw c.deref-2.ensures.value (subst (λ n. ListsEach n (numbers_of c.in_ok-vertices.vertices.items)) (sym many) listed)
