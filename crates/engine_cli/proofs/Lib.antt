@@ -1,6 +1,7 @@
 pub mod NamesHanded
 pub mod SortedOnce
 pub mod TextsJoined
+pub mod TextsRead
 pub mod GraphsTold
 pub mod JobsTold
 pub mod OneCommand

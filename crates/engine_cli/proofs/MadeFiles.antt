@@ -1,9 +1,9 @@
 -- Files that are made one after another.
-use Rattle.std.proofs.Common.{◌≡◌, ◌≢◌, inl, inr, ℕ, List, [], ◌∷◌, ◌++◌, length, take, Option, None, Some, Result, Ok, Err, IfSome, is_some, IsTrue, false, codes, get_or, refl, sym, ap, ◌∙◌, subst, arith}
+use Rattle.std.proofs.Common.{◌≡◌, ◌≢◌, ◌≤◌, inl, inr, ℕ, zero, suc, List, [], ◌∷◌, ◌++◌, length, take, Option, None, Some, Result, Ok, Err, OnOk, IfSome, codes, get_or, refl, sym, ap, ◌∙◌, subst, arith}
 use Rattle.std.proofs.Math.Seq.{take-length}
 use Rattle.std.specs.Io.KnownBytes.{Appends}
 use Rattle.std.proofs.lemmas.List.{append_cancel_left}
-use Rattle.gl_outside.specs.Names.{AppendsNames}
+use Rattle.gl_outside.specs.Names.{AppendsNames, NotesName}
 use Rattle.gl_base.specs.declared.jobs.MakePlan.{MakePlan}
 use Rattle.gl_base.specs.declared.text_faults.TextFile.{TextFile}
 use Rattle.gl_base.specs.declared.text_faults.TextFile.TheVariants.{Vertices, Edges}
@@ -13,24 +13,122 @@ use Rattle.graph_text.specs.Writes.{Writes, WritesEdges}
 use Rattle.graph_text.specs.declared.making.Writing.{Writing}
 use Rattle.graph_text.specs.declared.making.Writing.TheVariants as out
 use Rattle.engine_cli.specs.Leaves.{Gives}
-use Rattle.engine_cli.specs.Made.{IsMadeFront, LeavesFront, LeavesFronts, Makes, edges_name, vertices_name}
-use Rattle.engine_cli.specs.Status.{IsDoneOrNoMemory}
+use Rattle.std.specs.Option.{option_map}
+use Rattle.std.specs.Prelude.{Contains}
+use Rattle.gl_outside.specs.FilesState.{FilesState, Written, sink_of, written_of}
+use Rattle.gl_outside.specs.Frames.{ChangesSinks, OpensSink, WritesOnly}
+use Rattle.gl_outside.specs.Laws.{name_kept}
+use Rattle.gl_outside.specs.declared.files.FileNo.{FileNo}
+use Rattle.gl_outside.specs.declared.files.OpenFault.{OpenFault}
+use Rattle.gl_outside.proofs.Opening.{ChangesSinks-trans, opens_sinks, others_stay, sink_opened, writes_sinks}
+use Rattle.gl_base.specs.declared.names.Name.{Name}
+use Rattle.job_words.specs.declared.words.Words.{Words}
+use Rattle.job_words.specs.declared.words.Words.TheVariants.{Make}
+use Rattle.engine_cli.specs.Found.{names_in}
+use Rattle.engine_cli.specs.FilesUsed.{HandsOver, WritesFiles}
+use Rattle.engine_cli.specs.Leaves.{KeepsOrGives}
+use Rattle.engine_cli.specs.Made.{IsFault, IsMade, IsMadeFront, LeavesFront, LeavesText, Makes, edges_name, vertices_name}
+use Rattle.engine_cli.specs.Status.{IsDoneOrNoMemory, status_of_writing}
+use Rattle.engine_cli.specs.Verbs.{IsMaking}
+use Rattle.engine_cli.proofs.NamesHanded.{HandsOver-first, HandsOver-none, HandsOver-refused, HandsOver-then, contains-one}
 use Rattle.engine_cli.specs.declared.status.Status.{Status}
 use Rattle.engine_cli.specs.declared.status.Status.TheVariants.{Done, Usage, BadJob, BadGraph, ReadFault, WriteFault, BudgetSpent, NoMemory}
 
 -- what was written to a new file is what its name gives, where names are told
-pub made-gives : (m0 m1 : Option (List (List ℕ))) (name : List ℕ) (w1 w2 g2 : Option (List ℕ)) (bytes : List ℕ) (P : List ℕ → Type 0)
-    → AppendsNames m0 m1 (name ∷ []) → IfSome m1 (λ names. IsTrue (is_some w1)) → IfSome w1 (λ b. b ≡ []) → Appends w1 w2 bytes → g2 ≡ w2 → P bytes
-    → IfSome m0 (λ names. Gives g2 P)
-made-gives None m1 name w1 w2 g2 bytes P noted told empty appends gives p = tt
-made-gives (Some x) None name w1 w2 g2 bytes P noted told empty appends gives p = absurd noted
-made-gives (Some x) (Some y) name None w2 g2 bytes P noted told empty appends gives p = absurd (is_no_truth told)
+pub made-gives : (old mid new : FilesState) (name : List ℕ) (number : FileNo) (bytes : List ℕ) (P : List ℕ → Type 0) → OpensSink old mid name (Ok number) → WritesOnly number.0 mid new
+    → ((n : List ℕ) → (sink_of new number.0).name ≡ Some n → new.contents n ≡ written_of new number.0)
+    → Appends (written_of mid number.0) (written_of new number.0) bytes → P bytes → IfSome old.sinks.names (λ told. Gives (new.contents name) P)
+made-gives old mid new name number bytes P opens writes filled appends p =
+    let was = (sink_opened old mid name number opens).1 in
+    let named : (sink_of new number.0).name ≡ option_map (λ told. name) old.sinks.names = name_kept number.0 mid new writes ∙ ap (λ (w : Written). w.name) was in
+    let empty : written_of mid number.0 ≡ option_map (λ told. []) old.sinks.names = ap (λ (w : Written). w.bytes) was in
+    go old.sinks.names (written_of new number.0) named (subst (λ (w : Option (List ℕ)). Appends w (written_of new number.0) bytes) empty appends) filled
   where
-    is_no_truth : IsTrue false → ⊥
-    is_no_truth e = cc
-made-gives (Some x) (Some y) name (Some b) None g2 bytes P noted told empty appends gives p = absurd appends
-made-gives (Some x) (Some y) name (Some b) (Some c) g2 bytes P noted told empty appends gives p =
-    (bytes, gives ∙ ap (λ (z : List ℕ). Some z) (appends ∙ ap (λ l. l ++ bytes) empty), p)
+    go : (names : Option (List (List ℕ))) (written : Option (List ℕ)) → (sink_of new number.0).name ≡ option_map (λ told. name) names
+        → Appends (option_map (λ told. []) names) written bytes
+        → ((n : List ℕ) → (sink_of new number.0).name ≡ Some n → new.contents n ≡ written) → IfSome names (λ told. Gives (new.contents name) P)
+    go None written named appends filled = tt
+    go (Some told) None named appends filled = absurd appends
+    go (Some told) (Some held) named appends filled = (bytes, filled name named ∙ ap (λ (z : List ℕ). Some z) appends, p)
+
+-- a file was made and written, and no other name gives anything else
+pub writes-file : (old mid new : FilesState) (name : List ℕ) (number : FileNo) → OpensSink old mid name (Ok number) → NotesName old.sinks.names mid.sinks.names name (Ok number)
+    → old.sinks.faults ≤ mid.sinks.faults → WritesOnly number.0 mid new → mid.sinks.faults ≤ new.sinks.faults
+    → WritesFiles (name ∷ []) old new × AppendsNames old.sinks.names new.sinks.names (name ∷ [])
+writes-file old mid new name number opens notes first writes then =
+    let names : new.sinks.names ≡ mid.sinks.names = ap (λ (s : FilesState). s.sinks.names) writes.state in
+    let handed : AppendsNames old.sinks.names new.sinks.names (name ∷ []) = subst (λ (n : Option (List (List ℕ))). AppendsNames old.sinks.names n (name ∷ [])) (sym names) notes in (
+      record {
+        frame = ChangesSinks-trans old mid new (opens_sinks old mid name (Ok number) opens) (writes_sinks number.0 mid new writes);
+        handed = (1, handed);
+        others = λ other apart. others_stay old mid new name number opens writes other (λ e. apart (contains-one name other e));
+        later = omega (arith, first, then);
+      },
+      handed,
+    )
+
+-- The same at the end of a call that wrote to the file as a sink of its own.
+at-end : (mid was last : FilesState) (number : FileNo) (own : ℕ) → own ≡ number.0 → was ≡ mid → WritesOnly own was last → WritesOnly number.0 mid last
+at-end mid was last number own own_is was_is writes =
+    let K : ℕ → Type 0 = λ k. WritesOnly k was last in
+    let M : FilesState → Type 0 = λ m. WritesOnly number.0 m last in
+    subst M was_is (subst K own_is writes)
+
+pub wrote-file : (old mid was last new : FilesState) (opened name : List ℕ) (number : FileNo) (own : ℕ) → opened ≡ name → OpensSink old mid opened (Ok number)
+    → NotesName old.sinks.names mid.sinks.names opened (Ok number) → old.sinks.faults ≤ mid.sinks.faults
+    → own ≡ number.0 → was ≡ mid → WritesOnly own was last → was.sinks.faults ≤ last.sinks.faults → new ≡ last → WritesFiles (name ∷ []) old new
+wrote-file old mid was last new opened name number own name_is opens notes first own_is was_is writes then new_is =
+    let more : mid.sinks.faults ≤ last.sinks.faults = omega (arith, then, ap (λ (s : FilesState). s.sinks.faults) was_is) in
+    let wrote = writes-file old mid last opened number opens notes first (at-end mid was last number own own_is was_is writes) more in
+    let N : List ℕ → Type 0 = λ n. WritesFiles (n ∷ []) old last in
+    let E : FilesState → Type 0 = λ s. WritesFiles (name ∷ []) old s in
+    subst E (sym new_is) (subst N name_is wrote.0)
+
+pub hands-written : (old mid was last : FilesState) (now : Option (List (List ℕ))) (opened name : List ℕ) (number : FileNo) (own : ℕ) → opened ≡ name
+    → NotesName old.sinks.names mid.sinks.names opened (Ok number) → was ≡ mid → WritesOnly own was last → now ≡ last.sinks.names → AppendsNames old.sinks.names now (name ∷ [])
+hands-written old mid was last now opened name number own name_is notes was_is writes now_is =
+    let names : now ≡ mid.sinks.names = now_is ∙ ap (λ (s : FilesState). s.sinks.names) writes.state ∙ ap (λ (s : FilesState). s.sinks.names) was_is in
+    let N : List ℕ → Type 0 = λ n. AppendsNames old.sinks.names now (n ∷ []) in
+    subst N name_is (subst (λ (n : Option (List (List ℕ))). AppendsNames old.sinks.names n (opened ∷ [])) (sym names) notes)
+
+pub gives-written : (old mid was last : FilesState) (given : Option (List ℕ)) (opened name : List ℕ) (number : FileNo) (own again : ℕ) (bytes : List ℕ) (P : List ℕ → Type 0) → opened ≡ name
+    → OpensSink old mid opened (Ok number) → own ≡ number.0 → was ≡ mid → WritesOnly own was last → given ≡ last.contents name
+    → again ≡ own → ((n : List ℕ) → (sink_of last again).name ≡ Some n → last.contents n ≡ written_of last again)
+    → Appends (written_of was own) (written_of last again) bytes → P bytes → IfSome old.sinks.names (λ told. Gives given P)
+gives-written old mid was last given opened name number own again bytes P name_is opens own_is was_is writes given_is again_is filled appends p =
+    let F : ℕ → Type 0 = λ k. (n : List ℕ) → (sink_of last k).name ≡ Some n → last.contents n ≡ written_of last k in
+    let A : ℕ → Type 0 = λ k. Appends (written_of mid k) (written_of last k) bytes in
+    let M : FilesState → Type 0 = λ m. Appends (written_of m own) (written_of last own) bytes in
+    let G : ℕ → Type 0 = λ k. Appends (written_of was own) (written_of last k) bytes in
+    let E : Option (List ℕ) → Type 0 = λ x. IfSome old.sinks.names (λ told. Gives x P) in
+    let N : List ℕ → Type 0 = λ n. IfSome old.sinks.names (λ told. Gives (last.contents n) P) in
+    subst E (sym given_is) (subst N name_is
+    (made-gives old mid last opened number bytes P opens (at-end mid was last number own own_is was_is writes) (subst F own_is (subst F again_is filled)) (subst A own_is (subst M was_is (subst G again_is appends))) p))
+
+-- a name gives these bytes
+pub only-these : (names : Option (List (List ℕ))) (given : Option (List ℕ)) (text : List ℕ) → IfSome names (λ told. Gives given (λ bytes. bytes ≡ text)) → IfSome names (λ told. given ≡ Some text)
+only-these None given text h = tt
+only-these (Some told) given text h = h.1 ∙ ap (λ (z : List ℕ). Some z) h.2
+
+-- what follows at `Ok`
+pub OnOk-map : {X E : Type 0} (r : Result X E) (P Q : Type 0) → (P → Q) → OnOk r P → OnOk r Q
+OnOk-map (Ok x) P Q go p = go p
+OnOk-map (Err e) P Q go p = tt
+
+-- a file was not made
+pub writes-none : (old new : FilesState) (name : List ℕ) (fault : OpenFault) → OpensSink old new name (Err fault) → NotesName old.sinks.names new.sinks.names name (Err fault)
+    → old.sinks.faults ≤ new.sinks.faults → WritesFiles (name ∷ []) old new
+writes-none old new name fault opens notes later =
+    record {
+      frame = opens_sinks old new name (Err fault) opens;
+      handed = HandsOver-refused old.sinks.names new.sinks.names name fault notes;
+      others = λ other apart. ap (λ (s : FilesState). s.contents other) opens;
+      later = later;
+    }
+
+-- nothing was written
+pub writes-nothing : (names : List (List ℕ)) (files : FilesState) → WritesFiles names files files
+writes-nothing names files = record { frame = refl; handed = HandsOver-none files.sinks.names names; others = λ other apart. refl; later = omega arith }
 
 -- what writing the vertex text leaves is a front of it
 pub vertices-front : (result : Result (Unit {0}) Writing) (plan : MakePlan) (old new : Option (List ℕ)) (before now : ℕ)
@@ -51,18 +149,6 @@ edges-front (Err out.WriteFault) plan old new before now (stride, is, w) =
 edges-front (Err out.NoMemory) plan old new before now (stride, is, w) =
     (take w.0 (made_edges plan stride), (made_edges plan stride, (stride, is, refl), w.0, refl), w.1)
 
--- what a name gives stays
-pub gives-kept : (m : Option (List (List ℕ))) (old new : Option (List ℕ)) (P : List ℕ → Type 0) → new ≡ old
-    → IfSome m (λ names. Gives old P) → IfSome m (λ names. Gives new P)
-gives-kept m old new P same gives = subst (λ (g : Option (List ℕ)). IfSome m (λ names. Gives g P)) (sym same) gives
-
--- names that were told stay told
-pub gives-before : (m0 m1 : Option (List (List ℕ))) (names : List (List ℕ)) (P : Type 0) → AppendsNames m0 m1 names
-    → IfSome m1 (λ told. P) → IfSome m0 (λ told. P)
-gives-before None m1 names P noted p = tt
-gives-before (Some x) None names P noted p = absurd noted
-gives-before (Some x) (Some y) names P noted p = p
-
 -- the two names differ
 pub names-apart : (prefix : List ℕ) → vertices_name prefix ≢ edges_name prefix
 names-apart prefix same = differ (append_cancel_left prefix _ _ same)
@@ -70,43 +156,117 @@ names-apart prefix same = differ (append_cancel_left prefix _ _ same)
     differ : codes ".v" ≡ codes ".e" → ⊥
     differ e = let at : 118 ≡ 101 = ap (λ (l : List ℕ). get_or l 1 0) e in omega (arith, at)
 
+-- what a name gives stays
+pub text-kept : (plan : MakePlan) (text : TextFile) (old mid new : FilesState) (name : List ℕ) → new.contents name ≡ mid.contents name
+    → LeavesText plan text old mid name → LeavesText plan text old new name
+text-kept plan text old mid new name same leaves =
+    subst (λ (g : Option (List ℕ)). IfSome old.sinks.names (λ told. Gives g (IsMade plan text))) (sym same) leaves
+
+-- names that were told stay told
+gives-before : (m0 m1 : Option (List (List ℕ))) (names : List (List ℕ)) (P : Type 0) → AppendsNames m0 m1 names
+    → IfSome m1 (λ told. P) → IfSome m0 (λ told. P)
+gives-before None m1 names P noted p = tt
+gives-before (Some x) None names P noted p = absurd noted
+gives-before (Some x) (Some y) names P noted p = p
+
+pub text-before : (plan : MakePlan) (text : TextFile) (old mid new : FilesState) (names : List (List ℕ)) (name : List ℕ) → AppendsNames old.sinks.names mid.sinks.names names
+    → LeavesText plan text mid new name → LeavesText plan text old new name
+text-before plan text old mid new names name noted leaves = gives-before old.sinks.names mid.sinks.names names (Gives (new.contents name) (IsMade plan text)) noted leaves
+
 -- what one file leaves is left by both, where the other changes nothing of its name, first or last
-pub front-kept : (plan : MakePlan) (text : TextFile) (names : Option (List (List ℕ))) (old now new : Option (List ℕ)) → new ≡ now
-    → LeavesFront plan text names old now → LeavesFront plan text names old new
-front-kept plan text names old now new same front = subst (λ (x : Option (List ℕ)). LeavesFront plan text names old x) (sym same) front
+pub front-kept : (plan : MakePlan) (text : TextFile) (old mid new : FilesState) (name : List ℕ) → new.contents name ≡ mid.contents name
+    → LeavesFront plan text old mid name → LeavesFront plan text old new name
+front-kept plan text old mid new name same front =
+    subst (λ (x : Option (List ℕ)). KeepsOrGives old.sinks.names (old.contents name) x (IsMadeFront plan text)) (sym same) front
 
-pub front-after : (plan : MakePlan) (text : TextFile) (m0 m1 : Option (List (List ℕ))) (names : List (List ℕ)) (old now new : Option (List ℕ))
-    → AppendsNames m0 m1 names → now ≡ old → LeavesFront plan text m1 now new → LeavesFront plan text m0 old new
-front-after plan text m0 m1 names old now new noted same (inl kept) = inl (kept ∙ same)
-front-after plan text m0 m1 names old now new noted same (inr gives) = inr (gives-before m0 m1 names (Gives new (IsMadeFront plan text)) noted gives)
+pub front-after : (plan : MakePlan) (text : TextFile) (old mid new : FilesState) (names : List (List ℕ)) (name : List ℕ)
+    → AppendsNames old.sinks.names mid.sinks.names names → mid.contents name ≡ old.contents name → LeavesFront plan text mid new name → LeavesFront plan text old new name
+front-after plan text old mid new names name noted same (inl kept) = inl (kept ∙ same)
+front-after plan text old mid new names name noted same (inr gives) = inr (gives-before old.sinks.names mid.sinks.names names (Gives (new.contents name) (IsMadeFront plan text)) noted gives)
 
--- the first file leaves a front, and the second was not begun
-pub fronts-first : (plan : MakePlan) (prefix : List ℕ) (names : Option (List (List ℕ))) (old new : List ℕ → Option (List ℕ))
-    → LeavesFront plan Vertices names (old (vertices_name prefix)) (new (vertices_name prefix))
-    → ((name : List ℕ) → name ≢ vertices_name prefix → new name ≡ old name) → LeavesFronts plan prefix names old new
-fronts-first plan prefix names old new front others Vertices = front
-fronts-first plan prefix names old new front others Edges = inl (others (edges_name prefix) (λ same. names-apart prefix (sym same)))
+-- the first of two files was written, and the second was not begun; or both were
+pub writes-first : (first second : List ℕ) (old new : FilesState) → WritesFiles (first ∷ []) old new → WritesFiles (first ∷ second ∷ []) old new
+writes-first first second old new wrote = record {
+  frame = wrote.frame;
+  handed = HandsOver-first old.sinks.names new.sinks.names first first (second ∷ []) refl wrote.handed;
+  others = λ other apart. wrote.others other (one other apart);
+  later = wrote.later;
+}
+  where
+    one : (other : List ℕ) → (Contains (first ∷ second ∷ []) other → ⊥) → Contains (first ∷ []) other → ⊥
+    one other apart (zero, inside, is) = apart (0, omega arith, is)
+    one other apart (suc k, inside, is) = omega (arith, inside)
 
--- each file leaves a front, one after the other
-pub fronts-both : (plan : MakePlan) (prefix : List ℕ) (m0 m1 : Option (List (List ℕ))) (names : List (List ℕ)) (old now new : List ℕ → Option (List ℕ))
-    → AppendsNames m0 m1 names
-    → LeavesFront plan Vertices m0 (old (vertices_name prefix)) (now (vertices_name prefix))
-    → ((name : List ℕ) → name ≢ vertices_name prefix → now name ≡ old name)
-    → LeavesFront plan Edges m1 (now (edges_name prefix)) (new (edges_name prefix))
-    → ((name : List ℕ) → name ≢ edges_name prefix → new name ≡ now name) → LeavesFronts plan prefix m0 old new
-fronts-both plan prefix m0 m1 names old now new noted first others second others_then Vertices =
-    front-kept plan Vertices m0 _ _ _ (others_then (vertices_name prefix) (names-apart prefix)) first
-fronts-both plan prefix m0 m1 names old now new noted first others second others_then Edges =
-    front-after plan Edges m0 m1 names _ _ _ noted (others (edges_name prefix) (λ same. names-apart prefix (sym same))) second
+pub writes-both : (first second : List ℕ) (old mid new : FilesState) → WritesFiles (first ∷ []) old mid → AppendsNames old.sinks.names mid.sinks.names (first ∷ []) → WritesFiles (second ∷ []) mid new
+    → WritesFiles (first ∷ second ∷ []) old new
+writes-both first second old mid new wrote noted then =
+    let one = wrote.later in
+    let two = then.later in
+    record {
+      frame = ChangesSinks-trans old mid new wrote.frame then.frame;
+      handed = HandsOver-then old.sinks.names mid.sinks.names new.sinks.names first first (second ∷ []) refl noted then.handed;
+      others = λ other apart. then.others other (last other apart) ∙ wrote.others other (one_of other apart);
+      later = omega (arith, one, two);
+    }
+  where
+    one_of : (other : List ℕ) → (Contains (first ∷ second ∷ []) other → ⊥) → Contains (first ∷ []) other → ⊥
+    one_of other apart (zero, inside, is) = apart (0, omega arith, is)
+    one_of other apart (suc k, inside, is) = omega (arith, inside)
+
+    last : (other : List ℕ) → (Contains (first ∷ second ∷ []) other → ⊥) → Contains (second ∷ []) other → ⊥
+    last other apart (zero, inside, is) = apart (1, omega arith, is)
+    last other apart (suc k, inside, is) = omega (arith, inside)
+
+-- another name than the one that was written gives what it gave
+pub other-kept : (name other : List ℕ) (old new : FilesState) → WritesFiles (name ∷ []) old new → other ≢ name → new.contents other ≡ old.contents other
+other-kept name other old new wrote apart = wrote.others other (not other apart)
+  where
+    not : (other : List ℕ) → other ≢ name → Contains (name ∷ []) other → ⊥
+    not other apart (zero, inside, is) = apart (sym is)
+    not other apart (suc k, inside, is) = omega (arith, inside)
 
 -- making files comes to an end where no count rose
-pub made-done : (plan : MakePlan) (prefix : List ℕ) (names : Option (List (List ℕ))) (given : List ℕ → Option (List ℕ)) (before now : ℕ) (status : Status)
-    → Makes plan prefix names given before now status → (Rose before now → ⊥) → IsDoneOrNoMemory status
-made-done plan prefix names given before now Done makes sound = tt
-made-done plan prefix names given before now (Usage fault) makes sound = makes
-made-done plan prefix names given before now (BadJob fault) makes sound = makes
-made-done plan prefix names given before now (BadGraph fault) makes sound = makes
-made-done plan prefix names given before now ReadFault makes sound = makes
-made-done plan prefix names given before now WriteFault makes sound = sound makes
-made-done plan prefix names given before now (BudgetSpent left) makes sound = makes
-made-done plan prefix names given before now NoMemory makes sound = tt
+pub made-done : (plan : MakePlan) (prefix : List ℕ) (old new : FilesState) (status : Status)
+    → Makes plan prefix old new status → (Rose old.sinks.faults new.sinks.faults → ⊥) → IsDoneOrNoMemory status
+made-done plan prefix old new Done makes sound = tt
+made-done plan prefix old new (Usage fault) makes sound = makes
+made-done plan prefix old new (BadJob fault) makes sound = makes
+made-done plan prefix old new (BadGraph fault) makes sound = makes
+made-done plan prefix old new ReadFault makes sound = makes
+made-done plan prefix old new WriteFault makes sound = sound makes
+made-done plan prefix old new (BudgetSpent left) makes sound = makes
+made-done plan prefix old new NoMemory makes sound = tt
+
+-- what making both files says by its status
+pub makes-of : (plan : MakePlan) (prefix : List ℕ) (old new : FilesState) (why : Writing) → IsFault why old.sinks.faults new.sinks.faults → Makes plan prefix old new (status_of_writing why)
+makes-of plan prefix old new out.WriteFault fault = fault
+makes-of plan prefix old new out.NoMemory fault = tt
+
+-- what `make` leaves
+pub is-making : (prefix : List ℕ) (plan : MakePlan) (old new : FilesState) (status : Status) → Makes plan prefix old new status
+    → LeavesFront plan Vertices old new (vertices_name prefix) → LeavesFront plan Edges old new (edges_name prefix)
+    → WritesFiles (vertices_name prefix ∷ edges_name prefix ∷ []) old new → IsMaking prefix plan old new status
+is-making prefix plan old new status says vertices edges wrote =
+    record { says = says; vertices = vertices; edges = edges; writes = wrote; complete = λ sound. made-done plan prefix old new status says sound }
+
+-- the same of the words that were asked
+pub making-asked : (words : Words) (p prefix : Name) (q plan : MakePlan) (spelled : List ℕ) (old new : FilesState) (status : Status) → words ≡ Make p q → words ≡ Make prefix plan
+    → spelled ≡ p → IsMaking spelled q old new status → IsMaking prefix plan old new status
+making-asked words p prefix q plan spelled old new status is asked spelled_is making =
+    let same = sym is ∙ asked in
+    let P : List ℕ → Type 0 = λ x. IsMaking x q old new status in
+    let Q : MakePlan → Type 0 = λ y. IsMaking prefix y old new status in
+    subst Q (same_plan same) (subst P (spelled_is ∙ same_prefix same) making)
+  where
+    same_prefix : {a b : Name} → {x y : MakePlan} → Make a x ≡ Make b y → a ≡ b
+    same_prefix e = cc
+
+    same_plan : {a b : Name} → {x y : MakePlan} → Make a x ≡ Make b y → x ≡ y
+    same_plan e = cc
+
+-- the file that a job names was written
+pub writes-named : (order : Option (List ℕ)) (opened name : List ℕ) (old new : FilesState) → order ≡ Some name → opened ≡ name → WritesFiles (opened ∷ []) old new → WritesFiles (names_in order) old new
+writes-named order opened name old new named is wrote =
+    let O : Option (List ℕ) → Type 0 = λ o. WritesFiles (names_in o) old new in
+    let N : List ℕ → Type 0 = λ n. WritesFiles (n ∷ []) old new in
+    subst O (sym named) (subst N is wrote)

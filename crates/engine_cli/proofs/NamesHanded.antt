@@ -1,13 +1,19 @@
 -- Names that are handed on one after another.
-use Rattle.std.proofs.Common.{◌≡◌, ◌≢◌, ◌⊎◌, inl, inr, Bool, true, false, ℕ, zero, suc, List, [], ◌∷◌, ◌++◌, Option, None, Some, Result, Ok, Err, OnOk, IfSome, take, ap, refl, sym, ◌∙◌, subst, ⊎_elim, append-nil, append_assoc}
-use Rattle.std.proofs.lemmas.Slice.Eq.{bytes_eq-Decides}
-use Rattle.std.specs.Prelude.{bytes_eq}
+use Rattle.std.proofs.Common.{◌≡◌, ◌≢◌, ◌⊎◌, inl, inr, Bool, true, false, ℕ, zero, suc, List, [], ◌∷◌, ◌++◌, Option, None, Some, Result, Ok, Err, OnOk, IfSome, take, ap, refl, sym, ◌∙◌, subst, ⊎_elim, append-nil, append_assoc, arith}
+use Rattle.std.specs.Prelude.{Contains}
 use Rattle.gl_outside.specs.declared.files.OpenFault.{OpenFault}
 use Rattle.gl_outside.specs.declared.files.OpenFault.TheVariants.{Failed, NoMemory}
 use Rattle.gl_outside.specs.Names.{AppendsNames, NotesName}
 use Rattle.gl_base.specs.declared.text_faults.TextFault.{TextFault}
 use Rattle.graph_text.specs.GraphTexts.{ListsIds}
-use Rattle.engine_cli.specs.Found.{HandsOver, edges_after, edges_behind, names_in}
+use Rattle.gl_base.specs.declared.job_faults.JobFault.{JobFault}
+use Rattle.gl_outside.specs.FilesState.{FilesState}
+use Rattle.graph_text.specs.Vertices.{vertices_of}
+use Rattle.job_config.specs.Jobs.{JobSayings}
+use Rattle.engine_cli.specs.FilesUsed.{HandsOver, OfRead}
+use Rattle.engine_cli.specs.Found.{HandsOrder, edges_after, edges_behind, graph_names, names_after, names_behind, names_in, names_of, orders_of}
+use Rattle.engine_cli.specs.Runs.{run_of}
+use Rattle.engine_cli.specs.Says.{SaysJob}
 
 AppendsNames-trans : (a b c : Option (List (List ℕ))) (xs ys : List (List ℕ)) → AppendsNames a b xs → AppendsNames b c ys → AppendsNames a c (xs ++ ys)
 AppendsNames-trans None b c xs ys p q = tt
@@ -40,32 +46,46 @@ pub HandsOver-then : (a b c : Option (List (List ℕ))) (v first : List ℕ) (re
 HandsOver-then a b c v first rest e p q =
     (suc q.0, subst (λ (x : List ℕ). AppendsNames a c (x ∷ take q.0 rest)) e (AppendsNames-trans a b c (v ∷ []) (take q.0 rest) p q.1))
 
--- where the vertex text lists identifiers, the edge file is read next
-pub edges-follow : (text : Option (List ℕ)) (ids edges : List ℕ) → IfSome text (λ bytes. ListsIds bytes ids) → edges_after text edges ≡ edges ∷ []
-edges-follow None ids edges lists = refl
-edges-follow (Some bytes) ids edges lists = ap (λ (r : Result (List ℕ) TextFault). edges_behind r edges) lists.lines
-
 -- the vertex file was handed on, and then the edge file at most
-pub HandsOver-edges : (a b c : Option (List (List ℕ))) (given : List ℕ → Option (List ℕ)) (v vertices w edges ids : List ℕ) → v ≡ vertices → w ≡ edges
-    → IfSome (given v) (λ bytes. ListsIds bytes ids) → AppendsNames a b (v ∷ []) → HandsOver b c (w ∷ [])
-    → HandsOver a c (vertices ∷ edges_after (given vertices) edges)
-HandsOver-edges a b c given v vertices w edges ids e f lists first rest =
-    let told : IfSome (given vertices) (λ bytes. ListsIds bytes ids) = subst (λ (x : List ℕ). IfSome (given x) (λ bytes. ListsIds bytes ids)) e lists in
-    let next : HandsOver b c (edges_after (given vertices) edges) =
-    subst (HandsOver b c) (sym (edges-follow (given vertices) ids edges told)) (HandsOver-first b c w edges [] f rest) in
-    HandsOver-then a b c v vertices (edges_after (given vertices) edges) e first next
+pub HandsOver-edges : (a b c : Option (List (List ℕ))) (text : Option (List ℕ)) (v vertices w edges ids : List ℕ) → v ≡ vertices → w ≡ edges
+    → OfRead a text (λ bytes. ListsIds bytes ids) → AppendsNames a b (v ∷ []) → HandsOver b c (w ∷ []) → HandsOver a c (vertices ∷ edges_after text edges)
+HandsOver-edges a b c (Some bytes) v vertices w edges ids e f lists first rest =
+    let follow : edges_behind (vertices_of bytes) edges ≡ edges ∷ [] = ap (λ (r : Result (List ℕ) TextFault). edges_behind r edges) lists.lines in
+    let next : HandsOver b c (edges_behind (vertices_of bytes) edges) = subst (HandsOver b c) (sym follow) (HandsOver-first b c w edges [] f rest) in
+    HandsOver-then a b c v vertices (edges_behind (vertices_of bytes) edges) e first next
+HandsOver-edges None b c None v vertices w edges ids e f lists first rest = (0, tt)
+HandsOver-edges (Some told) b c None v vertices w edges ids e f lists first rest = absurd lists
 
--- two names were handed on
-pub AppendsNames-two : (a b c : Option (List (List ℕ))) (v first w second : List ℕ) → v ≡ first → w ≡ second
-    → AppendsNames a b (v ∷ []) → AppendsNames b c (w ∷ []) → AppendsNames a c (first ∷ second ∷ [])
-AppendsNames-two a b c v first w second e f p q =
-    let names : v ∷ w ∷ [] ≡ first ∷ second ∷ [] = cc in
-    subst (AppendsNames a c) names (AppendsNames-trans a b c (v ∷ []) (w ∷ []) p q)
+-- the job's file was handed on, and then the graph's files at most
+pub HandsOver-graph : (files : FilesState) (b c : Option (List (List ℕ))) (file : List ℕ) (job : JobSayings) → SaysJob files file job
+    → AppendsNames files.sources.names b (file ∷ []) → HandsOver b c (graph_names files job.fields) → HandsOver files.sources.names c (names_of files file)
+HandsOver-graph files b c file job says first rest = go files.sources.names (files.contents file) says first
+  where
+    go : (a : Option (List (List ℕ))) (text : Option (List ℕ)) → OfRead a text (λ bytes. run_of bytes ≡ Ok job) → AppendsNames a b (file ∷ [])
+        → HandsOver a c (file ∷ names_after files text)
+    go a (Some bytes) is first =
+        let next : HandsOver b c (names_behind files (run_of bytes)) = subst (λ (r : Result JobSayings JobFault). HandsOver b c (names_behind files r)) (sym is) rest in
+        HandsOver-then a b c file file (names_behind files (run_of bytes)) refl first next
+    go None None is first = (0, tt)
+    go (Some told) None is first = absurd is
 
--- what follows at `Ok`
-pub OnOk-map : {X E : Type 0} (r : Result X E) (P Q : Type 0) → (P → Q) → OnOk r P → OnOk r Q
-OnOk-map (Ok x) P Q go p = go p
-OnOk-map (Err e) P Q go p = tt
+-- the name of the job's file for the order was handed on at most
+pub hands-order : (old new : FilesState) (file : List ℕ) (job : JobSayings) → SaysJob old file job
+    → HandsOver old.sinks.names new.sinks.names (names_in job.fields.order) → HandsOrder old new file
+hands-order old new file job says hands = go old.sources.names (old.contents file) says
+  where
+    go : (a : Option (List (List ℕ))) (text : Option (List ℕ)) → OfRead a text (λ bytes. run_of bytes ≡ Ok job)
+        → IfSome text (λ bytes. HandsOver old.sinks.names new.sinks.names (orders_of (run_of bytes)))
+    go a None is = tt
+    go a (Some bytes) is = subst (λ (r : Result JobSayings JobFault). HandsOver old.sinks.names new.sinks.names (orders_of r)) (sym is) hands
+
+-- no name was handed on
+pub hands-no-order : (old new : FilesState) (file : List ℕ) → new.sinks.names ≡ old.sinks.names → HandsOrder old new file
+hands-no-order old new file same = go (old.contents file)
+  where
+    go : (text : Option (List ℕ)) → IfSome text (λ bytes. HandsOver old.sinks.names new.sinks.names (orders_of (run_of bytes)))
+    go None = tt
+    go (Some bytes) = (0, subst (λ (n : Option (List (List ℕ))). AppendsNames old.sinks.names n []) (sym same) (AppendsNames-nil old.sinks.names))
 
 -- a fact is a fact at `Ok`
 pub OnOk-of : {X E : Type 0} (r : Result X E) (P : Type 0) → P → OnOk r P
@@ -81,17 +101,18 @@ pub HandsOver-named : (a b : Option (List (List ℕ))) (order : Option (List ℕ
     → HandsOver a b (name ∷ []) → HandsOver a b (names_in order)
 HandsOver-named a b order name named hands = subst (λ (o : Option (List ℕ)). HandsOver a b (names_in o)) (sym named) hands
 
--- one name and all others give what they gave
-pub all-kept : (old new : List ℕ → Option (List ℕ)) (name : List ℕ) → new name ≡ old name → ((other : List ℕ) → other ≢ name → new other ≡ old other)
-    → (other : List ℕ) → new other ≡ old other
-all-kept old new name kept others other = elim (decide (bytes_eq other name)) [
-  | inl same ↦ subst (λ (n : List ℕ). new n ≡ old n) (sym ((bytes_eq-Decides other name).0 same)) kept
-  | inr isnt ↦ others other (λ e. differs isnt ((bytes_eq-Decides other name).1 e))
-]
-  where
-    decide : (b : Bool) → (b ≡ true) ⊎ (b ≡ false)
-    decide true = inl refl
-    decide false = inr refl
+-- a name is one of a list of one, or of two
+pub contains-one : (name other : List ℕ) → other ≡ name → Contains (name ∷ []) other
+contains-one name other e = (0, omega arith, sym e)
 
-    differs : {b : Bool} → b ≡ false → b ≡ true → ⊥
-    differs p q = cc
+pub contains-first : (first second other : List ℕ) → other ≡ first → Contains (first ∷ second ∷ []) other
+contains-first first second other e = (0, omega arith, sym e)
+
+pub contains-second : (first second other : List ℕ) → other ≡ second → Contains (first ∷ second ∷ []) other
+contains-second first second other e = (1, omega arith, sym e)
+
+-- a name that is named is the one
+pub contains-named : (order : Option (List ℕ)) (name : List ℕ) → Contains (names_in order) name → order ≡ Some name
+contains-named None name (k, inside, is) = absurd (omega (arith, inside))
+contains-named (Some n) name (zero, inside, is) = ap (λ (x : List ℕ). Some x) is
+contains-named (Some n) name (suc k, inside, is) = absurd (omega (arith, inside))

@@ -1,5 +1,5 @@
 -- A valid job over valid texts has no fault.
-use Rattle.std.proofs.Common.{◌≡◌, ℕ, ◌<◌, Bool, List, [], ◌∷◌, ◌++◌, length, get_or, Option, Some, IfSome, Result, Ok, Err, sym, ◌∙◌, subst, arith, ⊎_elim}
+use Rattle.std.proofs.Common.{◌≡◌, ℕ, ◌<◌, Bool, List, [], ◌∷◌, ◌++◌, length, get_or, Option, Some, Result, Ok, Err, sym, ◌∙◌, subst, arith, ⊎_elim}
 use Rattle.gl_base.specs.declared.entries.Entry.{Entry}
 use Rattle.gl_base.specs.declared.entries.Entry.TheVariants.{Go}
 use Rattle.gl_base.specs.declared.numbers.Vertex.{Vertex}
@@ -20,6 +20,8 @@ use Rattle.engine_cli.specs.Answer.{LacksSource, IsValid, RefusesEdges, SpendsBu
 use Rattle.engine_cli.specs.Plays.{update_of}
 use Rattle.engine_cli.specs.Runs.{run_of}
 use Rattle.engine_cli.specs.Says.{Moment, Says, IsSound, OfJob, OfTexts, RefusesSource, RefusesTexts}
+use Rattle.engine_cli.specs.FilesUsed.{OfRead}
+use Rattle.engine_cli.proofs.TextsRead.{OfRead-bytes}
 use Rattle.engine_cli.proofs.Bounds.{bound-of, one-more, since-one-more}
 use Rattle.engine_cli.proofs.SortedOnce.{sorted_once}
 
@@ -33,22 +35,18 @@ lists_no_fault bytes ids fault lists refused = ok_is_no_err (sym lists.lines ∙
 -- a text lists identifiers in one order that ascends
 pub one_list : (bytes a b : List ℕ) → ListsIds bytes a → ListsIds bytes b → a ≡ b
 one_list bytes a b p q =
-    let given : p.given ≡ q.given = same_ok (sym p.lines ∙ q.lines) in
+    let given : p.listed ≡ q.listed = same_ok (sym p.lines ∙ q.lines) in
     let P : List ℕ → Type 0 = λ xs. IsPermutation xs a in
-    sorted_once q.given a b p.are.ascending q.are.ascending (subst P given p.same) q.same
+    sorted_once q.listed a b p.are.ascending q.are.ascending (subst P given p.same) q.same
   where
     same_ok : {x y : List ℕ} → Ok x ≡ (let r : Result (List ℕ) TextFault = Ok y in r) → x ≡ y
     same_ok e = cc
 
--- a fact of a told text is a fact of its bytes
-told_bytes : (text : Option (List ℕ)) (bytes : List ℕ) (P : List ℕ → Type 0) → text ≡ Some bytes → IfSome text P → P bytes
-told_bytes text bytes P e h = let Q : Option (List ℕ) → Type 0 = λ t. IfSome t P in subst Q e h
-
 -- the job of a fact is the job that the file says
 of_job : (file : List ℕ) (before now : Moment) (P : JobFields → Type 0) → (sound : IsSound file before now)
-    → OfJob before.given file P → P sound.job.fields
+    → OfJob before.files file P → P sound.job.fields
 of_job file before now P sound h =
-    let told : run_of sound.bytes ≡ Ok h.0 = told_bytes (before.given file) sound.bytes (λ bytes. run_of bytes ≡ Ok h.0) sound.bytes_told h.1 in
+    let told : run_of sound.bytes ≡ Ok h.0 = OfRead-bytes before.files.sources.names (before.files.contents file) sound.bytes (λ bytes. run_of bytes ≡ Ok h.0) sound.bytes_told h.1 in
     let Q : JobSayings → Type 0 = λ job. P job.fields in
     subst Q (same_ok h.0 sound.job (sym told ∙ sound.job_is)) h.2
   where
@@ -57,10 +55,11 @@ of_job file before now P sound h =
 
 -- a fact of the job's texts is a fact of their bytes
 of_texts : (file : List ℕ) (before now : Moment) (P : List ℕ → List ℕ → Type 0) → (sound : IsSound file before now)
-    → OfTexts before.given sound.job.fields P → P sound.vertices sound.edges
+    → OfTexts before.files sound.job.fields P → P sound.vertices sound.edges
 of_texts file before now P sound h =
-    told_bytes (before.given sound.job.fields.edges) sound.edges (P sound.vertices) sound.edges_told
-    (told_bytes (before.given sound.job.fields.vertices) sound.vertices (λ v. IfSome (before.given sound.job.fields.edges) (λ e. P v e)) sound.vertices_told h)
+    let names = before.files.sources.names in
+    OfRead-bytes names (before.files.contents sound.job.fields.edges) sound.edges (P sound.vertices) sound.edges_told
+    (OfRead-bytes names (before.files.contents sound.job.fields.vertices) sound.vertices (λ v. OfRead names (before.files.contents sound.job.fields.edges) (P v)) sound.vertices_told h)
 
 -- an edge text that is valid over a graph's identifiers has no fault over those that the vertex text lists
 edges_sound : (job : JobFields) (fault : TextFault) (vertices edges : List ℕ) → IsValid job vertices edges → RefusesEdges job fault vertices edges → ⊥
@@ -91,6 +90,13 @@ unspent job left order vertices edges valid bad =
     let few = bound-of job.algorithm job.source bad.graph (order ++ next ∷ []) is bad.start longer in
     omega (arith, few, bad.spent.spent, valid.enough bad.graph bad.graph_is, since-one-more order left bad.play.updates)
 
+-- a job that can be run is not refused
+job_sound : (bytes : List ℕ) (job : JobSayings) (fault : JobFault) → run_of bytes ≡ Ok job → run_of bytes ≡ Err fault → ⊥
+job_sound bytes job fault p q = contradicts (sym p ∙ q)
+  where
+    contradicts : {X E : Type 0} → {x : X} → {e : E} → Ok x ≡ Err e → ⊥
+    contradicts e = cc
+
 -- what a valid job and valid texts come to
 pub sound_is_done : (file : List ℕ) (report : Bool) (before now : Moment) (tells : List ℕ → Type 0) (order : List Entry) (status : Status)
     → Says file report before now tells order status → IsSound file before now → IsDoneOrNoMemory status
@@ -98,30 +104,25 @@ sound_is_done file report before now tells order Done says sound = tt
 sound_is_done file report before now tells order (Usage fault) says sound = says
 sound_is_done file report before now tells order (BadJob fault) says sound =
     ⊎_elim
-    (λ refused. job_sound sound.bytes sound.job fault sound.job_is (told_bytes (before.given file) sound.bytes (λ bytes. run_of bytes ≡ Err fault) sound.bytes_told refused))
+    (λ refused. job_sound sound.bytes sound.job fault sound.job_is
+    (OfRead-bytes before.files.sources.names (before.files.contents file) sound.bytes (λ bytes. run_of bytes ≡ Err fault) sound.bytes_told refused))
     (λ lacks.
-    let at = of_job file before now (RefusesSource before.given fault) sound lacks in
+    let at = of_job file before now (RefusesSource before.files fault) sound lacks in
     source_sound sound.job.fields at.0 sound.vertices sound.edges sound.valid
     (of_texts file before now (LacksSource sound.job.fields at.0) sound at.2))
     says.1
-  where
-    job_sound : (bytes : List ℕ) (job : JobSayings) (fault : JobFault) → run_of bytes ≡ Ok job → run_of bytes ≡ Err fault → ⊥
-    job_sound bytes job fault p q = contradicts (sym p ∙ q)
-      where
-        contradicts : {X E : Type 0} → {x : X} → {e : E} → Ok x ≡ Err e → ⊥
-        contradicts e = cc
 sound_is_done file report before now tells order (BadGraph fault) says sound =
     ⊎_elim
     (λ first. lists_no_fault sound.vertices sound.valid.graph.ids fault sound.valid.told.vertex_lines
-    (told_bytes (before.given sound.job.fields.vertices) sound.vertices (λ v. vertices_of v ≡ Err fault) sound.vertices_told first))
+    (OfRead-bytes before.files.sources.names (before.files.contents sound.job.fields.vertices) sound.vertices (λ v. vertices_of v ≡ Err fault) sound.vertices_told first))
     (λ second. edges_sound sound.job.fields fault sound.vertices sound.edges sound.valid
     (of_texts file before now (RefusesEdges sound.job.fields fault) sound second))
-    (of_job file before now (RefusesTexts before.given fault) sound says.1)
+    (of_job file before now (RefusesTexts before.files fault) sound says.1)
 sound_is_done file report before now tells order ReadFault says sound = sound.no_read_fault says.1
 sound_is_done file report before now tells order WriteFault says sound =
     ⊎_elim (λ first. sound.no_write_fault first.rose) (λ second. sound.no_fault_of_out second.rose) says.1.2.0
 sound_is_done file report before now tells order (BudgetSpent left) says sound =
     unspent sound.job.fields left order sound.vertices sound.edges sound.valid
     (of_texts file before now (SpendsBudget sound.job.fields left order) sound
-    (of_job file before now (λ job. OfTexts before.given job (SpendsBudget job left order)) sound says))
+    (of_job file before now (λ job. OfTexts before.files job (SpendsBudget job left order)) sound says))
 sound_is_done file report before now tells order NoMemory says sound = tt

@@ -1,3 +1,4 @@
+pub mod FilesUsed
 pub mod Answer
 pub mod Printing
 pub mod Says
@@ -11,3 +12,5 @@ pub mod Writes
 pub mod Leaves
 pub mod Made
 pub mod Prepares
+pub mod Causes
+pub mod Verbs

@@ -4,7 +4,10 @@ use Rattle.gl_base.specs.declared.jobs.MakePlan.{MakePlan}
 use Rattle.gl_base.specs.declared.text_faults.TextFile.{TextFile}
 use Rattle.gl_base.specs.declared.text_faults.TextFile.TheVariants.{Vertices, Edges}
 use Rattle.gl_outside.specs.Faults.{Rose}
+use Rattle.gl_outside.specs.FilesState.{FilesState}
 use Rattle.graph_text.specs.Making.{IsStride, offset_count, made_edges, made_vertices}
+use Rattle.graph_text.specs.declared.making.Writing.{Writing}
+use Rattle.graph_text.specs.declared.making.Writing.TheVariants as out
 use Rattle.job_words.specs.CommandLine.{IsCommandLine}
 use Rattle.gl_base.specs.Texts.{Text}
 use Rattle.job_words.specs.declared.words.Words.{Words}
@@ -43,34 +46,26 @@ abbrev pub IsMadeFront : MakePlan → TextFile → List ℕ → Type 0
 IsMadeFront plan text bytes = (whole : List ℕ) × IsMade plan text whole × (count : ℕ) × (bytes ≡ take count whole)
 
 -- a name gives what it gave, or, where names are told, a front of this text of the plan's graph
-abbrev pub LeavesFront : MakePlan → TextFile → Option (List (List ℕ)) → Option (List ℕ) → Option (List ℕ) → Type 0
-LeavesFront plan text names old new = KeepsOrGives names old new (IsMadeFront plan text)
+abbrev pub LeavesFront : MakePlan → TextFile → FilesState → FilesState → List ℕ → Type 0
+LeavesFront plan text old new name = KeepsOrGives old.sinks.names (old.contents name) (new.contents name) (IsMadeFront plan text)
 
--- the same of each of the two names
-abbrev pub LeavesFronts : MakePlan → List ℕ → Option (List (List ℕ)) → (List ℕ → Option (List ℕ)) → (List ℕ → Option (List ℕ)) → Type 0
-LeavesFronts plan prefix names old new =
-    (text : TextFile) → LeavesFront plan text names (old (prefix ++ ending_of text)) (new (prefix ++ ending_of text))
+-- where names are told this name gives this text of the plan's graph
+abbrev pub LeavesText : MakePlan → TextFile → FilesState → FilesState → List ℕ → Type 0
+LeavesText plan text old new name = IfSome old.sinks.names (λ told. Gives (new.contents name) (IsMade plan text))
 
--- what making the two files says by its status: both names give the texts, where names are told; a write fault comes only
--- where the count rose
-abbrev pub Makes : MakePlan → List ℕ → Option (List (List ℕ)) → (List ℕ → Option (List ℕ)) → ℕ → ℕ → Status → Type 0
-Makes plan prefix names given before now Done =
-    IfSome names (λ told. Gives (given (vertices_name prefix)) (IsMade plan Vertices) × Gives (given (edges_name prefix)) (IsMade plan Edges))
-Makes plan prefix names given before now (Usage fault) = ⊥
-Makes plan prefix names given before now (BadJob fault) = ⊥
-Makes plan prefix names given before now (BadGraph fault) = ⊥
-Makes plan prefix names given before now ReadFault = ⊥
-Makes plan prefix names given before now WriteFault = Rose before now
-Makes plan prefix names given before now (BudgetSpent left) = ⊥
-Makes plan prefix names given before now NoMemory = ⊤
+-- What making the two files says by its status: both names give the texts, where names are told; a write fault comes only
+-- where the count rose.
+abbrev pub Makes : MakePlan → List ℕ → FilesState → FilesState → Status → Type 0
+Makes plan prefix old new Done = LeavesText plan Vertices old new (vertices_name prefix) × LeavesText plan Edges old new (edges_name prefix)
+Makes plan prefix old new (Usage fault) = ⊥
+Makes plan prefix old new (BadJob fault) = ⊥
+Makes plan prefix old new (BadGraph fault) = ⊥
+Makes plan prefix old new ReadFault = ⊥
+Makes plan prefix old new WriteFault = Rose old.sinks.faults new.sinks.faults
+Makes plan prefix old new (BudgetSpent left) = ⊥
+Makes plan prefix old new NoMemory = ⊤
 
--- a fault of making one file
-abbrev pub IsFault : Status → ℕ → ℕ → Type 0
-IsFault Done before now = ⊥
-IsFault (Usage fault) before now = ⊥
-IsFault (BadJob fault) before now = ⊥
-IsFault (BadGraph fault) before now = ⊥
-IsFault ReadFault before now = ⊥
-IsFault WriteFault before now = Rose before now
-IsFault (BudgetSpent left) before now = ⊥
-IsFault NoMemory before now = ⊤
+-- a fault of writing
+abbrev pub IsFault : Writing → ℕ → ℕ → Type 0
+IsFault out.WriteFault before now = Rose before now
+IsFault out.NoMemory before now = ⊤

@@ -1,12 +1,9 @@
 -- The numbers of statuses, and what each says of `out`.
 use Rattle.std.specs.Prelude.{ℕ, ⊤}
-use Rattle.graph_text.specs.declared.lists.Reading.{Reading}
-use Rattle.graph_text.specs.declared.lists.Reading.TheVariants as text
-use Rattle.gl_base.specs.declared.job_faults.JobFault.{JobFault}
-use Rattle.gl_base.specs.declared.memory.OrNoMemory.{OrNoMemory}
-use Rattle.gl_base.specs.declared.memory.OrNoMemory.TheVariants as job
 use Rattle.graph_text.specs.declared.making.Writing.{Writing}
 use Rattle.graph_text.specs.declared.making.Writing.TheVariants as out
+use Rattle.engine_cli.specs.declared.running.Unprepared.{Unprepared}
+use Rattle.engine_cli.specs.declared.running.Unprepared.TheVariants as why
 use Rattle.engine_cli.specs.declared.status.Status.{Status}
 use Rattle.engine_cli.specs.declared.status.Status.TheVariants.{Done, Usage, BadJob, BadGraph, ReadFault, WriteFault, BudgetSpent, NoMemory}
 
@@ -65,18 +62,14 @@ IsRefused WriteFault = ⊤
 IsRefused (BudgetSpent left) = ⊤
 IsRefused NoMemory = ⊤
 
--- what a run ends with that could not read a graph's text
-abbrev pub status_of_reading : Reading → Status
-status_of_reading (text.Text fault) = BadGraph fault
-status_of_reading text.ReadFault = ReadFault
-status_of_reading text.NoMemory = NoMemory
+-- what a run ends with that was not made
+abbrev pub status_of_unprepared : Unprepared → Status
+status_of_unprepared (why.BadJob fault) = BadJob fault
+status_of_unprepared (why.BadGraph fault) = BadGraph fault
+status_of_unprepared why.ReadFault = ReadFault
+status_of_unprepared why.NoMemory = NoMemory
 
--- what a run ends with that could not read a job
-abbrev pub status_of_job : OrNoMemory JobFault → Status
-status_of_job (job.Fault fault) = BadJob fault
-status_of_job job.NoMemory = NoMemory
-
--- what a run ends with that could not print its answer
+-- what a call ends with that could not write
 abbrev pub status_of_writing : Writing → Status
 status_of_writing out.WriteFault = WriteFault
 status_of_writing out.NoMemory = NoMemory

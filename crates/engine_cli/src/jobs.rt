@@ -1,33 +1,63 @@
 //! The job of a run.
-ghost use Rattle.std.specs.Prelude.{◌≡◌, ℕ, ◌≤◌, [], ◌∷◌, List, OnOk};
+ghost use Rattle.std.specs.Prelude.{◌≡◌, ℕ, [], ◌∷◌, List, OnOk};
 ghost use Rattle.gl_outside.specs.Names.{AppendsNames};
 ghost use Rattle.job_config.specs.Views.{job_view};
-ghost use Rattle.engine_cli.specs.Found.{TakesJob, HandsOver};
+ghost use Rattle.engine_cli.specs.Causes.{no_job_of_bytes, no_job_of_file};
+ghost use Rattle.engine_cli.specs.FilesUsed.{ReadsFiles};
+ghost use Rattle.engine_cli.specs.Found.{TakesJob};
 ghost use Rattle.engine_cli.specs.Runs.{not_built};
 
-use crate::Status;
-use crate::reading::front_of;
+use crate::reading::{NotRead, front_of};
 use gl_base::{EngineKind, Job, JobFault, Key, MAX_JOB_BYTES};
 use gl_outside::Files;
 use job_config::{JobReading, read_job};
 use std::alloc::Global;
 
+/// Why there is no job.
+#[derive(Debug, Drop)]
+pub enum NoJob {
+    /// The bytes are no job, or it asks for what is not built.
+    Refused(JobFault),
+    /// Its file could not be read.
+    ReadFault,
+    /// There was not enough memory.
+    NoMemory,
+}
+
+impl From<NotRead> for NoJob {
+    ghost from_gives = { λ not_read no_job. no_job ≡ no_job_of_file not_read };
+
+    fn from(not_read: NotRead) -> Self {
+        match not_read {
+            NotRead::ReadFault => NoJob::ReadFault,
+            NotRead::NoMemory => NoJob::NoMemory,
+        }
+    }
+}
+
+impl From<JobReading> for NoJob {
+    ghost from_gives = { λ reading no_job. no_job ≡ no_job_of_bytes reading };
+
+    fn from(reading: JobReading) -> Self {
+        match reading {
+            JobReading::Fault(fault) => NoJob::Refused(fault),
+            JobReading::NoMemory => NoJob::NoMemory,
+        }
+    }
+}
+
 /// The job that the file of this name says. It is refused where its bytes are no job, and where it asks for what is not
 /// built.
-pub fn job_of<F: Files>(alloc: Global, files: &mut F, name: &str) -> Result<Job, Status>
-    ensures answer { TakesJob (F.given files.old name.now) (F.reads files.old) (F.reads files.new) result }
-    ensures given { (other : List ℕ) → F.given files.new other ≡ F.given files.old other }
-    ensures made { F.made files.new ≡ F.made files.old }
-    ensures writes { F.writes files.new ≡ F.writes files.old }
-    ensures later { F.reads files.old ≤ F.reads files.new }
-    ensures names { HandsOver (F.handed files.old) (F.handed files.new) (name.now ∷ []) }
-    ensures handed { OnOk result (AppendsNames (F.handed files.old) (F.handed files.new) (name.now ∷ [])) }
+pub fn job_of<F: Files>(alloc: Global, files: &mut F, name: &str) -> Result<Job, NoJob>
+    ensures answer { TakesJob (F.state files.old) (F.state files.new).sources.faults name.now result }
+    ensures read { ReadsFiles (name.now ∷ []) (F.state files.old) (F.state files.new) }
+    ensures handed { OnOk result (AppendsNames (F.state files.old).sources.names (F.state files.new).sources.names (name.now ∷ [])) }
 {
     let bytes = front_of(alloc, files, name, MAX_JOB_BYTES)?;
     let job = read_job(alloc, &bytes)?;
     match not_built(&job) {
         None => Ok(job),
-        Some(key) => Err(Status::BadJob(JobFault::NotBuilt(key))),
+        Some(key) => Err(NoJob::Refused(JobFault::NotBuilt(key))),
     }
 }
 

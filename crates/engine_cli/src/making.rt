@@ -1,20 +1,19 @@
 //! The verbs that do their work on files alone: `make` writes a graph.
-ghost use Rattle.std.specs.Prelude.{◌≡◌, ◌≢◌, ◌++◌, ℕ, ◌≤◌, [], ◌∷◌, List, IfOk, IfErr, IfSome, OnOk, string_bytes};
+ghost use Rattle.std.specs.Prelude.{◌≡◌, ◌++◌, ℕ, ◌≤◌, [], ◌∷◌, List, IfOk, IfErr, OnOk, string_bytes};
 ghost use Rattle.std.specs.Io.KnownBytes.{Appends};
 ghost use Rattle.gl_base.specs.declared.jobs.MakePlan.{MakePlan};
 ghost use Rattle.gl_base.specs.declared.text_faults.TextFile.TheVariants.{Vertices, Edges};
-ghost use Rattle.gl_outside.specs.declared.files.OpenFault.TheVariants.{Failed, NoMemory as NoMemoryAtOpen};
-ghost use Rattle.gl_outside.specs.Frames.{KeepsSources};
+ghost use Rattle.gl_outside.specs.Frames.{ChangesSinks};
 ghost use Rattle.gl_outside.specs.Names.{AppendsNames};
 ghost use Rattle.graph_text.specs.Making.{IsPlanInRange};
-ghost use Rattle.graph_text.specs.declared.making.Writing.{Writing};
 ghost use Rattle.job_words.specs.declared.words.Words.TheVariants.{Make};
 ghost use Rattle.engine_cli.specs.declared.status.Status.TheVariants.{Done};
 ghost use Rattle.engine_cli.specs.Status.{IsRefused};
-ghost use Rattle.engine_cli.specs.Found.{HandsOver};
-ghost use Rattle.engine_cli.specs.Leaves.{Gives};
-ghost use Rattle.engine_cli.specs.Made.{IsAsked, IsFault, IsMade, IsMadeFront, IsOfFiles, LeavesFront, LeavesFronts, Makes, edges_name, ending_of, vertices_name};
+ghost use Rattle.engine_cli.specs.Causes.{writing_of};
+ghost use Rattle.engine_cli.specs.FilesUsed.{WritesFiles};
+ghost use Rattle.engine_cli.specs.Made.{IsAsked, IsFault, IsMade, IsMadeFront, IsOfFiles, LeavesFront, LeavesText, edges_name, ending_of, vertices_name};
 ghost use Rattle.engine_cli.specs.Notes.{Tells, note_of};
+ghost use Rattle.engine_cli.specs.Verbs.{IsMaking};
 
 use crate::Status;
 use crate::notes::refuse;
@@ -37,15 +36,9 @@ pub fn files_only<F: Files, K: Sink, N: Sink>(
     requires asked { IsAsked words.now }
     requires verb { IsOfFiles words.now }
     ensures make { (prefix : List ℕ) (plan : MakePlan) → words.now ≡ Make prefix plan →
-        Makes plan prefix (F.made files.old) (F.given files.new) (F.writes files.old) (F.writes files.new) result }
-    ensures fronts { (prefix : List ℕ) (plan : MakePlan) → words.now ≡ Make prefix plan →
-        LeavesFronts plan prefix (F.made files.old) (F.given files.old) (F.given files.new) }
-    ensures made_names { (prefix : List ℕ) (plan : MakePlan) → words.now ≡ Make prefix plan →
-        HandsOver (F.made files.old) (F.made files.new) (vertices_name prefix ∷ edges_name prefix ∷ []) }
-    ensures made_alone { (prefix : List ℕ) (plan : MakePlan) → words.now ≡ Make prefix plan →
-        (name : List ℕ) → name ≢ vertices_name prefix → name ≢ edges_name prefix → F.given files.new name ≡ F.given files.old name }
-    ensures later { F.writes files.old ≤ F.writes files.new }
-    ensures sources { KeepsSources F.reads F.handed F.is_source F.left files.old files.new }
+        IsMaking prefix plan (F.state files.old) (F.state files.new) result }
+    ensures sinks { ChangesSinks (F.state files.old) (F.state files.new) }
+    ensures later { (F.state files.old).sinks.faults ≤ (F.state files.new).sinks.faults }
     ensures untouched { out.new ≡ out.old }
     ensures note { IsRefused result → Tells (note_of result) (N.held note.old) (N.held note.new) (N.faults note.old) (N.faults note.new) }
     ensures done { result ≡ Done → note.new ≡ note.old }
@@ -56,7 +49,7 @@ pub fn files_only<F: Files, K: Sink, N: Sink>(
         Words::Run { .. } => refuse(note, Status::Usage(UsageFault::Verb)),
         Words::Make { prefix, plan } => match make_files(alloc, files, prefix.as_str(), plan) {
             Ok(()) => Status::Done,
-            Err(status) => refuse(note, status),
+            Err(why) => refuse(note, why.into()),
         },
     }
 }
@@ -67,16 +60,14 @@ fn make_files<F: Files>(
     files: &mut F,
     prefix: &str,
     plan: &MakePlan,
-) -> Result<(), Status>
+) -> Result<(), Writing>
     requires { IsPlanInRange plan.now }
-    ensures vertices { OnOk result (IfSome (F.made files.old) (λ told. Gives (F.given files.new (vertices_name prefix.now)) (IsMade plan.now Vertices))) }
-    ensures edges { OnOk result (IfSome (F.made files.old) (λ told. Gives (F.given files.new (edges_name prefix.now)) (IsMade plan.now Edges))) }
-    ensures fronts { LeavesFronts plan.now prefix.now (F.made files.old) (F.given files.old) (F.given files.new) }
-    ensures fault { IfErr result (λ status. IsFault status (F.writes files.old) (F.writes files.new)) }
-    ensures names { HandsOver (F.made files.old) (F.made files.new) (vertices_name prefix.now ∷ edges_name prefix.now ∷ []) }
-    ensures others { (name : List ℕ) → name ≢ vertices_name prefix.now → name ≢ edges_name prefix.now → F.given files.new name ≡ F.given files.old name }
-    ensures later { F.writes files.old ≤ F.writes files.new }
-    ensures sources { KeepsSources F.reads F.handed F.is_source F.left files.old files.new }
+    ensures made_vertices { OnOk result (LeavesText plan.now Vertices (F.state files.old) (F.state files.new) (vertices_name prefix.now)) }
+    ensures made_edges { OnOk result (LeavesText plan.now Edges (F.state files.old) (F.state files.new) (edges_name prefix.now)) }
+    ensures vertices { LeavesFront plan.now Vertices (F.state files.old) (F.state files.new) (vertices_name prefix.now) }
+    ensures edges { LeavesFront plan.now Edges (F.state files.old) (F.state files.new) (edges_name prefix.now) }
+    ensures fault { IfErr result (λ why. IsFault why (F.state files.old).sinks.faults (F.state files.new).sinks.faults) }
+    ensures wrote { WritesFiles (vertices_name prefix.now ∷ edges_name prefix.now ∷ []) (F.state files.old) (F.state files.new) }
 {
     make_file(alloc, files, prefix, TextFile::Vertices, plan)?;
     make_file(alloc, files, prefix, TextFile::Edges, plan)
@@ -89,21 +80,18 @@ fn make_file<F: Files>(
     prefix: &str,
     text: TextFile,
     plan: &MakePlan,
-) -> Result<(), Status>
+) -> Result<(), Writing>
     requires { IsPlanInRange plan.now }
-    ensures made { OnOk result (IfSome (F.made files.old) (λ told. Gives (F.given files.new (prefix.now ++ ending_of text)) (IsMade plan.now text))) }
-    ensures front { LeavesFront plan.now text (F.made files.old) (F.given files.old (prefix.now ++ ending_of text)) (F.given files.new (prefix.now ++ ending_of text)) }
-    ensures fault { IfErr result (λ status. IsFault status (F.writes files.old) (F.writes files.new)) }
-    ensures names { HandsOver (F.made files.old) (F.made files.new) ((prefix.now ++ ending_of text) ∷ []) }
-    ensures handed { OnOk result (AppendsNames (F.made files.old) (F.made files.new) ((prefix.now ++ ending_of text) ∷ [])) }
-    ensures others { (name : List ℕ) → name ≢ prefix.now ++ ending_of text → F.given files.new name ≡ F.given files.old name }
-    ensures later { F.writes files.old ≤ F.writes files.new }
-    ensures sources { KeepsSources F.reads F.handed F.is_source F.left files.old files.new }
+    ensures made { OnOk result (LeavesText plan.now text (F.state files.old) (F.state files.new) (prefix.now ++ ending_of text)) }
+    ensures front { LeavesFront plan.now text (F.state files.old) (F.state files.new) (prefix.now ++ ending_of text) }
+    ensures fault { IfErr result (λ why. IsFault why (F.state files.old).sinks.faults (F.state files.new).sinks.faults) }
+    ensures wrote { WritesFiles ((prefix.now ++ ending_of text) ∷ []) (F.state files.old) (F.state files.new) }
+    ensures handed { OnOk result (AppendsNames (F.state files.old).sinks.names (F.state files.new).sinks.names ((prefix.now ++ ending_of text) ∷ [])) }
 {
     let name = file_name(alloc, prefix, text)?;
     let file = match files.open_sink(name.as_str()) {
         Ok(file) => file,
-        Err(fault) => return Err(not_made(fault).into()),
+        Err(fault) => return Err(not_made(fault)),
     };
     write_text(alloc, &mut SinkOf::new(files, file), text, plan)
 }
@@ -114,19 +102,18 @@ fn write_text<K: Sink>(
     sink: &mut K,
     text: TextFile,
     plan: &MakePlan,
-) -> Result<(), Status>
+) -> Result<(), Writing>
     requires { IsPlanInRange plan.now }
     ensures made { OnOk result ((bytes : List ℕ) × IsMade plan.now text bytes × Appends (K.held sink.old) (K.held sink.new) bytes) }
     ensures front { (bytes : List ℕ) × IsMadeFront plan.now text bytes × Appends (K.held sink.old) (K.held sink.new) bytes }
-    ensures fault { IfErr result (λ status. IsFault status (K.faults sink.old) (K.faults sink.new)) }
+    ensures fault { IfErr result (λ why. IsFault why (K.faults sink.old) (K.faults sink.new)) }
     ensures later { K.faults sink.old ≤ K.faults sink.new }
     ensures same { K.same sink.old sink.new }
 {
     match text {
-        TextFile::Vertices => make_vertices(alloc, sink, plan)?,
-        TextFile::Edges => make_edges(alloc, sink, plan)?,
+        TextFile::Vertices => make_vertices(alloc, sink, plan),
+        TextFile::Edges => make_edges(alloc, sink, plan),
     }
-    Ok(())
 }
 
 /// The name of one text's file.
@@ -143,8 +130,7 @@ fn file_name(alloc: Global, prefix: &str, text: TextFile) -> Result<String, NoMe
 
 /// Why a file was not written that was not opened.
 pub(crate) fn not_made(fault: OpenFault) -> Writing
-    ensures failed { fault ≡ Failed → result ≡ Writing.WriteFault }
-    ensures no_memory { fault ≡ NoMemoryAtOpen → result ≡ Writing.NoMemory }
+    ensures { result ≡ writing_of fault }
 {
     match fault {
         OpenFault::Failed => Writing::WriteFault,

@@ -1,15 +1,15 @@
 //! Prints what a run left: its order, where the job names a file for it, and the answer.
-ghost use Rattle.std.specs.Prelude.{◌≡◌, ◌≢◌, ℕ, ◌≤◌, [], ◌∷◌, List, length, take, All, Some, Err, IfOk, IfSome, OnOk, OnErr};
+ghost use Rattle.std.specs.Prelude.{◌≡◌, ℕ, ◌≤◌, [], ◌∷◌, List, length, take, All, Some, Err, IfOk, IfSome, OnOk};
 ghost use Rattle.std.specs.Io.KnownBytes.{Appends};
 ghost use Rattle.gl_outside.specs.Faults.{Rose};
 ghost use Rattle.gl_outside.specs.Fronts.{AppendsFront};
-ghost use Rattle.gl_outside.specs.Frames.{KeepsSources};
 ghost use Rattle.graph_core.specs.DataGraph.{size};
 ghost use Rattle.graph_text.specs.declared.making.Writing.TheVariants.{WriteFault, NoMemory as NoMemoryAtOut};
 ghost use Rattle.job_config.specs.Views.{job_view};
 ghost use Rattle.order_text.specs.Orders.{IsEntryOf};
 ghost use Rattle.engine_cli.specs.Answer.{told_of};
-ghost use Rattle.engine_cli.specs.Found.{HandsOver, names_in};
+ghost use Rattle.engine_cli.specs.FilesUsed.{WritesFiles};
+ghost use Rattle.engine_cli.specs.Found.{names_in};
 ghost use Rattle.engine_cli.specs.Leaves.{KeepsOrGives};
 ghost use Rattle.engine_cli.specs.Printing.{Prints, printed_of};
 ghost use Rattle.engine_cli.specs.Says.{moment};
@@ -37,13 +37,10 @@ pub fn print_run<F: Files, K: Sink>(
     requires numbers { length made.now.run.numbers.items ≡ size made.now.graph }
     requires entries { All (IsEntryOf made.now.graph) made.now.run.order.items }
     ensures printed { Prints result (job_view made.now.job).fields.order (printed_of is_reported made.now)
-        (moment F.given F.made F.reads F.writes files.old (K.faults out.old) (K.held out.old))
-        (moment F.given F.made F.reads F.writes files.new (K.faults out.new) (K.held out.new)) }
-    ensures no_memory { result ≡ Err NoMemoryAtOut → (out.new ≡ out.old) × ((name : List ℕ) → F.given files.new name ≡ F.given files.old name) }
-    ensures names { HandsOver (F.made files.old) (F.made files.new) (names_in (job_view made.now.job).fields.order) }
-    ensures others { (name : List ℕ) → ((job_view made.now.job).fields.order ≡ Some name → ⊥) → F.given files.new name ≡ F.given files.old name }
-    ensures sources { KeepsSources F.reads F.handed F.is_source F.left files.old files.new }
-    ensures later { F.writes files.old ≤ F.writes files.new }
+        (moment (F.state files.old) (K.faults out.old) (K.held out.old))
+        (moment (F.state files.new) (K.faults out.new) (K.held out.new)) }
+    ensures no_memory { result ≡ Err NoMemoryAtOut → (out.new ≡ out.old) × ((F.state files.new).contents ≡ (F.state files.old).contents) }
+    ensures wrote { WritesFiles (names_in (job_view made.now.job).fields.order) (F.state files.old) (F.state files.new) }
     ensures faults { K.faults out.old ≤ K.faults out.new }
     ensures same { K.same out.old out.new }
 {
@@ -77,14 +74,12 @@ fn told_of(
 /// Makes the file of this name, or empties it, and writes the lines. Where it fails the file is what it was, or has a front
 /// of the lines.
 fn write_order<F: Files>(files: &mut F, name: &str, lines: &[u8]) -> Result<(), Writing>
-    ensures written { OnOk result (IfSome (F.made files.old) (λ told. F.given files.new name.now ≡ Some lines.now)) }
-    ensures front { KeepsOrGives (F.made files.old) (F.given files.old name.now) (F.given files.new name.now) (λ bytes. (count : ℕ) × (bytes ≡ take count lines.now)) }
-    ensures fault { result ≡ Err WriteFault → Rose (F.writes files.old) (F.writes files.new) }
-    ensures no_memory { result ≡ Err NoMemoryAtOut → (other : List ℕ) → F.given files.new other ≡ F.given files.old other }
-    ensures names { HandsOver (F.made files.old) (F.made files.new) (name.now ∷ []) }
-    ensures others { (other : List ℕ) → other ≢ name.now → F.given files.new other ≡ F.given files.old other }
-    ensures sources { KeepsSources F.reads F.handed F.is_source F.left files.old files.new }
-    ensures later { F.writes files.old ≤ F.writes files.new }
+    ensures written { OnOk result (IfSome (F.state files.old).sinks.names (λ names. (F.state files.new).contents name.now ≡ Some lines.now)) }
+    ensures front { KeepsOrGives (F.state files.old).sinks.names ((F.state files.old).contents name.now) ((F.state files.new).contents name.now)
+        (λ bytes. (count : ℕ) × (bytes ≡ take count lines.now)) }
+    ensures fault { result ≡ Err WriteFault → Rose (F.state files.old).sinks.faults (F.state files.new).sinks.faults }
+    ensures no_memory { result ≡ Err NoMemoryAtOut → (F.state files.new).contents ≡ (F.state files.old).contents }
+    ensures wrote { WritesFiles (name.now ∷ []) (F.state files.old) (F.state files.new) }
 {
     let file = match files.open_sink(name) {
         Ok(file) => file,

@@ -1,22 +1,50 @@
 //! Reads files whole: the job's, and the two of the graph.
-ghost use Rattle.std.specs.Prelude.{◌≡◌, ℕ, ◌≤◌, [], ◌∷◌, List, OnOk, OnErr};
+ghost use Rattle.std.specs.Prelude.{◌≡◌, ℕ, ◌≤◌, [], ◌∷◌, List, None, OnOk};
 ghost use Rattle.std.specs.Io.KnownBytes.{Consumes};
-ghost use Rattle.gl_outside.specs.declared.files.OpenFault.TheVariants.{Failed, NoMemory as NoMemoryAtOpen};
 ghost use Rattle.gl_outside.specs.Names.{AppendsNames};
 ghost use Rattle.job_config.specs.Views.{job_view};
-ghost use Rattle.engine_cli.specs.declared.status.Status.TheVariants.{ReadFault, NoMemory};
+ghost use Rattle.engine_cli.specs.declared.reading.NotRead.TheVariants.{NoMemory};
 ghost use Rattle.engine_cli.specs.Answer.{is_weighted};
-ghost use Rattle.engine_cli.specs.Found.{TakesFront, TakesVertices, TakesEdges, TakesGraph, HandsOver, graph_names};
+ghost use Rattle.engine_cli.specs.Causes.{not_read_of, reading_of};
+ghost use Rattle.engine_cli.specs.FilesUsed.{ReadsFiles};
+ghost use Rattle.engine_cli.specs.Found.{TakesFront, TakesVertices, TakesEdges, TakesGraph, graph_names};
 
-use crate::Status;
 use gl_base::{Algorithm, Job};
 use gl_outside::{Files, OpenFault, Source, SourceOf};
 use graph_core::Graph;
 use graph_text::{Reading, VertexList, read_edges, read_vertices};
-use std::alloc::Global;
+use std::alloc::{AllocError, Global};
 
 /// How many bytes are read at a time.
 const PIECE: usize = 4096;
+
+/// Why a file was not read.
+#[derive(Clone, Copy, Debug, PartialEq, Eq)]
+pub enum NotRead {
+    /// It could not be opened or read.
+    ReadFault,
+    /// There was not enough memory.
+    NoMemory,
+}
+
+impl From<OpenFault> for NotRead {
+    ghost from_gives = { λ fault not_read. not_read ≡ not_read_of fault };
+
+    fn from(fault: OpenFault) -> Self {
+        match fault {
+            OpenFault::Failed => NotRead::ReadFault,
+            OpenFault::NoMemory => NotRead::NoMemory,
+        }
+    }
+}
+
+impl From<AllocError> for NotRead {
+    ghost from_gives = { λ _ not_read. not_read ≡ NoMemory };
+
+    fn from(_: AllocError) -> Self {
+        NotRead::NoMemory
+    }
+}
 
 /// The bytes of the file of this name, or more than `most` of them where there are more.
 pub fn front_of<F: Files>(
@@ -24,25 +52,19 @@ pub fn front_of<F: Files>(
     files: &mut F,
     name: &str,
     most: usize,
-) -> Result<Vec<u8>, Status>
-    ensures answer { TakesFront most (F.given files.old name.now) (F.reads files.old) (F.reads files.new) result }
-    ensures given { (other : List ℕ) → F.given files.new other ≡ F.given files.old other }
-    ensures made { F.made files.new ≡ F.made files.old }
-    ensures writes { F.writes files.new ≡ F.writes files.old }
-    ensures later { F.reads files.old ≤ F.reads files.new }
-    ensures names { HandsOver (F.handed files.old) (F.handed files.new) (name.now ∷ []) }
-    ensures handed { OnOk result (AppendsNames (F.handed files.old) (F.handed files.new) (name.now ∷ [])) }
+) -> Result<Vec<u8>, NotRead>
+    ensures answer { TakesFront most (F.state files.old).sources.names ((F.state files.old).contents name.now)
+        (F.state files.old).sources.faults (F.state files.new).sources.faults result }
+    ensures read { ReadsFiles (name.now ∷ []) (F.state files.old) (F.state files.new) }
+    ensures handed { OnOk result (AppendsNames (F.state files.old).sources.names (F.state files.new).sources.names (name.now ∷ [])) }
 {
-    let file = match files.open_source(name) {
-        Ok(file) => file,
-        Err(fault) => return Err(not_opened(fault)),
-    };
+    let file = files.open_source(name)?;
     read_front(alloc, &mut SourceOf::new(files, file), most)
 }
 
 /// The bytes of a source, or more than `most` of them where there are more.
-fn read_front<S: Source>(alloc: Global, source: &mut S, most: usize) -> Result<Vec<u8>, Status>
-    ensures answer { TakesFront most (S.left source.old) (S.faults source.old) (S.faults source.new) result }
+fn read_front<S: Source>(alloc: Global, source: &mut S, most: usize) -> Result<Vec<u8>, NotRead>
+    ensures answer { TakesFront most None (S.left source.old) (S.faults source.old) (S.faults source.new) result }
     ensures later { S.faults source.old ≤ S.faults source.new }
     ensures same { S.same source.old source.new }
 {
@@ -52,21 +74,16 @@ fn read_front<S: Source>(alloc: Global, source: &mut S, most: usize) -> Result<V
         match source.read(&mut piece) {
             Ok(0) => return Ok(bytes),
             Ok(count) => bytes.extend_from_slice(&piece[..count])?,
-            Err(_) => return Err(Status::ReadFault),
+            Err(_) => return Err(NotRead::ReadFault),
         }
     }
     Ok(bytes)
 }
 
 /// The graph of the job's two files.
-pub fn graph_of<F: Files>(alloc: Global, files: &mut F, job: &Job) -> Result<Graph, Status>
-    ensures answer { TakesGraph (F.given files.old) (job_view job.now).fields (F.reads files.old) (F.reads files.new) result }
-    ensures given { (other : List ℕ) → F.given files.new other ≡ F.given files.old other }
-    ensures made { F.made files.new ≡ F.made files.old }
-    ensures writes { F.writes files.new ≡ F.writes files.old }
-    ensures later { F.reads files.old ≤ F.reads files.new }
-    ensures names { HandsOver (F.handed files.old) (F.handed files.new) (graph_names (F.given files.old) (job_view job.now).fields) }
-    ensures handed { OnOk result (AppendsNames (F.handed files.old) (F.handed files.new) (job.now.vertices ∷ job.now.edges ∷ [])) }
+pub fn graph_of<F: Files>(alloc: Global, files: &mut F, job: &Job) -> Result<Graph, Reading>
+    ensures answer { TakesGraph (F.state files.old) (F.state files.new).sources.faults (job_view job.now).fields result }
+    ensures read { ReadsFiles (graph_names (F.state files.old) (job_view job.now).fields) (F.state files.old) (F.state files.new) }
 {
     let list = vertices_of(alloc, files, job.vertices.as_str())?;
     let weighted = is_weighted(job.algorithm);
@@ -88,23 +105,20 @@ fn is_weighted(algorithm: Algorithm) -> bool
 }
 
 /// The vertices that the file of this name lists.
-fn vertices_of<F: Files>(alloc: Global, files: &mut F, name: &str) -> Result<VertexList, Status>
-    ensures answer { TakesVertices (F.given files.old name.now) (F.reads files.old) (F.reads files.new) result }
-    ensures given { (other : List ℕ) → F.given files.new other ≡ F.given files.old other }
-    ensures made { F.made files.new ≡ F.made files.old }
-    ensures writes { F.writes files.new ≡ F.writes files.old }
-    ensures later { F.reads files.old ≤ F.reads files.new }
-    ensures names { HandsOver (F.handed files.old) (F.handed files.new) (name.now ∷ []) }
-    ensures handed { OnOk result (AppendsNames (F.handed files.old) (F.handed files.new) (name.now ∷ [])) }
+fn vertices_of<F: Files>(alloc: Global, files: &mut F, name: &str) -> Result<VertexList, Reading>
+    ensures answer { TakesVertices (F.state files.old).sources.names ((F.state files.old).contents name.now)
+        (F.state files.old).sources.faults (F.state files.new).sources.faults result }
+    ensures read { ReadsFiles (name.now ∷ []) (F.state files.old) (F.state files.new) }
+    ensures handed { OnOk result (AppendsNames (F.state files.old).sources.names (F.state files.new).sources.names (name.now ∷ [])) }
 {
     let file = match files.open_source(name) {
         Ok(file) => file,
         Err(fault) => return Err(not_opened(fault)),
     };
-    Ok(read_vertices(alloc, &mut SourceOf::new(files, file))?)
+    read_vertices(alloc, &mut SourceOf::new(files, file))
 }
 
-/// The graph of the edges that the file of this name lists, over these vertices.
+/// The graph over these vertices whose edges the file of this name lists.
 fn edges_of<F: Files>(
     alloc: Global,
     files: &mut F,
@@ -112,30 +126,25 @@ fn edges_of<F: Files>(
     list: VertexList,
     directed: bool,
     weighted: bool,
-) -> Result<Graph, Status>
-    ensures answer { TakesEdges directed weighted list.ids.items (F.given files.old name.now) (F.reads files.old) (F.reads files.new) result }
-    ensures given { (other : List ℕ) → F.given files.new other ≡ F.given files.old other }
-    ensures made { F.made files.new ≡ F.made files.old }
-    ensures writes { F.writes files.new ≡ F.writes files.old }
-    ensures later { F.reads files.old ≤ F.reads files.new }
-    ensures names { HandsOver (F.handed files.old) (F.handed files.new) (name.now ∷ []) }
-    ensures handed { OnOk result (AppendsNames (F.handed files.old) (F.handed files.new) (name.now ∷ [])) }
+) -> Result<Graph, Reading>
+    ensures answer { TakesEdges directed weighted list.ids.items (F.state files.old).sources.names ((F.state files.old).contents name.now)
+        (F.state files.old).sources.faults (F.state files.new).sources.faults result }
+    ensures read { ReadsFiles (name.now ∷ []) (F.state files.old) (F.state files.new) }
 {
     let file = match files.open_source(name) {
         Ok(file) => file,
         Err(fault) => return Err(not_opened(fault)),
     };
     let mut source = SourceOf::new(files, file);
-    Ok(read_edges(alloc, &mut source, list, directed, weighted)?)
+    read_edges(alloc, &mut source, list, directed, weighted)
 }
 
-/// What a run ends with whose file was not opened for reading.
-fn not_opened(fault: OpenFault) -> Status
-    ensures failed { fault ≡ Failed → result ≡ ReadFault }
-    ensures no_memory { fault ≡ NoMemoryAtOpen → result ≡ NoMemory }
+/// Why a text was not read whose file was not opened.
+fn not_opened(fault: OpenFault) -> Reading
+    ensures { result ≡ reading_of fault }
 {
     match fault {
-        OpenFault::Failed => Status::ReadFault,
-        OpenFault::NoMemory => Status::NoMemory,
+        OpenFault::Failed => Reading::ReadFault,
+        OpenFault::NoMemory => Reading::NoMemory,
     }
 }

@@ -1,20 +1,22 @@
 //! Runs the job in a file.
-ghost use Rattle.std.specs.Prelude.{◌≡◌, ℕ, ◌≤◌, [], List};
-ghost use Rattle.engine_cli.specs.Ended.{Counts};
-ghost use Rattle.engine_cli.specs.Found.{HandsFiles, HandsOrder, IsOrderName};
+ghost use Rattle.std.specs.Prelude.{◌≡◌, ℕ, ◌≤◌, [], false, List};
+ghost use Rattle.engine_cli.specs.Causes.{unprepared_graph, unprepared_job, unprepared_run};
+ghost use Rattle.engine_cli.specs.FilesUsed.{ReadsFiles};
+ghost use Rattle.engine_cli.specs.Found.{names_of};
 ghost use Rattle.engine_cli.specs.Prepares.{IsPrepared};
-ghost use Rattle.engine_cli.specs.Says.{Says, moment};
-ghost use Rattle.engine_cli.specs.Status.{IsBeforeMaking, IsBeforeWriting};
+ghost use Rattle.engine_cli.specs.Says.{moment};
+ghost use Rattle.engine_cli.specs.Status.{IsBeforeWriting};
+ghost use Rattle.engine_cli.specs.Verbs.{IsRun};
 
 use crate::Status;
-use crate::jobs::job_of;
-use crate::playing::{Run, run_on};
+use crate::jobs::{NoJob, job_of};
+use crate::playing::{NoRun, Run, run_on};
 use crate::printing::print_run;
 use crate::reading::graph_of;
-use gl_base::{Entry, Job};
+use gl_base::{Entry, Job, JobFault, Key, TextFault};
 use gl_outside::{Files, Sink};
 use graph_core::Graph;
-use graph_text::Writing;
+use graph_text::{Reading, Writing};
 use std::alloc::Global;
 
 /// How a run ended: its status, what is to be reported of it, and where it was made the order of its updates and how many
@@ -35,6 +37,54 @@ pub struct Prepared {
     pub run: Run,
 }
 
+/// Why no run was made.
+#[derive(Debug, Drop)]
+pub enum Unprepared {
+    /// The job is refused: its bytes are no job, it asks for what is not built, or its source is no vertex of the graph.
+    BadJob(JobFault),
+    /// A graph text is refused.
+    BadGraph(TextFault),
+    /// A file could not be read.
+    ReadFault,
+    /// There was not enough memory.
+    NoMemory,
+}
+
+impl From<NoJob> for Unprepared {
+    ghost from_gives = { λ no_job why. why ≡ unprepared_job no_job };
+
+    fn from(no_job: NoJob) -> Self {
+        match no_job {
+            NoJob::Refused(fault) => Unprepared::BadJob(fault),
+            NoJob::ReadFault => Unprepared::ReadFault,
+            NoJob::NoMemory => Unprepared::NoMemory,
+        }
+    }
+}
+
+impl From<Reading> for Unprepared {
+    ghost from_gives = { λ reading why. why ≡ unprepared_graph reading };
+
+    fn from(reading: Reading) -> Self {
+        match reading {
+            Reading::Text(fault) => Unprepared::BadGraph(fault),
+            Reading::ReadFault => Unprepared::ReadFault,
+            Reading::NoMemory => Unprepared::NoMemory,
+        }
+    }
+}
+
+impl From<NoRun> for Unprepared {
+    ghost from_gives = { λ no_run why. why ≡ unprepared_run no_run };
+
+    fn from(no_run: NoRun) -> Self {
+        match no_run {
+            NoRun::NoSource(source) => Unprepared::BadJob(JobFault::OutOfRange(Key::Source, source)),
+            NoRun::NoMemory => Unprepared::NoMemory,
+        }
+    }
+}
+
 /// Reads the job and its graph, runs the job's algorithm, and writes the order of its updates and the numbers of the
 /// vertices.
 pub fn run_job<F: Files, K: Sink>(
@@ -44,23 +94,19 @@ pub fn run_job<F: Files, K: Sink>(
     files: &mut F,
     out: &mut K,
 ) -> RunEnd
-    ensures says { Says file.now is_reported (moment F.given F.made F.reads F.writes files.old (K.faults out.old) (K.held out.old))
-        (moment F.given F.made F.reads F.writes files.new (K.faults out.new) (K.held out.new)) (λ told. result.told.items ≡ told) result.order.items result.status }
-    ensures counts { Counts result.order.items result.done.items result.status }
+    ensures run { IsRun file.now is_reported (moment (F.state files.old) (K.faults out.old) (K.held out.old))
+        (moment (F.state files.new) (K.faults out.new) (K.held out.new))
+        (λ told. result.told.items ≡ told) result.order.items result.done.items result.status }
+    ensures quiet { is_reported ≡ false → result.told.items ≡ [] }
     ensures untouched { IsBeforeWriting result.status → out.new ≡ out.old }
-    ensures kept { IsBeforeWriting result.status → (name : List ℕ) → F.given files.new name ≡ F.given files.old name }
-    ensures unmade { IsBeforeMaking result.status → F.made files.new ≡ F.made files.old }
-    ensures others { (name : List ℕ) → (IsOrderName (F.given files.old) file.now name → ⊥) → F.given files.new name ≡ F.given files.old name }
-    ensures names { HandsFiles (F.handed files.old) (F.handed files.new) (F.given files.old) file.now }
-    ensures made { HandsOrder (F.made files.old) (F.made files.new) (F.given files.old) file.now }
-    ensures reads { F.reads files.old ≤ F.reads files.new }
-    ensures writes { F.writes files.old ≤ F.writes files.new }
+    ensures reads { (F.state files.old).sources.faults ≤ (F.state files.new).sources.faults }
+    ensures writes { (F.state files.old).sinks.faults ≤ (F.state files.new).sinks.faults }
     ensures faults { K.faults out.old ≤ K.faults out.new }
     ensures same { K.same out.old out.new }
 {
     let made = match prepare(alloc, file, files) {
         Ok(made) => made,
-        Err(status) => return refused(alloc, status),
+        Err(why) => return refused(alloc, why.into()),
     };
     let Ok(done) = Vec::from_elem(alloc, made.run.order.len() as u64, 1) else {
         return refused(alloc, Status::NoMemory);
@@ -76,13 +122,9 @@ pub fn run_job<F: Files, K: Sink>(
 }
 
 /// Reads the job and its graph, and runs the job's algorithm.
-fn prepare<F: Files>(alloc: Global, file: &str, files: &mut F) -> Result<Prepared, Status>
-    ensures answer { IsPrepared (F.given files.old) file.now (F.reads files.old) (F.reads files.new) result }
-    ensures names { HandsFiles (F.handed files.old) (F.handed files.new) (F.given files.old) file.now }
-    ensures given { (name : List ℕ) → F.given files.new name ≡ F.given files.old name }
-    ensures made { F.made files.new ≡ F.made files.old }
-    ensures later { F.reads files.old ≤ F.reads files.new }
-    ensures writes { F.writes files.new ≡ F.writes files.old }
+fn prepare<F: Files>(alloc: Global, file: &str, files: &mut F) -> Result<Prepared, Unprepared>
+    ensures answer { IsPrepared (F.state files.old) (F.state files.new).sources.faults file.now result }
+    ensures read { ReadsFiles (names_of (F.state files.old) file.now) (F.state files.old) (F.state files.new) }
 {
     let job = job_of(alloc, files, file)?;
     let graph = graph_of(alloc, files, &job)?;

@@ -1,14 +1,10 @@
 //! How a call ended.
 ghost use Rattle.std.specs.Prelude.{◌≡◌};
-ghost use Rattle.graph_text.specs.declared.lists.Reading.{Reading};
-ghost use Rattle.gl_base.specs.declared.memory.OrNoMemory.{OrNoMemory};
-ghost use Rattle.engine_cli.specs.declared.status.Status.TheVariants.{NoMemory};
-ghost use Rattle.engine_cli.specs.Status.{status_of_reading, status_of_job, status_of_writing};
+ghost use Rattle.engine_cli.specs.Status.{status_of_unprepared, status_of_writing};
 
+use crate::running::Unprepared;
 use gl_base::{JobFault, TextFault, UsageFault, Vertex};
-use graph_text::{Reading, Writing};
-use job_config::JobReading;
-use std::alloc::AllocError;
+use graph_text::Writing;
 
 /// How a call of the engine ended.
 #[derive(Debug, Drop)]
@@ -52,41 +48,15 @@ impl Status {
     }
 }
 
-impl From<gl_base::NoMemory> for Status {
-    ghost from_gives = { λ _ status. status ≡ NoMemory };
+impl From<Unprepared> for Status {
+    ghost from_gives = { λ why status. status ≡ status_of_unprepared why };
 
-    fn from(_: gl_base::NoMemory) -> Self {
-        Status::NoMemory
-    }
-}
-
-impl From<AllocError> for Status {
-    ghost from_gives = { λ _ status. status ≡ NoMemory };
-
-    fn from(_: AllocError) -> Self {
-        Status::NoMemory
-    }
-}
-
-impl From<Reading> for Status {
-    ghost from_gives = { λ reading status. status ≡ status_of_reading reading };
-
-    fn from(reading: Reading) -> Self {
-        match reading {
-            Reading::Text(fault) => Status::BadGraph(fault),
-            Reading::ReadFault => Status::ReadFault,
-            Reading::NoMemory => Status::NoMemory,
-        }
-    }
-}
-
-impl From<JobReading> for Status {
-    ghost from_gives = { λ reading status. status ≡ status_of_job reading };
-
-    fn from(reading: JobReading) -> Self {
-        match reading {
-            JobReading::Fault(fault) => Status::BadJob(fault),
-            JobReading::NoMemory => Status::NoMemory,
+    fn from(why: Unprepared) -> Self {
+        match why {
+            Unprepared::BadJob(fault) => Status::BadJob(fault),
+            Unprepared::BadGraph(fault) => Status::BadGraph(fault),
+            Unprepared::ReadFault => Status::ReadFault,
+            Unprepared::NoMemory => Status::NoMemory,
         }
     }
 }

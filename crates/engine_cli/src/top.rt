@@ -1,19 +1,16 @@
 //! The top call.
-ghost use Rattle.std.specs.Prelude.{◌≡◌, ◌≢◌, ◌⊎◌, ℕ, ◌<◌, ◌≤◌, [], ◌∷◌, List, length, Bool, Err};
-ghost use Rattle.gl_base.specs.declared.jobs.MakePlan.{MakePlan};
+ghost use Rattle.std.specs.Prelude.{◌≡◌, ◌⊎◌, ◌<◌, ◌≤◌, [], false, length, Err};
 ghost use Rattle.gl_base.specs.declared.usage_faults.UsageFault.{UsageFault};
-ghost use Rattle.gl_outside.specs.Faults.{Rose};
-ghost use Rattle.gl_outside.specs.Frames.{KeepsSources};
 ghost use Rattle.job_words.specs.CommandLine.{IsCommandLine, command_line_of};
 ghost use Rattle.job_words.specs.WordForms.{texts};
-ghost use Rattle.job_words.specs.declared.words.Words.TheVariants.{Run, Make};
+ghost use Rattle.job_words.specs.declared.words.Words.{Words};
 ghost use Rattle.engine_cli.specs.declared.status.Status.TheVariants.{Done, Usage, NoMemory};
-ghost use Rattle.engine_cli.specs.Status.{IsBeforeMaking, IsBeforeWriting, IsDoneOrNoMemory, IsRefused};
-ghost use Rattle.engine_cli.specs.Found.{HandsFiles, HandsOrder, HandsOver, IsOrderName};
-ghost use Rattle.engine_cli.specs.Made.{IsAsked, LeavesFronts, Makes, edges_name, vertices_name};
+ghost use Rattle.engine_cli.specs.Status.{IsBeforeWriting, IsRefused};
+ghost use Rattle.engine_cli.specs.Made.{IsAsked, IsOfFiles};
 ghost use Rattle.engine_cli.specs.Notes.{Tells, note_of};
-ghost use Rattle.engine_cli.specs.Says.{Says, IsSound, moment};
-ghost use Rattle.engine_cli.specs.Ended.{AreNone, Counts, HasNoLosses};
+ghost use Rattle.engine_cli.specs.Says.{moment};
+ghost use Rattle.engine_cli.specs.Ended.{AreNone, HasNoLosses};
+ghost use Rattle.engine_cli.specs.Verbs.{IsCall, IsQuiet, IsRun};
 
 use crate::making::files_only;
 use crate::notes::refuse;
@@ -47,59 +44,25 @@ pub fn engine<F: Files, K: Sink, N: Sink, G: Gate + Sync>(
 ) -> Ended
     requires { length words.now < 4294967295 }
 
-    // What each status of a run says of the files, the counts of faults, `out`, and what is reported to `note`.
-    ensures run { (file : List ℕ) (report : Bool) → IsCommandLine (texts words.now) (Run file report) →
-        Says file report (moment F.given F.made F.reads F.writes files.old (K.faults out.old) (K.held out.old))
-        (moment F.given F.made F.reads F.writes files.new (K.faults out.new) (K.held out.new))
-        (λ told. Tells told (N.held note.old) (N.held note.new) (N.faults note.old) (N.faults note.new)) result.order.items result.status }
-    ensures counts { (file : List ℕ) (report : Bool) → IsCommandLine (texts words.now) (Run file report) →
-        Counts result.order.items result.done.items result.status }
-    ensures complete { (file : List ℕ) (report : Bool) → IsCommandLine (texts words.now) (Run file report) →
-        IsSound file (moment F.given F.made F.reads F.writes files.old (K.faults out.old) (K.held out.old))
-        (moment F.given F.made F.reads F.writes files.new (K.faults out.new) (K.held out.new)) → IsDoneOrNoMemory result.status }
-    ensures names { (file : List ℕ) (report : Bool) → IsCommandLine (texts words.now) (Run file report) →
-        HandsFiles (F.handed files.old) (F.handed files.new) (F.given files.old) file }
-    ensures made { (file : List ℕ) (report : Bool) → IsCommandLine (texts words.now) (Run file report) →
-        HandsOrder (F.made files.old) (F.made files.new) (F.given files.old) file }
-    ensures unmade { (file : List ℕ) (report : Bool) → IsCommandLine (texts words.now) (Run file report) →
-        IsBeforeMaking result.status → F.made files.new ≡ F.made files.old }
-    ensures others { (file : List ℕ) (report : Bool) → IsCommandLine (texts words.now) (Run file report) →
-        (name : List ℕ) → (IsOrderName (F.given files.old) file name → ⊥) → F.given files.new name ≡ F.given files.old name }
-    ensures kept { (file : List ℕ) (report : Bool) → IsCommandLine (texts words.now) (Run file report) →
-        IsBeforeWriting result.status → (name : List ℕ) → F.given files.new name ≡ F.given files.old name }
-
-    // What each status says of the files that are made.
-    ensures make { (prefix : List ℕ) (plan : MakePlan) → IsCommandLine (texts words.now) (Make prefix plan) →
-        Makes plan prefix (F.made files.old) (F.given files.new) (F.writes files.old) (F.writes files.new) result.status }
-    ensures made_fronts { (prefix : List ℕ) (plan : MakePlan) → IsCommandLine (texts words.now) (Make prefix plan) →
-        LeavesFronts plan prefix (F.made files.old) (F.given files.old) (F.given files.new) }
-    ensures made_names { (prefix : List ℕ) (plan : MakePlan) → IsCommandLine (texts words.now) (Make prefix plan) →
-        HandsOver (F.made files.old) (F.made files.new) (vertices_name prefix ∷ edges_name prefix ∷ []) }
-    ensures made_alone { (prefix : List ℕ) (plan : MakePlan) → IsCommandLine (texts words.now) (Make prefix plan) →
-        (name : List ℕ) → name ≢ vertices_name prefix → name ≢ edges_name prefix → F.given files.new name ≡ F.given files.old name }
-    ensures made_sources { (prefix : List ℕ) (plan : MakePlan) → IsCommandLine (texts words.now) (Make prefix plan) →
-        KeepsSources F.reads F.handed F.is_source F.left files.old files.new × (out.new ≡ out.old) }
-
-    ensures made_note { (prefix : List ℕ) (plan : MakePlan) → IsCommandLine (texts words.now) (Make prefix plan) →
-        result.status ≡ Done → note.new ≡ note.old }
-    ensures made_complete { (prefix : List ℕ) (plan : MakePlan) → IsCommandLine (texts words.now) (Make prefix plan) →
-        (Rose (F.writes files.old) (F.writes files.new) → ⊥) → IsDoneOrNoMemory result.status }
-
-    ensures made_lists { (prefix : List ℕ) (plan : MakePlan) → IsCommandLine (texts words.now) (Make prefix plan) →
-        AreNone result.order.items result.done.items }
+    // What the verb leaves, by each status.
+    ensures verb { (asked : Words) → IsCommandLine (texts words.now) asked → IsCall asked (moment (F.state files.old) (K.faults out.old) (K.held out.old))
+        (moment (F.state files.new) (K.faults out.new) (K.held out.new))
+        (λ told. Tells told (N.held note.old) (N.held note.new) (N.faults note.old) (N.faults note.new)) result }
+    ensures files_only { (asked : Words) → IsCommandLine (texts words.now) asked → IsOfFiles asked → out.new ≡ out.old }
 
     // Other words.
     ensures usage { (fault : UsageFault) → command_line_of (texts words.now) ≡ Err fault →
         ((result.status ≡ Usage fault) ⊎ (result.status ≡ NoMemory)) × (files.new ≡ files.old) × (out.new ≡ out.old)
         × AreNone result.order.items result.done.items }
 
-    // What is told of a refusal.
+    // What is told of a refusal, and of work that has nothing to tell.
     ensures note { IsRefused result.status → Tells (note_of result.status) (N.held note.old) (N.held note.new) (N.faults note.old) (N.faults note.new) }
+    ensures quiet { (asked : Words) → IsCommandLine (texts words.now) asked → IsQuiet asked → result.status ≡ Done → note.new ≡ note.old }
 
     // What stays.
     ensures untouched { IsBeforeWriting result.status → out.new ≡ out.old }
-    ensures reads { F.reads files.old ≤ F.reads files.new }
-    ensures writes { F.writes files.old ≤ F.writes files.new }
+    ensures reads { (F.state files.old).sources.faults ≤ (F.state files.new).sources.faults }
+    ensures writes { (F.state files.old).sinks.faults ≤ (F.state files.new).sinks.faults }
     ensures faults { K.faults out.old ≤ K.faults out.new }
     ensures same { K.same out.old out.new }
     ensures notes { N.faults note.old ≤ N.faults note.new }
@@ -122,36 +85,15 @@ fn do_command<F: Files, K: Sink, N: Sink>(
     note: &mut N,
 ) -> Ended
     requires { IsAsked asked.now }
-    ensures run { (file : List ℕ) (report : Bool) → asked.now ≡ Run file report →
-        Says file report (moment F.given F.made F.reads F.writes files.old (K.faults out.old) (K.held out.old))
-        (moment F.given F.made F.reads F.writes files.new (K.faults out.new) (K.held out.new))
-        (λ told. Tells told (N.held note.old) (N.held note.new) (N.faults note.old) (N.faults note.new)) result.order.items result.status }
-    ensures counts { (file : List ℕ) (report : Bool) → asked.now ≡ Run file report → Counts result.order.items result.done.items result.status }
-    ensures names { (file : List ℕ) (report : Bool) → asked.now ≡ Run file report →
-        HandsFiles (F.handed files.old) (F.handed files.new) (F.given files.old) file }
-    ensures made { (file : List ℕ) (report : Bool) → asked.now ≡ Run file report →
-        HandsOrder (F.made files.old) (F.made files.new) (F.given files.old) file }
-    ensures unmade { (file : List ℕ) (report : Bool) → asked.now ≡ Run file report → IsBeforeMaking result.status → F.made files.new ≡ F.made files.old }
-    ensures others { (file : List ℕ) (report : Bool) → asked.now ≡ Run file report →
-        (name : List ℕ) → (IsOrderName (F.given files.old) file name → ⊥) → F.given files.new name ≡ F.given files.old name }
-    ensures kept { (file : List ℕ) (report : Bool) → asked.now ≡ Run file report →
-        IsBeforeWriting result.status → (name : List ℕ) → F.given files.new name ≡ F.given files.old name }
-    ensures make { (prefix : List ℕ) (plan : MakePlan) → asked.now ≡ Make prefix plan →
-        Makes plan prefix (F.made files.old) (F.given files.new) (F.writes files.old) (F.writes files.new) result.status }
-    ensures made_fronts { (prefix : List ℕ) (plan : MakePlan) → asked.now ≡ Make prefix plan →
-        LeavesFronts plan prefix (F.made files.old) (F.given files.old) (F.given files.new) }
-    ensures made_names { (prefix : List ℕ) (plan : MakePlan) → asked.now ≡ Make prefix plan →
-        HandsOver (F.made files.old) (F.made files.new) (vertices_name prefix ∷ edges_name prefix ∷ []) }
-    ensures made_alone { (prefix : List ℕ) (plan : MakePlan) → asked.now ≡ Make prefix plan →
-        (name : List ℕ) → name ≢ vertices_name prefix → name ≢ edges_name prefix → F.given files.new name ≡ F.given files.old name }
-    ensures made_sources { (prefix : List ℕ) (plan : MakePlan) → asked.now ≡ Make prefix plan →
-        KeepsSources F.reads F.handed F.is_source F.left files.old files.new × (out.new ≡ out.old) }
-    ensures made_note { (prefix : List ℕ) (plan : MakePlan) → asked.now ≡ Make prefix plan → result.status ≡ Done → note.new ≡ note.old }
-    ensures made_lists { (prefix : List ℕ) (plan : MakePlan) → asked.now ≡ Make prefix plan → AreNone result.order.items result.done.items }
+    ensures verb { IsCall asked.now (moment (F.state files.old) (K.faults out.old) (K.held out.old))
+        (moment (F.state files.new) (K.faults out.new) (K.held out.new))
+        (λ told. Tells told (N.held note.old) (N.held note.new) (N.faults note.old) (N.faults note.new)) result }
+    ensures files_only { IsOfFiles asked.now → out.new ≡ out.old }
     ensures note { IsRefused result.status → Tells (note_of result.status) (N.held note.old) (N.held note.new) (N.faults note.old) (N.faults note.new) }
+    ensures quiet { IsQuiet asked.now → result.status ≡ Done → note.new ≡ note.old }
     ensures untouched { IsBeforeWriting result.status → out.new ≡ out.old }
-    ensures reads { F.reads files.old ≤ F.reads files.new }
-    ensures writes { F.writes files.old ≤ F.writes files.new }
+    ensures reads { (F.state files.old).sources.faults ≤ (F.state files.new).sources.faults }
+    ensures writes { (F.state files.old).sinks.faults ≤ (F.state files.new).sinks.faults }
     ensures faults { K.faults out.old ≤ K.faults out.new }
     ensures same { K.same out.old out.new }
     ensures notes { N.faults note.old ≤ N.faults note.new }
@@ -173,19 +115,14 @@ fn run_file<F: Files, K: Sink, N: Sink>(
     out: &mut K,
     note: &mut N,
 ) -> Ended
-    ensures run { Says file.now is_reported (moment F.given F.made F.reads F.writes files.old (K.faults out.old) (K.held out.old))
-        (moment F.given F.made F.reads F.writes files.new (K.faults out.new) (K.held out.new))
-        (λ told. Tells told (N.held note.old) (N.held note.new) (N.faults note.old) (N.faults note.new)) result.order.items result.status }
-    ensures counts { Counts result.order.items result.done.items result.status }
-    ensures names { HandsFiles (F.handed files.old) (F.handed files.new) (F.given files.old) file.now }
-    ensures made { HandsOrder (F.made files.old) (F.made files.new) (F.given files.old) file.now }
-    ensures unmade { IsBeforeMaking result.status → F.made files.new ≡ F.made files.old }
-    ensures others { (name : List ℕ) → (IsOrderName (F.given files.old) file.now name → ⊥) → F.given files.new name ≡ F.given files.old name }
-    ensures kept { IsBeforeWriting result.status → (name : List ℕ) → F.given files.new name ≡ F.given files.old name }
+    ensures run { IsRun file.now is_reported (moment (F.state files.old) (K.faults out.old) (K.held out.old))
+        (moment (F.state files.new) (K.faults out.new) (K.held out.new))
+        (λ told. Tells told (N.held note.old) (N.held note.new) (N.faults note.old) (N.faults note.new)) result.order.items result.done.items result.status }
     ensures note { IsRefused result.status → Tells (note_of result.status) (N.held note.old) (N.held note.new) (N.faults note.old) (N.faults note.new) }
+    ensures quiet { is_reported ≡ false → result.status ≡ Done → note.new ≡ note.old }
     ensures untouched { IsBeforeWriting result.status → out.new ≡ out.old }
-    ensures reads { F.reads files.old ≤ F.reads files.new }
-    ensures writes { F.writes files.old ≤ F.writes files.new }
+    ensures reads { (F.state files.old).sources.faults ≤ (F.state files.new).sources.faults }
+    ensures writes { (F.state files.old).sinks.faults ≤ (F.state files.new).sinks.faults }
     ensures faults { K.faults out.old ≤ K.faults out.new }
     ensures same { K.same out.old out.new }
     ensures notes { N.faults note.old ≤ N.faults note.new }
@@ -216,10 +153,13 @@ fn run_file<F: Files, K: Sink, N: Sink>(
 fn tell_report<N: Sink>(note: &mut N, told: &[u8]) -> Status
     ensures status { result ≡ Done }
     ensures told { Tells told.now (N.held note.old) (N.held note.new) (N.faults note.old) (N.faults note.new) }
+    ensures quiet { told.now ≡ [] → note.new ≡ note.old }
     ensures later { N.faults note.old ≤ N.faults note.new }
     ensures same { N.same note.old note.new }
 {
-    let _ = write_all(note, told);
+    if !told.is_empty() {
+        let _ = write_all(note, told);
+    }
     Status::Done
 }
 

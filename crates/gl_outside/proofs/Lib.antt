@@ -1,3 +1,5 @@
-mod StoredFiles
-mod Sinks
+pub mod StoredFiles
+pub mod Sinks
+pub mod HostFrames
+pub mod Opening
 pub mod Fronts

@@ -1,114 +1,85 @@
 -- Lemmas on files in memory that are written.
-use Rattle.std.proofs.Common.{◌≡◌, ◌≢◌, ◌⊎◌, inl, inr, ℕ, ◌+◌, ◌<◌, ◌≤◌, Bool, true, false, List, [], ◌∷◌, ◌++◌, length, get_or, take, drop, map, Option, Some, None, refl, sym, ap, ◌∙◌, subst, arith, length-append, length-set}
-use Rattle.std.specs.Prelude.{bytes_eq, All, zero, suc, slice_get, slice_set, fold, nat_lt, IsTrue, IfSome}
-use Rattle.std.specs.Option.{option_map}
+use Rattle.std.proofs.Common.{◌≡◌, ◌≢◌, ◌⊎◌, inl, inr, ℕ, ◌+◌, ◌<◌, ◌≤◌, Bool, true, false, List, [], ◌∷◌, ◌++◌, length, get_or, take, drop, map, Option, Some, None, Ok, Err, refl, sym, ap, ◌∙◌, subst, arith, length-append, length-set}
+use Rattle.std.specs.Prelude.{bytes_eq, All, zero, suc, slice_get, slice_set, fold, nat_lt, is_some, IsTrue, if◌then◌else◌}
+use Rattle.std.specs.Option.{option_and_then}
 use Rattle.std.specs.Io.KnownBytes.{Appends}
-use Rattle.std.proofs.lemmas.List.{get_or_append_left, get_or-set_same, get_or-set_other, take_all, take-append-le}
+use Rattle.std.proofs.lemmas.List.{ext_get_or, get_or_append_left, get_or-set_same, get_or-set_other, get_or-map, length-map, map-append, set-get_or, take_all, take-append-le}
 use Rattle.std.proofs.Math.Seq.{get_or-append_seam}
-use Rattle.std.proofs.lemmas.Option.{slice_get_within, slice_get_cases, get_or_from_slice_get, slice_get-get_or}
+use Rattle.std.proofs.Math.ListN.{get_or-eq_default}
+use Rattle.std.proofs.lemmas.Option.{slice_get_within, get_or_from_slice_get, slice_get-get_or}
 use Rattle.std.proofs.lemmas.Bool.{cases_eq, cases_lt}
 use Rattle.std.proofs.lemmas.Bool.Decides.{nat_tests}
 use Rattle.std.proofs.lemmas.List.Elements.{All-head, All-tail, All-get_or, All-from_get_or}
 use Rattle.std.proofs.lemmas.Slice.Eq.{bytes_eq-Decides}
 use Rattle.gl_outside.specs.Calls.{CallCounts}
-use Rattle.gl_outside.specs.Frames.{KeepsSources, KeepsSinks, WritesOnly, MakesOnly}
-use Rattle.gl_outside.specs.Store.{NamedBytes, StoreState, bytes_at, name_at, bytes_of, newer, given_by, is_open, left_by, written_by, is_made, IsNewest, IsFilledBy}
+use Rattle.gl_outside.specs.FilesState.{FilesState, Opened, Written, is_opened, sink_of, written_of}
+use Rattle.gl_outside.specs.Frames.{OpensSink, WritesOnly, new_sink, unless, without_name}
+use Rattle.gl_outside.specs.Store.{NamedBytes, StoreState, bytes_at, name_at, bytes_of, newer, newest_name, sink_at, files_of_store}
+use Rattle.gl_outside.specs.Laws.{decide, found, newer-other, newest-none}
 use Rattle.gl_outside.specs.OpenFiles.{left_in, IsInside, appended, AreSinks}
+use Rattle.gl_outside.specs.declared.files.OpenFault.{OpenFault}
 use Rattle.gl_outside.specs.declared.mem_files.OpenFile.{OpenFile}
-use Rattle.gl_outside.proofs.StoredFiles.{bytes_at-append, IsInside-append, bytes_of_other, slice_get-append_left, slice_get_pushed}
+use Rattle.gl_outside.proofs.StoredFiles.{bytes_at-append, bytes_of-push, bytes_of_other, IsInside-append, same_contents, same_files, same_opened, same_sinks, same_sources}
 
--- no file of these has the name
-abbrev HasNone : List NamedBytes → List ℕ → Type 0
-HasNone files name = (k : ℕ) → k < length files → name_at files k ≢ name
+-- a file more takes its name from older ones
+newest-push : (files : List NamedBytes) (file : NamedBytes) (place : ℕ) → place < length files
+    → newest_name (files ++ file ∷ []) place ≡ option_and_then (unless file.name) (newest_name files place)
+newest-push [] file place inside = absurd (omega (arith, inside))
+newest-push (f ∷ fs) file zero inside =
+    let more : bytes_of (fs ++ file ∷ []) f.name ≡ newer f.name (bytes_of fs f.name) file = bytes_of-push fs file f.name in
+    elim (found fs f.name) [
+      | inr some ↦ elim (decide (bytes_eq file.name f.name)) [
+        | inl same ↦ rw (more, some.1 None, same) refl
+        | inr isnt ↦ rw (more, some.1 None, isnt) refl
+      ]
+      | inl none ↦ elim (decide (bytes_eq file.name f.name)) [
+        | inl same ↦ rw (more, none None, same) refl
+        | inr isnt ↦ rw (more, none None, isnt) refl
+      ]
+    ]
+newest-push (f ∷ fs) file (suc place) inside = newest-push fs file place (omega (arith, inside))
 
-has_none_cons : (f : NamedBytes) (fs : List NamedBytes) (name : List ℕ) → f.name ≢ name → HasNone fs name → HasNone (f ∷ fs) name
-has_none_cons f fs name apart none zero inside = apart
-has_none_cons f fs name apart none (suc k) inside = none k (omega (arith, inside))
-
-decide : (b : Bool) → (b ≡ true) ⊎ (b ≡ false)
-decide true = inl refl
-decide false = inr refl
-
-differs : {b : Bool} → b ≡ false → ¬ (b ≡ true)
-differs isnt is = cc
-
-false_from_not : (b : Bool) → ¬ (b ≡ true) → b ≡ false
-false_from_not true refuted = absurd (refuted refl)
-false_from_not false refuted = refl
-
--- a file of another name counts for nothing
-newer-other : (f : NamedBytes) (name : List ℕ) (a : Option (List ℕ)) → f.name ≢ name → newer name a f ≡ a
-newer-other f name a apart =
-    let isnt = false_from_not (bytes_eq f.name name) (λ e. apart ((bytes_eq-Decides f.name name).0 e)) in
-    rw isnt refl
-
-newer-same : (f : NamedBytes) (name : List ℕ) (a : Option (List ℕ)) → f.name ≡ name → newer name a f ≡ Some f.bytes
-newer-same f name a e =
-    let same = (bytes_eq-Decides f.name name).1 e in
-    rw same refl
-
--- either no file of these has the name, or what was found before them counts for nothing
-search_rest : (files : List NamedBytes) (name : List ℕ) → HasNone files name ⊎ ((a b : Option (List ℕ)) → fold (newer name) a files ≡ fold (newer name) b files)
-search_rest [] name = inl (λ k inside. absurd (omega (arith, inside)))
-search_rest (f ∷ fs) name = elim (search_rest fs name) [
-  | inr e ↦ inr (λ a b. e (newer name a f) (newer name b f))
-  | inl none ↦ elim (decide (bytes_eq f.name name)) [
-    | inl same ↦ inr (λ a b. ap (λ (x : Option (List ℕ)). fold (newer name) x fs) (newer-same f name a ((bytes_eq-Decides f.name name).0 same) ∙ sym (newer-same f name b ((bytes_eq-Decides f.name name).0 same))))
-    | inr isnt ↦ inl (has_none_cons f fs name (λ e. differs isnt ((bytes_eq-Decides f.name name).1 e)) none)
-  ]
-]
-
--- files of other names count for nothing
-fold-none : (files : List NamedBytes) (name : List ℕ) (a : Option (List ℕ)) → HasNone files name → fold (newer name) a files ≡ a
-fold-none [] name a none = refl
-fold-none (f ∷ fs) name a none =
-    let apart : f.name ≢ name = none 0 (omega arith) in
-    ap (λ (x : Option (List ℕ)). fold (newer name) x fs) (newer-other f name a apart)
-    ∙ fold-none fs name a (λ k inside. none (suc k) (omega (arith, inside)))
-
-newest-first : (f : NamedBytes) (fs : List NamedBytes) (name : List ℕ) → f.name ≡ name → HasNone fs name → IsNewest (f ∷ fs) 0 name
-newest-first f fs name e none = record { inside = omega arith; named = e; last = later }
-  where
-    later : (k : ℕ) → 0 < k → k < length (f ∷ fs) → name_at (f ∷ fs) k ≢ name
-    later zero below inside = absurd (omega (arith, below))
-    later (suc k) below inside = none k (omega (arith, inside))
-
-newest-next : (f : NamedBytes) (fs : List NamedBytes) (place : ℕ) (name : List ℕ) → IsNewest fs place name → IsNewest (f ∷ fs) (suc place) name
-newest-next f fs place name is = record { inside = omega (arith, is.inside); named = is.named; last = later }
-  where
-    later : (k : ℕ) → suc place < k → k < length (f ∷ fs) → name_at (f ∷ fs) k ≢ name
-    later zero below inside = absurd (omega (arith, below))
-    later (suc k) below inside = is.last k (omega (arith, below)) (omega (arith, inside))
-
--- the newest file of a name is what the name gives
-newest-gives : (files : List NamedBytes) (place : ℕ) (name : List ℕ) (a : Option (List ℕ)) → IsNewest files place name → fold (newer name) a files ≡ Some (bytes_at files place)
-newest-gives [] place name a is = absurd (omega (arith, is.inside))
-newest-gives (f ∷ fs) zero name a is =
-    ap (λ (x : Option (List ℕ)). fold (newer name) x fs) (newer-same f name a is.named)
-    ∙ fold-none fs name (Some f.bytes) (λ k inside. is.last (suc k) (omega arith) (omega (arith, inside)))
-newest-gives (f ∷ fs) (suc place) name a is =
-    newest-gives fs place name (newer name a f) (record {
-      inside = omega (arith, is.inside);
-      named = is.named;
-      last = λ k below inside. is.last (suc k) (omega (arith, below)) (omega (arith, inside));
-    })
-
-filled_by : (store : StoreState) (file place : ℕ) (name : List ℕ) → slice_get store.sinks file ≡ Some place → IsNewest store.files place name → IsFilledBy store file name
-filled_by store file place name is newest = record { place = place; is = is; newest = newest; gives = newest-gives store.files place name None newest }
+-- and has it
+newest-pushed : (files : List NamedBytes) (file : NamedBytes) → newest_name (files ++ file ∷ []) (length files) ≡ Some file.name
+newest-pushed [] file = refl
+newest-pushed (f ∷ fs) file = newest-pushed fs file
 
 -- a file that isn't the newest of a name is nothing to what the name gives
 set-replaced : (files : List NamedBytes) (place : ℕ) (new : NamedBytes) (name : List ℕ) (a : Option (List ℕ)) → new.name ≡ name_at files place
-    → (IsNewest files place name → ⊥) → fold (newer name) a (slice_set files place new) ≡ fold (newer name) a files
+    → newest_name files place ≢ Some name → fold (newer name) a (slice_set files place new) ≡ fold (newer name) a files
 set-replaced [] place new name a same not = refl
-set-replaced (f ∷ fs) zero new name a same not = elim (search_rest fs name) [
-  | inr e ↦ e (newer name a new) (newer name a f)
+set-replaced (f ∷ fs) zero new name a same not = elim (found fs name) [
+  | inr some ↦ some.1 (newer name a new) ∙ sym (some.1 (newer name a f))
   | inl none ↦
-      let apart : f.name ≢ name = λ e. not (newest-first f fs name e none) in
+      let apart : f.name ≢ name = λ e. not (newest-none f fs (ap (bytes_of fs) e ∙ none None) ∙ ap (λ (n : List ℕ). Some n) e) in
       let apart_new : new.name ≢ name = λ e. apart (sym same ∙ e) in
       ap (λ (x : Option (List ℕ)). fold (newer name) x fs) (newer-other new name a apart_new ∙ sym (newer-other f name a apart))
 ]
-set-replaced (f ∷ fs) (suc place) new name a same not =
-    set-replaced fs place new name (newer name a f) same (λ is. not (newest-next f fs place name is))
+set-replaced (f ∷ fs) (suc place) new name a same not = set-replaced fs place new name (newer name a f) same not
+
+-- a file that keeps its name leaves all names to the files that have them
+same-some : (f g : NamedBytes) (name : List ℕ) (a b : Option (List ℕ)) → f.name ≡ g.name → is_some a ≡ is_some b → is_some (newer name a f) ≡ is_some (newer name b g)
+same-some f g name a b named some = elim (decide (bytes_eq g.name name)) [
+  | inl same ↦ rw (named, same) refl
+  | inr isnt ↦ rw (named, isnt) some
+]
+
+fold-some : (files : List NamedBytes) (name : List ℕ) (a b : Option (List ℕ)) → is_some a ≡ is_some b → is_some (fold (newer name) a files) ≡ is_some (fold (newer name) b files)
+fold-some [] name a b some = some
+fold-some (f ∷ fs) name a b some = fold-some fs name (newer name a f) (newer name b f) (same-some f f name a b refl some)
+
+set-some : (files : List NamedBytes) (place : ℕ) (new : NamedBytes) (name : List ℕ) (a : Option (List ℕ)) → new.name ≡ name_at files place
+    → is_some (fold (newer name) a (slice_set files place new)) ≡ is_some (fold (newer name) a files)
+set-some [] place new name a same = refl
+set-some (f ∷ fs) zero new name a same = fold-some fs name (newer name a new) (newer name a f) (same-some new f name a a same refl)
+set-some (f ∷ fs) (suc place) new name a same = set-some fs place new name (newer name a f) same
+
+newest-set : (files : List NamedBytes) (place k : ℕ) (new : NamedBytes) → new.name ≡ name_at files place → newest_name (slice_set files place new) k ≡ newest_name files k
+newest-set [] place k new same = refl
+newest-set (f ∷ fs) zero zero new same = ap (λ (n : List ℕ). if is_some (bytes_of fs n) then None else Some n) same
+newest-set (f ∷ fs) zero (suc k) new same = refl
+newest-set (f ∷ fs) (suc place) zero new same = ap (λ (b : Bool). if b then None else Some f.name) (set-some fs place new f.name None same)
+newest-set (f ∷ fs) (suc place) (suc k) new same = newest-set fs place k new same
 
 -- the names stay as a piece is added to a file
 name_at-appended : (files : List NamedBytes) (place k : ℕ) (piece : List ℕ) (ready : ℕ) → place < length files → name_at (appended files place piece ready) k ≡ name_at files k
@@ -125,75 +96,6 @@ bytes_at-appended_other files place k piece ready apart = ap (λ (f : NamedBytes
 
 pub length-appended : (files : List NamedBytes) (place : ℕ) (piece : List ℕ) (ready : ℕ) → length (appended files place piece ready) ≡ length files
 length-appended files place piece ready = length-set files place _
-
--- files of the same names have the same newest ones
-newest-by_names : (a b : List NamedBytes) (place : ℕ) (name : List ℕ) → length b ≡ length a → ((k : ℕ) → name_at b k ≡ name_at a k) → IsNewest a place name → IsNewest b place name
-newest-by_names a b place name long same is =
-    record {
-      inside = omega (arith, long, is.inside);
-      named = same place ∙ is.named;
-      last = λ k below inside e. is.last k below (omega (arith, long, inside)) (sym (same k) ∙ e);
-    }
-
--- a file more is the newest of its name
-newest-pushed : (files : List NamedBytes) (file : NamedBytes) (name : List ℕ) → file.name ≡ name → IsNewest (files ++ file ∷ []) (length files) name
-newest-pushed files file name named =
-    record {
-      inside = omega (arith, length-append files (file ∷ []));
-      named = ap (λ (f : NamedBytes). f.name) (get_or-append_seam files file [] _) ∙ named;
-      last = λ k below inside. absurd (omega (arith, below, inside, length-append files (file ∷ [])));
-    }
-
--- and leaves those of other names
-newest-kept : (files : List NamedBytes) (file : NamedBytes) (place : ℕ) (name : List ℕ) → file.name ≢ name → IsNewest files place name → IsNewest (files ++ file ∷ []) place name
-newest-kept files file place name apart is =
-    record {
-      inside = omega (arith, is.inside, length-append files (file ∷ []));
-      named = ap (λ (f : NamedBytes). f.name) (get_or_append_left files (file ∷ []) _ place is.inside) ∙ is.named;
-      last = λ k below inside e. elim (cases_eq k (length files)) [
-        | inl at_end ↦ apart (sym (ap (λ (f : NamedBytes). f.name) (get_or-append_seam files file [] _)) ∙ sym (ap (name_at (files ++ file ∷ [])) at_end) ∙ e)
-        | inr before ↦
-            let inner : k < length files = omega (arith, before, inside, length-append files (file ∷ [])) in
-            is.last k below inner (sym (ap (λ (f : NamedBytes). f.name) (get_or_append_left files (file ∷ []) _ k inner)) ∙ e)
-      ];
-    }
-
--- elements by their index
-pub slice_get-left : {X : Type 0} (xs ys : List X) (i : ℕ) (x : X) → slice_get xs i ≡ Some x → slice_get (xs ++ ys) i ≡ Some x
-slice_get-left xs ys i x is = slice_get-append_left xs ys i (slice_get_within xs i x is) ∙ is
-
--- more files leave what was written as it is
-pub written-append : (files more : List NamedBytes) (sinks : List ℕ) (k : ℕ) → All (λ p. p < length files) sinks
-    → option_map (bytes_at (files ++ more)) (slice_get sinks k) ≡ option_map (bytes_at files) (slice_get sinks k)
-written-append files more [] k known = refl
-written-append files more (p ∷ ps) zero known =
-    ap (λ (bytes : List ℕ). Some bytes) (bytes_at-append files more p (All-head (λ q. q < length files) p ps known))
-written-append files more (p ∷ ps) (suc k) known = written-append files more ps k (All-tail (λ q. q < length files) p ps known)
-
--- what stays where the files and those that are open for writing stay
-filled_kept : (old new : StoreState) (file : ℕ) (name : List ℕ) → new.files ≡ old.files → new.sinks ≡ old.sinks → IsFilledBy old file name → IsFilledBy new file name
-filled_kept old new file name files sinks fills =
-    filled_by new file fills.place name (ap (λ (ss : List ℕ). slice_get ss file) sinks ∙ fills.is)
-    (subst (λ (fs : List NamedBytes). IsNewest fs fills.place name) (sym files) fills.newest)
-
-pub keeps_sinks : (old new : StoreState) → new.files ≡ old.files → new.sinks ≡ old.sinks → new.made ≡ old.made → new.writes ≡ old.writes
-    → KeepsSinks (λ (s : StoreState). s.writes.faults) (λ (s : StoreState). Some s.made) is_made written_by IsFilledBy old new
-keeps_sinks old new files sinks made writes = record {
-  faults = ap (λ (c : CallCounts). c.faults) writes;
-  names = ap (λ (names : List (List ℕ)). Some names) made;
-  open_files = λ file. ap (λ (ss : List ℕ). nat_lt file (length ss)) sinks;
-  holds = λ file. ap (λ (fs : List NamedBytes). option_map (bytes_at fs) (slice_get new.sinks file)) files ∙ ap (λ (ss : List ℕ). option_map (bytes_at old.files) (slice_get ss file)) sinks;
-  targets = λ file name. (filled_kept old new file name files sinks, filled_kept new old file name (sym files) (sym sinks));
-}
-
-pub keeps_sources : (old new : StoreState) → new.reads ≡ old.reads → new.handed ≡ old.handed → new.opened ≡ old.opened
-    → KeepsSources (λ (s : StoreState). s.reads.faults) (λ (s : StoreState). Some s.handed) is_open left_by old new
-keeps_sources old new reads handed opened = record {
-  faults = ap (λ (c : CallCounts). c.faults) reads;
-  names = ap (λ (names : List (List ℕ)). Some names) handed;
-  open_files = λ file. ap (λ (os : List (List ℕ)). nat_lt file (length os)) opened;
-  rest = λ file. ap (λ (os : List (List ℕ)). slice_get os file) opened;
-}
 
 -- a file is made and opened for writing
 pub sinks_pushed : (files files_now : List NamedBytes) (sinks now : List ℕ) (file : NamedBytes) → files_now ≡ files ++ file ∷ [] → now ≡ sinks ++ length files ∷ []
@@ -234,45 +136,49 @@ sinks_pushed files files_now sinks now file files_grown grown are =
               omega (arith, at_left i first, at_left j inner, are.ascending i j order inner)
         ]
 
-pub makes_only : (old new : StoreState) (file : NamedBytes) (name : List ℕ) → file.name ≡ name → new.files ≡ old.files ++ file ∷ []
-    → new.sinks ≡ old.sinks ++ length old.files ∷ [] → AreSinks old.files old.sinks → MakesOnly given_by is_made written_by IsFilledBy name old new
-makes_only old new file name named files sinks are = record {
-  gives = λ other apart. bytes_of_other old.files new.files file name other files named apart;
-  open_files = λ k was. let more = ap (length {A = ℕ}) sinks ∙ length-append old.sinks (length old.files ∷ []) in grind (arith, nat_tests);
-  holds = λ k was.
-      ap (λ (fs : List NamedBytes). option_map (bytes_at fs) (slice_get new.sinks k)) files
-      ∙ ap (option_map (bytes_at (old.files ++ file ∷ []))) (ap (λ (ss : List ℕ). slice_get ss k) sinks ∙ slice_get-append_left old.sinks (length old.files ∷ []) k (grind (arith, nat_tests)))
-      ∙ written-append old.files (file ∷ []) old.sinks k are.known;
-  targets = λ k other apart fills.
-      filled_by new k fills.place other
-      (ap (λ (ss : List ℕ). slice_get ss k) sinks ∙ slice_get-left old.sinks (length old.files ∷ []) k fills.place fills.is)
-      (subst (λ (fs : List NamedBytes). IsNewest fs fills.place other) (sym files)
-      (newest-kept old.files file fills.place other (λ e. apart (sym e ∙ named)) fills.newest));
-}
+-- the files that are open for writing, as callers see them, and one more
+sinks-push : (files : List NamedBytes) (file : NamedBytes) (name : List ℕ) (sinks : List ℕ) → file.name ≡ name → All (λ p. p < length files) sinks
+    → map (sink_at (files ++ file ∷ [])) sinks ≡ map (without_name name) (map (sink_at files) sinks)
+sinks-push files file name [] named known = refl
+sinks-push files file name (p ∷ ps) named known =
+    let inside = All-head (λ q. q < length files) p ps known in
+    let bytes = ap (λ (b : List ℕ). Some b) (bytes_at-append files (file ∷ []) p inside) in
+    let names = newest-push files file p inside ∙ ap (λ (n : List ℕ). option_and_then (unless n) (newest_name files p)) named in
+    let first : sink_at (files ++ file ∷ []) p ≡ without_name name (sink_at files p) = written-same _ _ names bytes in
+    let rest = sinks-push files file name ps named (All-tail (λ q. q < length files) p ps known) in
+    cc
+  where
+    written-same : (a b : Written) → a.name ≡ b.name → a.bytes ≡ b.bytes → a ≡ b
+    written-same a b names bytes = ap (λ (n : Option (List ℕ)). record a { name = n }) names ∙ ap (λ (bs : Option (List ℕ)). record b { bytes = bs }) bytes
 
-pub makes_none : (old new : StoreState) (name : List ℕ) → new.files ≡ old.files → new.sinks ≡ old.sinks → MakesOnly given_by is_made written_by IsFilledBy name old new
-makes_none old new name files sinks = record {
-  gives = λ other apart. ap (λ (fs : List NamedBytes). bytes_of fs other) files;
-  open_files = λ k was. subst (λ (ss : List ℕ). IsTrue (nat_lt k (length ss))) (sym sinks) was;
-  holds = λ k was. ap (λ (fs : List NamedBytes). option_map (bytes_at fs) (slice_get new.sinks k)) files ∙ ap (λ (ss : List ℕ). option_map (bytes_at old.files) (slice_get ss k)) sinks;
-  targets = λ k other apart fills. filled_kept old new k other files sinks fills;
-}
+-- an open for writing adds an empty file
+pub opens_sink : (old new : StoreState) (file : NamedBytes) (name : List ℕ) (number : ℕ) → file.name ≡ name → file.bytes ≡ [] → number ≡ length old.sinks
+    → new.files ≡ old.files ++ file ∷ [] → new.sinks ≡ old.sinks ++ length old.files ∷ [] → AreSinks old.files old.sinks
+    → new.reads ≡ old.reads → new.source_names ≡ old.source_names → new.opened ≡ old.opened
+    → OpensSink (files_of_store old) (files_of_store new) name (Ok (record { 0 = number }))
+opens_sink old new file name number named empty numbered files sinks are reads names opened =
+    let all = old.files ++ file ∷ [] in
+    let last : sink_at all (length old.files) ≡ record { name = Some name; bytes = Some [] } =
+    let n = newest-pushed old.files file ∙ ap (λ (x : List ℕ). Some x) named in
+    let b = ap (λ (bytes : List ℕ). Some bytes) (ap (λ (f : NamedBytes). f.bytes) (get_or-append_seam old.files file [] _) ∙ empty) in
+    ap (λ (x : Option (List ℕ)). record { name = x; bytes = Some (bytes_at all (length old.files)) }) n ∙ ap (λ (x : Option (List ℕ)). record { name = Some name; bytes = x }) b in
+    let grown : map (sink_at new.files) new.sinks ≡ map (without_name name) (map (sink_at old.files) old.sinks) ++ record { name = Some name; bytes = Some [] } ∷ [] =
+    ap (λ (fs : List NamedBytes). map (sink_at fs) new.sinks) files
+    ∙ ap (map (sink_at all)) sinks
+    ∙ map-append (sink_at all) old.sinks (length old.files ∷ [])
+    ∙ ap (λ (ws : List Written). ws ++ sink_at all (length old.files) ∷ []) (sinks-push old.files file name old.sinks named are.known)
+    ∙ ap (λ (w : Written). map (without_name name) (map (sink_at old.files) old.sinks) ++ w ∷ []) last in (
+      numbered ∙ sym (length-map old.sinks (sink_at old.files)),
+      same_files _ _ refl (same_sources old new reads names opened) (same_opened _ _ refl refl grown),
+      λ other apart. bytes_of_other old.files new.files file name other files named apart,
+    )
 
-pub fills_pushed : (old new : StoreState) (file : NamedBytes) (number : ℕ) (name : List ℕ) → file.name ≡ name → number ≡ length old.sinks
-    → new.files ≡ old.files ++ file ∷ [] → new.sinks ≡ old.sinks ++ length old.files ∷ [] → IsFilledBy new number name
-fills_pushed old new file number name named numbered files sinks =
-    filled_by new number (length old.files) name
-    (ap (λ (ss : List ℕ). slice_get ss number) sinks ∙ ap (slice_get (old.sinks ++ length old.files ∷ [])) numbered ∙ slice_get_pushed old.sinks (length old.files))
-    (subst (λ (fs : List NamedBytes). IsNewest fs (length old.files) name) (sym files) (newest-pushed old.files file name named))
-
-pub empty_pushed : (files now : List NamedBytes) (sinks sinks_now : List ℕ) (file : NamedBytes) (number : ℕ) → file.bytes ≡ [] → number ≡ length sinks
-    → now ≡ files ++ file ∷ [] → sinks_now ≡ sinks ++ length files ∷ [] → IfSome (option_map (bytes_at now) (slice_get sinks_now number)) (λ bytes. bytes ≡ [])
-empty_pushed files now sinks sinks_now file number none numbered grown sunk =
-    let place = ap (λ (ss : List ℕ). slice_get ss number) sunk ∙ ap (slice_get (sinks ++ length files ∷ [])) numbered ∙ slice_get_pushed sinks (length files) in
-    let bytes : bytes_at now (length files) ≡ [] =
-    ap (λ (fs : List NamedBytes). bytes_at fs (length files)) grown ∙ ap (λ (f : NamedBytes). f.bytes) (get_or-append_seam files file [] _) ∙ none in
-    let written = ap (option_map (bytes_at now)) place in
-    subst (λ (o : Option (List ℕ)). IfSome o (λ bytes. bytes ≡ [])) (sym written) bytes
+-- an open that fails adds none
+pub opens_no_sink : (old new : StoreState) (name : List ℕ) (fault : OpenFault) → new.files ≡ old.files → new.sinks ≡ old.sinks
+    → new.reads ≡ old.reads → new.source_names ≡ old.source_names → new.opened ≡ old.opened → OpensSink (files_of_store old) (files_of_store new) name (Err fault)
+opens_no_sink old new name fault files sinks reads names opened =
+    same_files _ _ (same_contents old new files) (same_sources old new reads names opened)
+    (same_opened _ _ refl refl (ap (λ (fs : List NamedBytes). map (sink_at fs) new.sinks) files ∙ ap (map (sink_at old.files)) sinks))
 
 -- a piece is written to one file
 sinks_apart : (files : List NamedBytes) (sinks : List ℕ) (i j p q : ℕ) → AreSinks files sinks → slice_get sinks i ≡ Some p → slice_get sinks j ≡ Some q → i ≢ j → p ≢ q
@@ -288,74 +194,101 @@ sinks_apart files sinks i j p q are at_i at_j apart same =
           omega (arith, are.ascending j i below i_in, pi, qj, same)
     ]
 
-written_other : (files : List NamedBytes) (sinks : List ℕ) (file place k : ℕ) (piece : List ℕ) (ready : ℕ) → AreSinks files sinks → slice_get sinks file ≡ Some place → k ≢ file
-    → option_map (bytes_at (appended files place piece ready)) (slice_get sinks k) ≡ option_map (bytes_at files) (slice_get sinks k)
-written_other files sinks file place k piece ready are is apart = elim ((slice_get_cases sinks k).1) [
-  | inl (q, inside, at_k, read) ↦
-      ap (option_map (bytes_at (appended files place piece ready))) at_k
-      ∙ ap (λ (bytes : List ℕ). Some bytes) (bytes_at-appended_other files place q piece ready (sinks_apart files sinks k file q place are at_k is apart))
-      ∙ sym (ap (option_map (bytes_at files)) at_k)
-  | inr (past, none) ↦ ap (option_map (bytes_at (appended files place piece ready))) none ∙ sym (ap (option_map (bytes_at files)) none)
-]
+-- what is written to one file leaves the others, as callers see them
+sink_at-other : (files : List NamedBytes) (place k : ℕ) (piece : List ℕ) (ready : ℕ) → k ≢ place → sink_at (appended files place piece ready) k ≡ sink_at files k
+sink_at-other files place k piece ready apart =
+    ap (λ (n : Option (List ℕ)). record { name = n; bytes = Some (bytes_at (appended files place piece ready) k) }) (newest-set files place k (record { name = name_at files place; bytes = bytes_at files place ++ piece; ready = ready }) refl)
+    ∙ ap (λ (b : List ℕ). record { name = newest_name files k; bytes = Some b }) (bytes_at-appended_other files place k piece ready apart)
 
+-- the file of this number, as callers see it
+sink-seen : (files : List NamedBytes) (sinks : List ℕ) (file place : ℕ) → slice_get sinks file ≡ Some place → get_or (map (sink_at files) sinks) file (record { name = None; bytes = None }) ≡ sink_at files place
+sink-seen files sinks file place is =
+    get_or-map (sink_at files) sinks file 0 _ (slice_get_within sinks file place is) ∙ ap (sink_at files) (get_or_from_slice_get sinks file place 0 is)
+
+sinks-written : (files : List NamedBytes) (sinks : List ℕ) (file place : ℕ) (piece : List ℕ) (ready : ℕ) → slice_get sinks file ≡ Some place → AreSinks files sinks
+    → map (sink_at (appended files place piece ready)) sinks ≡ slice_set (map (sink_at files) sinks) file (sink_at (appended files place piece ready) place)
+sinks-written files sinks file place piece ready is are =
+    let now = appended files place piece ready in
+    let none : Written = record { name = None; bytes = None } in
+    let before = map (sink_at files) sinks in
+    let long : length before ≡ length sinks = length-map sinks (sink_at files) in
+    let within = slice_get_within sinks file place is in
+    ext_get_or none (map (sink_at now) sinks) (slice_set before file (sink_at now place))
+    (length-map sinks (sink_at now) ∙ sym (length-set before file (sink_at now place) ∙ long)) (λ k inside.
+    let k_in : k < length sinks = omega (arith, inside, length-map sinks (sink_at now)) in
+    let left = get_or-map (sink_at now) sinks k 0 none k_in in
+    elim (cases_eq k file) [
+      | inl e ↦
+          let place_is : get_or sinks k 0 ≡ place = ap (λ (j : ℕ). get_or sinks j 0) e ∙ get_or_from_slice_get sinks file place 0 is in
+          left ∙ ap (sink_at now) place_is
+          ∙ sym (ap (λ (j : ℕ). get_or (slice_set before file (sink_at now place)) j none) e ∙ get_or-set_same before file (sink_at now place) none (omega (arith, long, within)))
+      | inr apart ↦
+          let there = slice_get-get_or sinks k 0 k_in in
+          left ∙ sink_at-other files place (get_or sinks k 0) piece ready (sinks_apart files sinks k file (get_or sinks k 0) place are there is apart)
+          ∙ sym (get_or-map (sink_at files) sinks k 0 none k_in)
+          ∙ sym (get_or-set_other before file k (sink_at now place) none apart)
+    ])
+
+-- a piece is written to one file
 pub writes_only : (old new : StoreState) (file place : ℕ) (piece : List ℕ) (ready : ℕ) → slice_get old.sinks file ≡ Some place → place < length old.files → AreSinks old.files old.sinks
-    → new.files ≡ appended old.files place piece ready → new.sinks ≡ old.sinks → new.made ≡ old.made
-    → WritesOnly given_by (λ (s : StoreState). Some s.made) is_made written_by IsFilledBy file old new
-writes_only old new file place piece ready is inside are files sinks made = record {
-  gives = gives;
-  apart = λ own name fills apart. gives name (λ other. apart (one_name own name fills other));
-  names = ap (λ (names : List (List ℕ)). Some names) made;
-  open_files = λ k. ap (λ (ss : List ℕ). nat_lt k (length ss)) sinks;
-  others = λ k apart.
-      ap (λ (fs : List NamedBytes). option_map (bytes_at fs) (slice_get new.sinks k)) files
-      ∙ ap (λ (ss : List ℕ). option_map (bytes_at (appended old.files place piece ready)) (slice_get ss k)) sinks
-      ∙ written_other old.files old.sinks file place k piece ready are is apart;
-  targets = λ k name. (
-    λ fills. filled_by new k fills.place name (ap (λ (ss : List ℕ). slice_get ss k) sinks ∙ fills.is) (newest-by_names old.files new.files fills.place name long names_same fills.newest),
-    λ fills. filled_by old k fills.place name (ap (λ (ss : List ℕ). slice_get ss k) (sym sinks) ∙ fills.is) (newest-by_names new.files old.files fills.place name (sym long) (λ m. sym (names_same m)) fills.newest),
-  );
-}
-  where
-    gives : (name : List ℕ) → (IsFilledBy old file name → ⊥) → given_by new name ≡ given_by old name
-    gives name not =
-        ap (λ (fs : List NamedBytes). bytes_of fs name) files
-        ∙ set-replaced old.files place (record { name = name_at old.files place; bytes = bytes_at old.files place ++ piece; ready = ready }) name None refl (λ newest. not (filled_by old file place name is newest))
-
-    one_name : (own name : List ℕ) → IsFilledBy old file own → IsFilledBy old file name → name ≡ own
-    one_name own name a b =
-        let places : Some a.place ≡ Some b.place = sym a.is ∙ b.is in
-        let same : a.place ≡ b.place = cc in
-        sym b.newest.named ∙ sym (ap (name_at old.files) same) ∙ a.newest.named
-
-    long : length new.files ≡ length old.files
-    long = ap (length {A = NamedBytes}) files ∙ length-appended old.files place piece ready
-
-    names_same : (m : ℕ) → name_at new.files m ≡ name_at old.files m
-    names_same m = ap (λ (fs : List NamedBytes). name_at fs m) files ∙ name_at-appended old.files place m piece ready inside
+    → new.files ≡ appended old.files place piece ready → new.sinks ≡ old.sinks → new.sink_names ≡ old.sink_names
+    → new.reads ≡ old.reads → new.source_names ≡ old.source_names → new.opened ≡ old.opened
+    → WritesOnly file (files_of_store old) (files_of_store new)
+writes_only old new file place piece ready is inside are files sinks names reads source_names opened =
+    let now = appended old.files place piece ready in
+    let own : NamedBytes = record { name = name_at old.files place; bytes = bytes_at old.files place ++ piece; ready = ready } in
+    let seen : sink_of (files_of_store old) file ≡ sink_at old.files place = sink-seen old.files old.sinks file place is in
+    let changed : map (sink_at new.files) new.sinks ≡ map (sink_at now) old.sinks = ap (λ (fs : List NamedBytes). map (sink_at fs) new.sinks) files ∙ ap (map (sink_at now)) sinks in
+    let seen_now : sink_of (files_of_store new) file ≡ sink_at now place = ap (λ (ws : List Written). get_or ws file (record { name = None; bytes = None })) changed ∙ sink-seen now old.sinks file place is in
+    let kept : sink_at now place ≡ record (sink_of (files_of_store old) file) { bytes = (sink_of (files_of_store new) file).bytes } =
+    ap (λ (n : Option (List ℕ)). record { name = n; bytes = Some (bytes_at now place) }) (newest-set old.files place place own refl ∙ ap (λ (w : Written). w.name) (sym seen))
+    ∙ ap (λ (b : Option (List ℕ)). record { name = (sink_of (files_of_store old) file).name; bytes = b }) (ap (λ (w : Written). w.bytes) (sym seen_now)) in
+    let sunk = changed ∙ sinks-written old.files old.sinks file place piece ready is are ∙ ap (slice_set (map (sink_at old.files) old.sinks) file) kept in
+    record {
+      state = same_files _ _ refl (same_sources old new reads source_names opened) (same_opened _ _ refl (ap (λ (ns : List (List ℕ)). Some ns) names) sunk);
+      others = λ name apart.
+          ap (λ (fs : List NamedBytes). bytes_of fs name) files
+          ∙ set-replaced old.files place own name None refl (λ newest. apart (ap (λ (w : Written). w.name) seen ∙ newest));
+    }
 
 -- a write that failed
-pub writes_none : (old new : StoreState) (file : ℕ) → new.files ≡ old.files → new.sinks ≡ old.sinks → new.made ≡ old.made
-    → WritesOnly given_by (λ (s : StoreState). Some s.made) is_made written_by IsFilledBy file old new
-writes_none old new file files sinks made = record {
-  gives = λ name not. ap (λ (fs : List NamedBytes). bytes_of fs name) files;
-  apart = λ own name fills apart. ap (λ (fs : List NamedBytes). bytes_of fs name) files;
-  names = ap (λ (names : List (List ℕ)). Some names) made;
-  open_files = λ k. ap (λ (ss : List ℕ). nat_lt k (length ss)) sinks;
-  others = λ k apart. ap (λ (fs : List NamedBytes). option_map (bytes_at fs) (slice_get new.sinks k)) files ∙ ap (λ (ss : List ℕ). option_map (bytes_at old.files) (slice_get ss k)) sinks;
-  targets = λ k name. (filled_kept old new k name files sinks, filled_kept new old k name (sym files) (sym sinks));
-}
+pub writes_none : (old new : StoreState) (file : ℕ) → new.files ≡ old.files → new.sinks ≡ old.sinks → new.sink_names ≡ old.sink_names
+    → new.reads ≡ old.reads → new.source_names ≡ old.source_names → new.opened ≡ old.opened → WritesOnly file (files_of_store old) (files_of_store new)
+writes_none old new file files sinks names reads source_names opened =
+    let none : Written = record { name = None; bytes = None } in
+    let before = map (sink_at old.files) old.sinks in
+    let kept : map (sink_at new.files) new.sinks ≡ before = ap (λ (fs : List NamedBytes). map (sink_at fs) new.sinks) files ∙ ap (map (sink_at old.files)) sinks in
+    let same : before ≡ slice_set before file (record (get_or before file none) { bytes = (sink_of (files_of_store new) file).bytes }) =
+    sym (set-get_or before file none) ∙ ap (λ (ws : List Written). slice_set before file (record (get_or before file none) { bytes = (get_or ws file none).bytes })) (sym kept) in
+    record {
+      state = same_files _ _ refl (same_sources old new reads source_names opened) (same_opened _ _ refl (ap (λ (ns : List (List ℕ)). Some ns) names) (kept ∙ same));
+      others = λ name apart. ap (λ (fs : List NamedBytes). bytes_of fs name) files;
+    }
 
 -- what a write of the whole piece tells
 pub writes_next : (files now : List NamedBytes) (sinks sinks_now : List ℕ) (file place count : ℕ) (piece : List ℕ) (ready : ℕ) → slice_get sinks file ≡ Some place → place < length files
     → now ≡ appended files place piece ready → sinks_now ≡ sinks → count ≡ length piece
-    → Appends (option_map (bytes_at files) (slice_get sinks file)) (option_map (bytes_at now) (slice_get sinks_now file)) (take count piece)
+    → Appends (get_or (map (sink_at files) sinks) file (record { name = None; bytes = None })).bytes (get_or (map (sink_at now) sinks_now) file (record { name = None; bytes = None })).bytes (take count piece)
 writes_next files now sinks sinks_now file place count piece ready is inside grown same all =
-    let before : option_map (bytes_at files) (slice_get sinks file) ≡ Some (bytes_at files place) = ap (option_map (bytes_at files)) is in
-    let after : option_map (bytes_at now) (slice_get sinks_now file) ≡ Some (bytes_at files place ++ piece) =
-    ap (option_map (bytes_at now)) (ap (λ (ss : List ℕ). slice_get ss file) same ∙ is)
+    let before = ap (λ (w : Written). w.bytes) (sink-seen files sinks file place is) in
+    let after = ap (λ (w : Written). w.bytes) (sink-seen now sinks_now file place (ap (λ (ss : List ℕ). slice_get ss file) same ∙ is))
     ∙ ap (λ (bytes : List ℕ). Some bytes) (ap (λ (fs : List NamedBytes). bytes_at fs place) grown ∙ bytes_at-appended files place piece ready inside) in
     let whole : take count piece ≡ piece = take_all count piece (omega (arith, all)) in
     rw (before, after, whole) refl
+
+-- what was written stays where files are put
+pub written-put : (files now : List NamedBytes) (file : NamedBytes) (sinks : List ℕ) (k : ℕ) → now ≡ files ++ file ∷ [] → All (λ p. p < length files) sinks
+    → (get_or (map (sink_at now) sinks) k (record { name = None; bytes = None })).bytes ≡ (get_or (map (sink_at files) sinks) k (record { name = None; bytes = None })).bytes
+written-put files now file sinks k grown known = ap (λ (fs : List NamedBytes). (get_or (map (sink_at fs) sinks) k (record { name = None; bytes = None })).bytes) grown ∙ at sinks k known
+  where
+    none : Written
+    none = record { name = None; bytes = None }
+
+    at : (sinks : List ℕ) (k : ℕ) → All (λ p. p < length files) sinks
+        → (get_or (map (sink_at (files ++ file ∷ [])) sinks) k none).bytes ≡ (get_or (map (sink_at files) sinks) k none).bytes
+    at [] k known = refl
+    at (p ∷ ps) zero known = ap (λ (bytes : List ℕ). Some bytes) (bytes_at-append files (file ∷ []) p (All-head (λ q. q < length files) p ps known))
+    at (p ∷ ps) (suc k) known = at ps k (All-tail (λ q. q < length files) p ps known)
 
 -- and leaves what is read
 left_in-appended : (files : List NamedBytes) (place : ℕ) (piece : List ℕ) (ready : ℕ) (o : OpenFile) → place < length files → IsInside files o → left_in (appended files place piece ready) o ≡ left_in files o
@@ -411,9 +344,10 @@ are_sinks-append files now more sinks e are =
     record { known = λ k d below. let small = are.known k d below in omega (arith, small, long); ascending = are.ascending }
 
 -- a place among those that are open for writing, as an index reads it
-pub place_of : (files : List NamedBytes) (seen sinks : List ℕ) (file place : ℕ) → AreSinks files sinks → seen ≡ sinks → IsTrue (nat_lt file (length sinks)) → place ≡ get_or seen file place
-    → (slice_get sinks file ≡ Some place) × (place < length files)
-place_of files seen sinks file place are same is_open read =
-    let inside : file < length sinks = grind (arith, nat_tests) in
-    let here : get_or sinks file place ≡ place = sym (ap (λ (ss : List ℕ). get_or ss file place) same) ∙ sym read in
-    (slice_get-get_or sinks file place inside ∙ ap (λ (p : ℕ). Some p) here, omega (arith, here, All-get_or (λ p. p < length files) sinks file place inside are.known))
+pub place_of : (store : StoreState) (seen : List ℕ) (file place : ℕ) → AreSinks store.files store.sinks → seen ≡ store.sinks
+    → IsTrue (is_opened (files_of_store store).sinks file) → place ≡ get_or seen file place → (slice_get store.sinks file ≡ Some place) × (place < length store.files)
+place_of store seen file place are same opened read =
+    let below : file < length (files_of_store store).sinks.files = grind (arith, nat_tests) in
+    let inside : file < length store.sinks = omega (arith, below, length-map store.sinks (sink_at store.files)) in
+    let here : get_or store.sinks file place ≡ place = sym (ap (λ (ss : List ℕ). get_or ss file place) same) ∙ sym read in
+    (slice_get-get_or store.sinks file place inside ∙ ap (λ (p : ℕ). Some p) here, omega (arith, here, All-get_or (λ p. p < length store.files) store.sinks file place inside are.known))

@@ -1,16 +1,19 @@
 -- Lemmas on files in memory, and on those that were opened.
-use Rattle.std.proofs.Common.{◌≡◌, ◌≢◌, ℕ, ◌<◌, Bool, true, false, List, [], ◌∷◌, ◌++◌, ◌-◌, ◌+◌, ◌≤◌, length, get_or, take, drop, map, Option, Some, None, refl, sym, ap, ◌∙◌, arith, length-append, length-set}
+use Rattle.std.proofs.Common.{◌≡◌, ◌≢◌, ℕ, ◌<◌, Bool, true, false, List, [], ◌∷◌, ◌++◌, ◌-◌, ◌+◌, ◌≤◌, length, get_or, take, drop, map, Option, Some, None, Ok, Err, refl, sym, ap, ◌∙◌, arith, length-append, length-set}
 use Rattle.std.specs.Prelude.{bytes_eq, All, zero, suc, slice_get, slice_set, nat_lt, min, IsTrue}
 use Rattle.std.specs.Option.{option_map}
 use Rattle.std.specs.Io.KnownBytes.{Consumes, IsAtEnd}
 use Rattle.std.proofs.lemmas.Option.{slice_get-map, slice_get_read}
 use Rattle.std.proofs.lemmas.Bool.Decides.{nat_tests}
-use Rattle.gl_outside.specs.Frames.{ReadsOnly, OpensOnly}
-use Rattle.std.proofs.lemmas.List.{take_all, drop-take, take-append-drop, drop-drop, length-map, map-set, get_or_read, get_or_append_left}
+use Rattle.gl_outside.specs.Calls.{CallCounts}
+use Rattle.gl_outside.specs.FilesState.{FilesState, Opened, Written, is_opened, left_of}
+use Rattle.gl_outside.specs.Frames.{OpensSource, ReadsOnly}
+use Rattle.gl_outside.specs.declared.files.OpenFault.{OpenFault}
+use Rattle.std.proofs.lemmas.List.{take_all, drop-take, take-append-drop, drop-drop, length-map, map-set, map-append, get_or_read, get_or_append_left, get_or-set_same, set-get_or}
 use Rattle.std.proofs.lemmas.List.Elements.{All-head, All-tail}
 use Rattle.std.proofs.lemmas.List.Sums.{fold-append}
 use Rattle.std.proofs.lemmas.Slice.Eq.{bytes_eq-Decides}
-use Rattle.gl_outside.specs.Store.{NamedBytes, StoreState, bytes_at, bytes_of, newer, given_by, is_open, left_by}
+use Rattle.gl_outside.specs.Store.{NamedBytes, StoreState, bytes_at, bytes_of, files_of_store, newer, sink_at}
 use Rattle.gl_outside.specs.OpenFiles.{left_in, IsInside}
 use Rattle.gl_outside.specs.declared.mem_files.OpenFile.{OpenFile}
 
@@ -41,7 +44,7 @@ map-left_in-append files more (o ∷ os) inside =
     cc
 
 -- a file more of this name is what the name gives
-bytes_of-push : (files : List NamedBytes) (file : NamedBytes) (name : List ℕ) → bytes_of (files ++ file ∷ []) name ≡ newer name (bytes_of files name) file
+pub bytes_of-push : (files : List NamedBytes) (file : NamedBytes) (name : List ℕ) → bytes_of (files ++ file ∷ []) name ≡ newer name (bytes_of files name) file
 bytes_of-push files file name = fold-append (newer name) None files (file ∷ [])
 
 false_from_not : (b : Bool) → ¬ (b ≡ true) → b ≡ false
@@ -105,27 +108,27 @@ slice_get-map_read f xs i x inside read = slice_get-map f xs i ∙ ap (option_ma
 pub slice_get-map_set : {X Y : Type 0} (f : X → Y) (xs : List X) (i : ℕ) (y : X) → i < length xs → slice_get (map f (slice_set xs i y)) i ≡ Some (f y)
 slice_get-map_set f xs i y inside = slice_get-map f (slice_set xs i y) i ∙ ap (option_map f) (slice_get-set_same xs i y inside)
 
+-- a number of an open file, as callers see it, is a place in the list
+pub number_inside : (store : StoreState) (file : ℕ) → IsTrue (is_opened (files_of_store store).sources file) → file < length store.opened
+number_inside store file opened =
+    let below : file < length (files_of_store store).sources.files = grind (arith, nat_tests) in
+    omega (arith, below, length-map store.opened (λ (left : List ℕ). Some left))
+
 empty_from_length : (xs : List ℕ) → length xs ≡ 0 → xs ≡ []
 empty_from_length [] none = refl
 empty_from_length (x ∷ xs) none = absurd (omega (arith, none))
 
--- a number of an open file is a place in the list behind the view
-pub open_inside : {X Y : Type 0} (f : X → Y) (xs : List X) (ys : List Y) (i : ℕ) → map f xs ≡ ys → IsTrue (nat_lt i (length ys)) → i < length xs
-open_inside f xs ys i seen is_open =
-    let below : i < length ys = grind (arith, nat_tests) in
-    omega (arith, below, ap length seen, length-map xs f)
+-- it is a place in the list behind the view
+pub open_inside : {X Y : Type 0} (f : X → Y) (xs : List X) (ys : List Y) (i : ℕ) → map f xs ≡ ys → i < length ys → i < length xs
+open_inside f xs ys i seen below = omega (arith, below, ap length seen, length-map xs f)
 
 pub map-slice_set : {X Y : Type 0} (f : X → Y) (xs : List X) (i : ℕ) (y : X) → map f (slice_set xs i y) ≡ slice_set (map f xs) i (f y)
 map-slice_set f xs i y = map-set f xs i y
 
 -- a file that was opened has all of its bytes left
-pub left_in_new : (files : List NamedBytes) (opened now : List OpenFile) (place end number : ℕ) → now ≡ opened ++ record { place = place; at = 0; end = end } ∷ []
-    → number ≡ length opened → end ≡ length (bytes_at files place) → slice_get (map (left_in files) now) number ≡ Some (bytes_at files place)
-left_in_new files opened now place end number grown numbered ended =
-    let new : OpenFile = record { place = place; at = 0; end = end } in
-    rw (grown, numbered)
-    (slice_get-map (left_in files) (opened ++ new ∷ []) (length opened) ∙ ap (option_map (left_in files)) (slice_get_pushed opened new))
-    ∙ ap (λ (bytes : List ℕ). Some bytes) (take_all end (bytes_at files place) (omega (arith, ended)))
+pub left_in-new : (files : List NamedBytes) (place end : ℕ) → end ≡ length (bytes_at files place)
+    → left_in files (record { place = place; at = 0; end = end }) ≡ bytes_at files place
+left_in-new files place end ended = take_all end (bytes_at files place) (omega (arith, ended))
 
 -- what a read of the next bytes tells
 pub reads_next : (old new : Option (List ℕ)) (before after buf : List ℕ) (count : ℕ) → old ≡ Some before → new ≡ Some after → before ≡ take count buf ++ after → count ≡ min (length before) (length buf) → Consumes old new (take count buf) × (count ≡ 0 → 0 < length buf → IsAtEnd new)
@@ -133,19 +136,82 @@ reads_next old new before after buf count old_is new_is spelled counted =
     let lengths = ap (length {A = ℕ}) spelled ∙ length-append (take count buf) after in
     rw (old_is, new_is) (spelled, λ none room. empty_from_length after (omega (arith, counted, none, room, lengths)))
 
--- an open adds a file that is open, and leaves the others
-pub opens_only : (old new : StoreState) (left : List ℕ) → new.files ≡ old.files → new.opened ≡ old.opened ++ left ∷ [] → OpensOnly given_by is_open left_by old new
-opens_only old new left files opened = record {
-  gives = λ name. ap (λ (fs : List NamedBytes). bytes_of fs name) files;
-  open_files = λ other was. let more = ap (length {A = List ℕ}) opened ∙ length-append old.opened (left ∷ []) in grind (arith, nat_tests);
-  others = λ other was. rw opened (slice_get-append_left old.opened (left ∷ []) other (grind (arith, nat_tests)));
-}
+-- two states of files are one where they agree
+pub same_files : (a b : FilesState) → a.contents ≡ b.contents → a.sources ≡ b.sources → a.sinks ≡ b.sinks → a ≡ b
+same_files a b contents sources sinks =
+    let first : a ≡ record a { contents = b.contents } = ap (λ (c : List ℕ → Option (List ℕ)). record a { contents = c }) contents in
+    let second : record a { contents = b.contents } ≡ record a { contents = b.contents; sources = b.sources } = ap (λ (s : Opened (Option (List ℕ))). record a { contents = b.contents; sources = s }) sources in
+    let third : record a { contents = b.contents; sources = b.sources } ≡ b = ap (λ (s : Opened Written). record b { sinks = s }) sinks in
+    first ∙ second ∙ third
+
+pub same_opened : {X : Type 0} (a b : Opened X) → a.faults ≡ b.faults → a.names ≡ b.names → a.files ≡ b.files → a ≡ b
+same_opened a b faults names files =
+    let first : a ≡ record a { faults = b.faults } = ap (λ (n : ℕ). record a { faults = n }) faults in
+    let second : record a { faults = b.faults } ≡ record a { faults = b.faults; names = b.names } = ap (λ (ns : Option (List (List ℕ))). record a { faults = b.faults; names = ns }) names in
+    let third : record a { faults = b.faults; names = b.names } ≡ b = ap (λ (fs : List _). record b { files = fs }) files in
+    first ∙ second ∙ third
+
+pub same_contents : (old new : StoreState) → new.files ≡ old.files → (files_of_store new).contents ≡ (files_of_store old).contents
+same_contents old new files = ap {B = List ℕ → Option (List ℕ)} (λ (fs : List NamedBytes). bytes_of fs) files
+
+pub same_sources : (old new : StoreState) → new.reads ≡ old.reads → new.source_names ≡ old.source_names → new.opened ≡ old.opened
+    → (files_of_store new).sources ≡ (files_of_store old).sources
+same_sources old new reads names opened =
+    same_opened _ _ (ap (λ (c : CallCounts). c.faults) reads) (ap (λ (ns : List (List ℕ)). Some ns) names) (ap (map (λ (left : List ℕ). Some left)) opened)
+
+pub same_sinks : (old new : StoreState) → new.files ≡ old.files → new.writes ≡ old.writes → new.sink_names ≡ old.sink_names → new.sinks ≡ old.sinks
+    → (files_of_store new).sinks ≡ (files_of_store old).sinks
+same_sinks old new files writes names sinks =
+    same_opened _ _ (ap (λ (c : CallCounts). c.faults) writes) (ap (λ (ns : List (List ℕ)). Some ns) names)
+    (ap (λ (fs : List NamedBytes). map (sink_at fs) new.sinks) files ∙ ap (map (sink_at old.files)) sinks)
+
+-- an open for reading adds a file
+pub opens_source : (old new : StoreState) (name : List ℕ) (number : ℕ) (left : List ℕ) → number ≡ length old.opened → new.opened ≡ old.opened ++ left ∷ []
+    → bytes_of old.files name ≡ Some left → new.files ≡ old.files → new.writes ≡ old.writes → new.sink_names ≡ old.sink_names → new.sinks ≡ old.sinks
+    → OpensSource (files_of_store old) (files_of_store new) name (Ok (record { 0 = number }))
+opens_source old new name number left numbered opened gives files writes names sinks =
+    let some : List ℕ → Option (List ℕ) = λ left. Some left in
+    let grown : map some new.opened ≡ map some old.opened ++ bytes_of old.files name ∷ [] =
+    ap (map some) opened ∙ map-append some old.opened (left ∷ []) ∙ ap (λ (o : Option (List ℕ)). map some old.opened ++ o ∷ []) (sym gives) in (
+      numbered ∙ sym (length-map old.opened some),
+      same_files _ _ (same_contents old new files) (same_opened _ _ refl refl grown) (same_sinks old new files writes names sinks),
+    )
+
+-- an open that fails adds none
+pub opens_no_source : (old new : StoreState) (name : List ℕ) (fault : OpenFault) → new.opened ≡ old.opened → new.files ≡ old.files → new.writes ≡ old.writes
+    → new.sink_names ≡ old.sink_names → new.sinks ≡ old.sinks → OpensSource (files_of_store old) (files_of_store new) name (Err fault)
+opens_no_source old new name fault opened files writes names sinks =
+    same_files _ _ (same_contents old new files) (same_opened _ _ refl refl (ap (map (λ (left : List ℕ). Some left)) opened)) (same_sinks old new files writes names sinks)
+
+-- what a file has left, as callers see it
+pub left-seen : (lefts : List (List ℕ)) (file : ℕ) (left : List ℕ) → slice_get lefts file ≡ Some left → get_or (map (λ (l : List ℕ). Some l) lefts) file None ≡ Some left
+left-seen [] file left is = absurd cc
+left-seen (l ∷ ls) zero left is = is
+left-seen (l ∷ ls) (suc k) left is = left-seen ls k left is
 
 -- a read changes what one file has left
-pub reads_only : (old new : StoreState) (file : ℕ) (left : List ℕ) → new.files ≡ old.files → new.handed ≡ old.handed → new.opened ≡ slice_set old.opened file left → ReadsOnly given_by (λ (s : StoreState). Some s.handed) is_open left_by file old new
-reads_only old new file left files handed opened = record {
-  gives = λ name. ap (λ (fs : List NamedBytes). bytes_of fs name) files;
-  names = ap (λ (names : List (List ℕ)). Some names) handed;
-  open_files = λ other. ap (λ (n : ℕ). nat_lt other n) (ap (length {A = List ℕ}) opened ∙ length-set old.opened file left);
-  others = λ other apart. rw opened (slice_get-set_other old.opened file other left apart);
-}
+pub reads_only : (old new : StoreState) (file : ℕ) (left : List ℕ) → file < length old.opened → new.opened ≡ slice_set old.opened file left
+    → new.source_names ≡ old.source_names → new.files ≡ old.files → new.writes ≡ old.writes → new.sink_names ≡ old.sink_names → new.sinks ≡ old.sinks
+    → ReadsOnly file (files_of_store old) (files_of_store new)
+reads_only old new file left inside opened read_names files writes names sinks =
+    let some : List ℕ → Option (List ℕ) = λ left. Some left in
+    let changed : map some new.opened ≡ slice_set (map some old.opened) file (Some left) = ap (map some) opened ∙ map-set some old.opened file left in
+    let at : left_of (files_of_store new) file ≡ Some left =
+    ap (λ (os : List (Option (List ℕ))). get_or os file None) changed
+    ∙ get_or-set_same (map some old.opened) file (Some left) None (omega (arith, inside, length-map old.opened some)) in
+    same_files _ _ (same_contents old new files)
+    (same_opened _ _ refl (ap (λ (ns : List (List ℕ)). Some ns) read_names) (changed ∙ ap (slice_set (map some old.opened) file) (sym at)))
+    (same_sinks old new files writes names sinks)
+
+-- a read that failed changes nothing
+pub reads_none : (old new : StoreState) (file : ℕ) → new.opened ≡ old.opened
+    → new.source_names ≡ old.source_names → new.files ≡ old.files → new.writes ≡ old.writes → new.sink_names ≡ old.sink_names → new.sinks ≡ old.sinks
+    → ReadsOnly file (files_of_store old) (files_of_store new)
+reads_none old new file opened read_names files writes names sinks =
+    let some : List ℕ → Option (List ℕ) = λ left. Some left in
+    let kept : map some new.opened ≡ map some old.opened = ap (map some) opened in
+    let same : map some old.opened ≡ slice_set (map some old.opened) file (left_of (files_of_store new) file) =
+    sym (set-get_or (map some old.opened) file None) ∙ ap (λ (os : List (Option (List ℕ))). slice_set (map some old.opened) file (get_or os file None)) (sym kept) in
+    same_files _ _ (same_contents old new files)
+    (same_opened _ _ refl (ap (λ (ns : List (List ℕ)). Some ns) read_names) (kept ∙ same))
+    (same_sinks old new files writes names sinks)

@@ -8,20 +8,20 @@ raised count = min (count + 1) (2 ^ 64 - 1)
 -- the numbers of the calls that fail, how many calls there were, and how many faults
 pub record CallCounts : Type 0 where
   pub failing : List ℕ
-  pub made : ℕ
+  pub count : ℕ
   pub faults : ℕ
 
 -- before the first call
 abbrev pub no_calls : List ℕ → CallCounts
-no_calls failing = record { failing = failing; made = 0; faults = 0 }
+no_calls failing = record { failing = failing; count = 0; faults = 0 }
 
 -- the number of the next call is one of those that fail
 abbrev pub NextFails : CallCounts → Type 0
-NextFails calls = Contains calls.failing (raised calls.made)
+NextFails calls = Contains calls.failing (raised calls.count)
 
 -- one call more
 abbrev pub called : CallCounts → CallCounts
-called calls = record calls { made = raised calls.made }
+called calls = record calls { count = raised calls.count }
 
 -- one fault more
 abbrev pub faulted : CallCounts → CallCounts

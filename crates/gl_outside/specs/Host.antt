@@ -1,7 +1,8 @@
 -- What callers see of the objects over the system. Content is told as far as the system's own files and writers tell it.
-use Rattle.std.specs.Prelude.{◌≡◌, ℕ, List, ◌∷◌, [], ◌++◌, Option, Some, length, nat_lt, Bool, slice_get, slice_set, take, Result, Ok, Err}
+use Rattle.std.specs.Prelude.{◌≡◌, ℕ, List, ◌∷◌, [], ◌++◌, Option, None, Some, length, map, slice_get, slice_set, take, Result, Ok, Err}
 use Rattle.std.specs.Io.KnownBytes.{Appends}
 use Rattle.gl_outside.specs.Calls.{raised}
+use Rattle.gl_outside.specs.FilesState.{FilesState}
 use Rattle.gl_outside.specs.Fronts.{AppendsFront}
 use Rattle.gl_outside.specs.declared.files.FileNo.{FileNo}
 use Rattle.gl_outside.specs.declared.files.OpenFault.{OpenFault}
@@ -14,13 +15,14 @@ pub record HostState (F : Type 0) : Type 0 where
   pub reads : ℕ
   pub writes : ℕ
 
--- whether the number is that of a file that was opened for reading
-abbrev pub is_read : {F : Type 0} → HostState F → ℕ → Bool
-is_read host file = nat_lt file (length host.sources)
-
--- whether the number is that of a file that was opened for writing
-abbrev pub is_written : {F : Type 0} → HostState F → ℕ → Bool
-is_written host file = nat_lt file (length host.sinks)
+-- the files as every caller of `Files` sees them: how many were opened, and how many faults there were, is all that is told
+abbrev pub files_of_host : {F : Type 0} → HostState F → FilesState
+files_of_host host =
+    record {
+      contents = λ name. None;
+      sources = record { faults = host.reads; names = None; files = map (λ file. None) host.sources };
+      sinks = record { faults = host.writes; names = None; files = map (λ file. record { name = None; bytes = None }) host.sinks };
+    }
 
 -- a writer as a sink: the writer, and how many faults there were
 pub record WriterState (W : Type 0) : Type 0 where

@@ -1,4 +1,5 @@
 pub mod Faults
+pub mod FilesState
 pub mod Names
 pub mod Frames
 pub mod Calls
@@ -7,4 +8,4 @@ pub mod Store
 pub mod OpenFiles
 pub mod Host
 pub mod Fronts
-pub mod Told
+pub mod Laws

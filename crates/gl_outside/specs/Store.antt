@@ -1,7 +1,7 @@
 -- Files in memory, as their callers see them.
-use Rattle.std.specs.Prelude.{◌≡◌, ◌≢◌, ℕ, ◌+◌, ◌^◌, ◌<◌, ◌≤◌, Bool, nat_lt, List, [], length, slice_get, Option, None, Some, Result, Ok, Err, bytes_eq, fold, slice_index, slice_index_or, if◌then◌else◌}
-use Rattle.std.specs.Option.{option_map}
+use Rattle.std.specs.Prelude.{◌≡◌, ℕ, zero, suc, ◌+◌, ◌^◌, ◌<◌, ◌≤◌, List, [], ◌∷◌, length, map, Option, None, Some, is_some, Result, Ok, Err, bytes_eq, fold, slice_index, slice_index_or, if◌then◌else◌}
 use Rattle.gl_outside.specs.Calls.{CallCounts, called, faulted}
+use Rattle.gl_outside.specs.FilesState.{FilesState, Written}
 use Rattle.gl_outside.specs.declared.files.OpenFault.{OpenFault}
 use Rattle.gl_outside.specs.declared.files.OpenFault.TheVariants.{Failed, NoMemory}
 
@@ -16,10 +16,10 @@ pub record NamedBytes : Type 0 where
 -- `open_sink`, the place of each file that was opened, by its number, and the calls.
 pub record StoreState : Type 0 where
   pub files : List NamedBytes
-  pub handed : List (List ℕ)
+  pub source_names : List (List ℕ)
   pub opened : List (List ℕ)
   pub reads : CallCounts
-  pub made : List (List ℕ)
+  pub sink_names : List (List ℕ)
   pub sinks : List ℕ
   pub writes : CallCounts
 
@@ -47,31 +47,24 @@ name_at files place = (file_at files place).name
 abbrev pub ready_at : List NamedBytes → ℕ → ℕ
 ready_at files place = (file_at files place).ready
 
--- the file at this place is the newest of this name
-pub record IsNewest (files : List NamedBytes) (place : ℕ) (name : List ℕ) : Type 0 where
-  pub inside : place < length files
-  pub named : name_at files place ≡ name
-  pub last : (later : ℕ) → place < later → later < length files → name_at files later ≢ name
+-- its name, where no newer file has it
+abbrev pub newest_name : List NamedBytes → ℕ → Option (List ℕ)
+newest_name [] place = None
+newest_name (file ∷ files) zero = if is_some (bytes_of files file.name) then None else Some file.name
+newest_name (file ∷ files) (suc place) = newest_name files place
 
--- what a name gives
-abbrev pub given_by : StoreState → List ℕ → Option (List ℕ)
-given_by store name = bytes_of store.files name
+-- the file at this place, as one that is open for writing
+abbrev pub sink_at : List NamedBytes → ℕ → Written
+sink_at files place = record { name = newest_name files place; bytes = Some (bytes_at files place) }
 
--- whether a file of this number was opened
-abbrev pub is_open : StoreState → ℕ → Bool
-is_open store file = nat_lt file (length store.opened)
-
--- what an open file has left
-abbrev pub left_by : StoreState → ℕ → Option (List ℕ)
-left_by store file = slice_get store.opened file
-
--- whether a file of this number was opened for writing
-abbrev pub is_made : StoreState → ℕ → Bool
-is_made store file = nat_lt file (length store.sinks)
-
--- what was written to it
-abbrev pub written_by : StoreState → ℕ → Option (List ℕ)
-written_by store file = option_map (bytes_at store.files) (slice_get store.sinks file)
+-- the files as every caller of `Files` sees them: all is told
+abbrev pub files_of_store : StoreState → FilesState
+files_of_store store =
+    record {
+      contents = bytes_of store.files;
+      sources = record { faults = store.reads.faults; names = Some store.source_names; files = map (λ left. Some left) store.opened };
+      sinks = record { faults = store.writes.faults; names = Some store.sink_names; files = map (sink_at store.files) store.sinks };
+    }
 
 -- how many bytes the file of this number that was opened for writing can hold before it takes memory
 abbrev pub ready_in : StoreState → ℕ → ℕ
@@ -85,16 +78,9 @@ WantsMemoryAt files place piece = ready_at files place < length (bytes_at files 
 abbrev pub WantsMemoryIn : StoreState → ℕ → List ℕ → Type 0
 WantsMemoryIn store file piece = WantsMemoryAt store.files (slice_index store.sinks file) piece
 
--- it is the newest file of this name, and so what was written to it is what the name gives
-pub record IsFilledBy (store : StoreState) (file : ℕ) (name : List ℕ) : Type 0 where
-  pub place : ℕ
-  pub is : slice_get store.sinks file ≡ Some place
-  pub newest : IsNewest store.files place name
-  pub gives : given_by store name ≡ Some (bytes_at store.files place)
-
 -- no file has this name
 abbrev pub IsMissing : StoreState → List ℕ → Type 0
-IsMissing store name = given_by store name ≡ None
+IsMissing store name = bytes_of store.files name ≡ None
 
 -- as many files were opened for reading as there are numbers for them
 abbrev pub HasNoNumber : StoreState → Type 0

@@ -11,7 +11,7 @@ use std::marker::Model;
 #[derive(Drop)]
 pub(crate) struct Calls {
     failing: Vec<u64>,
-    made: u64,
+    count: u64,
     faults: FaultCount,
 }
 
@@ -20,7 +20,7 @@ impl Model for Calls {
 
     ghost Value = { CallCounts };
 
-    ghost view = { λ c. record { failing = c.failing.items; made = c.made; faults = c.faults } };
+    ghost view = { λ c. record { failing = c.failing.items; count = c.count; faults = c.faults } };
 }
 
 impl Calls {
@@ -30,7 +30,7 @@ impl Calls {
     {
         Calls {
             failing,
-            made: 0,
+            count: 0,
             faults: FaultCount::new(),
         }
     }
@@ -40,8 +40,8 @@ impl Calls {
         ensures told { IsTrue result ↔ NextFails self.old }
         ensures counted { self.new ≡ called self.old }
     {
-        self.made = self.made.saturating_add(1);
-        self.failing.contains(&self.made)
+        self.count = self.count.saturating_add(1);
+        self.failing.contains(&self.count)
     }
 
     /// Counts a fault.

@@ -1,8 +1,9 @@
 //! Files by name.
-ghost use Rattle.std.specs.Prelude.{◌≡◌, ℕ, ◌<◌, ◌≤◌, Bool, false, IsTrue, List, [], Option, is_some, IfSome, IfOk, OnErr, length};
+ghost use Rattle.std.specs.Prelude.{◌≡◌, ℕ, ◌<◌, ◌≤◌, IsTrue, List, Some, is_some, IfSome, IfOk, OnOk, length};
 ghost use Rattle.std.specs.Io.KnownBytes.{ReadConsumes, WriteAppends};
 ghost use Rattle.gl_outside.specs.Faults.{Counts, Rose};
-ghost use Rattle.gl_outside.specs.Frames.{ReadsOnly, OpensOnly, KeepsSources, KeepsSinks, WritesOnly, MakesOnly};
+ghost use Rattle.gl_outside.specs.FilesState.{FilesState, is_opened, left_of, sink_of, written_of};
+ghost use Rattle.gl_outside.specs.Frames.{OpensSource, OpensSink, ReadsOnly, WritesOnly};
 ghost use Rattle.gl_outside.specs.Names.{NotesName};
 
 use crate::Failed;
@@ -54,83 +55,45 @@ impl<T: Drop> From<AllocFailed<T>> for OpenFault {
 /// A file that is open for reading goes on with the bytes that it had as it was opened, whatever is written since. A
 /// file that is opened for writing is a new one, from which its name gives.
 pub trait Files {
-    /// How many faults of opening for reading and of reading there were.
-    ghost reads: { Self → ℕ };
-
-    /// How many faults of opening for writing and of writing there were.
-    ghost writes: { Self → ℕ };
-
-    /// What a source of this name gives, where it is told, also before the file is opened.
-    ghost given: { Self → List ℕ → Option (List ℕ) };
-
-    /// The names that were handed to `open_source`, where they are told.
-    ghost handed: { Self → Option (List (List ℕ)) };
-
-    /// The names that were handed to `open_sink`, where they are told.
-    ghost made: { Self → Option (List (List ℕ)) };
-
-    /// Whether the number is that of a file that was opened for reading.
-    ghost is_source: { Self → ℕ → Bool };
-
-    /// Whether the number is that of a file that was opened for writing.
-    ghost is_sink: { Self → ℕ → Bool };
-
-    /// The bytes that a file has left that is open for reading, where they are told.
-    ghost left: { Self → ℕ → Option (List ℕ) };
-
-    /// The bytes that were written to a file that is open for writing, where they are told.
-    ghost written: { Self → ℕ → Option (List ℕ) };
-
-    /// The name gives what was written to the file: it was opened under this name, and no newer file has the name.
-    ghost fills: { Self → ℕ → List ℕ → Type 0 };
+    /// What names give, the files that were opened, and how many faults there were.
+    ghost state: { Self → FilesState };
 
     /// Opens the file of this name for reading, from its front, and gives it a number of its own. A file that is missing is
-    /// `Failed`.
+    /// `Failed`: where the names are told that were handed to this call, a name that was opened gives something. Where it
+    /// answers a fault no file is opened.
     fn open_source(&mut self, name: &str) -> Result<FileNo, OpenFault>
-        ensures opened { IfOk result (λ file. IsTrue (is_source self.new file.0)) }
-        ensures unused { IfOk result (λ file. is_source self.old file.0 ≡ false) }
-        ensures bytes { IfOk result (λ file. left self.new file.0 ≡ given self.old name.now) }
-        ensures frame { OpensOnly given is_source left self.old self.new }
-        ensures sinks { KeepsSinks writes made is_sink written fills self.old self.new }
-        ensures names { NotesName (handed self.old) (handed self.new) name.now result }
-        ensures later { reads self.old ≤ reads self.new }
-        ensures failed { result ≡ Err OpenFault.Failed → Rose (reads self.old) (reads self.new) };
+        ensures opens { OpensSource (state self.old) (state self.new) name.now result }
+        ensures there { OnOk result
+            (IfSome (state self.old).sources.names (λ names. IsTrue (is_some ((state self.old).contents name.now)))) }
+        ensures names { NotesName (state self.old).sources.names (state self.new).sources.names name.now result }
+        ensures later { (state self.old).sources.faults ≤ (state self.new).sources.faults }
+        ensures failed { result ≡ Err OpenFault.Failed → Rose (state self.old).sources.faults (state self.new).sources.faults };
 
     /// Reads on in an open file, as `Source::read` does.
     fn read(&mut self, file: FileNo, buf: &mut [u8]) -> Result<usize, Failed>
-        requires { IsTrue (is_source self.old file.0) }
+        requires { IsTrue (is_opened (state self.old).sources file.0) }
         ensures bound { IfOk result (λ count. count ≤ length buf.new) }
-        ensures bytes { ReadConsumes (left self.old file.0) (left self.new file.0) result buf.new }
-        ensures frame { ReadsOnly given handed is_source left file.0 self.old self.new }
-        ensures sinks { KeepsSinks writes made is_sink written fills self.old self.new }
-        ensures counts { Counts (reads self.old) (reads self.new) result };
+        ensures bytes { ReadConsumes (left_of (state self.old) file.0) (left_of (state self.new) file.0) result buf.new }
+        ensures frame { ReadsOnly file.0 (state self.old) (state self.new) }
+        ensures counts { Counts (state self.old).sources.faults (state self.new).sources.faults result };
 
-    /// Makes the file of this name, or empties it, and opens it for writing. Where it answers a fault, the name gives
-    /// what it gave before.
+    /// Makes the file of this name, or empties it, and opens it for writing. Where it answers a fault no file is opened, and
+    /// each name gives what it gave before: an empty file is made only where `Ok` is answered.
     fn open_sink(&mut self, name: &str) -> Result<FileNo, OpenFault>
-        ensures opened { IfOk result (λ file. IsTrue (is_sink self.new file.0)) }
-        ensures number { IfOk result (λ file. is_sink self.old file.0 ≡ false) }
-        ensures empty { IfOk result (λ file. IfSome (written self.new file.0) (λ bytes. bytes ≡ [])) }
-        ensures target { IfOk result (λ file. fills self.new file.0 name.now) }
-        ensures kept { OnErr result (given self.new name.now ≡ given self.old name.now) }
-        ensures frame { MakesOnly given is_sink written fills name.now self.old self.new }
-        ensures sources { KeepsSources reads handed is_source left self.old self.new }
-        ensures names { NotesName (made self.old) (made self.new) name.now result }
-        ensures later { writes self.old ≤ writes self.new }
-        ensures failed { result ≡ Err OpenFault.Failed → Rose (writes self.old) (writes self.new) };
+        ensures opens { OpensSink (state self.old) (state self.new) name.now result }
+        ensures names { NotesName (state self.old).sinks.names (state self.new).sinks.names name.now result }
+        ensures later { (state self.old).sinks.faults ≤ (state self.new).sinks.faults }
+        ensures failed { result ≡ Err OpenFault.Failed → Rose (state self.old).sinks.faults (state self.new).sinks.faults };
 
     /// Writes behind what was written to an open file, as `Sink::write` does.
     fn write(&mut self, file: FileNo, piece: &[u8]) -> Result<usize, Failed>
-        requires { IsTrue (is_sink self.old file.0) }
+        requires { IsTrue (is_opened (state self.old).sinks file.0) }
         ensures bound { IfOk result (λ count. count ≤ length piece.now) }
-        ensures bytes { WriteAppends (written self.old file.0) (written self.new file.0) result piece.now }
-        ensures none_taken { IfOk result (λ count. count ≡ 0 → 0 < length piece.now → Rose (writes self.old) (writes self.new)) }
-        ensures frame { WritesOnly given made is_sink written fills file.0 self.old self.new }
-        ensures sources { KeepsSources reads handed is_source left self.old self.new }
-        ensures counts { Counts (writes self.old) (writes self.new) result };
+        ensures bytes { WriteAppends (written_of (state self.old) file.0) (written_of (state self.new) file.0) result piece.now }
+        ensures none_taken { IfOk result (λ count. count ≡ 0 → 0 < length piece.now → Rose (state self.old).sinks.faults (state self.new).sinks.faults) }
+        ensures frame { WritesOnly file.0 (state self.old) (state self.new) }
+        ensures counts { Counts (state self.old).sinks.faults (state self.new).sinks.faults result };
 
-    /// Where the names are told under which files were opened for writing, so is what was written to these files.
-    ghost tells: { (files : Self) (file : ℕ) → IsTrue (is_sink files file) → IfSome (made files) (λ names. IsTrue (is_some (written files file))) };
-
-    ghost filled: { (files : Self) (file : ℕ) (name : List ℕ) → fills files file name → given files name ≡ written files file };
+    /// A name that a file has which is open for writing gives what was written to it.
+    ghost filled: { (files : Self) (file : ℕ) (name : List ℕ) → (sink_of (state files) file).name ≡ Some name → (state files).contents name ≡ written_of (state files) file };
 }

@@ -1,10 +1,12 @@
 //! The files of the system.
-ghost use Rattle.std.specs.Prelude.{◌≡◌, ◌<◌, ◌≤◌, [], None, IsTrue, false, IfOk, OnErr, length, refl};
+ghost use Rattle.std.specs.Prelude.{◌≡◌, ◌<◌, ◌≤◌, [], Err, IsTrue, is_some, IfSome, IfOk, OnOk, length};
 ghost use Rattle.std.specs.Io.KnownBytes.{ReadConsumes, WriteAppends};
 ghost use Rattle.gl_outside.specs.Faults.{Counts, Rose};
-ghost use Rattle.gl_outside.specs.Frames.{ReadsOnly, OpensOnly, WritesOnly, MakesOnly, KeepsSources, KeepsSinks};
+ghost use Rattle.gl_outside.specs.FilesState.{is_opened, left_of, written_of};
+ghost use Rattle.gl_outside.specs.Frames.{OpensSource, OpensSink, ReadsOnly, WritesOnly};
 ghost use Rattle.gl_outside.specs.Names.{NotesName};
-ghost use Rattle.gl_outside.specs.Host.{is_read, is_written, faults_after, faults_after_open, ChangesAt, TakesFront, OpensOne};
+ghost use Rattle.gl_outside.specs.Host.{files_of_host, faults_after, faults_after_open, ChangesAt, TakesFront, OpensOne};
+ghost use Rattle.gl_outside.specs.Laws.{nothing_filled};
 
 use crate::fault_count::FaultCount;
 use crate::writer_sink::write_through;
@@ -17,6 +19,9 @@ use std::rt;
 
 /// The files of the system, by path. Each error of the system is a fault, and so is an open of more files than there are
 /// numbers for them. A folder may be opened as a file is, and then each read of it fails.
+///
+/// An open takes its memory first. So where it answers `NoMemory` it has not asked the system for the file, and a file that
+/// was to be written is what it was.
 #[derive(Drop)]
 pub struct HostFiles<R: rt::Files> {
     rt: R,
@@ -50,60 +55,41 @@ impl<R: rt::Files> HostFiles<R> {
 }
 
 impl<R: rt::Files> Files for HostFiles<R> {
-    ghost reads = { λ s. s.reads };
-
-    ghost writes = { λ s. s.writes };
-
-    ghost given = { λ s name. None };
-
-    ghost handed = { λ s. None };
-
-    ghost made = { λ s. None };
-
-    ghost is_source = { is_read };
-
-    ghost is_sink = { is_written };
-
-    ghost left = { λ s file. None };
-
-    ghost written = { λ s file. None };
-
-    ghost fills = { λ s file name. Unit {0} };
+    ghost state = { files_of_host };
 
     fn open_source(&mut self, name: &str) -> Result<FileNo, OpenFault>
-        ensures opened { IfOk result (λ file. IsTrue (is_read self.new file.0)) }
-        ensures unused { IfOk result (λ file. is_read self.old file.0 ≡ false) }
-        ensures bytes { IfOk result (λ file. Unit {0}) }
-        ensures frame { OpensOnly (λ s name. None) is_read (λ s file. None) self.old self.new }
-        ensures sinks { KeepsSinks (λ s. s.writes) (λ s. None) is_written (λ s file. None) (λ s file name. Unit {0}) self.old self.new }
-        ensures names { NotesName None None name.now result }
+        ensures opens { OpensSource (files_of_host self.old) (files_of_host self.new) name.now result }
+        ensures there { OnOk result
+            (IfSome (files_of_host self.old).sources.names (λ names. IsTrue (is_some ((files_of_host self.old).contents name.now)))) }
+        ensures names { NotesName (files_of_host self.old).sources.names (files_of_host self.new).sources.names name.now result }
         ensures later { self.old.reads ≤ self.new.reads }
         ensures failed { result ≡ Err OpenFault.Failed → Rose self.old.reads self.new.reads }
 
         ensures one { OpensOne self.old.sources self.new.sources result }
         ensures counted { self.new.reads ≡ faults_after_open self.old.reads result }
         ensures written { self.new.sinks ≡ self.old.sinks }
+        ensures no_memory { result ≡ Err OpenFault.NoMemory → self.new ≡ self.old }
     {
-        let (Ok(file), Ok(number)) = (
-            File::open(&self.rt, name),
-            u32::try_from(self.sources.len()),
-        ) else {
+        let Ok(number) = u32::try_from(self.sources.len()) else {
             return Err(self.reads.raise().into());
         };
-        self.sources.push(file)?;
+        self.sources.reserve(1)?;
+        let Ok(file) = File::open(&self.rt, name) else {
+            return Err(self.reads.raise().into());
+        };
+        self.sources.push_reserved(file);
         Ok(FileNo(number))
     }
 
     /// Reads on in the file of this number alone. What it gives is what the system gave.
     fn read(&mut self, file: FileNo, buf: &mut [u8]) -> Result<usize, Failed>
-        requires { IsTrue (is_read self.old file.0) }
+        requires { IsTrue (is_opened (files_of_host self.old).sources file.0) }
         ensures bound { IfOk result (λ count. count ≤ length buf.new) }
-        ensures bytes { ReadConsumes None None result buf.new }
-        ensures frame { ReadsOnly (λ s name. None) (λ s. None) is_read (λ s file. None) file.0 self.old self.new }
-        ensures sinks { KeepsSinks (λ s. s.writes) (λ s. None) is_written (λ s file. None) (λ s file name. Unit {0}) self.old self.new }
+        ensures bytes { ReadConsumes (left_of (files_of_host self.old) file.0) (left_of (files_of_host self.new) file.0) result buf.new }
+        ensures frame { ReadsOnly file.0 (files_of_host self.old) (files_of_host self.new) }
         ensures counts { Counts self.old.reads self.new.reads result }
 
-        ensures given { ChangesAt file.0 self.old.sources self.new.sources
+        ensures from_system { ChangesAt file.0 self.old.sources self.new.sources
             (λ was now. ReadConsumes (R.File.remaining was) (R.File.remaining now) result buf.new) }
         ensures counted { self.new.reads ≡ faults_after self.old.reads result }
         ensures written { self.new.sinks ≡ self.old.sinks }
@@ -115,45 +101,40 @@ impl<R: rt::Files> Files for HostFiles<R> {
     }
 
     fn open_sink(&mut self, name: &str) -> Result<FileNo, OpenFault>
-        ensures opened { IfOk result (λ file. IsTrue (is_written self.new file.0)) }
-        ensures number { IfOk result (λ file. is_written self.old file.0 ≡ false) }
-        ensures empty { IfOk result (λ file. Unit {0}) }
-        ensures target { IfOk result (λ file. Unit {0}) }
-        ensures kept { OnErr result (Unit {0}) }
-        ensures frame { MakesOnly (λ s name. None) is_written (λ s file. None) (λ s file name. Unit {0}) name.now self.old self.new }
-        ensures sources { KeepsSources (λ s. s.reads) (λ s. None) is_read (λ s file. None) self.old self.new }
-        ensures names { NotesName None None name.now result }
+        ensures opens { OpensSink (files_of_host self.old) (files_of_host self.new) name.now result }
+        ensures names { NotesName (files_of_host self.old).sinks.names (files_of_host self.new).sinks.names name.now result }
         ensures later { self.old.writes ≤ self.new.writes }
         ensures failed { result ≡ Err OpenFault.Failed → Rose self.old.writes self.new.writes }
 
         ensures one { OpensOne self.old.sinks self.new.sinks result }
         ensures counted { self.new.writes ≡ faults_after_open self.old.writes result }
-        ensures given { self.new.sources ≡ self.old.sources }
+        ensures read { self.new.sources ≡ self.old.sources }
+        ensures no_memory { result ≡ Err OpenFault.NoMemory → self.new ≡ self.old }
     {
         let Ok(number) = u32::try_from(self.sinks.len()) else {
             return Err(self.writes.raise().into());
         };
+        self.sinks.reserve(1)?;
         let Ok(file) = File::create(&self.rt, name) else {
             return Err(self.writes.raise().into());
         };
-        self.sinks.push(file)?;
+        self.sinks.push_reserved(file);
         Ok(FileNo(number))
     }
 
     /// Hands the piece to the file of this number alone, once.
     fn write(&mut self, file: FileNo, piece: &[u8]) -> Result<usize, Failed>
-        requires { IsTrue (is_written self.old file.0) }
+        requires { IsTrue (is_opened (files_of_host self.old).sinks file.0) }
         ensures bound { IfOk result (λ count. count ≤ length piece.now) }
-        ensures bytes { WriteAppends None None result piece.now }
+        ensures bytes { WriteAppends (written_of (files_of_host self.old) file.0) (written_of (files_of_host self.new) file.0) result piece.now }
         ensures none_taken { IfOk result (λ count. count ≡ 0 → 0 < length piece.now → Rose self.old.writes self.new.writes) }
-        ensures frame { WritesOnly (λ s name. None) (λ s. None) is_written (λ s file. None) (λ s file name. Unit {0}) file.0 self.old self.new }
-        ensures sources { KeepsSources (λ s. s.reads) (λ s. None) is_read (λ s file. None) self.old self.new }
+        ensures frame { WritesOnly file.0 (files_of_host self.old) (files_of_host self.new) }
         ensures counts { Counts self.old.writes self.new.writes result }
 
-        ensures taken { ChangesAt file.0 self.old.sinks self.new.sinks
+        ensures to_system { ChangesAt file.0 self.old.sinks self.new.sinks
             (λ was now. TakesFront (R.File.contents was) (R.File.contents now) result piece.now) }
         ensures counted { self.new.writes ≡ faults_after self.old.writes result }
-        ensures given { self.new.sources ≡ self.old.sources }
+        ensures read { self.new.sources ≡ self.old.sources }
     {
         match write_through(&mut self.sinks[file.0 as usize], piece) {
             Ok(count) if count > 0 || piece.is_empty() => Ok(count),
@@ -161,7 +142,5 @@ impl<R: rt::Files> Files for HostFiles<R> {
         }
     }
 
-    ghost tells = { λ files file opened. tt };
-
-    ghost filled = { λ files file name target. refl };
+    ghost filled = { nothing_filled };
 }

@@ -1,15 +1,15 @@
 //! Files in memory.
-ghost use Rattle.std.specs.Prelude.{◌≡◌, ◌≢◌, ◌↔◌, ◌⊎◌, ℕ, ◌+◌, ◌<◌, ◌≤◌, ◌^◌, min, [], ◌∷◌, ◌++◌, IsTrue, false, List, Option, None, Some, IfSome, IfOk, OnOk, OnErr, IsErr, MatchOption, length, take};
+ghost use Rattle.std.specs.Prelude.{◌≡◌, ◌≢◌, ◌↔◌, ◌⊎◌, ℕ, ◌+◌, ◌<◌, ◌≤◌, min, [], ◌∷◌, ◌++◌, IsTrue, List, Some, is_some, IfSome, IfOk, OnOk, OnErr, IsErr, MatchOption, length, take};
 ghost use Rattle.std.specs.Option.{option_map};
 ghost use Rattle.std.specs.Io.KnownBytes.{ReadConsumes, WriteAppends};
 ghost use Rattle.gl_outside.specs.Faults.{Counts, Rose};
-ghost use Rattle.gl_outside.specs.Frames.{ReadsOnly, OpensOnly, KeepsSources, KeepsSinks, WritesOnly, MakesOnly};
+ghost use Rattle.gl_outside.specs.FilesState.{is_opened, left_of, written_of};
+ghost use Rattle.gl_outside.specs.Frames.{OpensSource, OpensSink, ReadsOnly, WritesOnly};
 ghost use Rattle.gl_outside.specs.Names.{NotesName};
 ghost use Rattle.gl_outside.specs.Calls.{no_calls, NextFails, after_call};
-ghost use Rattle.gl_outside.specs.Store.{bytes_of, bytes_at, after_open, given_by, is_open, is_made, left_by, written_by, IsFilledBy, IsMissing, HasNoNumber, HasNoSinkNumber, ready_at, ready_in, WantsMemoryAt, WantsMemoryIn};
+ghost use Rattle.gl_outside.specs.Store.{bytes_of, bytes_at, after_open, files_of_store, IsMissing, HasNoNumber, HasNoSinkNumber, ready_at, ready_in, WantsMemoryAt, WantsMemoryIn};
 ghost use Rattle.gl_outside.specs.OpenFiles.{left_in, IsInside, appended};
-ghost use Rattle.std.proofs.Common.{◌∙◌, sym, ap};
-ghost use Rattle.gl_outside.specs.Told.{made_is_told};
+ghost use Rattle.gl_outside.specs.Laws.{name_filled};
 
 use crate::calls::Calls;
 use crate::mem_source::copy_front;
@@ -49,10 +49,10 @@ struct OpenFile {
 pub struct MemFiles {
     alloc: Global,
     files: Vec<StoredFile>,
-    handed: Vec<Name>,
+    source_names: Vec<Name>,
     opened: Vec<OpenFile>,
     reads: Calls,
-    made: Vec<Name>,
+    sink_names: Vec<Name>,
     sinks: Vec<usize>,
     writes: Calls,
 }
@@ -65,7 +65,7 @@ impl Model for MemFiles {
 
     ghost use Rattle.gl_outside.specs.OpenFiles.{left_in, IsInside, AreSinks};
 
-    ghost view = { λ s. record { files = s.files.items; handed = s.handed.items; opened = map (left_in s.files.items) s.opened.items; reads = s.reads; made = s.made.items; sinks = s.sinks.items; writes = s.writes } };
+    ghost view = { λ s. record { files = s.files.items; source_names = s.source_names.items; opened = map (left_in s.files.items) s.opened.items; reads = s.reads; sink_names = s.sink_names.items; sinks = s.sinks.items; writes = s.writes } };
 
     ghost invariant = { λ s. All (IsInside s.files.items) s.opened.items × AreSinks s.files.items s.sinks.items };
 }
@@ -75,10 +75,10 @@ impl MemFiles {
     pub fn new(alloc: Global, reads: Vec<u64>, writes: Vec<u64>) -> Self
         ensures { result ≡ record {
           files = [];
-          handed = [];
+          source_names = [];
           opened = [];
           reads = no_calls reads.items;
-          made = [];
+          sink_names = [];
           sinks = [];
           writes = no_calls writes.items;
         } }
@@ -86,10 +86,10 @@ impl MemFiles {
         MemFiles {
             alloc,
             files: Vec::new(alloc),
-            handed: Vec::new(alloc),
+            source_names: Vec::new(alloc),
             opened: Vec::new(alloc),
             reads: Calls::new(reads),
-            made: Vec::new(alloc),
+            sink_names: Vec::new(alloc),
             sinks: Vec::new(alloc),
             writes: Calls::new(writes),
         }
@@ -97,15 +97,15 @@ impl MemFiles {
 
     /// Adds a file, or replaces what the file of this name gives. Where there is no memory, all stays as it was.
     pub fn put(&mut self, name: &str, bytes: Vec<u8>) -> Result<(), NoMemory>
-        ensures gives { OnOk result (given_by self.new name.now ≡ Some bytes.items) }
+        ensures gives { OnOk result (bytes_of self.new.files name.now ≡ Some bytes.items) }
         ensures others { OnOk result
-            ((other : List ℕ) → other ≢ name.now → given_by self.new other ≡ given_by self.old other) }
-        ensures handed { self.new.handed ≡ self.old.handed }
+            ((other : List ℕ) → other ≢ name.now → bytes_of self.new.files other ≡ bytes_of self.old.files other) }
+        ensures source_names { self.new.source_names ≡ self.old.source_names }
         ensures opened { self.new.opened ≡ self.old.opened }
         ensures reads { self.new.reads ≡ self.old.reads }
-        ensures made { self.new.made ≡ self.old.made }
+        ensures sink_names { self.new.sink_names ≡ self.old.sink_names }
         ensures sinks { self.new.sinks ≡ self.old.sinks }
-        ensures written { (file : ℕ) → written_by self.new file ≡ written_by self.old file }
+        ensures written { (file : ℕ) → written_of (files_of_store self.new) file ≡ written_of (files_of_store self.old) file }
         ensures writes { self.new.writes ≡ self.old.writes }
         ensures unchanged { OnErr result (self.new ≡ self.old) }
     {
@@ -117,7 +117,7 @@ impl MemFiles {
     /// The bytes of the file of this name, where there is one.
     pub fn bytes(&self, name: &str) -> Option<&[u8]>
         ensures { MatchOption result (IsMissing self.now name.now)
-            (λ bytes. given_by self.now name.now ≡ Some bytes.now) }
+            (λ bytes. bytes_of self.now.files name.now ≡ Some bytes.now) }
     {
         let place = newest(&self.files, name)?;
         let file = &self.files[place];
@@ -126,35 +126,15 @@ impl MemFiles {
 }
 
 impl Files for MemFiles {
-    ghost reads = { λ s. s.reads.faults };
-
-    ghost writes = { λ s. s.writes.faults };
-
-    ghost given = { given_by };
-
-    ghost handed = { λ s. Some s.handed };
-
-    ghost made = { λ s. Some s.made };
-
-    ghost is_source = { is_open };
-
-    ghost is_sink = { is_made };
-
-    ghost left = { left_by };
-
-    ghost written = { written_by };
-
-    ghost fills = { IsFilledBy };
+    ghost state = { files_of_store };
 
     /// Fails where its number is listed, where no file has the name, and where as many files were opened as there are
     /// numbers for them.
     fn open_source(&mut self, name: &str) -> Result<FileNo, OpenFault>
-        ensures opened { IfOk result (λ file. IsTrue (is_open self.new file.0)) }
-        ensures unused { IfOk result (λ file. is_open self.old file.0 ≡ false) }
-        ensures bytes { IfOk result (λ file. left_by self.new file.0 ≡ given_by self.old name.now) }
-        ensures frame { OpensOnly given_by is_open left_by self.old self.new }
-        ensures sinks { KeepsSinks (λ s. s.writes.faults) (λ s. Some s.made) is_made written_by IsFilledBy self.old self.new }
-        ensures names { NotesName (Some self.old.handed) (Some self.new.handed) name.now result }
+        ensures opens { OpensSource (files_of_store self.old) (files_of_store self.new) name.now result }
+        ensures there { OnOk result
+            (IfSome (files_of_store self.old).sources.names (λ names. IsTrue (is_some ((files_of_store self.old).contents name.now)))) }
+        ensures names { NotesName (files_of_store self.old).sources.names (files_of_store self.new).sources.names name.now result }
         ensures later { self.old.reads.faults ≤ self.new.reads.faults }
         ensures failed { result ≡ Err OpenFault.Failed → Rose self.old.reads.faults self.new.reads.faults }
 
@@ -171,7 +151,7 @@ impl Files for MemFiles {
         ensures writes { self.new.writes ≡ self.old.writes }
     {
         let listed = self.reads.count();
-        self.handed.push(copied_name(self.alloc, name)?)?;
+        self.source_names.push(copied_name(self.alloc, name)?)?;
         if listed {
             return Err(self.reads.fault().into());
         }
@@ -187,16 +167,15 @@ impl Files for MemFiles {
     }
 
     fn read(&mut self, file: FileNo, buf: &mut [u8]) -> Result<usize, Failed>
-        requires { IsTrue (is_open self.old file.0) }
+        requires { IsTrue (is_opened (files_of_store self.old).sources file.0) }
         ensures bound { IfOk result (λ count. count ≤ length buf.new) }
-        ensures bytes { ReadConsumes (left_by self.old file.0) (left_by self.new file.0) result buf.new }
-        ensures frame { ReadsOnly given_by (λ s. Some s.handed) is_open left_by file.0 self.old self.new }
-        ensures sinks { KeepsSinks (λ s. s.writes.faults) (λ s. Some s.made) is_made written_by IsFilledBy self.old self.new }
+        ensures bytes { ReadConsumes (left_of (files_of_store self.old) file.0) (left_of (files_of_store self.new) file.0) result buf.new }
+        ensures frame { ReadsOnly file.0 (files_of_store self.old) (files_of_store self.new) }
         ensures counts { Counts self.old.reads.faults self.new.reads.faults result }
 
         ensures fails { IsErr result ↔ NextFails self.old.reads }
         ensures all { IfOk result (λ count.
-            IfSome (left_by self.old file.0) (λ left. count ≡ min (length left) (length buf.new))) }
+            IfSome (left_of (files_of_store self.old) file.0) (λ left. count ≡ min (length left) (length buf.new))) }
         ensures calls { self.new.reads ≡ after_call self.old.reads result }
         ensures files { self.new.files ≡ self.old.files }
         ensures written { self.new.sinks ≡ self.old.sinks }
@@ -213,27 +192,21 @@ impl Files for MemFiles {
 
     /// Fails where its number is listed, and where as many files were opened as there are numbers for them.
     fn open_sink(&mut self, name: &str) -> Result<FileNo, OpenFault>
-        ensures opened { IfOk result (λ file. IsTrue (is_made self.new file.0)) }
-        ensures number { IfOk result (λ file. is_made self.old file.0 ≡ false) }
-        ensures empty { IfOk result (λ file. IfSome (written_by self.new file.0) (λ bytes. bytes ≡ [])) }
-        ensures target { IfOk result (λ file. IsFilledBy self.new file.0 name.now) }
-        ensures kept { OnErr result (given_by self.new name.now ≡ given_by self.old name.now) }
-        ensures frame { MakesOnly given_by is_made written_by IsFilledBy name.now self.old self.new }
-        ensures sources { KeepsSources (λ s. s.reads.faults) (λ s. Some s.handed) is_open left_by self.old self.new }
-        ensures names { NotesName (Some self.old.made) (Some self.new.made) name.now result }
+        ensures opens { OpensSink (files_of_store self.old) (files_of_store self.new) name.now result }
+        ensures names { NotesName (files_of_store self.old).sinks.names (files_of_store self.new).sinks.names name.now result }
         ensures later { self.old.writes.faults ≤ self.new.writes.faults }
         ensures failed { result ≡ Err OpenFault.Failed → Rose self.old.writes.faults self.new.writes.faults }
 
         ensures listed { NextFails self.old.writes → IsErr result }
         ensures only { result ≡ Err OpenFault.Failed → NextFails self.old.writes ⊎ HasNoSinkNumber self.old }
-        ensures gives { IfOk result (λ file. given_by self.new name.now ≡ Some []) }
+        ensures gives { OnOk result (bytes_of self.new.files name.now ≡ Some []) }
         ensures refused { OnErr result ((self.new.files ≡ self.old.files) × (self.new.sinks ≡ self.old.sinks)) }
         ensures next { IfOk result (λ file. file.0 ≡ length self.old.sinks) }
         ensures calls { self.new.writes ≡ after_open self.old.writes result }
         ensures reads { self.new.reads ≡ self.old.reads }
     {
         let listed = self.writes.count();
-        self.made.push(copied_name(self.alloc, name)?)?;
+        self.sink_names.push(copied_name(self.alloc, name)?)?;
         if listed {
             return Err(self.writes.fault().into());
         }
@@ -250,13 +223,12 @@ impl Files for MemFiles {
 
     /// Takes the whole piece. It fails where its number is listed, and where there is no memory for the piece.
     fn write(&mut self, file: FileNo, piece: &[u8]) -> Result<usize, Failed>
-        requires { IsTrue (is_made self.old file.0) }
+        requires { IsTrue (is_opened (files_of_store self.old).sinks file.0) }
         ensures bound { IfOk result (λ count. count ≤ length piece.now) }
-        ensures bytes { WriteAppends (written_by self.old file.0) (written_by self.new file.0) result piece.now }
+        ensures bytes { WriteAppends (written_of (files_of_store self.old) file.0) (written_of (files_of_store self.new) file.0) result piece.now }
         ensures none_taken { IfOk result
             (λ count. count ≡ 0 → 0 < length piece.now → Rose self.old.writes.faults self.new.writes.faults) }
-        ensures frame { WritesOnly given_by (λ s. Some s.made) is_made written_by IsFilledBy file.0 self.old self.new }
-        ensures sources { KeepsSources (λ s. s.reads.faults) (λ s. Some s.handed) is_open left_by self.old self.new }
+        ensures frame { WritesOnly file.0 (files_of_store self.old) (files_of_store self.new) }
         ensures counts { Counts self.old.writes.faults self.new.writes.faults result }
 
         ensures listed { NextFails self.old.writes → IsErr result }
@@ -277,9 +249,7 @@ impl Files for MemFiles {
         }
     }
 
-    ghost tells = { λ files file opened. made_is_told files file opened };
-
-    ghost filled = { λ files file name fills. fills.gives ∙ sym (ap (option_map (bytes_at files.files)) fills.is) };
+    ghost filled = { name_filled };
 }
 
 fn copied_name(alloc: Global, name: &str) -> Result<Name, AllocError>

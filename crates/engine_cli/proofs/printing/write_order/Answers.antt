@@ -1,11 +1,34 @@
-use Rattle.std.proofs.Common.{rules}
-use Rattle.engine_cli.proofs.NamesHanded.{all-kept}
+use Rattle.std.proofs.Common.{◌≡◌, inr, ℕ, List, take, refl, ap, rules}
+use Rattle.gl_outside.specs.FilesState.{FilesState}
+use Rattle.gl_outside.specs.declared.files.FileNo.{FileNo}
+use Rattle.gl_outside.proofs.Opening.{sink_opened}
+use Rattle.engine_cli.proofs.MadeFiles.{OnOk-map, gives-written, only-these, writes-none, wrote-file}
 use Rattle.engine_cli.proofs.printing.write_order.Goals as goal
 
-pub returns-in-Err-clause-no_memory : goal.returns-in-Err-clause-no_memory
-returns-in-Err-clause-no_memory g c is =
-    all-kept (g.F.Files.given c.args.files.now) (g.F.Files.given c.open_sink.new.self) c.args.name.now c.in-Err.ensures.kept c.in-Err.ensures.frame.gives
+pub new-requires : goal.new-requires
+new-requires g c = (sink_opened (g.F.Files.state c.args.files.now) (g.F.Files.state c.open_sink.new.self) c.args.name.now c.in-Ok.file c.in-Ok.ensures.opens).0
 
-pub returns-clause-names : goal.returns-clause-names
-returns-clause-names g c =
-    (1, search rules)
+pub returns-clause-wrote : goal.returns-clause-wrote
+returns-clause-wrote g c =
+    wrote-file (g.F.Files.state c.args.files.now) (g.F.Files.state c.open_sink.new.self) (g.F.Files.state c.new.result.files.now) (g.F.Files.state c.write_lines.new.sink.files.now) _ c.args.name.now c.args.name.now c.in-Ok.file c.new.result.file.0 refl c.in-Ok.ensures.opens c.in-Ok.ensures.names c.in-Ok.ensures.later
+    (ap (λ (f : FileNo). f.0) c.new.ensures.file) (ap g.F.Files.state c.new.ensures.files) c.write_lines.ensures.same.2 c.write_lines.ensures.later (search rules)
+
+pub returns-in-Err-clause-wrote : goal.returns-in-Err-clause-wrote
+returns-in-Err-clause-wrote g c =
+    writes-none (g.F.Files.state c.args.files.now) (g.F.Files.state c.open_sink.new.self) c.args.name.now c.in-Err.fault c.in-Err.ensures.opens c.in-Err.ensures.names c.in-Err.ensures.later
+
+pub returns-clause-written : goal.returns-clause-written
+returns-clause-written g c =
+    OnOk-map c.write_lines.result _ _
+    (λ appends. only-these (g.F.Files.state c.args.files.now).sinks.names _ c.args.lines.now (gives-written (g.F.Files.state c.args.files.now) (g.F.Files.state c.open_sink.new.self) (g.F.Files.state c.new.result.files.now) (g.F.Files.state c.write_lines.new.sink.files.now) _ c.args.name.now c.args.name.now c.in-Ok.file c.new.result.file.0 c.write_lines.new.sink.file.0 c.args.lines.now (λ bytes. bytes ≡ c.args.lines.now) refl c.in-Ok.ensures.opens
+    (ap (λ (f : FileNo). f.0) c.new.ensures.file) (ap g.F.Files.state c.new.ensures.files) c.write_lines.ensures.same.2 (search rules) c.write_lines.ensures.same.1 (g.met.F.Files.filled c.write_lines.new.sink.files.now c.write_lines.new.sink.file.0) appends refl))
+    c.write_lines.ensures.written
+
+pub returns-clause-front : goal.returns-clause-front
+returns-clause-front g c =
+    let front = c.write_lines.ensures.front in
+    inr (gives-written (g.F.Files.state c.args.files.now) (g.F.Files.state c.open_sink.new.self) (g.F.Files.state c.new.result.files.now) (g.F.Files.state c.write_lines.new.sink.files.now) _ c.args.name.now c.args.name.now c.in-Ok.file c.new.result.file.0 c.write_lines.new.sink.file.0 (take front.0 c.args.lines.now) (λ bytes. (count : ℕ) × (bytes ≡ take count c.args.lines.now)) refl c.in-Ok.ensures.opens
+    (ap (λ (f : FileNo). f.0) c.new.ensures.file) (ap g.F.Files.state c.new.ensures.files) c.write_lines.ensures.same.2 (search rules) c.write_lines.ensures.same.1 (g.met.F.Files.filled c.write_lines.new.sink.files.now c.write_lines.new.sink.file.0) front.1 (front.0, refl))
+
+pub returns-in-Err-clause-no_memory : goal.returns-in-Err-clause-no_memory
+returns-in-Err-clause-no_memory g c is = ap (λ (s : FilesState). s.contents) c.in-Err.ensures.opens

@@ -1,28 +1,34 @@
+use Rattle.std.proofs.Common.{Err}
+use Rattle.std.proofs.lemmas.Result.{err_from_is_err_and}
 use Rattle.job_config.specs.Views.{job_view}
-use Rattle.engine_cli.specs.Found.{edges_after}
-use Rattle.engine_cli.proofs.GraphsTold.{edges-read}
-use Rattle.engine_cli.proofs.NamesHanded.{HandsOver-first, HandsOver-edges, AppendsNames-two, OnOk-map}
+use Rattle.engine_cli.specs.Found.{edges_after, graph_names}
+use Rattle.engine_cli.proofs.GraphsTold.{edges-taken, vertices-refused, vertices-renamed}
+use Rattle.engine_cli.proofs.NamesHanded.{HandsOver-first, HandsOver-edges}
+use Rattle.engine_cli.proofs.TextsRead.{reads-after, reads-more, renamed}
 use Rattle.engine_cli.proofs.reading.graph_of.Goals as goal
 
-pub returns-in_err-list-clause-names : goal.returns-in_err-list-clause-names
-returns-in_err-list-clause-names g c =
-    HandsOver-first _ _ c.as_str.result.now c.args.job.now.vertices (edges_after (g.F.Files.given c.args.files.now c.args.job.now.vertices) c.args.job.now.edges)
-    c.as_str.ensures c.in_err-list.ensures.names
+pub returns-in_err-list-clause-read : goal.returns-in_err-list-clause-read
+returns-in_err-list-clause-read g c =
+    let files = g.F.Files.state c.args.files.now in
+    reads-more files _ c.as_str.result.now c.args.job.now.vertices (edges_after (files.contents c.args.job.now.vertices) c.args.job.now.edges) c.as_str.ensures c.in_err-list.ensures.read
+
+pub returns-in_err-list-clause-answer : goal.returns-in_err-list-clause-answer
+returns-in_err-list-clause-answer g c =
+    let exit = err_from_is_err_and c.from_residual.result c.from_residual.ensures.1 in
+    let files = g.F.Files.state c.args.files.now in
+    rw (exit.1, exit.2) (vertices-refused files (g.F.Files.state c.vertices_of.new.files).sources.faults (job_view c.args.job.now).fields c.in_err-list.field-0.0
+    (vertices-renamed files (g.F.Files.state c.vertices_of.new.files).sources.faults c.as_str.result.now c.args.job.now.vertices (Err c.in_err-list.field-0.0) c.as_str.ensures c.in_err-list.ensures.answer))
 
 pub returns-clause-answer : goal.returns-clause-answer
 returns-clause-answer g c =
-    edges-read (g.F.Files.given c.args.files.now) (g.F.Files.given c.vertices_of.new.files) (job_view c.args.job.now).fields
-    c.as_str.result.now c.as_str-2.result.now c.in_ok-list.list.ids.items c.is_weighted-weighted.result _ _ _ c.edges_of.result
-    c.in_ok-list.ensures.later c.as_str.ensures c.as_str-2.ensures c.is_weighted-weighted.ensures
-    (c.in_ok-list.ensures.given c.as_str-2.result.now) c.in_ok-list.ensures.answer.1 c.edges_of.ensures.answer
+    edges-taken (g.F.Files.state c.args.files.now) (g.F.Files.state c.vertices_of.new.files) _ (job_view c.args.job.now).fields
+    c.as_str.result.now c.as_str-2.result.now c.in_ok-list.list.ids.items c.is_weighted-weighted.result _ c.edges_of.result
+    c.as_str.ensures c.as_str-2.ensures c.is_weighted-weighted.ensures c.in_ok-list.ensures.read.later c.in_ok-list.ensures.read.frame c.in_ok-list.ensures.handed
+    c.in_ok-list.ensures.answer.1 c.edges_of.ensures.answer
 
-pub returns-clause-names : goal.returns-clause-names
-returns-clause-names g c =
-    HandsOver-edges _ _ _ (g.F.Files.given c.args.files.now) c.as_str.result.now c.args.job.now.vertices c.as_str-2.result.now c.args.job.now.edges
-    c.in_ok-list.list.ids.items c.as_str.ensures c.as_str-2.ensures c.in_ok-list.ensures.answer.1 c.in_ok-list.ensures.handed c.edges_of.ensures.names
-
-pub returns-clause-handed : goal.returns-clause-handed
-returns-clause-handed g c =
-    OnOk-map c.edges_of.result _ _
-    (AppendsNames-two _ _ _ c.as_str.result.now c.args.job.now.vertices c.as_str-2.result.now c.args.job.now.edges c.as_str.ensures c.as_str-2.ensures c.in_ok-list.ensures.handed)
-    c.edges_of.ensures.handed
+pub returns-clause-read : goal.returns-clause-read
+returns-clause-read g c =
+    let files = g.F.Files.state c.args.files.now in
+    reads-after files (g.F.Files.state c.vertices_of.new.files) _ _ _ (graph_names files (job_view c.args.job.now).fields) c.in_ok-list.ensures.read c.edges_of.ensures.read
+    (HandsOver-edges _ _ _ (files.contents c.args.job.now.vertices) c.as_str.result.now c.args.job.now.vertices c.as_str-2.result.now c.args.job.now.edges
+    c.in_ok-list.list.ids.items c.as_str.ensures c.as_str-2.ensures (renamed files c.as_str.result.now c.args.job.now.vertices _ c.as_str.ensures c.in_ok-list.ensures.answer.1) c.in_ok-list.ensures.handed c.edges_of.ensures.read.handed)

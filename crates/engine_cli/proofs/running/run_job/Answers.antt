@@ -1,51 +1,78 @@
-use Rattle.std.proofs.Common.{◌≡◌, refl, ◌∙◌}
+use Rattle.std.proofs.Common.{◌≡◌, ◌∷◌, [], ℕ, List, Err, length, refl, ap, ◌∙◌, rules}
 use Rattle.job_config.specs.Views.{job_view}
 use Rattle.engine_cli.specs.Plays.{update_of}
 use Rattle.engine_cli.specs.Says.{moment}
-use Rattle.engine_cli.specs.declared.status.Status.TheVariants.{BudgetSpent}
+use Rattle.engine_cli.specs.Status.{status_of_unprepared}
+use Rattle.engine_cli.specs.declared.status.Status.TheVariants.{BudgetSpent, Done, NoMemory, WriteFault}
 use Rattle.engine_cli.proofs.EntriesInside.{entries-inside}
-use Rattle.engine_cli.proofs.RunsSay.{IsSince, hands-no-order, print-fails, print-says, refusal-says, spent-says}
+use Rattle.engine_cli.proofs.RunsSay.{IsSince, ends-early, ends-late, print-fails, print-says, spent-says, unprepared-counts, unprepared-says}
 use Rattle.engine_cli.proofs.running.run_job.Goals as goal
 
-pub returns-in_default-clause-made : goal.returns-in_default-clause-made
-returns-in_default-clause-made g c = hands-no-order _ _ (g.F.Files.given c.args.files.now) c.args.file.now c.in-Ok.ensures.made
+pub returns-in-Err-clause-run : goal.returns-in-Err-clause-run
+returns-in-Err-clause-run g c =
+    let before = moment (g.F.Files.state c.args.files.now) (g.K.Sink.faults c.args.out.now) (g.K.Sink.held c.args.out.now) in
+    let now = moment (g.F.Files.state c.prepare.new.files) (g.K.Sink.faults c.args.out.now) (g.K.Sink.held c.args.out.now) in
+    rw (c.refused.ensures.status, c.into.ensures, c.refused.ensures.order, c.refused.ensures.done)
+    (ends-early c.args.file.now c.args.is_reported before now _ [] [] (status_of_unprepared c.in-Err.why)
+    (unprepared-says c.args.file.now c.args.is_reported before now _ c.in-Err.why c.in-Err.ensures.answer) (unprepared-counts c.in-Err.why) c.in-Err.ensures.read)
 
-pub returns-in-Some-clause-made : goal.returns-in-Some-clause-made
-returns-in-Some-clause-made g c = hands-no-order _ _ (g.F.Files.given c.args.files.now) c.args.file.now c.in-Ok.ensures.made
+pub returns-in_default-clause-run : goal.returns-in_default-clause-run
+returns-in_default-clause-run g c =
+    let before = moment (g.F.Files.state c.args.files.now) (g.K.Sink.faults c.args.out.now) (g.K.Sink.held c.args.out.now) in
+    let now = moment (g.F.Files.state c.prepare.new.files) (g.K.Sink.faults c.args.out.now) (g.K.Sink.held c.args.out.now) in
+    rw (c.refused-in_default.ensures.status, c.refused-in_default.ensures.order, c.refused-in_default.ensures.done)
+    (ends-early c.args.file.now c.args.is_reported before now _ [] [] NoMemory refl (refl, refl) c.in-Ok.ensures.read)
 
-pub returns-in-Some-clause-says : goal.returns-in-Some-clause-says
-returns-in-Some-clause-says g c =
-    let before = moment g.F.Files.given g.F.Files.made g.F.Files.reads g.F.Files.writes c.args.files.now (g.K.Sink.faults c.args.out.now) (g.K.Sink.held c.args.out.now) in
-    let now = moment g.F.Files.given g.F.Files.made g.F.Files.reads g.F.Files.writes c.prepare.new.files (g.K.Sink.faults c.args.out.now) (g.K.Sink.held c.args.out.now) in
+pub returns-in-Some-clause-run : goal.returns-in-Some-clause-run
+returns-in-Some-clause-run g c =
+    let before = moment (g.F.Files.state c.args.files.now) (g.K.Sink.faults c.args.out.now) (g.K.Sink.held c.args.out.now) in
+    let now = moment (g.F.Files.state c.prepare.new.files) (g.K.Sink.faults c.args.out.now) (g.K.Sink.held c.args.out.now) in
     let made = c.in-Ok.made in
+    let done : c.ended.result.done.items ≡ length made.run.order.items ∷ [] = search rules in
+    let tells : List ℕ → Type 0 = λ told. c.ended.result.told.items ≡ told in
     rw (c.ended.ensures.status, c.ended.ensures.order)
-    (refusal-says c.args.file.now c.args.is_reported before now (λ told. c.ended.result.told.items ≡ told) made.run.order.items (BudgetSpent c.in-Some.left)
-    (spent-says before.given c.args.file.now made before.reads now.reads c.in-Some.left c.in-Ok.ensures.answer c.in-Some.is))
+    (ends-early c.args.file.now c.args.is_reported before now tells made.run.order.items c.ended.result.done.items (BudgetSpent c.in-Some.left)
+    (spent-says c.args.file.now c.args.is_reported before now tells made c.in-Some.left c.in-Ok.ensures.answer c.in-Some.is) done c.in-Ok.ensures.read)
 
 pub print_run-requires-clause-entries : goal.print_run-requires-clause-entries
 print_run-requires-clause-entries g c =
     let made = c.in-Ok.made in
     entries-inside made.graph (update_of made.job.algorithm made.job.source) c.in-Ok.ensures.answer.graph made.run.order.items c.in-Ok.ensures.answer.run.play.valid
 
-pub returns-in-Ok-print_run-clause-says : goal.returns-in-Ok-print_run-clause-says
-returns-in-Ok-print_run-clause-says g c =
-    let before = moment g.F.Files.given g.F.Files.made g.F.Files.reads g.F.Files.writes c.args.files.now (g.K.Sink.faults c.args.out.now) (g.K.Sink.held c.args.out.now) in
-    let mid = moment g.F.Files.given g.F.Files.made g.F.Files.reads g.F.Files.writes c.prepare.new.files (g.K.Sink.faults c.args.out.now) (g.K.Sink.held c.args.out.now) in
-    let now = moment g.F.Files.given g.F.Files.made g.F.Files.reads g.F.Files.writes c.print_run.new.files (g.K.Sink.faults c.print_run.new.out) (g.K.Sink.held c.print_run.new.out) in
-    let since : IsSince before mid = record { given = c.in-Ok.ensures.given; made = c.in-Ok.ensures.made; writes = c.in-Ok.ensures.writes; faults = refl; held = refl } in
+pub returns-in-Ok-print_run-clause-run : goal.returns-in-Ok-print_run-clause-run
+returns-in-Ok-print_run-clause-run g c =
+    let before = moment (g.F.Files.state c.args.files.now) (g.K.Sink.faults c.args.out.now) (g.K.Sink.held c.args.out.now) in
+    let mid = moment (g.F.Files.state c.prepare.new.files) (g.K.Sink.faults c.args.out.now) (g.K.Sink.held c.args.out.now) in
+    let now = moment (g.F.Files.state c.print_run.new.files) (g.K.Sink.faults c.print_run.new.out) (g.K.Sink.held c.print_run.new.out) in
+    let made = c.in-Ok.made in
+    let since : IsSince before mid = record { frame = c.in-Ok.ensures.read.frame; faults = refl; held = refl } in
+    let done : c.ended-in-Ok-print_run.result.done.items ≡ length made.run.order.items ∷ [] = search rules in
     rw (c.ended-in-Ok-print_run.ensures.status, c.ended-in-Ok-print_run.ensures.order, c.ended-in-Ok-print_run.ensures.told)
-    (print-says c.args.file.now c.args.is_reported c.in-Ok.made before mid now c.in-Ok-print_run.told c.in-Ok.ensures.answer c.in_default-left.is since c.in-Ok-print_run.ensures.printed)
+    (ends-late c.args.file.now c.args.is_reported before mid now _ (job_view made.job) made.run.order.items c.ended-in-Ok-print_run.result.done.items Done
+    (print-says c.args.file.now c.args.is_reported made before mid now c.in-Ok-print_run.told c.in-Ok.ensures.answer c.in_default-left.is since c.in-Ok-print_run.ensures.printed) done
+    c.in-Ok.ensures.read c.in-Ok.ensures.answer.job c.in-Ok-print_run.ensures.wrote (λ early. early) (λ early. absurd early))
 
-pub returns-in-Ok-print_run-clause-others : goal.returns-in-Ok-print_run-clause-others
-returns-in-Ok-print_run-clause-others g c name apart =
-    c.in-Ok-print_run.ensures.others name (λ named. apart (job_view c.in-Ok.made.job, c.in-Ok.ensures.answer.job, named)) ∙ c.in-Ok.ensures.given name
-
-pub returns-in-Err-WriteFault-clause-says : goal.returns-in-Err-WriteFault-clause-says
-returns-in-Err-WriteFault-clause-says g c =
-    let before = moment g.F.Files.given g.F.Files.made g.F.Files.reads g.F.Files.writes c.args.files.now (g.K.Sink.faults c.args.out.now) (g.K.Sink.held c.args.out.now) in
-    let mid = moment g.F.Files.given g.F.Files.made g.F.Files.reads g.F.Files.writes c.prepare.new.files (g.K.Sink.faults c.args.out.now) (g.K.Sink.held c.args.out.now) in
-    let now = moment g.F.Files.given g.F.Files.made g.F.Files.reads g.F.Files.writes c.print_run.new.files (g.K.Sink.faults c.print_run.new.out) (g.K.Sink.held c.print_run.new.out) in
-    let since : IsSince before mid = record { given = c.in-Ok.ensures.given; made = c.in-Ok.ensures.made; writes = c.in-Ok.ensures.writes; faults = refl; held = refl } in
+pub returns-in-Err-WriteFault-clause-run : goal.returns-in-Err-WriteFault-clause-run
+returns-in-Err-WriteFault-clause-run g c =
+    let before = moment (g.F.Files.state c.args.files.now) (g.K.Sink.faults c.args.out.now) (g.K.Sink.held c.args.out.now) in
+    let mid = moment (g.F.Files.state c.prepare.new.files) (g.K.Sink.faults c.args.out.now) (g.K.Sink.held c.args.out.now) in
+    let now = moment (g.F.Files.state c.print_run.new.files) (g.K.Sink.faults c.print_run.new.out) (g.K.Sink.held c.print_run.new.out) in
+    let made = c.in-Ok.made in
+    let since : IsSince before mid = record { frame = c.in-Ok.ensures.read.frame; faults = refl; held = refl } in
+    let done : c.ended-in-Err-WriteFault.result.done.items ≡ length made.run.order.items ∷ [] = search rules in
+    let tells : List ℕ → Type 0 = λ told. c.ended-in-Err-WriteFault.result.told.items ≡ told in
     rw (c.ended-in-Err-WriteFault.ensures.status, c.ended-in-Err-WriteFault.ensures.order)
-    (print-fails c.args.file.now c.args.is_reported c.in-Ok.made before mid now (λ told. c.ended-in-Err-WriteFault.result.told.items ≡ told)
-    c.in-Ok.ensures.answer c.in_default-left.is since (rw c.in-Err-WriteFault.field-0-is at c.in-Err-WriteFault.ensures.printed))
+    (ends-late c.args.file.now c.args.is_reported before mid now tells (job_view made.job) made.run.order.items c.ended-in-Err-WriteFault.result.done.items WriteFault
+    (print-fails c.args.file.now c.args.is_reported made before mid now tells c.in-Ok.ensures.answer c.in_default-left.is since (rw c.in-Err-WriteFault.field-0-is at c.in-Err-WriteFault.ensures.printed)) done
+    c.in-Ok.ensures.read c.in-Ok.ensures.answer.job c.in-Err-WriteFault.ensures.wrote (λ early. early) (λ early. absurd early))
+
+pub returns-in-Err-NoMemory-clause-run : goal.returns-in-Err-NoMemory-clause-run
+returns-in-Err-NoMemory-clause-run g c =
+    let before = moment (g.F.Files.state c.args.files.now) (g.K.Sink.faults c.args.out.now) (g.K.Sink.held c.args.out.now) in
+    let mid = moment (g.F.Files.state c.prepare.new.files) (g.K.Sink.faults c.args.out.now) (g.K.Sink.held c.args.out.now) in
+    let now = moment (g.F.Files.state c.print_run.new.files) (g.K.Sink.faults c.print_run.new.out) (g.K.Sink.held c.print_run.new.out) in
+    let made = c.in-Ok.made in
+    rw (c.refused-in-Err-NoMemory.ensures.status, c.refused-in-Err-NoMemory.ensures.order, c.refused-in-Err-NoMemory.ensures.done)
+    (ends-late c.args.file.now c.args.is_reported before mid now _ (job_view made.job) [] [] NoMemory refl (refl, refl)
+    c.in-Ok.ensures.read c.in-Ok.ensures.answer.job c.in-Err-NoMemory.ensures.wrote (λ early. early)
+    (λ early. (c.in-Err-NoMemory.ensures.no_memory (ap Err c.in-Err-NoMemory.field-0-is)).1))

@@ -3,7 +3,7 @@ use Rattle.gl_outside.specs.Store.{NamedBytes, StoreState}
 use Rattle.std.specs.Prelude.{vec_capacity}
 use Rattle.gl_outside.specs.OpenFiles.{left_in, AreSinks}
 use Rattle.gl_outside.proofs.StoredFiles.{bytes_of_put, map-left_in-append}
-use Rattle.gl_outside.proofs.Sinks.{all_inside-append, sinks_pushed, makes_only, fills_pushed, empty_pushed, keeps_sources}
+use Rattle.gl_outside.proofs.Sinks.{all_inside-append, sinks_pushed, opens_sink}
 use Rattle.gl_outside.proofs.mem_files.MemFilesFiles.open_sink.Goals as goal
 
 pub invariant_of-self-2 : goal.invariant_of-self-2
@@ -17,47 +17,21 @@ invariant_of-self-2 c =
       sinks_pushed files c.make.new.files.items sinks c.make.new.sinks.items file grown sunk c.self.invariant.1,
     )
 
-pub returns-clause-empty : goal.returns-clause-empty
-returns-clause-empty c =
+pub returns-clause-opens : goal.returns-clause-opens
+returns-clause-opens c =
     let files = c.self.inside.files.items in
     let file : NamedBytes = record { name = c.in_ok-copied_name-2.field-0; bytes = c.new.result.items; ready = vec_capacity c.new.result } in
     let grown : c.make.new.files.items ≡ files ++ file ∷ [] = c.in_ok-make.ensures.files in
     let sinks = c.self.inside.sinks.items in
     let sunk : c.make.new.sinks.items ≡ sinks ++ length files ∷ [] = c.in_ok-make.ensures.sinks in
     let number : c.in-Ok.number ≡ length sinks = search rules in
-    empty_pushed files c.make.new.files.items sinks c.make.new.sinks.items file c.in-Ok.number c.new.ensures.items number grown sunk
-
-pub returns-clause-target : goal.returns-clause-target
-returns-clause-target c =
-    let files = c.self.inside.files.items in
-    let file : NamedBytes = record { name = c.in_ok-copied_name-2.field-0; bytes = c.new.result.items; ready = vec_capacity c.new.result } in
-    let grown : c.make.new.files.items ≡ files ++ file ∷ [] = c.in_ok-make.ensures.files in
-    let sinks = c.self.inside.sinks.items in
-    let sunk : c.make.new.sinks.items ≡ sinks ++ length files ∷ [] = c.in_ok-make.ensures.sinks in
-    let old_files = grown ∙ ap (λ (s : StoreState). s.files ++ file ∷ []) c.self.view_is in
-    let old_sinks = sunk ∙ ap (λ (s : StoreState). s.sinks ++ length s.files ∷ []) c.self.view_is in
-    let number : c.in-Ok.number ≡ length sinks = search rules in
-    fills_pushed c.args.self.now _ file c.in-Ok.number c.args.name.now c.in_ok-copied_name-2.ensures (number ∙ ap (λ (s : StoreState). length s.sinks) c.self.view_is) old_files old_sinks
-
-pub returns-clause-frame : goal.returns-clause-frame
-returns-clause-frame c =
-    let files = c.self.inside.files.items in
-    let file : NamedBytes = record { name = c.in_ok-copied_name-2.field-0; bytes = c.new.result.items; ready = vec_capacity c.new.result } in
-    let grown : c.make.new.files.items ≡ files ++ file ∷ [] = c.in_ok-make.ensures.files in
-    let sinks = c.self.inside.sinks.items in
-    let sunk : c.make.new.sinks.items ≡ sinks ++ length files ∷ [] = c.in_ok-make.ensures.sinks in
-    let old_files = grown ∙ ap (λ (s : StoreState). s.files ++ file ∷ []) c.self.view_is in
-    let old_sinks = sunk ∙ ap (λ (s : StoreState). s.sinks ++ length s.files ∷ []) c.self.view_is in
     let are = subst (λ (s : StoreState). AreSinks s.files s.sinks) c.self.view_is c.self.invariant.1 in
-    makes_only _ _ file c.args.name.now c.in_ok-copied_name-2.ensures old_files old_sinks are
-
-pub returns-clause-sources : goal.returns-clause-sources
-returns-clause-sources c =
-    let files = c.self.inside.files.items in
-    let file : NamedBytes = record { name = c.in_ok-copied_name-2.field-0; bytes = c.new.result.items; ready = vec_capacity c.new.result } in
-    let grown : c.make.new.files.items ≡ files ++ file ∷ [] = c.in_ok-make.ensures.files in
     let opened = c.self.inside.opened.items in
-    keeps_sources _ _ (ap (λ (s : StoreState). s.reads) c.self.view_is) (ap (λ (s : StoreState). s.handed) c.self.view_is)
+    opens_sink c.args.self.now (record { files = _; source_names = _; opened = _; reads = _; sink_names = _; sinks = _; writes = c.count-listed.new.self }) file c.args.name.now c.in-Ok.number c.in_ok-copied_name-2.ensures c.new.ensures.items
+    (number ∙ ap (λ (s : StoreState). length s.sinks) c.self.view_is)
+    (grown ∙ ap (λ (s : StoreState). s.files ++ file ∷ []) c.self.view_is)
+    (sunk ∙ ap (λ (s : StoreState). s.sinks ++ length s.files ∷ []) c.self.view_is) are
+    (ap (λ (s : StoreState). s.reads) c.self.view_is) (ap (λ (s : StoreState). s.source_names) c.self.view_is)
     (ap (λ (fs : List NamedBytes). map (left_in fs) opened) grown
     ∙ map-left_in-append files (file ∷ []) opened c.self.invariant.0
     ∙ ap (λ (s : StoreState). s.opened) c.self.view_is)

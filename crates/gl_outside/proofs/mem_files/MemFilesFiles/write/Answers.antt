@@ -1,8 +1,8 @@
 use Rattle.std.proofs.Common.{◌<◌, length, map, ap, ◌∙◌, subst, refl, arith}
+use Rattle.std.specs.Prelude.{List}
 use Rattle.gl_outside.specs.Store.{NamedBytes, StoreState, ready_at}
 use Rattle.gl_outside.specs.OpenFiles.{left_in, appended, AreSinks}
-use Rattle.std.specs.Prelude.{List}
-use Rattle.gl_outside.proofs.Sinks.{place_of, writes_only, writes_next, keeps_sources, map-left_in-appended}
+use Rattle.gl_outside.proofs.Sinks.{place_of, writes_only, writes_next, map-left_in-appended}
 use Rattle.gl_outside.proofs.mem_files.MemFilesFiles.write.Goals as goal
 
 pub returns-in-Ok-clause-bytes : goal.returns-in-Ok-clause-bytes
@@ -12,7 +12,7 @@ returns-in-Ok-clause-bytes c =
     let ready = ready_at c.append.new.files.items place in
     let are = subst (λ (s : StoreState). AreSinks s.files s.sinks) c.self.view_is c.self.invariant.1 in
     let sinks = ap (λ (s : StoreState). s.sinks) c.self.view_is in
-    let at = place_of old.files c.self.inside.sinks.items old.sinks c.args.file.0 place are sinks c.requires c.index-place.ensures in
+    let at = place_of old c.self.inside.sinks.items c.args.file.0 place are sinks c.requires c.index-place.ensures in
     writes_next old.files c.append.new.files.items old.sinks c.self.inside.sinks.items c.args.file.0 place (length c.args.piece.now) c.args.piece.now ready at.0 at.1
     (c.in-Ok.ensures.ok ∙ ap (λ (s : StoreState). appended s.files place c.args.piece.now ready) c.self.view_is) sinks refl
 
@@ -23,21 +23,12 @@ returns-in-Ok-clause-frame c =
     let ready = ready_at c.append.new.files.items place in
     let are = subst (λ (s : StoreState). AreSinks s.files s.sinks) c.self.view_is c.self.invariant.1 in
     let sinks = ap (λ (s : StoreState). s.sinks) c.self.view_is in
-    let at = place_of old.files c.self.inside.sinks.items old.sinks c.args.file.0 place are sinks c.requires c.index-place.ensures in
-    writes_only _ _ c.args.file.0 place c.args.piece.now ready at.0 at.1 are
-    (c.in-Ok.ensures.ok ∙ ap (λ (s : StoreState). appended s.files place c.args.piece.now ready) c.self.view_is) sinks (ap (λ (s : StoreState). s.made) c.self.view_is)
-
-pub returns-in-Ok-clause-sources : goal.returns-in-Ok-clause-sources
-returns-in-Ok-clause-sources c =
-    let old = c.args.self.now in
-    let place = c.index-place.result.now in
-    let ready = ready_at c.append.new.files.items place in
-    let are = subst (λ (s : StoreState). AreSinks s.files s.sinks) c.self.view_is c.self.invariant.1 in
-    let sinks = ap (λ (s : StoreState). s.sinks) c.self.view_is in
-    let at = place_of old.files c.self.inside.sinks.items old.sinks c.args.file.0 place are sinks c.requires c.index-place.ensures in
+    let at = place_of old c.self.inside.sinks.items c.args.file.0 place are sinks c.requires c.index-place.ensures in
     let inside : place < length c.self.inside.files.items = omega (arith, at.1, ap (λ (s : StoreState). length s.files) c.self.view_is) in
     let opened = c.self.inside.opened.items in
-    keeps_sources _ _ (ap (λ (s : StoreState). s.reads) c.self.view_is) (ap (λ (s : StoreState). s.handed) c.self.view_is)
+    writes_only old (record { files = _; source_names = _; opened = _; reads = _; sink_names = _; sinks = _; writes = c.count.new.self }) c.args.file.0 place c.args.piece.now ready at.0 at.1 are
+    (c.in-Ok.ensures.ok ∙ ap (λ (s : StoreState). appended s.files place c.args.piece.now ready) c.self.view_is) sinks
+    (ap (λ (s : StoreState). s.sink_names) c.self.view_is) (ap (λ (s : StoreState). s.reads) c.self.view_is) (ap (λ (s : StoreState). s.source_names) c.self.view_is)
     (ap (λ (fs : List NamedBytes). map (left_in fs) opened) c.in-Ok.ensures.ok
     ∙ map-left_in-appended c.self.inside.files.items place c.args.piece.now ready opened inside c.self.invariant.0
     ∙ ap (λ (s : StoreState). s.opened) c.self.view_is)

@@ -1,0 +1,73 @@
+-- What calls on the files of the system leave.
+use Rattle.std.proofs.Common.{◌≡◌, ℕ, ◌<◌, List, [], ◌∷◌, ◌++◌, map, length, get_or, Option, None, Ok, IsTrue, slice_set, refl, sym, ap, ◌∙◌, arith}
+use Rattle.std.specs.Io.KnownBytes.{Consumes, IsAtEnd}
+use Rattle.std.proofs.lemmas.Bool.Decides.{nat_tests}
+use Rattle.std.proofs.lemmas.Option.{slice_get_read}
+use Rattle.std.proofs.lemmas.List.{length-map, map-append, map-set}
+use Rattle.gl_outside.specs.FilesState.{FilesState, Opened, Written, is_opened, left_of, sink_of}
+use Rattle.gl_outside.specs.Frames.{OpensSink, ReadsOnly, WritesOnly, without_name}
+use Rattle.gl_outside.specs.Host.{ChangesAt, HostState, files_of_host}
+use Rattle.gl_outside.specs.Laws.{constant}
+use Rattle.gl_outside.proofs.StoredFiles.{same_files, same_opened}
+
+abbrev untold : Written
+untold = record { name = None; bytes = None }
+
+-- a number of an open file is a place in the list
+pub number_inside : {X Y : Type 0} (f : X → Y) (xs : List X) (file : ℕ) → IsTrue (let opened : Opened Y = record { faults = 0; names = None; files = map f xs } in is_opened opened file) → file < length xs
+number_inside f xs file opened =
+    let below : file < length (map f xs) = grind (arith, nat_tests) in
+    omega (arith, below, length-map xs f)
+
+-- a read of what isn't told
+pub consumes_untold : (old new : Option (List ℕ)) (bytes buf : List ℕ) (count : ℕ) → old ≡ None → new ≡ None
+    → Consumes old new bytes × (count ≡ 0 → 0 < length buf → IsAtEnd new)
+consumes_untold old new bytes buf count before now = rw (before, now) (tt, λ none room. tt)
+
+-- a read of one file
+pub reads_host : {F : Type 0} (old new : HostState F) (file : ℕ) (now : F) → new.sources ≡ slice_set old.sources file now
+    → new.sinks ≡ old.sinks → new.writes ≡ old.writes → ReadsOnly file (files_of_host old) (files_of_host new)
+reads_host {F} old new file now sources sinks writes =
+    let none : F → Option (List ℕ) = λ f. None in
+    let changed : map none new.sources ≡ slice_set (map none old.sources) file (left_of (files_of_host new) file) =
+    ap (map none) sources ∙ map-set none old.sources file now
+    ∙ ap (slice_set (map none old.sources) file) (sym (constant None new.sources file)) in
+    same_files _ _ refl (same_opened _ _ refl refl changed) (same_opened _ _ writes refl (ap (map (λ (f : F). untold)) sinks))
+
+-- a write to one file
+pub writes_host : {F : Type 0} (old new : HostState F) (file : ℕ) (now : F) → new.sinks ≡ slice_set old.sinks file now
+    → new.sources ≡ old.sources → new.reads ≡ old.reads → WritesOnly file (files_of_host old) (files_of_host new)
+writes_host {F} old new file now sinks sources reads =
+    let none : F → Written = λ f. untold in
+    let same : untold ≡ record (sink_of (files_of_host old) file) { bytes = (sink_of (files_of_host new) file).bytes } =
+    ap (λ (w : Written). record w { bytes = None }) (sym (constant untold old.sinks file))
+    ∙ ap (λ (w : Written). record (sink_of (files_of_host old) file) { bytes = w.bytes }) (sym (constant untold new.sinks file)) in
+    let changed : map none new.sinks ≡ slice_set (map none old.sinks) file (record (sink_of (files_of_host old) file) { bytes = (sink_of (files_of_host new) file).bytes }) =
+    ap (map none) sinks ∙ map-set none old.sinks file now ∙ ap (slice_set (map none old.sinks) file) same in
+    record {
+      state = same_files _ _ refl (same_opened _ _ reads refl (ap (map (λ (f : F). None)) sources)) (same_opened _ _ refl refl changed);
+      others = λ name apart. refl;
+    }
+
+no_names : {F : Type 0} (name : List ℕ) (files : List F) → map (without_name name) (map (λ (f : F). untold) files) ≡ map (λ (f : F). untold) files
+no_names name [] = refl
+no_names name (f ∷ fs) = ap (λ (ws : List Written). untold ∷ ws) (no_names name fs)
+
+-- a file more is open for writing
+pub opens_host : {F : Type 0} (old new : HostState F) (name : List ℕ) (number : ℕ) (opened : F) → number ≡ length old.sinks
+    → new.sinks ≡ old.sinks ++ opened ∷ [] → new.sources ≡ old.sources → new.reads ≡ old.reads
+    → OpensSink (files_of_host old) (files_of_host new) name (Ok (record { 0 = number }))
+opens_host {F} old new name number opened numbered sinks sources reads =
+    let none : F → Written = λ f. untold in
+    let grown : map none new.sinks ≡ map (without_name name) (map none old.sinks) ++ untold ∷ [] =
+    ap (map none) sinks ∙ map-append none old.sinks (opened ∷ []) ∙ ap (λ (ws : List Written). ws ++ untold ∷ []) (sym (no_names name old.sinks)) in (
+      numbered ∙ sym (length-map old.sinks none),
+      same_files _ _ refl (same_opened _ _ reads refl (ap (map (λ (f : F). None)) sources)) (same_opened _ _ refl refl grown),
+      λ other apart. refl,
+    )
+
+-- the file of this number alone changed
+pub changes_at : {F : Type 0} (old new : List F) (file : ℕ) (was now : F) (Change : F → F → Type 0) → file < length old → was ≡ get_or old file was
+    → new ≡ slice_set old file now → Change was now → ChangesAt file old new Change
+changes_at old new file was now Change inside read set change =
+    record { was = was; now = now; open_file = slice_get_read old (length old) file was refl inside read; others = set; change = change }
