@@ -24,7 +24,7 @@ tells job vertices edges ids g lists has =
     let Graph : List ℕ → Type 0 = λ ids. IsGraphOf ids has.given job.directed g in
     record {
       vertex_lines = subst (ListsIds vertices) same lists;
-      given = has.given;
+      listed = has.given;
       edge_lines = subst Edges same has.lines;
       graph = subst Graph same has.graph;
     }

@@ -33,9 +33,9 @@ lists_no_fault bytes ids fault lists refused = ok_is_no_err (sym lists.lines ∙
 -- a text lists identifiers in one order that ascends
 pub one_list : (bytes a b : List ℕ) → ListsIds bytes a → ListsIds bytes b → a ≡ b
 one_list bytes a b p q =
-    let given : p.given ≡ q.given = same_ok (sym p.lines ∙ q.lines) in
+    let given : p.listed ≡ q.listed = same_ok (sym p.lines ∙ q.lines) in
     let P : List ℕ → Type 0 = λ xs. IsPermutation xs a in
-    sorted_once q.given a b p.are.ascending q.are.ascending (subst P given p.same) q.same
+    sorted_once q.listed a b p.are.ascending q.are.ascending (subst P given p.same) q.same
   where
     same_ok : {x y : List ℕ} → Ok x ≡ (let r : Result (List ℕ) TextFault = Ok y in r) → x ≡ y
     same_ok e = cc
