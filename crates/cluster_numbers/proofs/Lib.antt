@@ -1,0 +1,10 @@
+pub mod Passing
+pub mod Quiet
+pub mod Told
+pub mod EdgeEnds
+pub mod QuietWorlds
+pub mod NewsComes
+pub mod NewsMade
+pub mod Replaying
+pub mod Keeping
+pub mod Starting
