@@ -1,0 +1,11 @@
+pub mod CutLists
+pub mod MarkSteps
+pub mod MarkEvents
+pub mod MarkMade
+pub mod CutFrames
+pub mod CutLonger
+pub mod CutMade
+pub mod CutsKept
+pub mod CutsGoOn
+pub mod Beginning
+pub mod WorkedCut
