@@ -47,6 +47,8 @@ is_reached before now failure = nat_lt (before failure.machine.0) failure.after 
 -- a machine that reaches the count of the failure makes no more updates
 abbrev pub StopsAt : Beginning → List Entry → FailureAt → Type 0
 StopsAt b made failure = is_reached b.done (done_with b made) failure ≡ true → done_with b made failure.machine.0 ≡ failure.after
+abbrev pub StopsAtFailure : Beginning → List Entry → FailureAt → Type 0
+StopsAtFailure b made failure = is_reached b.done (done_with b made) failure ≡ true → done_with b made failure.machine.0 ≡ failure.after
 
 -- each cut has of each vertex at least as many updates as the one before
 abbrev pub AreRising : (ℕ → ℕ) → List (ℕ → ℕ) → Type 0
@@ -63,3 +65,4 @@ pub record IsAttempt (shared : Shared) (b : Beginning) (a : Attempt) : Type 0 wh
   pub rising : AreRising (λ v. 0) a.kept
   pub struck : a.struck ≡ count_by (is_reached b.done (done_with b a.made)) shared.failures
   pub stops : AllByRecursion (StopsAt b a.made) shared.failures
+  pub stops : AllByRecursion (StopsAtFailure b a.made) shared.failures
