@@ -1,0 +1,13 @@
+-- Lists that are looked up by scope.
+use Rattle.std.specs.Prelude.{◌≡◌, false, Option, Some, None, List, [], ◌∷◌, if◌then◌else◌}
+use Rattle.gl_base.specs.declared.scopes.ScopeId.{ScopeId}
+use Rattle.scope_lists.specs.Scopes.{is_scope}
+
+-- the first element of the scope, where there is one
+abbrev pub found : {E : Type 0} → (E → ScopeId) → List E → ScopeId → Option E
+found scope_of [] s = None
+found scope_of (e ∷ es) s = if is_scope (scope_of e) s then Some e else found scope_of es s
+
+-- the two are of different scopes
+abbrev pub AreApart : {E : Type 0} → (E → ScopeId) → E → E → Type 0
+AreApart scope_of one other = is_scope (scope_of one) (scope_of other) ≡ false
