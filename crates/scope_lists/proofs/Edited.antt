@@ -1,6 +1,6 @@
 -- What is found in a list after a write, a removal, or a removal that puts the last element in the gap.
 use Rattle.std.proofs.Common.{◌≡◌, ◌≢◌, ◌⊎◌, ℕ, suc, ◌-◌, ◌<◌, ◌≤◌, ◌==◌, nat_lt, true, false, None, List, length, slice_index_or, slice_set, if◌then◌else◌, refl, sym, ◌∙◌, ap, subst, inl, inr, ⊎_elim, arith, eq-eqb, ne_eqb}
-use Rattle.std.specs.List.{AllPairs, remove, swap_remove}
+use Rattle.std.specs.List.{All, AllPairs, remove, swap_remove}
 use Rattle.std.proofs.Math.ListN.{length-set}
 use Rattle.std.proofs.lemmas.Bool.{true≢false, cases_lt, cases_eq, lt-ltb, le-ltb}
 use Rattle.std.proofs.lemmas.List.{length-take-le, get_or-take, get_or-set_same, get_or-set_other, get_or_default}
@@ -102,7 +102,7 @@ from-here last i k here = rw (eq-eqb k i here)
 from-there : (last i k : ℕ) → k ≢ i → from_swapped last i k ≡ k
 from-there last i k there = rw (ne_eqb k i there)
 
-length-swap_removed : {E : Type 0} (es : List E) (i : ℕ) (e : E) → i < length es → length (swap_remove es i e) ≡ length es - 1
+pub length-swap_removed : {E : Type 0} (es : List E) (i : ℕ) (e : E) → i < length es → length (swap_remove es i e) ≡ length es - 1
 length-swap_removed es i e within =
     let new = slice_set es i (slice_index_or es (length es - 1) e) in
     length-take-le (length es - 1) new (let long = length-set es i (slice_index_or es (length es - 1) e) in omega arith)
@@ -170,3 +170,10 @@ found_swapped scope_of es s i e apart within is =
 
 pub apart_swapped : {E : Type 0} (scope_of : E → ScopeId) (es : List E) (i : ℕ) (e : E) → AllPairs (AreApart scope_of) es → i < length es → AllPairs (AreApart scope_of) (swap_remove es i e)
 apart_swapped scope_of es i e apart within = apart_picked scope_of es (swap_remove es i e) (from_swapped (length es - 1) i) apart (swapped_picked es i e within)
+
+-- what holds of each element holds of those that are left
+pub all_picked : {E : Type 0} (P : E → Type 0) (xs ys : List E) (from : ℕ → ℕ) → IsPickedFrom xs ys from → All P xs → All P ys
+all_picked P xs ys from is each = λ k d within. rw (is.same k d within) (each (from k) d (is.inside k within))
+
+pub all_swapped : {E : Type 0} (P : E → Type 0) (es : List E) (i : ℕ) (e : E) → i < length es → All P es → All P (swap_remove es i e)
+all_swapped P es i e within each = all_picked P es (swap_remove es i e) (from_swapped (length es - 1) i) (swapped_picked es i e within) each
