@@ -7,7 +7,7 @@ use Rattle.std.proofs.lemmas.List.{length-take-le, get_or-take, get_or-set_same,
 use Rattle.std.proofs.lemmas.List.Edits.{length-remove, get_or-remove_below, get_or-remove_above}
 use Rattle.gl_base.specs.declared.scopes.ScopeId.{ScopeId}
 use Rattle.scope_lists.specs.Scopes.{is_scope, set_for}
-use Rattle.scope_lists.specs.Found.{found, AreApart}
+use Rattle.scope_lists.specs.Found.{by_scope, AreOfTwoScopes}
 use Rattle.scope_lists.proofs.SameScope.{scopes_same}
 use Rattle.scope_lists.proofs.FoundLemmas.{IsPickedFrom, apart_picked, found_picked, apart_places}
 
@@ -19,7 +19,7 @@ scope_kept scope_of es i new d within same k = ⊎_elim
     (λ (there : k ≢ i). ap scope_of (get_or-set_other es i k new d there))
     (cases_eq k i)
 
-pub apart_set : {E : Type 0} (scope_of : E → ScopeId) (es : List E) (i : ℕ) (new : E) → i < length es → ((d : E) → scope_of new ≡ scope_of (slice_index_or es i d)) → AllPairs (AreApart scope_of) es → AllPairs (AreApart scope_of) (slice_set es i new)
+pub apart_set : {E : Type 0} (scope_of : E → ScopeId) (es : List E) (i : ℕ) (new : E) → i < length es → ((d : E) → scope_of new ≡ scope_of (slice_index_or es i d)) → AllPairs (AreOfTwoScopes scope_of) es → AllPairs (AreOfTwoScopes scope_of) (slice_set es i new)
 apart_set scope_of es i new within same apart = λ a b d before inside.
     let early : b < length es = let long = length-set es i new in omega arith in
     rw (scope_kept scope_of es i new d within (same d) a, scope_kept scope_of es i new d within (same d) b) (apart a b d before early)
@@ -79,8 +79,8 @@ kept_removed es i within j inside other =
 not_there : {E : Type 0} (scope_of : E → ScopeId) (es : List E) (s : ScopeId) (i j : ℕ) (d : E) → is_scope (scope_of (slice_index_or es i d)) s ≡ true → is_scope (scope_of (slice_index_or es j d)) s ≡ false → j ≢ i
 not_there scope_of es s i j d is other same = true≢false (sym (subst (λ n. is_scope (scope_of (slice_index_or es n d)) s ≡ true) (sym same) is) ∙ other)
 
-pub found_removed : {E : Type 0} (scope_of : E → ScopeId) (es : List E) (s : ScopeId) (i : ℕ) → AllPairs (AreApart scope_of) es → i < length es → ((d : E) → is_scope (scope_of (slice_index_or es i d)) s ≡ true)
-    → (t : ScopeId) → found scope_of (remove es i) t ≡ set_for (found scope_of es) s None t
+pub found_removed : {E : Type 0} (scope_of : E → ScopeId) (es : List E) (s : ScopeId) (i : ℕ) → AllPairs (AreOfTwoScopes scope_of) es → i < length es → ((d : E) → is_scope (scope_of (slice_index_or es i d)) s ≡ true)
+    → (t : ScopeId) → by_scope scope_of (remove es i) t ≡ set_for (by_scope scope_of es) s None t
 found_removed scope_of es s i apart within is =
     let picked = removed_picked es i within in
     found_picked scope_of es (remove es i) (from_removed i) s apart picked
@@ -88,7 +88,7 @@ found_removed scope_of es s i apart within is =
     (apart_places scope_of es (from_removed i k) i d apart (picked.inside k inside) within (from-other i k)))
     (λ j d inside other. kept_removed es i within j inside (not_there scope_of es s i j d (is d) other))
 
-pub apart_removed : {E : Type 0} (scope_of : E → ScopeId) (es : List E) (i : ℕ) → AllPairs (AreApart scope_of) es → i < length es → AllPairs (AreApart scope_of) (remove es i)
+pub apart_removed : {E : Type 0} (scope_of : E → ScopeId) (es : List E) (i : ℕ) → AllPairs (AreOfTwoScopes scope_of) es → i < length es → AllPairs (AreOfTwoScopes scope_of) (remove es i)
 apart_removed scope_of es i apart within = apart_picked scope_of es (remove es i) (from_removed i) apart (removed_picked es i within)
 
 -- ---- one element is taken out, and the last one takes its place
@@ -157,8 +157,8 @@ swapped-not last i k early is = ⊎_elim
     (λ (same : last ≡ i). let there : k ≢ i = λ h. absurd (omega arith) in let first = from-there last i k there in absurd (omega arith))
     (swapped-other last i k early)
 
-pub found_swapped : {E : Type 0} (scope_of : E → ScopeId) (es : List E) (s : ScopeId) (i : ℕ) (e : E) → AllPairs (AreApart scope_of) es → i < length es → ((d : E) → is_scope (scope_of (slice_index_or es i d)) s ≡ true)
-    → (t : ScopeId) → found scope_of (swap_remove es i e) t ≡ set_for (found scope_of es) s None t
+pub found_swapped : {E : Type 0} (scope_of : E → ScopeId) (es : List E) (s : ScopeId) (i : ℕ) (e : E) → AllPairs (AreOfTwoScopes scope_of) es → i < length es → ((d : E) → is_scope (scope_of (slice_index_or es i d)) s ≡ true)
+    → (t : ScopeId) → by_scope scope_of (swap_remove es i e) t ≡ set_for (by_scope scope_of es) s None t
 found_swapped scope_of es s i e apart within is =
     let picked = swapped_picked es i e within in
     let long = length-swap_removed es i e within in
@@ -168,7 +168,7 @@ found_swapped scope_of es s i e apart within is =
     (apart_places scope_of es (from_swapped last i k) i d apart (picked.inside k inside) within (swapped-not last i k (omega arith))))
     (λ j d inside other. kept_swapped es i e within j inside (not_there scope_of es s i j d (is d) other))
 
-pub apart_swapped : {E : Type 0} (scope_of : E → ScopeId) (es : List E) (i : ℕ) (e : E) → AllPairs (AreApart scope_of) es → i < length es → AllPairs (AreApart scope_of) (swap_remove es i e)
+pub apart_swapped : {E : Type 0} (scope_of : E → ScopeId) (es : List E) (i : ℕ) (e : E) → AllPairs (AreOfTwoScopes scope_of) es → i < length es → AllPairs (AreOfTwoScopes scope_of) (swap_remove es i e)
 apart_swapped scope_of es i e apart within = apart_picked scope_of es (swap_remove es i e) (from_swapped (length es - 1) i) apart (swapped_picked es i e within)
 
 -- what holds of each element holds of those that are left

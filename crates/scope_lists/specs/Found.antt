@@ -4,13 +4,13 @@ use Rattle.gl_base.specs.declared.scopes.ScopeId.{ScopeId}
 use Rattle.scope_lists.specs.Scopes.{is_scope}
 
 -- the first element of the scope, where there is one
-abbrev pub found : {E : Type 0} → (E → ScopeId) → List E → ScopeId → Option E
-found scope_of [] s = None
-found scope_of (e ∷ es) s = if is_scope (scope_of e) s then Some e else found scope_of es s
+abbrev pub by_scope : {E : Type 0} → (E → ScopeId) → List E → ScopeId → Option E
+by_scope scope_of [] s = None
+by_scope scope_of (e ∷ es) s = if is_scope (scope_of e) s then Some e else by_scope scope_of es s
 
 -- the two are of different scopes
-abbrev pub AreApart : {E : Type 0} → (E → ScopeId) → E → E → Type 0
-AreApart scope_of one other = is_scope (scope_of one) (scope_of other) ≡ false
+abbrev pub AreOfTwoScopes : {E : Type 0} → (E → ScopeId) → E → E → Type 0
+AreOfTwoScopes scope_of one other = is_scope (scope_of one) (scope_of other) ≡ false
 
 -- the element at this place is of the scope
 pub record StandsAt {E : Type 0} (scope_of : E → ScopeId) (es : List E) (s : ScopeId) (i : ℕ) : Type 0 where

@@ -9,19 +9,19 @@ use Rattle.gl_base.specs.declared.numbers.MachineNo.{MachineNo}
 use Rattle.gl_base.specs.declared.numbers.Vertex.{Vertex}
 use Rattle.gl_base.specs.declared.scopes.ScopeId.{ScopeId}
 use Rattle.scope_lists.specs.Scopes.{set_for}
-use Rattle.scope_lists.specs.Found.{found, AreApart, StandsAt}
+use Rattle.scope_lists.specs.Found.{by_scope, AreOfTwoScopes, StandsAt}
 use Rattle.scope_lists.proofs.SameScope.{scopes_same}
 use Rattle.scope_lists.proofs.FoundLemmas.{found_at, found_set, apart_pushed}
 use Rattle.scope_lists.proofs.Edited.{apart_set, apart_swapped, all_swapped}
+use Rattle.scope_pipe.specs.Inner.Kept.{IsInPart, IsPipe}
 use Rattle.scope_pipe.specs.declared.flights.Flight.{Flight}
-use Rattle.scope_pipe.specs.Entered.{EnteredView, entered_scope, moved_on, comes, IsInPart}
-use Rattle.scope_pipe.specs.Pipes.{IsPipe}
+use Rattle.scope_pipe.specs.Entered.{EnteredView, entered_scope, moved_on, comes}
 
 abbrev pub AreKept : List EnteredView → Type 0
-AreKept es = AllPairs (AreApart entered_scope) es × All IsInPart es
+AreKept es = AllPairs (AreOfTwoScopes entered_scope) es × All IsInPart es
 
 -- the scope that is found is the one at its place
-pub is_the_one : (es : List EnteredView) (s : ScopeId) (i : ℕ) (one e : EnteredView) → AllPairs (AreApart entered_scope) es → StandsAt entered_scope es s i → one ≡ slice_index_or es i one → found entered_scope es s ≡ Some e → one ≡ e
+pub is_the_one : (es : List EnteredView) (s : ScopeId) (i : ℕ) (one e : EnteredView) → AllPairs (AreOfTwoScopes entered_scope) es → StandsAt entered_scope es s i → one ≡ slice_index_or es i one → by_scope entered_scope es s ≡ Some e → one ≡ e
 is_the_one es s i one e apart at read is = read ∙ same_Some (slice_index_or es i one) e (sym (found_at entered_scope es s i one apart at.inside (at.is one)) ∙ is)
 
 pub moved_in_part : (e : EnteredView) → IsInPart e → IsInPart (moved_on e)
@@ -47,7 +47,7 @@ entered_kept serial width waiting ready old new waiting_cap ready_cap entered_ca
 }
 
 -- one more comes
-pub comes_keeps : (es : List EnteredView) (scope : ScopeId) (centre : Vertex) (part : List Vertex) (rest : List MachineNo) → found entered_scope es scope ≡ None → AreKept es → AreKept (es ++ comes scope centre part rest ∷ [])
+pub comes_keeps : (es : List EnteredView) (scope : ScopeId) (centre : Vertex) (part : List Vertex) (rest : List MachineNo) → by_scope entered_scope es scope ≡ None → AreKept es → AreKept (es ++ comes scope centre part rest ∷ [])
 comes_keeps es scope centre part rest none is =
     (apart_pushed entered_scope es (comes scope centre part rest) is.0 none, All-push IsInPart es (comes scope centre part rest) is.1 (omega arith))
 
@@ -56,12 +56,12 @@ pub leaves_keeps : (es : List EnteredView) (i : ℕ) (one : EnteredView) → i <
 leaves_keeps es i one within is = (apart_swapped entered_scope es i one is.0 within, all_swapped IsInPart es i one within is.1)
 
 -- one goes on
-pub moved_at : (es : List EnteredView) (s : ScopeId) (i : ℕ) (one e : EnteredView) → AllPairs (AreApart entered_scope) es → StandsAt entered_scope es s i → one ≡ slice_index_or es i one → found entered_scope es s ≡ Some e
-    → (t : ScopeId) → found entered_scope (slice_set es i (moved_on one)) t ≡ set_for (found entered_scope es) s (Some (moved_on e)) t
+pub moved_at : (es : List EnteredView) (s : ScopeId) (i : ℕ) (one e : EnteredView) → AllPairs (AreOfTwoScopes entered_scope) es → StandsAt entered_scope es s i → one ≡ slice_index_or es i one → by_scope entered_scope es s ≡ Some e
+    → (t : ScopeId) → by_scope entered_scope (slice_set es i (moved_on one)) t ≡ set_for (by_scope entered_scope es) s (Some (moved_on e)) t
 moved_at es s i one e apart at read is t =
     let named : one.scope ≡ s = ap entered_scope read ∙ scopes_same (entered_scope (slice_index_or es i one)) s (at.is one) in
     found_set entered_scope es s i one (moved_on one) apart at.inside (at.is one) named t
-    ∙ ap (λ (x : EnteredView). set_for (found entered_scope es) s (Some (moved_on x)) t) (is_the_one es s i one e apart at read is)
+    ∙ ap (λ (x : EnteredView). set_for (by_scope entered_scope es) s (Some (moved_on x)) t) (is_the_one es s i one e apart at read is)
 
 pub moved_keeps : (es : List EnteredView) (i : ℕ) (one : EnteredView) → i < length es → one ≡ slice_index_or es i one → AreKept es → AreKept (slice_set es i (moved_on one))
 moved_keeps es i one within read is = (

@@ -2,9 +2,8 @@
 use Rattle.std.specs.Prelude.{ℕ, ◌+◌, ◌==◌, ◌≤◌, nat_lt, Option, Some, None, List, [], ◌∷◌, length, slice_get, if◌then◌else◌}
 use Rattle.gl_base.specs.declared.numbers.MachineNo.{MachineNo}
 use Rattle.gl_base.specs.declared.numbers.Vertex.{Vertex}
-use Rattle.gl_base.specs.declared.scopes.Mode.{Mode}
-use Rattle.gl_base.specs.declared.scopes.Mode.TheVariants.{Reader, Writer}
 use Rattle.gl_base.specs.declared.scopes.ScopeId.{ScopeId}
+use Rattle.scope_lists.specs.Scopes.{mode_at}
 use Rattle.scope_pipe.specs.declared.next.Next.{Next}
 use Rattle.scope_pipe.specs.declared.next.Next.TheVariants.{Lock, Forward, Home}
 
@@ -18,10 +17,6 @@ pub record EnteredView : Type 0 where
 
 abbrev pub entered_scope : EnteredView → ScopeId
 entered_scope e = e.scope
-
--- the scope of v locks v as a writer, and its neighbours as a reader
-abbrev pub mode_at : ℕ → ℕ → Mode
-mode_at v x = if x == v then Writer else Reader
 
 -- the lock of the next vertex; behind the last one the next machine, and behind the last machine the way home
 abbrev pub next_at : Vertex → Option Vertex → List MachineNo → Next
@@ -39,7 +34,3 @@ moved_on e = record e { place = if nat_lt e.place (length e.part) then e.place +
 -- as it comes
 abbrev pub comes : ScopeId → Vertex → List Vertex → List MachineNo → EnteredView
 comes scope centre part rest = record { scope = scope; centre = centre; part = part; place = 0; rest = rest }
-
--- it asked for no more locks than there are
-abbrev pub IsInPart : EnteredView → Type 0
-IsInPart e = e.place ≤ length e.part

@@ -5,9 +5,9 @@ use Rattle.gl_base.specs.declared.numbers.MachineNo.{MachineNo}
 use Rattle.gl_base.specs.declared.numbers.Vertex.{Vertex}
 use Rattle.gl_base.specs.declared.scopes.ScopeId.{ScopeId}
 use Rattle.scope_lists.specs.Scopes.{set_for}
-use Rattle.scope_lists.specs.Found.{found, AreApart}
+use Rattle.scope_lists.specs.Found.{by_scope, AreOfTwoScopes}
 use Rattle.scope_pipe.specs.declared.flights.Flight.{Flight}
-use Rattle.scope_pipe.specs.Entered.{EnteredView, entered_scope, IsInPart}
+use Rattle.scope_pipe.specs.Entered.{EnteredView, entered_scope}
 
 -- The home of the scopes that are admitted here, how many were, how many may be in flight, those in flight that are not ready
 -- and those that are, and the scopes that have come.
@@ -30,22 +30,22 @@ either (Some f) other = Some f
 
 -- the centre of the scope, where it was admitted here and is in flight
 abbrev pub flight_at : PipeView → ScopeId → Option Vertex
-flight_at p s = option_map (λ f. f.centre) (either (found flight_scope p.waiting s) (found flight_scope p.ready s))
+flight_at p s = option_map (λ f. f.centre) (either (by_scope flight_scope p.waiting s) (by_scope flight_scope p.ready s))
 
 -- it is in flight and ready
 abbrev pub is_ready : PipeView → ScopeId → Bool
-is_ready p s = is_some (found flight_scope p.ready s)
+is_ready p s = is_some (by_scope flight_scope p.ready s)
 
 -- how many are in flight, and how many have come
-abbrev pub flying : PipeView → ℕ
-flying p = length p.waiting + length p.ready
+abbrev pub flight_count : PipeView → ℕ
+flight_count p = length p.waiting + length p.ready
 
 abbrev pub come : PipeView → ℕ
 come p = length p.entered
 
 -- the scope as it has come to this machine, where it has
 abbrev pub entered_at : PipeView → ScopeId → Option EnteredView
-entered_at p s = found entered_scope p.entered s
+entered_at p s = by_scope entered_scope p.entered s
 
 -- a scope of this centre is in flight
 pub record Flies (p : PipeView) (v : Vertex) : Type 0 where
@@ -58,36 +58,24 @@ next_id p = record { home = p.home; serial = p.serial }
 
 -- ---- what becomes of a pipe
 
--- home and width are the same
-pub record IsSamePipe (old new : PipeView) : Type 0 where
-  pub home : new.home ≡ old.home
-  pub width : new.width ≡ old.width
-
--- nothing has changed of the scopes in flight
-pub record SameFlights (old new : PipeView) : Type 0 where
-  pub serial : new.serial ≡ old.serial
-  pub flying : flying new ≡ flying old
-  pub flight : (t : ScopeId) → flight_at new t ≡ flight_at old t
-  pub ready : (t : ScopeId) → is_ready new t ≡ is_ready old t
-
 -- one more scope, whose centre is v, is in flight
 pub record HasAdmitted (old new : PipeView) (v : Vertex) : Type 0 where
   pub serial : new.serial ≡ old.serial + 1
-  pub flying : flying new ≡ flying old + 1
+  pub count : flight_count new ≡ flight_count old + 1
   pub flight : (t : ScopeId) → flight_at new t ≡ set_for (flight_at old) (next_id old) (Some v) t
   pub ready : (t : ScopeId) → is_ready new t ≡ is_ready old t
 
 -- the scope in flight is ready now
 pub record HasReadied (old new : PipeView) (s : ScopeId) : Type 0 where
   pub serial : new.serial ≡ old.serial
-  pub flying : flying new ≡ flying old
+  pub count : flight_count new ≡ flight_count old
   pub flight : (t : ScopeId) → flight_at new t ≡ flight_at old t
   pub ready : (t : ScopeId) → is_ready new t ≡ set_for (is_ready old) s true t
 
 -- the scope is in flight no more
 pub record HasFinished (old new : PipeView) (s : ScopeId) : Type 0 where
   pub serial : new.serial ≡ old.serial
-  pub flying : flying new + 1 ≡ flying old
+  pub count : flight_count new + 1 ≡ flight_count old
   pub flight : (t : ScopeId) → flight_at new t ≡ set_for (flight_at old) s None t
   pub ready : (t : ScopeId) → is_ready new t ≡ set_for (is_ready old) s false t
 
@@ -97,24 +85,8 @@ pub record HasCome (old new : PipeView) (s : ScopeId) (o : Option EnteredView) :
 
 -- no scope is in flight, and none has come
 pub record IsEmpty (p : PipeView) : Type 0 where
-  pub flying : flying p ≡ 0
+  pub count : flight_count p ≡ 0
   pub flight : (t : ScopeId) → flight_at p t ≡ None
   pub ready : (t : ScopeId) → is_ready p t ≡ false
   pub come : come p ≡ 0
   pub entered : (t : ScopeId) → entered_at p t ≡ None
-
--- ---- how a pipe is kept
-
--- each scope stands once, those in flight have serials that were given, and there is room for all that may come
-pub record IsPipe (serial width : ℕ) (waiting ready : List Flight) (entered : List EnteredView) (waiting_cap ready_cap entered_cap : ℕ) : Type 0 where
-  pub waiting_apart : AllPairs (AreApart flight_scope) waiting
-  pub ready_apart : AllPairs (AreApart flight_scope) ready
-  pub across : (s : ScopeId) → is_some (found flight_scope ready s) ≡ true → found flight_scope waiting s ≡ None
-  pub waiting_given : All (λ f. f.scope.serial < serial) waiting
-  pub ready_given : All (λ f. f.scope.serial < serial) ready
-  pub few : length waiting + length ready ≤ width
-  pub waiting_room : width ≤ waiting_cap
-  pub ready_room : width ≤ ready_cap
-  pub entered_apart : AllPairs (AreApart entered_scope) entered
-  pub in_part : All IsInPart entered
-  pub entered_room : 4096 ≤ entered_cap

@@ -1,6 +1,6 @@
 //! A scope that has come to a machine.
-ghost use Rattle.std.specs.Prelude.{◌≡◌, ◌≤◌, length};
-ghost use Rattle.scope_pipe.specs.Entered.{next_of, moved_on, IsInPart};
+ghost use Rattle.std.specs.Prelude.{◌≡◌};
+ghost use Rattle.scope_pipe.specs.Entered.{next_of, moved_on};
 
 use crate::next::{Next, next_at};
 use gl_base::{MachineNo, ScopeId, Vertex};

@@ -1,6 +1,7 @@
 //! What a scope wants next.
 ghost use Rattle.std.specs.Prelude.{◌≡◌, slice_get};
-ghost use Rattle.scope_pipe.specs.Entered.{mode_at, next_at};
+ghost use Rattle.scope_lists.specs.Scopes.{mode_at};
+ghost use Rattle.scope_pipe.specs.Entered.{next_at};
 
 use gl_base::{MachineNo, Mode, Vertex};
 

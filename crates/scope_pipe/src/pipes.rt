@@ -1,8 +1,8 @@
 //! All scopes of a machine.
 ghost use Rattle.std.specs.Prelude.{◌≡◌, ◌+◌, ◌<◌, true, false, Option, Some, None, is_some, IfOk, IfSome, OnErr, IsOk, IsErrOf};
-ghost use Rattle.scope_lists.specs.Found.{found, StandsAt};
+ghost use Rattle.scope_lists.specs.Found.{by_scope, StandsAt};
 ghost use Rattle.scope_pipe.specs.Entered.{EnteredView, entered_scope, next_of, moved_on, comes};
-ghost use Rattle.scope_pipe.specs.Pipes.{PipeView, flight_scope, flight_at, is_ready, flying, come, entered_at, Flies, next_id, SameFlights, HasAdmitted, HasReadied, HasFinished, HasCome, IsEmpty};
+ghost use Rattle.scope_pipe.specs.Pipes.{PipeView, flight_scope, flight_at, is_ready, flight_count, come, entered_at, Flies, next_id, HasAdmitted, HasReadied, HasFinished, HasCome, IsEmpty};
 ghost use Rattle.std.specs.List.{list_any, swap_remove};
 ghost use Rattle.std.specs.Prelude.{ℕ, ◌==◌, length, slice_index_or, vec_len};
 ghost use Rattle.std.specs.Vec.{vec_capacity};
@@ -51,7 +51,8 @@ pub struct Left {
 }
 
 impl Model for ScopePipe {
-    ghost use Rattle.scope_pipe.specs.Pipes.{PipeView, IsPipe};
+    ghost use Rattle.scope_pipe.specs.Inner.Kept.{IsPipe};
+    ghost use Rattle.scope_pipe.specs.Pipes.{PipeView};
 
     ghost Value = { PipeView };
 
@@ -90,9 +91,9 @@ impl ScopePipe {
         requires { self.old.serial < 18446744073709551615 }
         ensures scope { IfOk result (λ s. (s ≡ next_id self.old) × (flight_at self.old s ≡ None)) }
         ensures admitted { IfOk result (λ _. HasAdmitted self.old self.new v) }
-        ensures free { IsOk result → (Flies self.old v → ⊥) × (flying self.old < self.old.width) }
+        ensures free { IsOk result → (Flies self.old v → ⊥) × (flight_count self.old < self.old.width) }
         ensures in_flight { IsErrOf result PipeFault.InFlight → Flies self.old v }
-        ensures full { IsErrOf result PipeFault.Full → (Flies self.old v → ⊥) × (flying self.old ≡ self.old.width) }
+        ensures full { IsErrOf result PipeFault.Full → (Flies self.old v → ⊥) × (flight_count self.old ≡ self.old.width) }
         ensures unchanged { OnErr result (self.new ≡ self.old) }
         ensures rest { self.new ≡ record self.old { serial = self.new.serial; waiting = self.new.waiting } }
     {
@@ -103,6 +104,16 @@ impl ScopePipe {
             return Err(PipeFault::Full);
         }
         Ok(self.admit_now(v))
+    }
+
+    /// The scope that would be admitted next.
+    pub fn next_id(&self) -> ScopeId
+        ensures { result ≡ next_id self.now }
+    {
+        ScopeId {
+            home: self.home,
+            serial: self.serial,
+        }
     }
 
     /// Whether a scope of v is in flight. It looks at each scope that is.
@@ -118,7 +129,7 @@ impl ScopePipe {
     /// Admits a scope of v where fewer are in flight than may be. Whether v has one in flight is not looked at.
     pub fn admit_now(&mut self, v: Vertex) -> ScopeId
         requires serial { self.old.serial < 18446744073709551615 }
-        requires room { flying self.old < self.old.width }
+        requires room { flight_count self.old < self.old.width }
         ensures scope { result ≡ next_id self.old }
         ensures is_new { flight_at self.old (next_id self.old) ≡ None }
         ensures admitted { HasAdmitted self.old self.new v }
@@ -151,6 +162,27 @@ impl ScopePipe {
             place: 0,
             rest,
         });
+    }
+
+    /// Whether the scope has come to this machine.
+    pub fn has_come(&self, scope: ScopeId) -> bool
+        ensures { result ≡ is_some (entered_at self.now scope) }
+    {
+        find_entered(&self.entered, self.entered_hints.place(scope), scope).is_some()
+    }
+
+    /// How many scopes have come.
+    pub fn entered_count(&self) -> usize
+        ensures { result ≡ come self.now }
+    {
+        self.entered.len()
+    }
+
+    /// How many scopes are in flight.
+    pub fn flight_count(&self) -> usize
+        ensures { result ≡ flight_count self.now }
+    {
+        self.waiting.len() + self.ready.len()
     }
 
     /// What the scope wants next here.
@@ -217,6 +249,13 @@ impl ScopePipe {
         &self.ready
     }
 
+    /// Whether the scope is in flight and ready.
+    pub fn is_ready(&self, scope: ScopeId) -> bool
+        ensures { result ≡ is_ready self.now scope }
+    {
+        flight_place(&self.ready, self.flight_hints.place(scope), scope).is_some()
+    }
+
     /// The centre of a scope in flight.
     pub fn centre(&self, scope: ScopeId) -> Vertex
         requires { is_some (flight_at self.now scope) ≡ true }
@@ -268,7 +307,7 @@ fn has_centre(flights: &[Flight], v: Vertex) -> bool
 /// The place of the scope among these, where it stands: at the hint, or anywhere.
 fn flight_place(flights: &[Flight], hint: usize, scope: ScopeId) -> Option<usize>
     ensures there { IfSome result (StandsAt flight_scope flights.now scope) }
-    ensures none { result ≡ None → found flight_scope flights.now scope ≡ None }
+    ensures none { result ≡ None → by_scope flight_scope flights.now scope ≡ None }
 {
     if hint < flights.len() && is_scope(flights[hint].scope, scope) {
         return Some(hint);
@@ -283,7 +322,7 @@ fn flight_place(flights: &[Flight], hint: usize, scope: ScopeId) -> Option<usize
 
 /// The place of a scope that stands among these.
 fn ready_place(flights: &[Flight], hint: usize, scope: ScopeId) -> usize
-    requires { is_some (found flight_scope flights.now scope) ≡ true }
+    requires { is_some (by_scope flight_scope flights.now scope) ≡ true }
     ensures { StandsAt flight_scope flights.now scope result }
 {
     match flight_place(flights, hint, scope) {
@@ -320,18 +359,29 @@ fn take_entered(entered: &mut Vec<Entered>, hints: &mut Hints, place: usize) -> 
     one
 }
 
-/// The place of a scope that has come: the hint, or where it is found.
-fn entered_place(entered: &[Entered], hint: usize, scope: ScopeId) -> usize
-    requires { is_some (found entered_scope entered.now scope) ≡ true }
-    ensures { StandsAt entered_scope entered.now scope result }
+/// The place of the scope among those that have come, where it has: at the hint, or anywhere.
+fn find_entered(entered: &[Entered], hint: usize, scope: ScopeId) -> Option<usize>
+    ensures there { IfSome result (StandsAt entered_scope entered.now scope) }
+    ensures none { result ≡ None → by_scope entered_scope entered.now scope ≡ None }
 {
     if hint < entered.len() && is_scope(entered[hint].scope(), scope) {
-        return hint;
+        return Some(hint);
     }
     for (place, one) in entered.iter().enumerate() {
         if is_scope(one.scope(), scope) {
-            return place;
+            return Some(place);
         }
     }
-    unreachable!()
+    None
+}
+
+/// The place of a scope that has come.
+fn entered_place(entered: &[Entered], hint: usize, scope: ScopeId) -> usize
+    requires { is_some (by_scope entered_scope entered.now scope) ≡ true }
+    ensures { StandsAt entered_scope entered.now scope result }
+{
+    match find_entered(entered, hint, scope) {
+        Some(place) => place,
+        None => unreachable!(),
+    }
 }

@@ -14,16 +14,18 @@ use Rattle.gl_base.specs.declared.scopes.Mode.{Mode}
 use Rattle.gl_base.specs.declared.scopes.Mode.TheVariants.{Reader, Writer}
 use Rattle.gl_base.specs.declared.scopes.ScopeId.{ScopeId}
 use Rattle.scope_lists.specs.Scopes.{is_scope}
-use Rattle.scope_lists.specs.Found.{found, AreApart}
+use Rattle.scope_lists.specs.Found.{by_scope, AreOfTwoScopes}
 use Rattle.scope_lists.proofs.SameScope.{same_scope}
 use Rattle.scope_lists.proofs.FoundLemmas.{found_at, none_found, found_place, found_pushed, apart_pushed}
 use Rattle.scope_lists.proofs.Edited.{found_removed, apart_removed}
-use Rattle.vertex_locks.specs.Locks.{LockView, claimant, has, mode_of, GoTogether, ReadTogether, IsNext, IsExclusive, WaitOnce, view_of, IsLock, IsTaken, IsReleased}
+use Rattle.vertex_locks.specs.Inner.KeptLocks.{ReadTogether, IsLock, IsTaken, IsReleased}
+use Rattle.scope_lists.specs.Scopes.{GoTogether}
+use Rattle.vertex_locks.specs.Locks.{LockView, claimant, has, mode_of, IsNext, WritesAlone, WaitOnce, view_of}
 
 -- ---- holders
 
 -- how a scope holds the lock tells which claim it has
-held_claim : (claims : List Claim) (s : ScopeId) (mode : Mode) (o : Option Claim) → found claimant claims s ≡ o → option_map (λ c. c.mode) o ≡ Some mode → (e : Claim) × (found claimant claims s ≡ Some e) × (e.mode ≡ mode)
+held_claim : (claims : List Claim) (s : ScopeId) (mode : Mode) (o : Option Claim) → by_scope claimant claims s ≡ o → option_map (λ c. c.mode) o ≡ Some mode → (e : Claim) × (by_scope claimant claims s ≡ Some e) × (e.mode ≡ mode)
 held_claim claims s mode None is says = absurd (none-some mode says)
 held_claim claims s mode (Some e) is says = (e, is, same_Some e.mode mode says)
 
@@ -38,15 +40,15 @@ pub record IsHolder (claims : List Claim) (s : ScopeId) (mode : Mode) : Type 0 w
 
 holder : (claims : List Claim) (s : ScopeId) (mode : Mode) → mode_of claims s ≡ Some mode → IsHolder claims s mode
 holder claims s mode says =
-    let one = held_claim claims s mode (found claimant claims s) refl says in
+    let one = held_claim claims s mode (by_scope claimant claims s) refl says in
     let place = found_place claimant claims s one.0 one.1 in
     record { claim = one.0; place = place.0; inside = place.1; there = place.2; scope = place.3; mode_is = one.2 }
 
 -- a claim at a place holds the lock
-holds_at : (claims : List Claim) (i : ℕ) (d : Claim) → AllPairs (AreApart claimant) claims → i < length claims → mode_of claims (slice_index_or claims i d).scope ≡ Some (slice_index_or claims i d).mode
+holds_at : (claims : List Claim) (i : ℕ) (d : Claim) → AllPairs (AreOfTwoScopes claimant) claims → i < length claims → mode_of claims (slice_index_or claims i d).scope ≡ Some (slice_index_or claims i d).mode
 holds_at claims i d apart inside = ap (option_map (λ (c : Claim). c.mode)) (found_at claimant claims (slice_index_or claims i d).scope i d apart inside (same_scope (slice_index_or claims i d).scope))
 
-apart_taken : (claims : List Claim) (held : ℕ) → held ≤ length claims → AllPairs (AreApart claimant) claims → AllPairs (AreApart claimant) (take held claims)
+apart_taken : (claims : List Claim) (held : ℕ) → held ≤ length claims → AllPairs (AreOfTwoScopes claimant) claims → AllPairs (AreOfTwoScopes claimant) (take held claims)
 apart_taken claims held within apart = λ i j d before inside.
     let long = length-take-le held claims within in
     let early : i < held = omega arith in
@@ -57,7 +59,7 @@ writer≢reader : Writer ≡ Reader → ⊥
 writer≢reader same = cc
 
 -- a writer that holds the lock is the only holder
-pub exclusive : (claims : List Claim) (held : ℕ) → IsLock claims held → IsExclusive (mode_of (take held claims))
+pub exclusive : (claims : List Claim) (held : ℕ) → IsLock claims held → WritesAlone (mode_of (take held claims))
 exclusive claims held is = λ s t mode writes holds.
     let one = holder (take held claims) s Writer writes in
     let other = holder (take held claims) t mode holds in
@@ -212,7 +214,7 @@ grant_keeps claims held c is next =
     }
 
 -- the next one doesn't hold the lock yet
-next_apart : (claims : List Claim) (held : ℕ) (c : Claim) → IsLock claims held → IsNext (mode_of (take held claims)) (drop held claims) c → found claimant (take held claims) c.scope ≡ None
+next_apart : (claims : List Claim) (held : ℕ) (c : Claim) → IsLock claims held → IsNext (mode_of (take held claims)) (drop held claims) c → by_scope claimant (take held claims) c.scope ≡ None
 next_apart claims held c is next =
     let stands = next_stands claims held c is.within next in
     let short = length-take-le held claims is.within in
@@ -228,18 +230,18 @@ grant_shows claims held room c is next =
     let stands = next_stands claims held c is.within next in
     let holders : take (held + 1) claims ≡ take held claims ++ c ∷ [] = take_more claims held c stands.0 ∙ ap (λ x. take held claims ++ x ∷ []) stands.1 in
     record {
-      holders = λ t. ap (λ xs. found claimant xs t) holders ∙ found_pushed claimant (take held claims) c (next_apart claims held c is next) t;
+      holders = λ t. ap (λ xs. by_scope claimant xs t) holders ∙ found_pushed claimant (take held claims) c (next_apart claims held c is next) t;
       queue = sym (drop-drop 1 held claims);
       room = refl;
     }
 
 -- ---- a claim is made
 
-none_anywhere : (xs ys : List Claim) (s : ScopeId) → found claimant xs s ≡ None → found claimant ys s ≡ None → found claimant (xs ++ ys) s ≡ None
+none_anywhere : (xs ys : List Claim) (s : ScopeId) → by_scope claimant xs s ≡ None → by_scope claimant ys s ≡ None → by_scope claimant (xs ++ ys) s ≡ None
 none_anywhere [] ys s here there = there
 none_anywhere (x ∷ xs) ys s here there = ⊎_elim
-    (λ (is : is_scope x.scope s ≡ true). let some : found claimant (x ∷ xs) s ≡ Some x = rw is in absurd (none-some x (sym here ∙ some)))
-    (λ (other : is_scope x.scope s ≡ false). let rest : found claimant (x ∷ xs) s ≡ found claimant xs s = rw other in rw other (none_anywhere xs ys s (sym rest ∙ here) there))
+    (λ (is : is_scope x.scope s ≡ true). let some : by_scope claimant (x ∷ xs) s ≡ Some x = rw is in absurd (none-some x (sym here ∙ some)))
+    (λ (other : is_scope x.scope s ≡ false). let rest : by_scope claimant (x ∷ xs) s ≡ by_scope claimant xs s = rw other in rw other (none_anywhere xs ys s (sym rest ∙ here) there))
     (cases_Bool (is_scope x.scope s))
 
 pub has_not : (o : Option Claim) → is_some o ≡ false → o ≡ None
@@ -248,8 +250,8 @@ has_not (Some c) is = absurd (true≢false is)
 
 pub request_keeps : (claims : List Claim) (held : ℕ) (c : Claim) → IsLock claims held → has c.scope (take held claims) ≡ false → has c.scope (drop held claims) ≡ false → IsLock (claims ++ c ∷ []) held
 request_keeps claims held c is holds_not waits_not =
-    let none = none_anywhere (take held claims) (drop held claims) c.scope (has_not (found claimant (take held claims) c.scope) holds_not) (has_not (found claimant (drop held claims) c.scope) waits_not) in
-    let nowhere : found claimant claims c.scope ≡ None = subst (λ xs. found claimant xs c.scope ≡ None) (take-append-drop held claims) none in
+    let none = none_anywhere (take held claims) (drop held claims) c.scope (has_not (by_scope claimant (take held claims) c.scope) holds_not) (has_not (by_scope claimant (drop held claims) c.scope) waits_not) in
+    let nowhere : by_scope claimant claims c.scope ≡ None = subst (λ xs. by_scope claimant xs c.scope ≡ None) (take-append-drop held claims) none in
     record {
       within = let long = length_push claims c in let w = is.within in omega arith;
       once = apart_pushed claimant claims c is.once nowhere;
@@ -264,14 +266,14 @@ pub record IsPlace (claims : List Claim) (held : ℕ) (s : ScopeId) (place : ℕ
   pub inside : place < length claims
   pub is : (d : Claim) → is_scope (slice_index_or claims place d).scope s ≡ true
 
-has_place : (claims : List Claim) (s : ScopeId) (o : Option Claim) → found claimant claims s ≡ o → is_some o ≡ true → (e : Claim) × (found claimant claims s ≡ Some e)
+has_place : (claims : List Claim) (s : ScopeId) (o : Option Claim) → by_scope claimant claims s ≡ o → is_some o ≡ true → (e : Claim) × (by_scope claimant claims s ≡ Some e)
 has_place claims s None is some = absurd (true≢false (sym some))
 has_place claims s (Some e) is some = (e, is)
 
 -- a claim that is found among the holders is found before the others
 pub is_place : (s : ScopeId) (claims : List Claim) (held place : ℕ) → IsLock claims held → has s (take held claims) ≡ true → position (λ (c : Claim). is_scope c.scope s) claims ≡ Some place → IsPlace claims held s place
 is_place s claims held place is has_it at =
-    let one = has_place (take held claims) s (found claimant (take held claims) s) refl has_it in
+    let one = has_place (take held claims) s (by_scope claimant (take held claims) s) refl has_it in
     let stands = found_place claimant (take held claims) s one.0 one.1 in
     let long = length-take-le held claims is.within in
     let early : stands.0 < held = let w = stands.1 in omega arith in
@@ -292,7 +294,7 @@ is_place s claims held place is has_it at =
 pub is_found : (s : ScopeId) (claims : List Claim) (held : ℕ) → IsLock claims held → has s (take held claims) ≡ true → position (λ (c : Claim). is_scope c.scope s) claims ≡ None → ⊥
 is_found s claims held is has_it at =
     let test : Claim → Bool = λ c. is_scope c.scope s in
-    let one = has_place (take held claims) s (found claimant (take held claims) s) refl has_it in
+    let one = has_place (take held claims) s (by_scope claimant (take held claims) s) refl has_it in
     let stands = found_place claimant (take held claims) s one.0 one.1 in
     let long = length-take-le held claims is.within in
     let w = is.within in
@@ -341,7 +343,7 @@ release_shows s claims held place room more is at one =
     let holds : place < held = at.holds in
     let inside : place < length (take held claims) = omega arith in
     record {
-      holders = λ t. ap (λ xs. found claimant xs t) (cut-take claims held place is.within at.holds)
+      holders = λ t. ap (λ xs. by_scope claimant xs t) (cut-take claims held place is.within at.holds)
           ∙ found_removed claimant (take held claims) s place (apart_taken claims held is.within is.once) inside
           (λ d. rw (get_or-take held claims place d holds) (at.is d)) t;
       queue = cut-drop claims held place is.within at.holds;

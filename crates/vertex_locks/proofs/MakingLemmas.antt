@@ -8,7 +8,8 @@ use Rattle.std.proofs.Math.ListN.{length-set}
 use Rattle.gl_base.specs.declared.numbers.Vertex.{Vertex}
 use Rattle.gl_base.specs.declared.scopes.Claim.{Claim}
 use Rattle.vertex_locks.specs.Locks.{LockView, mode_of}
-use Rattle.vertex_locks.specs.Tables.{no_lock, lock_or, lock_at, is_owned, room_at, IsUnclaimed, lock_there, table_of, IsFree, ArePlacesApart}
+use Rattle.vertex_locks.specs.Inner.KeptTables.{IsFree, ArePlacesApart}
+use Rattle.vertex_locks.specs.Tables.{no_lock, lock_or, lock_at, is_owned, room_at, IsUnclaimed, lock_there, table_of}
 
 -- ---- what a table of these places and locks has
 
@@ -76,51 +77,6 @@ pub record AreSet (owned : List Vertex) (count i : ℕ) (places : List ℕ) (loc
   pub there : (k : ℕ) (d : Vertex) → k < i → slice_index places (slice_index_or owned k d).0 < i
   pub none : (x : ℕ) → x < count → i ≤ slice_index places x → slice_index places x ≡ 4294967295
   pub free : (k : ℕ) → IsFree (slice_index_or locks k no_lock)
-
-pub set_more : (owned : List Vertex) (count i : ℕ) (places : List ℕ) (locks : List LockView) (v : Vertex) (l : LockView) → AreSet owned count i places locks → i < length owned → i < 4294967295 → v ≡ slice_index_or owned i v → v.0 < count → IsFree l
-    → AreSet owned count (i + 1) (slice_set places v.0 i) (locks ++ l ∷ [])
-set_more owned count i places locks v l is within few read below free =
-    let many = is.many in
-    let inside : v.0 < length places = omega arith in
-    let here : slice_index (slice_set places v.0 i) v.0 ≡ i = get_or-set_same places v.0 i 0 inside in
-    let other : (x : ℕ) → x ≢ v.0 → slice_index (slice_set places v.0 i) x ≡ slice_index places x = λ x apart. get_or-set_other places v.0 x i 0 apart in
-    record {
-      many = length-set places v.0 i ∙ is.many;
-      locks_many = let long = length_push locks l in let m = is.locks_many in omega arith;
-      back = λ x d below_x early. ⊎_elim
-          (λ (same : x ≡ v.0).
-          let at : slice_index (slice_set places v.0 i) x ≡ i = ap (slice_index (slice_set places v.0 i)) same ∙ here in
-          ap (λ n. (slice_index_or owned n d).0) at ∙ (ap (λ (u : Vertex). u.0) (get_or_default owned i d v within ∙ sym read) ∙ sym same))
-          (λ (apart : x ≢ v.0).
-          let at = other x apart in
-          let before : slice_index places x < i = ⊎_elim
-          (λ (b : slice_index places x < i). b)
-          (λ (a : i ≤ slice_index places x). let far = is.none x below_x a in absurd (omega arith))
-          (cases_lt (slice_index places x) i) in
-          ap (λ n. (slice_index_or owned n d).0) at ∙ is.back x d below_x before)
-          (cases_eq x v.0);
-      there = λ k d early. ⊎_elim
-          (λ (same : (slice_index_or owned k d).0 ≡ v.0). let at : slice_index (slice_set places v.0 i) (slice_index_or owned k d).0 ≡ i = ap (slice_index (slice_set places v.0 i)) same ∙ here in omega arith)
-          (λ (apart : (slice_index_or owned k d).0 ≢ v.0).
-          let at = other (slice_index_or owned k d).0 apart in
-          let before : k < i = ⊎_elim
-          (λ (b : k < i). b)
-          (λ (a : i ≤ k). absurd (apart (ap (λ n. (slice_index_or owned n d).0) (omega arith) ∙ ap (λ (u : Vertex). u.0) (get_or_default owned i d v within ∙ sym read))))
-          (cases_lt k i) in
-          let was = is.there k d before in omega arith)
-          (cases_eq (slice_index_or owned k d).0 v.0);
-      none = λ x below_x late. ⊎_elim
-          (λ (same : x ≡ v.0). let at : slice_index (slice_set places v.0 i) x ≡ i = ap (slice_index (slice_set places v.0 i)) same ∙ here in absurd (omega arith))
-          (λ (apart : x ≢ v.0). let at = other x apart in at ∙ is.none x below_x (omega arith))
-          (cases_eq x v.0);
-      free = λ k. ⊎_elim
-          (λ (early : k < length locks). subst IsFree (sym (get_or_append_left locks (l ∷ []) no_lock k early)) (is.free k))
-          (λ (late : length locks ≤ k). ⊎_elim
-          (λ (at_end : k ≡ length locks). subst IsFree (sym (get_or_push locks l no_lock k (sym at_end))) free)
-          (λ (past : k ≢ length locks). subst IsFree (sym (get_or_past (locks ++ l ∷ []) k no_lock (let long = length_push locks l in omega (arith, past)))) (refl, refl))
-          (cases_eq k (length locks)))
-          (cases_lt k (length locks));
-    }
 
 pub made_apart : (owned : List Vertex) (count i : ℕ) (places : List ℕ) (locks : List LockView) → AreSet owned count i places locks → ArePlacesApart places (length locks)
 made_apart owned count i places locks is = λ x y below above early same.

@@ -7,9 +7,15 @@ use Rattle.gl_base.specs.declared.scopes.Claim.{Claim}
 use Rattle.gl_base.specs.declared.scopes.Mode.{Mode}
 use Rattle.gl_base.specs.declared.scopes.ScopeId.{ScopeId}
 use Rattle.scope_lists.specs.Scopes.{is_scope, set_for, set_at}
-use Rattle.scope_lists.specs.Found.{found}
-use Rattle.vertex_locks.specs.Locks.{LockView, claimant, mode_of, requested, IsTaken, IsReleased, SameClaims}
-use Rattle.vertex_locks.specs.Tables.{no_lock, lock_or, lock_at, is_owned, holder_at, queue_at, room_at, HasAsked, HasTaken, HasReleased, HasRoomFor, with_lock, lock_there, table_of, ArePlacesApart}
+use Rattle.scope_lists.specs.Found.{by_scope}
+use Rattle.vertex_locks.specs.Inner.KeptLocks.{requested, IsTaken, IsReleased, SameClaims}
+use Rattle.vertex_locks.specs.Locks.{has, LockView, claimant, mode_of}
+use Rattle.vertex_locks.specs.Inner.KeptTables.{ArePlacesApart}
+use Rattle.vertex_locks.specs.Tables.{no_lock, lock_or, lock_at, is_owned, holder_at, queue_at, room_at, HasAsked, HasTaken, HasReleased, HasRoomFor, lock_there, table_of}
+
+-- l for the lock of x
+abbrev pub with_lock : List (Option LockView) → ℕ → LockView → List (Option LockView)
+with_lock table x l = slice_set table x (Some l)
 
 -- ---- places
 
@@ -154,9 +160,17 @@ mode_if : (b : Bool) (one other : Option Claim) → option_map (λ (c : Claim). 
 mode_if true one other = refl
 mode_if false one other = refl
 
+-- a scope holds a lock in some mode where it has a claim among the holders
+mode_some : (o : Option Claim) → is_some (option_map (λ (c : Claim). c.mode) o) ≡ is_some o
+mode_some None = refl
+mode_some (Some c) = refl
+
+pub some_mode : (claims : List Claim) (s : ScopeId) → is_some (mode_of claims s) ≡ has s claims
+some_mode claims s = mode_some (by_scope claimant claims s)
+
 -- one scope's claim among the holders has changed
-mode_changed : (old new : List Claim) (s : ScopeId) (o : Option Claim) → ((t : ScopeId) → found claimant new t ≡ (if is_scope t s then o else found claimant old t)) → mode_of new ≡ set_for (mode_of old) s (option_map (λ c. c.mode) o)
-mode_changed old new s o is = λ i t. (ap (option_map (λ (c : Claim). c.mode)) (is t) ∙ mode_if (is_scope t s) o (found claimant old t)) i
+mode_changed : (old new : List Claim) (s : ScopeId) (o : Option Claim) → ((t : ScopeId) → by_scope claimant new t ≡ (if is_scope t s then o else by_scope claimant old t)) → mode_of new ≡ set_for (mode_of old) s (option_map (λ c. c.mode) o)
+mode_changed old new s o is = λ i t. (ap (option_map (λ (c : Claim). c.mode)) (is t) ∙ mode_if (is_scope t s) o (by_scope claimant old t)) i
 
 pub has_taken : (table : List (Option LockView)) (x : ℕ) (l : LockView) (c : Claim) → is_owned table x ≡ true → IsTaken (lock_at table x) l c → HasTaken table (with_lock table x l) x c
 has_taken table x l c owned is = record {

@@ -5,8 +5,8 @@ use Rattle.gl_base.specs.declared.scopes.Claim.{Claim}
 use Rattle.gl_base.specs.declared.scopes.Mode.{Mode}
 use Rattle.gl_base.specs.declared.scopes.Mode.TheVariants.{Reader, Writer}
 use Rattle.gl_base.specs.declared.scopes.ScopeId.{ScopeId}
-use Rattle.scope_lists.specs.Scopes.{is_scope}
-use Rattle.scope_lists.specs.Found.{found, AreApart}
+use Rattle.scope_lists.specs.Scopes.{GoTogether}
+use Rattle.scope_lists.specs.Found.{by_scope, AreOfTwoScopes}
 
 -- Who holds the lock, who waits for it, the first first, and for how many more claims there is room.
 pub record LockView : Type 0 where
@@ -20,15 +20,11 @@ claimant c = c.scope
 
 -- one of these claims is of the scope
 abbrev pub has : ScopeId → List Claim → Bool
-has s claims = is_some (found claimant claims s)
+has s claims = is_some (by_scope claimant claims s)
 
 -- how the scope holds the lock, where it does
 abbrev pub mode_of : List Claim → ScopeId → Option Mode
-mode_of claims s = option_map (λ c. c.mode) (found claimant claims s)
-
--- two that hold one lock: only readers stand beside one another
-abbrev pub GoTogether : Mode → Mode → Type 0
-GoTogether one other = (one ≡ Reader) × (other ≡ Reader)
+mode_of claims s = option_map (λ c. c.mode) (by_scope claimant claims s)
 
 -- the claim is the first that waits, and goes together with each holder
 pub record IsNext (holder : ScopeId → Option Mode) (queue : List Claim) (c : Claim) : Type 0 where
@@ -37,45 +33,15 @@ pub record IsNext (holder : ScopeId → Option Mode) (queue : List Claim) (c : C
   pub together : (s : ScopeId) (mode : Mode) → holder s ≡ Some mode → GoTogether mode c.mode
 
 -- where a writer holds the lock, it is the only holder
-abbrev pub IsExclusive : (ScopeId → Option Mode) → Type 0
-IsExclusive holder = (s t : ScopeId) (mode : Mode) → holder s ≡ Some Writer → holder t ≡ Some mode → s ≡ t
+abbrev pub WritesAlone : (ScopeId → Option Mode) → Type 0
+WritesAlone holder = (s t : ScopeId) (mode : Mode) → holder s ≡ Some Writer → holder t ≡ Some mode → s ≡ t
 
 -- no scope waits twice, and none that waits holds the lock
 pub record WaitOnce (holder : ScopeId → Option Mode) (queue : List Claim) : Type 0 where
-  pub once : AllPairs (AreApart claimant) queue
+  pub once : AllPairs (AreOfTwoScopes claimant) queue
   pub hold_not : AllByRecursion (λ c. holder c.scope ≡ None) queue
 
 -- ---- how a lock is kept: the holders, and behind them those who wait
 
 abbrev pub view_of : List Claim → ℕ → ℕ → LockView
 view_of claims held room = record { holders = take held claims; queue = drop held claims; room = room }
-
-abbrev pub ReadTogether : Claim → Claim → Type 0
-ReadTogether one other = GoTogether one.mode other.mode
-
--- each scope has one claim, and where several hold the lock all are readers
-pub record IsLock (claims : List Claim) (held : ℕ) : Type 0 where
-  pub within : held ≤ length claims
-  pub once : AllPairs (AreApart claimant) claims
-  pub together : AllPairs ReadTogether (take held claims)
-
--- the claim waits behind the others
-abbrev pub requested : Claim → LockView → LockView
-requested c l = record { holders = l.holders; queue = l.queue ++ c ∷ []; room = l.room - 1 }
-
--- the claim, the first that waited, holds the lock
-pub record IsTaken (old new : LockView) (c : Claim) : Type 0 where
-  pub holders : (t : ScopeId) → found claimant new.holders t ≡ (if is_scope t c.scope then Some c else found claimant old.holders t)
-  pub queue : new.queue ≡ drop 1 old.queue
-  pub room : new.room ≡ old.room
-
--- the scope alone holds the lock no more
-pub record IsReleased (old new : LockView) (s : ScopeId) : Type 0 where
-  pub holders : (t : ScopeId) → found claimant new.holders t ≡ (if is_scope t s then None else found claimant old.holders t)
-  pub queue : new.queue ≡ old.queue
-  pub room : new.room ≡ old.room + 1
-
--- the claims are the same
-pub record SameClaims (old new : LockView) : Type 0 where
-  pub holders : new.holders ≡ old.holders
-  pub queue : new.queue ≡ old.queue

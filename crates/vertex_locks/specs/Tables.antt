@@ -84,19 +84,8 @@ HasGranted old new x Waiting = new ≡ old
 
 -- ---- how a table is kept: the place of each vertex's lock
 
-abbrev pub with_lock : List (Option LockView) → ℕ → LockView → List (Option LockView)
-with_lock table x l = slice_set table x (Some l)
-
 abbrev pub lock_there : List LockView → ℕ → Option LockView
 lock_there locks place = if nat_lt place (length locks) then Some (slice_index_or locks place no_lock) else None
 
 abbrev pub table_of : List ℕ → List LockView → List (Option LockView)
 table_of places locks = map (lock_there locks) places
-
--- nobody claims this lock
-abbrev pub IsFree : LockView → Type 0
-IsFree l = (l.holders ≡ []) × (l.queue ≡ [])
-
--- no two vertices have the same lock
-abbrev pub ArePlacesApart : List ℕ → ℕ → Type 0
-ArePlacesApart places count = (x y : ℕ) → x < length places → y < length places → slice_index places x < count → slice_index places x ≡ slice_index places y → x ≡ y

@@ -1,10 +1,11 @@
 //! One lock.
 ghost use Rattle.std.specs.Prelude.{◌≡◌, ◌+◌, ◌<◌, ◌≤◌, true, false, None, [], ◌∷◌, ◌++◌, take, drop, OnOk, IfSome};
-ghost use Rattle.std.specs.List.{position, AllPairs};
+ghost use Rattle.std.specs.List.{position, list_any};
 ghost use Rattle.gl_base.specs.declared.scopes.Claim.{Claim};
-ghost use Rattle.scope_lists.specs.Found.{AreApart};
 ghost use Rattle.scope_lists.specs.Scopes.{is_scope};
-ghost use Rattle.vertex_locks.specs.Locks.{LockView, claimant, has, mode_of, IsNext, IsExclusive, WaitOnce, GoTogether, IsLock, requested, IsTaken, IsReleased, SameClaims};
+ghost use Rattle.vertex_locks.specs.Locks.{LockView, has, mode_of, IsNext, WritesAlone, WaitOnce};
+ghost use Rattle.scope_lists.specs.Scopes.{GoTogether};
+ghost use Rattle.vertex_locks.specs.Inner.KeptLocks.{IsLock, requested, IsTaken, IsReleased, SameClaims};
 
 use gl_base::{Claim, Mode, NoMemory, ScopeId};
 use scope_lists::is_scope;
@@ -21,7 +22,8 @@ pub struct Lock {
 
 impl Model for Lock {
     ghost use Rattle.std.specs.Prelude.{◌-◌};
-    ghost use Rattle.vertex_locks.specs.Locks.{LockView, view_of, IsLock};
+    ghost use Rattle.vertex_locks.specs.Inner.KeptLocks.{IsLock};
+    ghost use Rattle.vertex_locks.specs.Locks.{LockView, view_of};
 
     ghost Value = { LockView };
 
@@ -66,7 +68,7 @@ impl Lock {
     pub fn next(&self) -> Option<Claim>
         ensures next { IfSome result (λ c. IsNext (mode_of self.now.holders) self.now.queue c) }
         ensures none { result ≡ None → (c : Claim) → IsNext (mode_of self.now.holders) self.now.queue c → ⊥ }
-        ensures exclusion { IsExclusive (mode_of self.now.holders) }
+        ensures exclusion { WritesAlone (mode_of self.now.holders) }
         ensures once { WaitOnce (mode_of self.now.holders) self.now.queue }
     {
         first_waiting(&self.claims, self.held)
@@ -93,6 +95,21 @@ impl Lock {
             self.claims.remove(place);
             self.held -= 1;
         }
+    }
+
+    /// Whether the scope holds the lock.
+    pub fn holds(&self, scope: ScopeId) -> bool
+        ensures { result ≡ has scope self.now.holders }
+    {
+        is_among(&self.claims[..self.held], scope)
+    }
+
+    /// Whether the scope waits for the lock.
+    pub fn waits(&self, scope: ScopeId) -> bool
+        ensures { result ≡ has scope self.now.queue }
+    {
+        let (_, waiting) = self.claims.split_at(self.held);
+        is_among(waiting, scope)
     }
 
     /// Nobody claims the lock any more.
@@ -132,6 +149,13 @@ fn go_together(one: Mode, other: Mode) -> bool
     ensures not { result ≡ false → GoTogether one other → ⊥ }
 {
     matches!((one, other), (Mode::Reader, Mode::Reader))
+}
+
+/// Whether one of these claims is the scope's.
+fn is_among(claims: &[Claim], scope: ScopeId) -> bool
+    ensures { result ≡ list_any (λ c. is_scope c.scope scope) claims.now }
+{
+    claims.iter().any(|claim| is_scope(claim.scope, scope))
 }
 
 /// The place of the scope's claim.

@@ -1,8 +1,9 @@
 //! The locks of all vertices of a machine.
 ghost use Rattle.std.specs.Prelude.{◌≡◌, ℕ, ◌+◌, ◌<◌, ◌≤◌, ◌==◌, true, false, is_some, None, length, slice_index_or, IfOk, OnOk, OnErr};
 ghost use Rattle.std.specs.List.{All, list_any};
-ghost use Rattle.vertex_locks.specs.Locks.{has, IsExclusive, WaitOnce};
-ghost use Rattle.vertex_locks.specs.Tables.{is_owned, holder_at, queue_at, room_at, HasAsked, HasTaken, HasReleased, HasRoomFor, HasGranted, IsUnclaimed, IsTurn, no_lock, IsFree};
+ghost use Rattle.vertex_locks.specs.Locks.{has, WritesAlone, WaitOnce};
+ghost use Rattle.vertex_locks.specs.Tables.{is_owned, holder_at, queue_at, room_at, HasAsked, HasTaken, HasReleased, HasRoomFor, HasGranted, IsUnclaimed, IsTurn, no_lock};
+ghost use Rattle.vertex_locks.specs.Inner.KeptTables.{IsFree};
 
 use crate::locks::Lock;
 use crate::turns::Turn;
@@ -21,7 +22,8 @@ pub struct LockTable {
 impl Model for LockTable {
     ghost use Rattle.std.specs.Prelude.{List, Option, length};
     ghost use Rattle.vertex_locks.specs.Locks.{LockView};
-    ghost use Rattle.vertex_locks.specs.Tables.{table_of, ArePlacesApart};
+    ghost use Rattle.vertex_locks.specs.Inner.KeptTables.{ArePlacesApart};
+    ghost use Rattle.vertex_locks.specs.Tables.{table_of};
 
     ghost Value = { List (Option LockView) };
 
@@ -79,11 +81,29 @@ impl LockTable {
         self.locks[place].request(claim);
     }
 
+    /// Whether the scope holds the lock of x.
+    pub fn holds(&self, x: Vertex, scope: ScopeId) -> bool
+        requires { is_owned self.now x.0 ≡ true }
+        ensures { result ≡ is_some (holder_at self.now x.0 scope) }
+    {
+        let place = self.places[x.0 as usize] as usize;
+        self.locks[place].holds(scope)
+    }
+
+    /// Whether the scope waits for the lock of x.
+    pub fn waits(&self, x: Vertex, scope: ScopeId) -> bool
+        requires { is_owned self.now x.0 ≡ true }
+        ensures { result ≡ has scope (queue_at self.now x.0) }
+    {
+        let place = self.places[x.0 as usize] as usize;
+        self.locks[place].waits(scope)
+    }
+
     /// What `grant` would answer.
     pub fn look(&self, x: Vertex) -> Turn
         requires { is_owned self.now x.0 ≡ true }
         ensures turn { IsTurn (holder_at self.now x.0) (queue_at self.now x.0) result }
-        ensures exclusion { IsExclusive (holder_at self.now x.0) }
+        ensures exclusion { WritesAlone (holder_at self.now x.0) }
         ensures once { WaitOnce (holder_at self.now x.0) (queue_at self.now x.0) }
     {
         let place = self.places[x.0 as usize] as usize;

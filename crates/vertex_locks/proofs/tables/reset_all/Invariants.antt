@@ -1,5 +1,6 @@
 use Rattle.std.proofs.Common.{ℕ, ◌<◌, ◌≤◌, slice_index_or}
-use Rattle.vertex_locks.specs.Tables.{no_lock, IsFree}
+use Rattle.vertex_locks.specs.Inner.KeptTables.{IsFree}
+use Rattle.vertex_locks.specs.Tables.{no_lock}
 use Rattle.vertex_locks.proofs.tables.reset_all.Given as goal
 
 abbrev pub invariant-loop-lock : goal.invariant-loop-lock

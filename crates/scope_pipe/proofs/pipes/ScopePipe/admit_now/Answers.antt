@@ -1,6 +1,6 @@
 use Rattle.std.proofs.Common.{◌≡◌, ◌+◌, ◌<◌, None, List, sym, subst}
 use Rattle.scope_pipe.specs.declared.flights.Flight.{Flight}
-use Rattle.scope_pipe.specs.Pipes.{PipeView, flight_at, flying, next_id, HasAdmitted}
+use Rattle.scope_pipe.specs.Pipes.{PipeView, flight_at, flight_count, next_id, HasAdmitted}
 use Rattle.scope_pipe.specs.contracts.pipes.ScopePipe.{the_view}
 use Rattle.scope_pipe.proofs.FlightLemmas.{admit_keeps, is_new, has_admitted}
 use Rattle.scope_pipe.proofs.pipes.ScopePipe.admit_now.Goals as goal
@@ -8,7 +8,7 @@ use Rattle.scope_pipe.proofs.pipes.ScopePipe.admit_now.Goals as goal
 pub invariant_of-self : goal.invariant_of-self
 invariant_of-self c =
     let p = the_view c.self.inside in
-    let room : flying p < p.width = subst (λ (q : PipeView). flying q < q.width) (sym c.self.view_is) c.requires.room in
+    let room : flight_count p < p.width = subst (λ (q : PipeView). flight_count q < q.width) (sym c.self.view_is) c.requires.room in
     rw (c.push_reserved.ensures.items, c.push_reserved.ensures.capacity)
     (admit_keeps p c.args.v c.self.inside.waiting.cap c.self.inside.ready.cap c.self.inside.entered.cap c.self.invariant room)
 

@@ -1,5 +1,5 @@
 use Rattle.std.proofs.Common.{◌≡◌, ◌∙◌, Some, List, sym, ap, subst, slice_set}
-use Rattle.scope_lists.specs.Found.{found, StandsAt}
+use Rattle.scope_lists.specs.Found.{by_scope, StandsAt}
 use Rattle.scope_pipe.specs.Entered.{EnteredView, entered_scope, next_of, moved_on}
 use Rattle.scope_pipe.specs.Pipes.{PipeView, entered_at, HasCome}
 use Rattle.scope_pipe.specs.contracts.pipes.ScopePipe.{the_view}
@@ -9,7 +9,7 @@ use Rattle.scope_pipe.proofs.pipes.ScopePipe.advance.Goals as goal
 at : (c : goal.After-self-1) → StandsAt entered_scope c.self.inside.entered.items c.args.scope c.entered_place-place.result
 at c = subst (λ (es : List EnteredView). StandsAt entered_scope es c.args.scope c.entered_place-place.result) c.deref.ensures.value c.entered_place-place.ensures
 
-come : (c : goal.After-self-1) (e : EnteredView) → entered_at c.args.self.now c.args.scope ≡ Some e → found entered_scope c.self.inside.entered.items c.args.scope ≡ Some e
+come : (c : goal.After-self-1) (e : EnteredView) → entered_at c.args.self.now c.args.scope ≡ Some e → by_scope entered_scope c.self.inside.entered.items c.args.scope ≡ Some e
 come c e is = ap (λ (q : PipeView). entered_at q c.args.scope) c.self.view_is ∙ is
 
 pub returns-clause-next : goal.returns-clause-next

@@ -1,5 +1,5 @@
 use Rattle.std.proofs.Common.{◌≡◌, ◌∙◌, Some, None, List, sym, ap, subst}
-use Rattle.scope_lists.specs.Found.{found, StandsAt}
+use Rattle.scope_lists.specs.Found.{by_scope, StandsAt}
 use Rattle.scope_pipe.specs.declared.flights.Flight.{Flight}
 use Rattle.scope_pipe.specs.Pipes.{PipeView, flight_scope, flight_at}
 use Rattle.scope_pipe.specs.contracts.pipes.ScopePipe.{the_view}
@@ -18,6 +18,6 @@ returns-in-None c =
     let p = the_view c.self.inside in
     let i = c.ready_place.result in
     let at : StandsAt flight_scope p.ready c.args.scope i = subst (λ (fs : List Flight). StandsAt flight_scope fs c.args.scope i) c.deref-in-None.ensures.value c.ready_place.ensures in
-    let none : found flight_scope p.waiting c.args.scope ≡ None = sym (ap (λ (fs : List Flight). found flight_scope fs c.args.scope) c.deref.ensures.value) ∙ c.flight_place.ensures.none c.in-None.is in
+    let none : by_scope flight_scope p.waiting c.args.scope ≡ None = sym (ap (λ (fs : List Flight). by_scope flight_scope fs c.args.scope) c.deref.ensures.value) ∙ c.flight_place.ensures.none c.in-None.is in
     subst (λ (q : PipeView). flight_at q c.args.scope ≡ Some c.index-in-None.result.now.centre) c.self.view_is
     (at_ready p c.args.scope i c.index-in-None.result.now c.self.invariant.ready_apart none at c.index-in-None.ensures)

@@ -1,5 +1,5 @@
 use Rattle.std.proofs.Common.{◌≡◌, ◌∙◌, None, List, sym, ap, subst}
-use Rattle.scope_lists.specs.Found.{found, StandsAt}
+use Rattle.scope_lists.specs.Found.{by_scope, StandsAt}
 use Rattle.scope_pipe.specs.declared.flights.Flight.{Flight}
 use Rattle.scope_pipe.specs.Pipes.{PipeView, flight_scope, HasFinished}
 use Rattle.scope_pipe.specs.contracts.pipes.ScopePipe.{the_view}
@@ -32,7 +32,7 @@ returns-in-Some-clause-finished c =
 pub returns-in-None-clause-finished : goal.returns-in-None-clause-finished
 returns-in-None-clause-finished c =
     let p = the_view c.self.inside in
-    let none : found flight_scope p.waiting c.args.scope ≡ None = sym (ap (λ (fs : List Flight). found flight_scope fs c.args.scope) c.deref.ensures.value) ∙ c.flight_place.ensures.none c.in-None.is in
+    let none : by_scope flight_scope p.waiting c.args.scope ≡ None = sym (ap (λ (fs : List Flight). by_scope flight_scope fs c.args.scope) c.deref.ensures.value) ∙ c.flight_place.ensures.none c.in-None.is in
     subst (λ (q : PipeView). HasFinished q (record p { ready = c.take_flight-in-None.new.flights.items }) c.args.scope) c.self.view_is
     (subst (λ (fs : List Flight). HasFinished p (record p { ready = fs }) c.args.scope) (sym c.take_flight-in-None.ensures.items)
     (has_finished_ready p c.args.scope c.ready_place-place.result c.take_flight-in-None.result c.self.inside.waiting.cap c.self.inside.ready.cap c.self.inside.entered.cap c.self.invariant (at_ready c) none))

@@ -1,5 +1,6 @@
 use Rattle.std.proofs.Common.{◌+◌, ◌-◌, subst}
-use Rattle.vertex_locks.specs.Locks.{LockView, IsTaken, view_of}
+use Rattle.vertex_locks.specs.Inner.KeptLocks.{IsTaken}
+use Rattle.vertex_locks.specs.Locks.{LockView, view_of}
 use Rattle.vertex_locks.proofs.LockLemmas.{grant_keeps, grant_shows, next_here}
 use Rattle.vertex_locks.proofs.locks.Lock.grant.Goals as goal
 

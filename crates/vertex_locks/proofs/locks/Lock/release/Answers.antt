@@ -2,7 +2,8 @@ use Rattle.std.proofs.Common.{◌≡◌, ◌+◌, ◌-◌, ◌∙◌, Some, None
 use Rattle.std.specs.List.{position}
 use Rattle.gl_base.specs.declared.scopes.Claim.{Claim}
 use Rattle.scope_lists.specs.Scopes.{is_scope}
-use Rattle.vertex_locks.specs.Locks.{LockView, has, IsReleased, view_of}
+use Rattle.vertex_locks.specs.Inner.KeptLocks.{IsReleased}
+use Rattle.vertex_locks.specs.Locks.{LockView, has, view_of}
 use Rattle.vertex_locks.proofs.LockLemmas.{IsPlace, is_place, is_found, release_keeps, release_shows}
 use Rattle.vertex_locks.proofs.locks.Lock.release.Goals as goal
 

@@ -1,5 +1,6 @@
 use Rattle.std.proofs.Common.{◌∙◌, List, Option, sym, subst, slice_set}
-use Rattle.vertex_locks.specs.Locks.{LockView, mode_of, IsNext, IsTaken}
+use Rattle.vertex_locks.specs.Inner.KeptLocks.{IsTaken}
+use Rattle.vertex_locks.specs.Locks.{LockView, mode_of, IsNext}
 use Rattle.vertex_locks.specs.Tables.{HasTaken}
 use Rattle.vertex_locks.proofs.TableLemmas.{IsWritten, is_written, with_lock-same, has_taken}
 use Rattle.vertex_locks.proofs.tables.LockTable.grant.Goals as goal

@@ -1,5 +1,6 @@
 use Rattle.std.proofs.Common.{List, Option, sym, subst, slice_set}
-use Rattle.vertex_locks.specs.Locks.{LockView, IsReleased}
+use Rattle.vertex_locks.specs.Inner.KeptLocks.{IsReleased}
+use Rattle.vertex_locks.specs.Locks.{LockView}
 use Rattle.vertex_locks.specs.Tables.{lock_at, HasReleased}
 use Rattle.vertex_locks.proofs.TableLemmas.{IsWritten, is_written, has_released}
 use Rattle.vertex_locks.proofs.tables.LockTable.release.Goals as goal

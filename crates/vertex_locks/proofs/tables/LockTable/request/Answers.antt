@@ -1,6 +1,8 @@
 use Rattle.std.proofs.Common.{◌≡◌, ◌∙◌, List, Option, sym, ap, subst, slice_set}
-use Rattle.vertex_locks.specs.Locks.{LockView, requested}
-use Rattle.vertex_locks.specs.Tables.{lock_at, with_lock, HasAsked}
+use Rattle.vertex_locks.specs.Inner.KeptLocks.{requested}
+use Rattle.vertex_locks.specs.Locks.{LockView}
+use Rattle.vertex_locks.proofs.TableLemmas.{with_lock}
+use Rattle.vertex_locks.specs.Tables.{lock_at, HasAsked}
 use Rattle.vertex_locks.proofs.TableLemmas.{IsWritten, is_written, has_asked}
 use Rattle.vertex_locks.proofs.tables.LockTable.request.Goals as goal
 

@@ -1,6 +1,7 @@
 use Rattle.std.proofs.Common.{◌≤◌, ◌<◌, List, Option, sym, subst, slice_set}
 use Rattle.std.proofs.lemmas.Result.{on_ok_weaker}
-use Rattle.vertex_locks.specs.Locks.{LockView, SameClaims}
+use Rattle.vertex_locks.specs.Inner.KeptLocks.{SameClaims}
+use Rattle.vertex_locks.specs.Locks.{LockView}
 use Rattle.vertex_locks.specs.Tables.{lock_at, room_at, HasRoomFor}
 use Rattle.vertex_locks.proofs.TableLemmas.{IsWritten, is_written, lock-here, has_room}
 use Rattle.vertex_locks.proofs.tables.LockTable.reserve.Goals as goal
