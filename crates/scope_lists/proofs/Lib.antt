@@ -1,0 +1,3 @@
+pub mod SameScope
+pub mod FoundLemmas
+pub mod Edited

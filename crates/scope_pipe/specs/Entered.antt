@@ -1,0 +1,36 @@
+-- A scope that has come to a machine for locks, and what it wants next.
+use Rattle.std.specs.Prelude.{ℕ, ◌+◌, ◌==◌, ◌≤◌, nat_lt, Option, Some, None, List, [], ◌∷◌, length, slice_get, if◌then◌else◌}
+use Rattle.gl_base.specs.declared.numbers.MachineNo.{MachineNo}
+use Rattle.gl_base.specs.declared.numbers.Vertex.{Vertex}
+use Rattle.gl_base.specs.declared.scopes.ScopeId.{ScopeId}
+use Rattle.scope_lists.specs.Scopes.{mode_at}
+use Rattle.scope_pipe.specs.declared.next.Next.{Next}
+use Rattle.scope_pipe.specs.declared.next.Next.TheVariants.{Lock, Forward, Home}
+
+-- The centre of the scope, this machine's vertices of it, how many of their locks it asked for, and the machines still to come.
+pub record EnteredView : Type 0 where
+  pub scope : ScopeId
+  pub centre : Vertex
+  pub part : List Vertex
+  pub place : ℕ
+  pub rest : List MachineNo
+
+abbrev pub entered_scope : EnteredView → ScopeId
+entered_scope e = e.scope
+
+-- the lock of the next vertex; behind the last one the next machine, and behind the last machine the way home
+abbrev pub next_at : Vertex → Option Vertex → List MachineNo → Next
+next_at centre (Some x) rest = Lock x (mode_at centre.0 x.0)
+next_at centre None (machine ∷ rest) = Forward machine
+next_at centre None [] = Home
+
+abbrev pub next_of : EnteredView → Next
+next_of e = next_at e.centre (slice_get e.part e.place) e.rest
+
+-- it asked for one more lock, where one is left
+abbrev pub moved_on : EnteredView → EnteredView
+moved_on e = record e { place = if nat_lt e.place (length e.part) then e.place + 1 else e.place }
+
+-- as it comes
+abbrev pub comes : ScopeId → Vertex → List Vertex → List MachineNo → EnteredView
+comes scope centre part rest = record { scope = scope; centre = centre; part = part; place = 0; rest = rest }

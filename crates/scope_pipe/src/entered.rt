@@ -1,0 +1,54 @@
+//! A scope that has come to a machine.
+ghost use Rattle.std.specs.Prelude.{◌≡◌};
+ghost use Rattle.scope_pipe.specs.Entered.{next_of, moved_on};
+
+use crate::next::{Next, next_at};
+use gl_base::{MachineNo, ScopeId, Vertex};
+use std::marker::Model;
+
+/// A scope that has come for locks: its centre, this machine's vertices of the scope, how many of their locks it asked for,
+/// and the machines still to come.
+#[derive(Drop)]
+pub struct Entered {
+    pub scope: ScopeId,
+    pub centre: Vertex,
+    pub part: Vec<Vertex>,
+    pub place: usize,
+    pub rest: Vec<MachineNo>,
+}
+
+impl Model for Entered {
+    ghost use Rattle.scope_pipe.specs.Entered.{EnteredView};
+
+    ghost Value = { EnteredView };
+
+    ghost view = { λ e. record { scope = e.scope; centre = e.centre; part = e.part.items; place = e.place; rest = e.rest.items } };
+}
+
+impl Entered {
+    /// Its scope.
+    pub fn scope(&self) -> ScopeId
+        ensures { result ≡ self.now.scope }
+    {
+        self.scope
+    }
+
+    /// What it wants next.
+    pub fn next(&self) -> Next
+        ensures { result ≡ next_of self.now }
+    {
+        next_at(self.centre, &self.part, self.place, &self.rest)
+    }
+
+    /// Goes on to what is next, and tells what it was.
+    pub fn advance(&mut self) -> Next
+        ensures next { result ≡ next_of self.old }
+        ensures moved { self.new ≡ moved_on self.old }
+    {
+        let next = self.next();
+        if self.place < self.part.len() {
+            self.place += 1;
+        }
+        next
+    }
+}

@@ -1,0 +1,39 @@
+use Rattle.std.proofs.Common.{◌≡◌, ◌+◌, ◌-◌, ◌∙◌, Some, None, sym, ap, subst, true, take, arith}
+use Rattle.std.specs.List.{position}
+use Rattle.gl_base.specs.declared.scopes.Claim.{Claim}
+use Rattle.scope_lists.specs.Scopes.{is_scope}
+use Rattle.vertex_locks.specs.Inner.KeptLocks.{IsReleased}
+use Rattle.vertex_locks.specs.Locks.{LockView, has, view_of}
+use Rattle.vertex_locks.proofs.LockLemmas.{IsPlace, is_place, is_found, release_keeps, release_shows}
+use Rattle.vertex_locks.proofs.locks.Lock.release.Goals as goal
+
+there : (c : goal.After-self-1) → IsPlace c.self.inside.claims.items c.self.inside.held c.args.scope c.in-Some.place
+there c =
+    let claims = c.self.inside.claims.items in
+    let held = c.self.inside.held in
+    let s = c.args.scope in
+    let holds : has s (take held claims) ≡ true = ap (λ (v : LockView). has s v.holders) c.self.view_is ∙ c.requires in
+    let at : position (λ (x : Claim). is_scope x.scope s) claims ≡ Some c.in-Some.place = sym (ap (position (λ (x : Claim). is_scope x.scope s)) c.deref.ensures.value) ∙ (sym c.place_of.ensures ∙ c.in-Some.is) in
+    is_place s claims held c.in-Some.place c.self.invariant holds at
+
+pub invariant_of-self : goal.invariant_of-self
+invariant_of-self c = rw c.remove.ensures.items (release_keeps c.args.scope c.self.inside.claims.items c.self.inside.held c.in-Some.place c.self.invariant (there c))
+
+pub returns-in-Some : goal.returns-in-Some
+returns-in-Some c =
+    let old = c.self.inside.claims in
+    let new = c.remove.new.self in
+    let place = there c in
+    let more : new.cap - new.len ≡ old.cap - old.len + 1 = let long = old.ok in let inside = place.inside in omega (arith, c.remove.ensures.len, c.remove.ensures.capacity) in
+    let shows = release_shows c.args.scope old.items c.self.inside.held c.in-Some.place (old.cap - old.len) (new.cap - new.len) c.self.invariant place more in
+    let seen = rw (← c.remove.ensures.items) at shows in
+    subst (λ v. IsReleased v (view_of new.items (c.self.inside.held - 1) (new.cap - new.len)) c.args.scope) c.self.view_is seen
+
+pub returns-in_default : goal.returns-in_default
+returns-in_default c =
+    let claims = c.self.inside.claims.items in
+    let held = c.self.inside.held in
+    let s = c.args.scope in
+    let holds : has s (take held claims) ≡ true = ap (λ (v : LockView). has s v.holders) c.self.view_is ∙ c.requires in
+    let at : position (λ (x : Claim). is_scope x.scope s) claims ≡ None = sym (ap (position (λ (x : Claim). is_scope x.scope s)) c.deref.ensures.value) ∙ (sym c.place_of.ensures ∙ c.in_default.is) in
+    absurd (is_found s claims held c.self.invariant holds at)

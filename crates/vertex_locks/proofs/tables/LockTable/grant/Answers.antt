@@ -1,0 +1,33 @@
+use Rattle.std.proofs.Common.{◌∙◌, List, Option, sym, subst, slice_set}
+use Rattle.vertex_locks.specs.Inner.KeptLocks.{IsTaken}
+use Rattle.vertex_locks.specs.Locks.{LockView, mode_of, IsNext}
+use Rattle.vertex_locks.specs.Tables.{HasTaken}
+use Rattle.vertex_locks.proofs.TableLemmas.{IsWritten, is_written, with_lock-same, has_taken}
+use Rattle.vertex_locks.proofs.tables.LockTable.grant.Goals as goal
+use Rattle.vertex_locks.proofs.tables.LockTable.grant.Goals.{in-Some, in-None}
+
+written : (c : goal.Joined-grant) → IsWritten c.self.inside.places.items c.args.self.now c.args.x.0 c.index_mut.result.now (slice_set c.self.inside.locks.items c.index.result.now c.grant.new.self) c.grant.new.self
+written c = is_written c.self.inside.places.items c.self.inside.locks.items c.args.self.now c.args.x.0 c.index.result.now c.index_mut.result.now c.grant.new.self c.self.view_is c.requires c.self.invariant c.index.ensures c.index_mut.ensures.value
+
+pub returns-clause-turn : goal.returns-clause-turn
+returns-clause-turn c =
+    let table = c.args.self.now in
+    let x = c.args.x.0 in
+    let w = written c in
+    elim c.match-grant.branch [
+      | in-Some b ↦ rw b.result-is (subst (λ (k : LockView). IsNext (mode_of k.holders) k.queue b.in-Some.claim) w.old b.in-Some.ensures.next)
+      | in-None b ↦ rw b.result-is (λ next is. c.grant.ensures.none b.in-None.is next (subst (λ (k : LockView). IsNext (mode_of k.holders) k.queue next) (sym w.old) is))
+    ]
+
+pub returns-clause-change : goal.returns-clause-change
+returns-clause-change c =
+    let table = c.args.self.now in
+    let x = c.args.x.0 in
+    let w = written c in
+    elim c.match-grant.branch [
+      | in-Some b ↦ rw b.result-is
+          (subst (λ (t : List (Option LockView)). HasTaken table t x b.in-Some.claim) (sym w.new)
+          (has_taken table x c.grant.new.self b.in-Some.claim w.owned (subst (λ (k : LockView). IsTaken k c.grant.new.self b.in-Some.claim) w.old b.in-Some.ensures.taken)))
+      | in-None b ↦ rw b.result-is
+          (w.new ∙ with_lock-same table x c.grant.new.self w.owned (c.grant.ensures.waiting b.in-None.is ∙ w.old))
+    ]

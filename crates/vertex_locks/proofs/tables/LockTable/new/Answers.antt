@@ -1,0 +1,12 @@
+use Rattle.std.proofs.Common.{arith}
+use Rattle.vertex_locks.proofs.MakingLemmas.{made_apart, made_owned, unclaimed}
+use Rattle.vertex_locks.proofs.tables.LockTable.new.Goals as goal
+
+pub invariant_of-result : goal.invariant_of-result
+invariant_of-result c = made_apart c.args.owned.now c.args.count c.loop-place.place c.loop-place.places.items c.loop-place.locks.items c.loop-place.invariant.made
+
+pub returns-clause-owned : goal.returns-clause-owned
+returns-clause-owned c = made_owned c.args.owned.now c.args.count c.loop-place.place c.loop-place.places.items c.loop-place.locks.items c.loop-place.invariant.made (omega arith) c.requires.below
+
+pub returns-clause-free : goal.returns-clause-free
+returns-clause-free c = unclaimed c.loop-place.places.items c.loop-place.locks.items c.loop-place.invariant.made.free

@@ -1,0 +1,30 @@
+use Rattle.std.proofs.Common.{◌≤◌, ◌<◌, List, Option, sym, subst, slice_set}
+use Rattle.std.proofs.lemmas.Result.{on_ok_weaker}
+use Rattle.vertex_locks.specs.Inner.KeptLocks.{SameClaims}
+use Rattle.vertex_locks.specs.Locks.{LockView}
+use Rattle.vertex_locks.specs.Tables.{lock_at, room_at, HasRoomFor}
+use Rattle.vertex_locks.proofs.TableLemmas.{IsWritten, is_written, lock-here, has_room}
+use Rattle.vertex_locks.proofs.tables.LockTable.reserve.Goals as goal
+
+written : (c : goal.After-self-1) → IsWritten c.self.inside.places.items c.args.self.now c.args.x.0 c.index_mut.result.now (slice_set c.self.inside.locks.items c.index.result.now c.reserve.new.self) c.reserve.new.self
+written c = is_written c.self.inside.places.items c.self.inside.locks.items c.args.self.now c.args.x.0 c.index.result.now c.index_mut.result.now c.reserve.new.self c.self.view_is c.requires c.self.invariant c.index.ensures c.index_mut.ensures.value
+
+pub returns-clause-room : goal.returns-clause-room
+returns-clause-room c =
+    let table = c.args.self.now in
+    let x = c.args.x.0 in
+    let w = written c in
+    on_ok_weaker c.reserve.result
+    (λ (some : 0 < c.reserve.new.self.room).
+    subst (λ (t : List (Option LockView)). 0 < room_at t x) (sym w.new)
+    (subst (λ (k : LockView). 0 < k.room) (sym (lock-here table x c.reserve.new.self w.owned)) some))
+    c.reserve.ensures.room
+
+pub returns-clause-same : goal.returns-clause-same
+returns-clause-same c =
+    let table = c.args.self.now in
+    let x = c.args.x.0 in
+    let w = written c in
+    let more : (lock_at table x).room ≤ c.reserve.new.self.room = subst (λ (k : LockView). k.room ≤ c.reserve.new.self.room) w.old c.reserve.ensures.more in
+    let same : SameClaims (lock_at table x) c.reserve.new.self = subst (λ (k : LockView). SameClaims k c.reserve.new.self) w.old c.reserve.ensures.same in
+    subst (λ (t : List (Option LockView)). HasRoomFor table t x) (sym w.new) (has_room table x c.reserve.new.self w.owned more same)

@@ -1,0 +1,38 @@
+-- How a lock is kept, and what each call makes of it.
+use Rattle.std.specs.Prelude.{◌≡◌, ℕ, ◌+◌, ◌-◌, ◌≤◌, Option, Some, None, List, [], ◌∷◌, ◌++◌, length, take, drop, if◌then◌else◌}
+use Rattle.std.specs.List.{AllPairs}
+use Rattle.gl_base.specs.declared.scopes.Claim.{Claim}
+use Rattle.gl_base.specs.declared.scopes.ScopeId.{ScopeId}
+use Rattle.scope_lists.specs.Found.{by_scope, AreOfTwoScopes}
+use Rattle.scope_lists.specs.Scopes.{is_scope, GoTogether}
+use Rattle.vertex_locks.specs.Locks.{LockView, claimant}
+
+abbrev pub ReadTogether : Claim → Claim → Type 0
+ReadTogether one other = GoTogether one.mode other.mode
+
+-- each scope has one claim, and where several hold the lock all are readers
+pub record IsLock (claims : List Claim) (held : ℕ) : Type 0 where
+  pub within : held ≤ length claims
+  pub once : AllPairs (AreOfTwoScopes claimant) claims
+  pub together : AllPairs ReadTogether (take held claims)
+
+-- the claim waits behind the others
+abbrev pub requested : Claim → LockView → LockView
+requested c l = record { holders = l.holders; queue = l.queue ++ c ∷ []; room = l.room - 1 }
+
+-- the claim, the first that waited, holds the lock
+pub record IsTaken (old new : LockView) (c : Claim) : Type 0 where
+  pub holders : (t : ScopeId) → by_scope claimant new.holders t ≡ (if is_scope t c.scope then Some c else by_scope claimant old.holders t)
+  pub queue : new.queue ≡ drop 1 old.queue
+  pub room : new.room ≡ old.room
+
+-- the scope alone holds the lock no more
+pub record IsReleased (old new : LockView) (s : ScopeId) : Type 0 where
+  pub holders : (t : ScopeId) → by_scope claimant new.holders t ≡ (if is_scope t s then None else by_scope claimant old.holders t)
+  pub queue : new.queue ≡ old.queue
+  pub room : new.room ≡ old.room + 1
+
+-- the claims are the same
+pub record SameClaims (old new : LockView) : Type 0 where
+  pub holders : new.holders ≡ old.holders
+  pub queue : new.queue ≡ old.queue

@@ -1,0 +1,3 @@
+pub mod Locks
+pub mod Tables
+pub mod Inner

@@ -1,0 +1,166 @@
+//! One lock.
+ghost use Rattle.std.specs.Prelude.{◌≡◌, ◌+◌, ◌<◌, ◌≤◌, true, false, None, [], ◌∷◌, ◌++◌, take, drop, OnOk, IfSome};
+ghost use Rattle.std.specs.List.{position, list_any};
+ghost use Rattle.gl_base.specs.declared.scopes.Claim.{Claim};
+ghost use Rattle.scope_lists.specs.Scopes.{is_scope};
+ghost use Rattle.vertex_locks.specs.Locks.{LockView, has, mode_of, IsNext, WritesAlone, WaitOnce};
+ghost use Rattle.scope_lists.specs.Scopes.{GoTogether};
+ghost use Rattle.vertex_locks.specs.Inner.KeptLocks.{IsLock, requested, IsTaken, IsReleased, SameClaims};
+
+use gl_base::{Claim, Mode, NoMemory, ScopeId};
+use scope_lists::is_scope;
+use std::alloc::Global;
+use std::marker::Model;
+
+/// A lock: the claims of its holders, and behind them those that wait, the first first. So a grant moves a border. Contracts
+/// see the two lists, and for how many more claims there is room.
+#[derive(Drop)]
+pub struct Lock {
+    claims: Vec<Claim>,
+    held: usize,
+}
+
+impl Model for Lock {
+    ghost use Rattle.std.specs.Prelude.{◌-◌};
+    ghost use Rattle.vertex_locks.specs.Inner.KeptLocks.{IsLock};
+    ghost use Rattle.vertex_locks.specs.Locks.{LockView, view_of};
+
+    ghost Value = { LockView };
+
+    ghost view = { λ l. view_of l.claims.items l.held (l.claims.cap - l.claims.len) };
+
+    ghost invariant = { λ l. IsLock l.claims.items l.held };
+}
+
+impl Lock {
+    /// A lock that nobody claims.
+    pub fn free(alloc: Global) -> Lock
+        ensures holders { result.holders ≡ [] }
+        ensures queue { result.queue ≡ [] }
+    {
+        Lock {
+            claims: Vec::new(alloc),
+            held: 0,
+        }
+    }
+
+    /// Makes room for one more claim.
+    pub fn reserve(&mut self) -> Result<(), NoMemory>
+        ensures room { OnOk result (0 < self.new.room) }
+        ensures more { self.old.room ≤ self.new.room }
+        ensures same { SameClaims self.old self.new }
+    {
+        self.claims.reserve(1)?;
+        Ok(())
+    }
+
+    /// The claim waits behind the others.
+    pub fn request(&mut self, claim: Claim)
+        requires room { 0 < self.old.room }
+        requires holds_not { has claim.scope self.old.holders ≡ false }
+        requires waits_not { has claim.scope self.old.queue ≡ false }
+        ensures { self.new ≡ requested claim self.old }
+    {
+        self.claims.push_reserved(claim);
+    }
+
+    /// The first that waits, where it goes together with each holder.
+    pub fn next(&self) -> Option<Claim>
+        ensures next { IfSome result (λ c. IsNext (mode_of self.now.holders) self.now.queue c) }
+        ensures none { result ≡ None → (c : Claim) → IsNext (mode_of self.now.holders) self.now.queue c → ⊥ }
+        ensures exclusion { WritesAlone (mode_of self.now.holders) }
+        ensures once { WaitOnce (mode_of self.now.holders) self.now.queue }
+    {
+        first_waiting(&self.claims, self.held)
+    }
+
+    /// The first that waits holds the lock, where it goes together with each holder.
+    pub fn grant(&mut self) -> Option<Claim>
+        ensures next { IfSome result (λ c. IsNext (mode_of self.old.holders) self.old.queue c) }
+        ensures none { result ≡ None → (c : Claim) → IsNext (mode_of self.old.holders) self.old.queue c → ⊥ }
+        ensures taken { IfSome result (λ c. IsTaken self.old self.new c) }
+        ensures waiting { result ≡ None → self.new ≡ self.old }
+    {
+        let claim = self.next()?;
+        self.held += 1;
+        Some(claim)
+    }
+
+    /// The scope holds the lock no more.
+    pub fn release(&mut self, scope: ScopeId)
+        requires { has scope self.old.holders ≡ true }
+        ensures { IsReleased self.old self.new scope }
+    {
+        if let Some(place) = place_of(&self.claims, scope) {
+            self.claims.remove(place);
+            self.held -= 1;
+        }
+    }
+
+    /// Whether the scope holds the lock.
+    pub fn holds(&self, scope: ScopeId) -> bool
+        ensures { result ≡ has scope self.now.holders }
+    {
+        is_among(&self.claims[..self.held], scope)
+    }
+
+    /// Whether the scope waits for the lock.
+    pub fn waits(&self, scope: ScopeId) -> bool
+        ensures { result ≡ has scope self.now.queue }
+    {
+        let (_, waiting) = self.claims.split_at(self.held);
+        is_among(waiting, scope)
+    }
+
+    /// Nobody claims the lock any more.
+    pub fn reset(&mut self)
+        ensures holders { self.new.holders ≡ [] }
+        ensures queue { self.new.queue ≡ [] }
+        ensures more { self.old.room ≤ self.new.room }
+    {
+        self.claims.clear();
+        self.held = 0;
+    }
+}
+
+/// The first of the claims behind the holders, where it goes together with each holder. Where the first holder reads, all do.
+fn first_waiting(claims: &[Claim], held: usize) -> Option<Claim>
+    requires { IsLock claims.now held }
+    ensures next { IfSome result (λ c. IsNext (mode_of (take held claims.now)) (drop held claims.now) c) }
+    ensures none { result ≡ None → (c : Claim) → IsNext (mode_of (take held claims.now)) (drop held claims.now) c → ⊥ }
+{
+    if held >= claims.len() {
+        return None;
+    }
+    let claim = claims[held];
+    if held == 0 {
+        return Some(claim);
+    }
+    if go_together(claims[0].mode, claim.mode) {
+        Some(claim)
+    } else {
+        None
+    }
+}
+
+/// Whether two may hold one lock.
+fn go_together(one: Mode, other: Mode) -> bool
+    ensures yes { result ≡ true → GoTogether one other }
+    ensures not { result ≡ false → GoTogether one other → ⊥ }
+{
+    matches!((one, other), (Mode::Reader, Mode::Reader))
+}
+
+/// Whether one of these claims is the scope's.
+fn is_among(claims: &[Claim], scope: ScopeId) -> bool
+    ensures { result ≡ list_any (λ c. is_scope c.scope scope) claims.now }
+{
+    claims.iter().any(|claim| is_scope(claim.scope, scope))
+}
+
+/// The place of the scope's claim.
+fn place_of(claims: &[Claim], scope: ScopeId) -> Option<usize>
+    ensures { result ≡ position (λ c. is_scope c.scope scope) claims.now }
+{
+    claims.iter().position(|claim| is_scope(claim.scope, scope))
+}

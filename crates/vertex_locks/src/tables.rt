@@ -1,0 +1,157 @@
+//! The locks of all vertices of a machine.
+ghost use Rattle.std.specs.Prelude.{◌≡◌, ℕ, ◌+◌, ◌<◌, ◌≤◌, ◌==◌, true, false, is_some, None, length, slice_index_or, IfOk, OnOk, OnErr};
+ghost use Rattle.std.specs.List.{All, list_any};
+ghost use Rattle.vertex_locks.specs.Locks.{has, WritesAlone, WaitOnce};
+ghost use Rattle.vertex_locks.specs.Tables.{is_owned, holder_at, queue_at, room_at, HasAsked, HasTaken, HasReleased, HasRoomFor, HasGranted, IsUnclaimed, IsTurn, no_lock};
+ghost use Rattle.vertex_locks.specs.Inner.KeptTables.{IsFree};
+
+use crate::locks::Lock;
+use crate::turns::Turn;
+use gl_base::{Claim, NoMemory, ScopeId, Vertex};
+use std::alloc::Global;
+use std::marker::Model;
+
+/// A reader-writer lock for each vertex that a machine owns, with a queue of the claims that wait for it. Contracts see
+/// whether a vertex has a lock, how each scope holds it, who waits for it, and for how many more claims there is room.
+#[derive(Drop)]
+pub struct LockTable {
+    places: Vec<u32>,
+    locks: Vec<Lock>,
+}
+
+impl Model for LockTable {
+    ghost use Rattle.std.specs.Prelude.{List, Option, length};
+    ghost use Rattle.vertex_locks.specs.Locks.{LockView};
+    ghost use Rattle.vertex_locks.specs.Inner.KeptTables.{ArePlacesApart};
+    ghost use Rattle.vertex_locks.specs.Tables.{table_of};
+
+    ghost Value = { List (Option LockView) };
+
+    ghost view = { λ t. table_of t.places.items t.locks.items };
+
+    ghost invariant = { λ t. ArePlacesApart t.places.items (length t.locks.items) };
+}
+
+impl LockTable {
+    /// A lock that nobody claims for each of these vertices, whose numbers are below `count`.
+    pub fn new(alloc: Global, owned: &[Vertex], count: u32) -> Result<LockTable, NoMemory>
+        requires below { All (λ v. v.0 < count) owned.now }
+        requires few { length owned.now ≤ count }
+        ensures owned { IfOk result (λ table. (x : ℕ) → is_owned table x ≡ list_any (λ v. v.0 == x) owned.now) }
+        ensures free { IfOk result IsUnclaimed }
+    {
+        let mut places = Vec::from_elem(alloc, u32::MAX, count as usize)?;
+        let mut locks = Vec::with_capacity(alloc, owned.len())?;
+        for (place, vertex) in owned.iter().enumerate() {
+            places[vertex.0 as usize] = place as u32;
+            locks.push_reserved(Lock::free(alloc));
+        }
+        Ok(LockTable { places, locks })
+    }
+
+    /// Whether x has a lock here.
+    pub fn owns(&self, x: Vertex) -> bool
+        ensures { result ≡ is_owned self.now x.0 }
+    {
+        match self.places.get(x.0 as usize) {
+            Some(place) => (*place as usize) < self.locks.len(),
+            None => false,
+        }
+    }
+
+    /// Makes room for one more claim to the lock of x. No claim changes, whatever the answer.
+    pub fn reserve(&mut self, x: Vertex) -> Result<(), NoMemory>
+        requires { is_owned self.old x.0 ≡ true }
+        ensures room { OnOk result (0 < room_at self.new x.0) }
+        ensures same { HasRoomFor self.old self.new x.0 }
+    {
+        let place = self.places[x.0 as usize] as usize;
+        self.locks[place].reserve()
+    }
+
+    /// The claim waits for the lock of x behind the others, and takes up room for one.
+    pub fn request(&mut self, x: Vertex, claim: Claim)
+        requires owned { is_owned self.old x.0 ≡ true }
+        requires room { 0 < room_at self.old x.0 }
+        requires holds_not { holder_at self.old x.0 claim.scope ≡ None }
+        requires waits_not { has claim.scope (queue_at self.old x.0) ≡ false }
+        ensures { HasAsked self.old self.new x.0 claim }
+    {
+        let place = self.places[x.0 as usize] as usize;
+        self.locks[place].request(claim);
+    }
+
+    /// Whether the scope holds the lock of x.
+    pub fn holds(&self, x: Vertex, scope: ScopeId) -> bool
+        requires { is_owned self.now x.0 ≡ true }
+        ensures { result ≡ is_some (holder_at self.now x.0 scope) }
+    {
+        let place = self.places[x.0 as usize] as usize;
+        self.locks[place].holds(scope)
+    }
+
+    /// Whether the scope waits for the lock of x.
+    pub fn waits(&self, x: Vertex, scope: ScopeId) -> bool
+        requires { is_owned self.now x.0 ≡ true }
+        ensures { result ≡ has scope (queue_at self.now x.0) }
+    {
+        let place = self.places[x.0 as usize] as usize;
+        self.locks[place].waits(scope)
+    }
+
+    /// What `grant` would answer.
+    pub fn look(&self, x: Vertex) -> Turn
+        requires { is_owned self.now x.0 ≡ true }
+        ensures turn { IsTurn (holder_at self.now x.0) (queue_at self.now x.0) result }
+        ensures exclusion { WritesAlone (holder_at self.now x.0) }
+        ensures once { WaitOnce (holder_at self.now x.0) (queue_at self.now x.0) }
+    {
+        let place = self.places[x.0 as usize] as usize;
+        match self.locks[place].next() {
+            Some(claim) => Turn::Granted(claim),
+            None => Turn::Waiting,
+        }
+    }
+
+    /// The first that waits for the lock of x holds it, where it goes together with each holder.
+    pub fn grant(&mut self, x: Vertex) -> Turn
+        requires { is_owned self.old x.0 ≡ true }
+        ensures turn { IsTurn (holder_at self.old x.0) (queue_at self.old x.0) result }
+        ensures change { HasGranted self.old self.new x.0 result }
+    {
+        let place = self.places[x.0 as usize] as usize;
+        match self.locks[place].grant() {
+            Some(claim) => Turn::Granted(claim),
+            None => Turn::Waiting,
+        }
+    }
+
+    /// The scope holds the lock of x no more, which makes room for one claim.
+    pub fn release(&mut self, x: Vertex, scope: ScopeId)
+        requires owned { is_owned self.old x.0 ≡ true }
+        requires holds { is_some (holder_at self.old x.0 scope) ≡ true }
+        ensures { HasReleased self.old self.new x.0 scope }
+    {
+        let place = self.places[x.0 as usize] as usize;
+        self.locks[place].release(scope);
+    }
+
+    /// Nobody claims a lock any more, as after `new`. The room stays. It takes time for each lock.
+    pub fn reset(&mut self)
+        ensures owned { (y : ℕ) → is_owned self.new y ≡ is_owned self.old y }
+        ensures free { IsUnclaimed self.new }
+        ensures room { (y : ℕ) → room_at self.old y ≤ room_at self.new y }
+    {
+        reset_all(&mut self.locks);
+    }
+}
+
+/// Nobody claims one of these locks any more.
+fn reset_all(locks: &mut [Lock])
+    ensures free { (k : ℕ) → IsFree (slice_index_or locks.new k no_lock) }
+    ensures room { (k : ℕ) → (slice_index_or locks.old k no_lock).room ≤ (slice_index_or locks.new k no_lock).room }
+{
+    for lock in locks.iter_mut() {
+        lock.reset();
+    }
+}
