@@ -1,4 +1,5 @@
 -- The actions of a cluster: when each may happen, and what it does.
+pub use Rattle.scope_lists.specs.Scopes.{GoTogether}
 use Rattle.std.specs.Prelude.{List, None, Option, Some, [], false, pred, suc, true, ℕ, ◌++◌, ◌<◌, ◌∷◌, ◌≡◌, ◌≢◌, ◌⊎◌}
 use Rattle.gl_base.specs.declared.entries.Entry.TheVariants.{Go}
 use Rattle.gl_base.specs.declared.scopes.Claim.{Claim}
@@ -52,10 +53,6 @@ pub record MayAdmit (st : Setting) (a v : ℕ) (part : Part) : Type 0 where
   pub due : (part.pending v ≡ true) ⊎ (part.task v ≡ true)
   pub fresh : (s : ScopeId) → part.flight s ≢ Some v
   pub turn : IsItsTurn st.engine st.pipeline v part
-
--- the two can't both hold one lock
-abbrev pub GoTogether : Mode → Mode → Type 0
-GoTogether one other = (one ≡ Reader) × (other ≡ Reader)
 
 -- somebody waits, and the first of them goes together with each holder
 pub record MayGrant (st : Setting) (a x : ℕ) (part : Part) : Type 0 where

@@ -1,4 +1,5 @@
 -- Numbers of a range that pass a test, and functions that are changed at one place.
+pub use Rattle.scope_lists.specs.Scopes.{set_at}
 use Rattle.std.specs.Prelude.{Bool, List, None, Option, Some, [], if◌then◌else◌, suc, zero, ℕ, ◌==◌, ◌∷◌}
 
 -- the first of k, k + 1, .. (so many numbers) that passes
@@ -10,7 +11,3 @@ first_passing test k (suc many) = if test k then Some k else first_passing test 
 unfoldable pub all_passing : (ℕ → Bool) → ℕ → ℕ → List ℕ
 all_passing test k zero = []
 all_passing test k (suc many) = if test k then k ∷ all_passing test (suc k) many else all_passing test (suc k) many
-
--- x at k, and f at each other place
-abbrev pub set_at : {X : Type 0} → (ℕ → X) → ℕ → X → ℕ → X
-set_at f k x i = if i == k then x else f i

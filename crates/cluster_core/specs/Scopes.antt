@@ -1,4 +1,5 @@
 -- Scopes of updates, and the canonical order in which a scope takes its locks: by the owner machine, and then by the vertex.
+pub use Rattle.scope_lists.specs.Scopes.{is_scope, mode_at, set_for}
 use Rattle.std.specs.Prelude.{Bool, List, None, Option, Some, false, if◌then◌else◌, nat_lt, true, ℕ, ◌&&◌, ◌-◌, ◌==◌, ◌||◌}
 use Rattle.gl_base.specs.declared.scopes.Mode.{Mode}
 use Rattle.gl_base.specs.declared.scopes.Mode.TheVariants.{Reader, Writer}
@@ -6,18 +7,6 @@ use Rattle.gl_base.specs.declared.scopes.ScopeId.{ScopeId}
 use Rattle.cluster_core.specs.Ranges.{all_passing, first_passing}
 use Rattle.cluster_core.specs.Settings.{Setting, is_in_scope}
 use Rattle.graph_core.specs.DataGraph.{size}
-
--- the same scope
-abbrev pub is_scope : ScopeId → ScopeId → Bool
-is_scope s t = s.home.0 == t.home.0 && s.serial == t.serial
-
--- x for s, and f for each other scope
-abbrev pub set_for : {X : Type 0} → (ScopeId → X) → ScopeId → X → ScopeId → X
-set_for f s x t = if is_scope t s then x else f t
-
--- the scope of v locks v as a writer, and its neighbours as a reader
-abbrev pub mode_at : ℕ → ℕ → Mode
-mode_at v x = if x == v then Writer else Reader
 
 -- the first vertex from k on that machine a owns in the scope of v
 abbrev pub own_from : Setting → ℕ → ℕ → ℕ → Option ℕ

@@ -17,7 +17,7 @@ use Rattle.graph_core.specs.DataGraph.{DataGraph}
 use Rattle.graph_core.specs.GraphLists.{IsGraphOf}
 use Rattle.graph_core.specs.declared.graph_lists.EdgeIn.{EdgeIn}
 use Rattle.graph_text.specs.Answers.{ReadsVertices}
-use Rattle.graph_text.specs.EdgeAnswers.{ReadsGraph}
+use Rattle.graph_text.specs.Answers.{ReadsGraph}
 use Rattle.graph_text.specs.Edges.{edges_of}
 use Rattle.graph_text.specs.Vertices.{vertices_of}
 use Rattle.graph_text.specs.GraphTexts.{ListsIds}
