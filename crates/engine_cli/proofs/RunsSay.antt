@@ -60,9 +60,12 @@ job-unprepared files now file no_job.NoMemory takes = tt
 pub graph-unprepared : (files mid : FilesState) (now : ℕ) (file : List ℕ) (names : List (List ℕ)) (job : JobSayings) (cause : Reading)
     → ChangesSources files mid → AppendsNames files.sources.names mid.sources.names names → files.sources.faults ≤ mid.sources.faults → SaysJob files file job
     → TakesGraph mid now job.fields (Err cause) → IsPrepared files now file (Err (unprepared_graph cause))
-graph-unprepared files mid now file names job (reading.Text fault) frame noted later says takes =
-    (job, says, ⊎_elim (λ first. inl (text-before files mid names job.fields.vertices (λ vertices. vertices_of vertices ≡ Err fault) frame noted first))
-    (λ second. inr (texts-before files mid names job.fields (RefusesEdges job.fields fault) frame noted second)) takes)
+graph-unprepared files mid now file names job (reading.Text fault) frame noted later says takes = (
+  job,
+  says,
+  ⊎_elim (λ first. inl (text-before files mid names job.fields.vertices (λ vertices. vertices_of vertices ≡ Err fault) frame noted first))
+      (λ second. inr (texts-before files mid names job.fields (RefusesEdges job.fields fault) frame noted second)) takes,
+)
 graph-unprepared files mid now file names job reading.ReadFault frame noted later says takes = Rose-later files.sources.faults mid.sources.faults now later takes
 graph-unprepared files mid now file names job reading.NoMemory frame noted later says takes = tt
 
