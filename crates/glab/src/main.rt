@@ -3,7 +3,7 @@
 
 ghost use Rattle.std.specs.Prelude.{◌≡◌, ◌<◌, IfOk, length};
 ghost use Rattle.std.specs.Process.{exit_status};
-ghost use Rattle.engine_cli.specs.Status.{number_of};
+ghost use Rattle.engine_cli.specs.Status.{exit_number};
 
 use engine_cli::{Status, engine};
 use gl_base::UsageFault;
@@ -36,7 +36,7 @@ fn main(rt: HostRuntime) -> ExitCode {
 
 /// What the program ends with: the number of the status.
 fn exit_code(status: &Status) -> ExitCode
-    ensures { exit_status result ≡ number_of status.now }
+    ensures { exit_status result ≡ exit_number status.now }
 {
     ExitCode::from(status.number())
 }
