@@ -17,7 +17,7 @@ use Rattle.engine_cli.specs.declared.reading.NotRead.{NotRead}
 use Rattle.engine_cli.specs.declared.reading.NotRead.TheVariants as file
 use Rattle.engine_cli.specs.Causes.{no_job_of_bytes, no_job_of_file}
 use Rattle.engine_cli.specs.FilesUsed.{OfText}
-use Rattle.engine_cli.specs.Found.{IsFront, TakesFront, TakesJob}
+use Rattle.engine_cli.specs.Found.{IsFront, ReadsFront, TakesJob}
 use Rattle.engine_cli.specs.Runs.{built, if_built, not_built, run_of}
 use Rattle.engine_cli.proofs.TextsRead.{OfRead-map}
 
@@ -37,7 +37,7 @@ front-job text bytes front =
 
 -- the file was not read
 pub job-unread : (files : FilesState) (now : ℕ) (name : List ℕ) (why : NotRead)
-    → TakesFront MAX_JOB_BYTES files.sources.names (files.contents name) files.sources.faults now (Err why) → TakesJob files now name (Err (no_job_of_file why))
+    → ReadsFront MAX_JOB_BYTES files.sources.names (files.contents name) files.sources.faults now (Err why) → TakesJob files now name (Err (no_job_of_file why))
 job-unread files now name file.ReadFault takes = takes
 job-unread files now name file.NoMemory takes = tt
 

@@ -12,7 +12,7 @@ use Rattle.graph_text.specs.Making.{made_edges, made_vertices}
 use Rattle.graph_text.specs.Writes.{Writes, WritesEdges}
 use Rattle.graph_text.specs.declared.making.Writing.{Writing}
 use Rattle.graph_text.specs.declared.making.Writing.TheVariants as out
-use Rattle.engine_cli.specs.Leaves.{Gives}
+use Rattle.engine_cli.specs.Leaves.{GivesText}
 use Rattle.std.specs.Option.{option_map}
 use Rattle.std.specs.Prelude.{Contains}
 use Rattle.gl_outside.specs.FilesState.{FilesState, Written, sink_of, written_of}
@@ -24,7 +24,7 @@ use Rattle.gl_outside.proofs.Opening.{ChangesSinks-trans, opens_sinks, others_st
 use Rattle.gl_base.specs.declared.names.Name.{Name}
 use Rattle.job_words.specs.declared.words.Words.{Words}
 use Rattle.job_words.specs.declared.words.Words.TheVariants.{Make}
-use Rattle.engine_cli.specs.Found.{names_in}
+use Rattle.engine_cli.specs.Found.{order_names}
 use Rattle.engine_cli.specs.FilesUsed.{HandsOver, WritesFiles}
 use Rattle.engine_cli.specs.Leaves.{KeepsOrGives}
 use Rattle.engine_cli.specs.Made.{IsFault, IsMade, IsMadeFront, LeavesFront, LeavesText, Makes, edges_name, vertices_name}
@@ -37,7 +37,7 @@ use Rattle.engine_cli.specs.declared.status.Status.TheVariants.{Done, Usage, Bad
 -- what was written to a new file is what its name gives, where names are told
 pub made-gives : (old mid new : FilesState) (name : List ℕ) (number : FileNo) (bytes : List ℕ) (P : List ℕ → Type 0) → OpensSink old mid name (Ok number) → WritesOnly number.0 mid new
     → ((n : List ℕ) → (sink_of new number.0).name ≡ Some n → new.contents n ≡ written_of new number.0)
-    → Appends (written_of mid number.0) (written_of new number.0) bytes → P bytes → IfSome old.sinks.names (λ told. Gives (new.contents name) P)
+    → Appends (written_of mid number.0) (written_of new number.0) bytes → P bytes → IfSome old.sinks.names (λ told. GivesText (new.contents name) P)
 made-gives old mid new name number bytes P opens writes filled appends p =
     let was = (sink_opened old mid name number opens).1 in
     let named : (sink_of new number.0).name ≡ option_map (λ told. name) old.sinks.names = name_kept number.0 mid new writes ∙ ap (λ (w : Written). w.name) was in
@@ -46,7 +46,7 @@ made-gives old mid new name number bytes P opens writes filled appends p =
   where
     go : (names : Option (List (List ℕ))) (written : Option (List ℕ)) → (sink_of new number.0).name ≡ option_map (λ told. name) names
         → Appends (option_map (λ told. []) names) written bytes
-        → ((n : List ℕ) → (sink_of new number.0).name ≡ Some n → new.contents n ≡ written) → IfSome names (λ told. Gives (new.contents name) P)
+        → ((n : List ℕ) → (sink_of new number.0).name ≡ Some n → new.contents n ≡ written) → IfSome names (λ told. GivesText (new.contents name) P)
     go None written named appends filled = tt
     go (Some told) None named appends filled = absurd appends
     go (Some told) (Some held) named appends filled = (bytes, filled name named ∙ ap (λ (z : List ℕ). Some z) appends, p)
@@ -94,19 +94,19 @@ hands-written old mid was last now opened name number own name_is notes was_is w
 pub gives-written : (old mid was last : FilesState) (given : Option (List ℕ)) (opened name : List ℕ) (number : FileNo) (own again : ℕ) (bytes : List ℕ) (P : List ℕ → Type 0) → opened ≡ name
     → OpensSink old mid opened (Ok number) → own ≡ number.0 → was ≡ mid → WritesOnly own was last → given ≡ last.contents name
     → again ≡ own → ((n : List ℕ) → (sink_of last again).name ≡ Some n → last.contents n ≡ written_of last again)
-    → Appends (written_of was own) (written_of last again) bytes → P bytes → IfSome old.sinks.names (λ told. Gives given P)
+    → Appends (written_of was own) (written_of last again) bytes → P bytes → IfSome old.sinks.names (λ told. GivesText given P)
 gives-written old mid was last given opened name number own again bytes P name_is opens own_is was_is writes given_is again_is filled appends p =
     let F : ℕ → Type 0 = λ k. (n : List ℕ) → (sink_of last k).name ≡ Some n → last.contents n ≡ written_of last k in
     let A : ℕ → Type 0 = λ k. Appends (written_of mid k) (written_of last k) bytes in
     let M : FilesState → Type 0 = λ m. Appends (written_of m own) (written_of last own) bytes in
     let G : ℕ → Type 0 = λ k. Appends (written_of was own) (written_of last k) bytes in
-    let E : Option (List ℕ) → Type 0 = λ x. IfSome old.sinks.names (λ told. Gives x P) in
-    let N : List ℕ → Type 0 = λ n. IfSome old.sinks.names (λ told. Gives (last.contents n) P) in
+    let E : Option (List ℕ) → Type 0 = λ x. IfSome old.sinks.names (λ told. GivesText x P) in
+    let N : List ℕ → Type 0 = λ n. IfSome old.sinks.names (λ told. GivesText (last.contents n) P) in
     subst E (sym given_is) (subst N name_is
     (made-gives old mid last opened number bytes P opens (at-end mid was last number own own_is was_is writes) (subst F own_is (subst F again_is filled)) (subst A own_is (subst M was_is (subst G again_is appends))) p))
 
 -- a name gives these bytes
-pub only-these : (names : Option (List (List ℕ))) (given : Option (List ℕ)) (text : List ℕ) → IfSome names (λ told. Gives given (λ bytes. bytes ≡ text)) → IfSome names (λ told. given ≡ Some text)
+pub only-these : (names : Option (List (List ℕ))) (given : Option (List ℕ)) (text : List ℕ) → IfSome names (λ told. GivesText given (λ bytes. bytes ≡ text)) → IfSome names (λ told. given ≡ Some text)
 only-these None given text h = tt
 only-these (Some told) given text h = h.1 ∙ ap (λ (z : List ℕ). Some z) h.2
 
@@ -160,7 +160,7 @@ names-apart prefix same = differ (append_cancel_left prefix _ _ same)
 pub text-kept : (plan : MakePlan) (text : TextFile) (old mid new : FilesState) (name : List ℕ) → new.contents name ≡ mid.contents name
     → LeavesText plan text old mid name → LeavesText plan text old new name
 text-kept plan text old mid new name same leaves =
-    subst (λ (g : Option (List ℕ)). IfSome old.sinks.names (λ told. Gives g (IsMade plan text))) (sym same) leaves
+    subst (λ (g : Option (List ℕ)). IfSome old.sinks.names (λ told. GivesText g (IsMade plan text))) (sym same) leaves
 
 -- names that were told stay told
 gives-before : (m0 m1 : Option (List (List ℕ))) (names : List (List ℕ)) (P : Type 0) → AppendsNames m0 m1 names
@@ -171,7 +171,7 @@ gives-before (Some x) (Some y) names P noted p = p
 
 pub text-before : (plan : MakePlan) (text : TextFile) (old mid new : FilesState) (names : List (List ℕ)) (name : List ℕ) → AppendsNames old.sinks.names mid.sinks.names names
     → LeavesText plan text mid new name → LeavesText plan text old new name
-text-before plan text old mid new names name noted leaves = gives-before old.sinks.names mid.sinks.names names (Gives (new.contents name) (IsMade plan text)) noted leaves
+text-before plan text old mid new names name noted leaves = gives-before old.sinks.names mid.sinks.names names (GivesText (new.contents name) (IsMade plan text)) noted leaves
 
 -- what one file leaves is left by both, where the other changes nothing of its name, first or last
 pub front-kept : (plan : MakePlan) (text : TextFile) (old mid new : FilesState) (name : List ℕ) → new.contents name ≡ mid.contents name
@@ -182,7 +182,7 @@ front-kept plan text old mid new name same front =
 pub front-after : (plan : MakePlan) (text : TextFile) (old mid new : FilesState) (names : List (List ℕ)) (name : List ℕ)
     → AppendsNames old.sinks.names mid.sinks.names names → mid.contents name ≡ old.contents name → LeavesFront plan text mid new name → LeavesFront plan text old new name
 front-after plan text old mid new names name noted same (inl kept) = inl (kept ∙ same)
-front-after plan text old mid new names name noted same (inr gives) = inr (gives-before old.sinks.names mid.sinks.names names (Gives (new.contents name) (IsMadeFront plan text)) noted gives)
+front-after plan text old mid new names name noted same (inr gives) = inr (gives-before old.sinks.names mid.sinks.names names (GivesText (new.contents name) (IsMadeFront plan text)) noted gives)
 
 -- the first of two files was written, and the second was not begun; or both were
 pub writes-first : (first second : List ℕ) (old new : FilesState) → WritesFiles (first ∷ []) old new → WritesFiles (first ∷ second ∷ []) old new
@@ -265,8 +265,8 @@ making-asked words p prefix q plan spelled old new status is asked spelled_is ma
     same_plan e = cc
 
 -- the file that a job names was written
-pub writes-named : (order : Option (List ℕ)) (opened name : List ℕ) (old new : FilesState) → order ≡ Some name → opened ≡ name → WritesFiles (opened ∷ []) old new → WritesFiles (names_in order) old new
+pub writes-named : (order : Option (List ℕ)) (opened name : List ℕ) (old new : FilesState) → order ≡ Some name → opened ≡ name → WritesFiles (opened ∷ []) old new → WritesFiles (order_names order) old new
 writes-named order opened name old new named is wrote =
-    let O : Option (List ℕ) → Type 0 = λ o. WritesFiles (names_in o) old new in
+    let O : Option (List ℕ) → Type 0 = λ o. WritesFiles (order_names o) old new in
     let N : List ℕ → Type 0 = λ n. WritesFiles (n ∷ []) old new in
     subst O (sym named) (subst N is wrote)

@@ -11,7 +11,7 @@ use Rattle.gl_outside.specs.FilesState.{FilesState}
 use Rattle.graph_text.specs.Vertices.{vertices_of}
 use Rattle.job_config.specs.Jobs.{JobSayings}
 use Rattle.engine_cli.specs.FilesUsed.{HandsOver, OfRead}
-use Rattle.engine_cli.specs.Found.{HandsOrder, edges_after, edges_behind, graph_names, names_after, names_behind, names_in, names_of, orders_of}
+use Rattle.engine_cli.specs.Found.{HandsOrder, edges_after, edges_behind, graph_names, names_after, names_behind, order_names, names_of, orders_of}
 use Rattle.engine_cli.specs.Runs.{run_of}
 use Rattle.engine_cli.specs.Says.{SaysJob}
 
@@ -71,7 +71,7 @@ HandsOver-graph files b c file job says first rest = go files.sources.names (fil
 
 -- the name of the job's file for the order was handed on at most
 pub hands-order : (old new : FilesState) (file : List ℕ) (job : JobSayings) → SaysJob old file job
-    → HandsOver old.sinks.names new.sinks.names (names_in job.fields.order) → HandsOrder old new file
+    → HandsOver old.sinks.names new.sinks.names (order_names job.fields.order) → HandsOrder old new file
 hands-order old new file job says hands = go old.sources.names (old.contents file) says
   where
     go : (a : Option (List (List ℕ))) (text : Option (List ℕ)) → OfRead a text (λ bytes. run_of bytes ≡ Ok job)
@@ -98,8 +98,8 @@ HandsOver-none a names = (0, AppendsNames-nil a)
 
 -- at most the one name that is given was handed on
 pub HandsOver-named : (a b : Option (List (List ℕ))) (order : Option (List ℕ)) (name : List ℕ) → order ≡ Some name
-    → HandsOver a b (name ∷ []) → HandsOver a b (names_in order)
-HandsOver-named a b order name named hands = subst (λ (o : Option (List ℕ)). HandsOver a b (names_in o)) (sym named) hands
+    → HandsOver a b (name ∷ []) → HandsOver a b (order_names order)
+HandsOver-named a b order name named hands = subst (λ (o : Option (List ℕ)). HandsOver a b (order_names o)) (sym named) hands
 
 -- a name is one of a list of one, or of two
 pub contains-one : (name other : List ℕ) → other ≡ name → Contains (name ∷ []) other
@@ -112,7 +112,7 @@ pub contains-second : (first second other : List ℕ) → other ≡ second → C
 contains-second first second other e = (1, omega arith, sym e)
 
 -- a name that is named is the one
-pub contains-named : (order : Option (List ℕ)) (name : List ℕ) → Contains (names_in order) name → order ≡ Some name
+pub contains-named : (order : Option (List ℕ)) (name : List ℕ) → Contains (order_names order) name → order ≡ Some name
 contains-named None name (k, inside, is) = absurd (omega (arith, inside))
 contains-named (Some n) name (zero, inside, is) = ap (λ (x : List ℕ). Some x) is
 contains-named (Some n) name (suc k, inside, is) = absurd (omega (arith, inside))

@@ -35,9 +35,9 @@ use Rattle.engine_cli.specs.declared.status.Status.{Status}
 use Rattle.engine_cli.specs.declared.status.Status.TheVariants.{Done, Usage, BadJob, BadGraph, ReadFault, WriteFault, BudgetSpent, NoMemory}
 use Rattle.engine_cli.specs.Answer.{IsAnswer, LacksSource, Printed, RefusesEdges, SpendsBudget, TellJobGraph}
 use Rattle.engine_cli.specs.Causes.{unprepared_graph, unprepared_job, unprepared_run}
-use Rattle.engine_cli.specs.Ended.{Counts}
+use Rattle.engine_cli.specs.Ended.{CountsUpdates}
 use Rattle.engine_cli.specs.FilesUsed.{HandsOver, OfRead, ReadsFiles, WritesFiles}
-use Rattle.engine_cli.specs.Found.{TakesJob, TakesGraph, FindsRun, IsOrderName, edges_after, graph_names, names_in, names_of}
+use Rattle.engine_cli.specs.Found.{TakesJob, TakesGraph, FindsRun, IsOrderName, edges_after, graph_names, order_names, names_of}
 use Rattle.engine_cli.specs.Leaves.{KeepsOrGives}
 use Rattle.engine_cli.specs.Plays.{IsSpent, update_of}
 use Rattle.engine_cli.specs.Prepares.{IsMadeOf, IsPrepared}
@@ -60,9 +60,12 @@ job-unprepared files now file no_job.NoMemory takes = tt
 pub graph-unprepared : (files mid : FilesState) (now : ℕ) (file : List ℕ) (names : List (List ℕ)) (job : JobSayings) (cause : Reading)
     → ChangesSources files mid → AppendsNames files.sources.names mid.sources.names names → files.sources.faults ≤ mid.sources.faults → SaysJob files file job
     → TakesGraph mid now job.fields (Err cause) → IsPrepared files now file (Err (unprepared_graph cause))
-graph-unprepared files mid now file names job (reading.Text fault) frame noted later says takes =
-    (job, says, ⊎_elim (λ first. inl (text-before files mid names job.fields.vertices (λ vertices. vertices_of vertices ≡ Err fault) frame noted first))
-    (λ second. inr (texts-before files mid names job.fields (RefusesEdges job.fields fault) frame noted second)) takes)
+graph-unprepared files mid now file names job (reading.Text fault) frame noted later says takes = (
+  job,
+  says,
+  ⊎_elim (λ first. inl (text-before files mid names job.fields.vertices (λ vertices. vertices_of vertices ≡ Err fault) frame noted first))
+      (λ second. inr (texts-before files mid names job.fields (RefusesEdges job.fields fault) frame noted second)) takes,
+)
 graph-unprepared files mid now file names job reading.ReadFault frame noted later says takes = Rose-later files.sources.faults mid.sources.faults now later takes
 graph-unprepared files mid now file names job reading.NoMemory frame noted later says takes = tt
 
@@ -212,7 +215,7 @@ unprepared-says file report before now tells (why.BadGraph fault) prepared = (re
 unprepared-says file report before now tells why.ReadFault prepared = (refl, prepared)
 unprepared-says file report before now tells why.NoMemory prepared = refl
 
-pub unprepared-counts : (why : Unprepared) → Counts [] [] (status_of_unprepared why)
+pub unprepared-counts : (why : Unprepared) → CountsUpdates [] [] (status_of_unprepared why)
 unprepared-counts (why.BadJob fault) = (refl, refl)
 unprepared-counts (why.BadGraph fault) = (refl, refl)
 unprepared-counts why.ReadFault = (refl, refl)
@@ -234,7 +237,7 @@ told-says file report before now tells retells order NoMemory same says = says
 
 -- What a run leaves that ended before it wrote.
 pub ends-early : (file : List ℕ) (report : Bool) (before now : Moment) (tells : List ℕ → Type 0) (order : List Entry) (done : List ℕ) (status : Status)
-    → Says file report before now tells order status → Counts order done status → ReadsFiles (names_of before.files file) before.files now.files
+    → Says file report before now tells order status → CountsUpdates order done status → ReadsFiles (names_of before.files file) before.files now.files
     → IsRun file report before now tells order done status
 ends-early file report before now tells order done status says counts read =
     let contents = ap (λ (s : FilesState). s.contents) read.frame in
@@ -251,8 +254,8 @@ ends-early file report before now tells order done status says counts read =
 
 -- What a run leaves that came to write, after it read.
 pub ends-late : (file : List ℕ) (report : Bool) (before mid now : Moment) (tells : List ℕ → Type 0) (job : JobSayings) (order : List Entry) (done : List ℕ) (status : Status)
-    → Says file report before now tells order status → Counts order done status → ReadsFiles (names_of before.files file) before.files mid.files
-    → SaysJob before.files file job → WritesFiles (names_in job.fields.order) mid.files now.files
+    → Says file report before now tells order status → CountsUpdates order done status → ReadsFiles (names_of before.files file) before.files mid.files
+    → SaysJob before.files file job → WritesFiles (order_names job.fields.order) mid.files now.files
     → (IsBeforeMaking status → ⊥) → (IsBeforeWriting status → now.files.contents ≡ mid.files.contents)
     → IsRun file report before now tells order done status
 ends-late file report before mid now tells job order done status says counts read says_job wrote late kept =
@@ -265,7 +268,7 @@ ends-late file report before mid now tells job order done status says counts rea
       complete = λ sound. sound_is_done file report before now tells order status says sound;
       sources = subst (λ (s : Opened (Option (List ℕ))). HandsOver before.files.sources.names s.names (names_of before.files file)) (sym sources) read.handed;
       sinks = hands-order before.files now.files file job says_job
-          (subst (λ (s : Opened Written). HandsOver s.names now.files.sinks.names (names_in job.fields.order)) sinks wrote.handed);
+          (subst (λ (s : Opened Written). HandsOver s.names now.files.sinks.names (order_names job.fields.order)) sinks wrote.handed);
       early = λ early. absurd (late early);
       kept = λ early. kept early ∙ contents;
       others = λ name apart. wrote.others name (λ in_names. apart (job, says_job, contains-named job.fields.order name in_names)) ∙ ap (λ (c : List ℕ → Option (List ℕ)). c name) contents;

@@ -26,7 +26,7 @@ use Rattle.graph_text.specs.declared.lists.Reading.TheVariants as reading
 use Rattle.graph_text.specs.declared.lists.VertexList.{VertexList}
 use Rattle.job_config.specs.Fields.{JobFields}
 use Rattle.engine_cli.specs.FilesUsed.{HandsOver, OfRead, OfText, ReadsFiles}
-use Rattle.engine_cli.specs.Found.{IsFront, ListsEdges, TakesEdges, TakesFront, TakesVertices}
+use Rattle.engine_cli.specs.Found.{IsFront, ListsEdges, TakesEdges, ReadsFront, TakesVertices}
 use Rattle.engine_cli.specs.Says.{OfTexts}
 use Rattle.engine_cli.specs.declared.reading.NotRead.{NotRead}
 use Rattle.engine_cli.specs.declared.reading.NotRead.TheVariants as file
@@ -73,7 +73,7 @@ OfRead-before (Some x) (Some y) names None P noted p = absurd p
 
 -- what a reader of the file's source answers, in the words of the name
 pub front-given : (most : ℕ) (names : Option (List (List ℕ))) (given left : Option (List ℕ)) (before mid now : ℕ) (r : Result (Vec ℕ Global) NotRead)
-    → left ≡ given → IfSome names (λ told. IsTrue (is_some given)) → before ≤ mid → TakesFront most None left mid now r → TakesFront most names given before now r
+    → left ≡ given → IfSome names (λ told. IsTrue (is_some given)) → before ≤ mid → ReadsFront most None left mid now r → ReadsFront most names given before now r
 front-given most names given left before mid now (Ok bytes) same there later takes =
     OfRead-given names given (λ whole. IsFront most whole bytes.items) there (subst (λ (t : Option (List ℕ)). OfRead None t (λ whole. IsFront most whole bytes.items)) same takes)
 front-given most names given left before mid now (Err file.ReadFault) same there later takes = Rose-later before mid now later takes
@@ -84,7 +84,7 @@ pub vertices-given : (names : Option (List (List ℕ))) (given left : Option (Li
 vertices-given names given left before mid now (Ok list) same there later reads = (
   reads.0,
   OfRead-given names given (λ bytes. ListsIds bytes list.ids.items) there
-      (OfRead-if given Lists (λ bytes. ListsIds bytes list.ids.items) (λ bytes h. record { given = h.0; lines = h.1; same = h.2; are = reads.0 })
+      (OfRead-if given Lists (λ bytes. ListsIds bytes list.ids.items) (λ bytes h. record { listed = h.0; lines = h.1; same = h.2; are = reads.0 })
       (subst (λ (t : Option (List ℕ)). IfSome t Lists) same reads.1)),
 )
   where
@@ -102,7 +102,7 @@ pub edges-given : (directed weighted : Bool) (ids : List ℕ) (names : Option (L
 edges-given directed weighted ids names given left before mid now (Ok g) same there later reads = (
   reads.0,
   OfRead-given names given (λ bytes. ListsEdges directed weighted ids g bytes) there
-      (OfRead-if given Lists (λ bytes. ListsEdges directed weighted ids g bytes) (λ bytes h. record { given = h.0; lines = h.1; graph = h.2 })
+      (OfRead-if given Lists (λ bytes. ListsEdges directed weighted ids g bytes) (λ bytes h. record { listed = h.0; lines = h.1; graph = h.2 })
       (subst (λ (t : Option (List ℕ)). IfSome t Lists) same reads.1)),
 )
   where
@@ -187,10 +187,10 @@ texts-before old mid names job P frame noted h =
 -- The answers of calls that opened a file and read it as a source, and of those that did not open it.
 pub front-of : (most : ℕ) (old mid was last : FilesState) (now : ℕ) (name : List ℕ) (number : FileNo) (own : ℕ) (r : Result (Vec ℕ Global) NotRead)
     → OpensSource old mid name (Ok number) → IfSome old.sources.names (λ told. IsTrue (is_some (old.contents name))) → old.sources.faults ≤ mid.sources.faults
-    → own ≡ number.0 → was ≡ mid → now ≡ last.sources.faults → TakesFront most None (left_of was own) was.sources.faults last.sources.faults r
-    → TakesFront most old.sources.names (old.contents name) old.sources.faults now r
+    → own ≡ number.0 → was ≡ mid → now ≡ last.sources.faults → ReadsFront most None (left_of was own) was.sources.faults last.sources.faults r
+    → ReadsFront most old.sources.names (old.contents name) old.sources.faults now r
 front-of most old mid was last now name number own r opens there later own_is was_is new_is takes =
-    let T : ℕ → Type 0 = λ n. TakesFront most old.sources.names (old.contents name) old.sources.faults n r in
+    let T : ℕ → Type 0 = λ n. ReadsFront most old.sources.names (old.contents name) old.sources.faults n r in
     let more : old.sources.faults ≤ was.sources.faults = omega (arith, later, ap (λ (s : FilesState). s.sources.faults) was_is) in
     subst T (sym new_is) (front-given most old.sources.names (old.contents name) (left_of was own) old.sources.faults was.sources.faults last.sources.faults r
     (left-is old mid was name number own opens own_is was_is) there more takes)
@@ -216,7 +216,7 @@ edges-of directed weighted ids old mid was last now name number own r opens ther
     (left-is old mid was name number own opens own_is was_is) there more reads)
 
 pub front-unopened : (most : ℕ) (names : Option (List (List ℕ))) (given : Option (List ℕ)) (before now : ℕ) (fault : OpenFault) → (fault ≡ Failed → Rose before now)
-    → TakesFront most names given before now (Err (not_read_of fault))
+    → ReadsFront most names given before now (Err (not_read_of fault))
 front-unopened most names given before now Failed rose = rose refl
 front-unopened most names given before now NoMemoryAtOpen rose = tt
 

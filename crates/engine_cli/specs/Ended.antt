@@ -14,15 +14,15 @@ abbrev pub AreNone : List Entry → List ℕ → Type 0
 AreNone order done = (order ≡ []) × (done ≡ [])
 
 -- the updates are counted where a run was made and its memory was enough
-abbrev pub Counts : List Entry → List ℕ → Status → Type 0
-Counts order done Done = IsCount order done
-Counts order done (Usage fault) = AreNone order done
-Counts order done (BadJob fault) = AreNone order done
-Counts order done (BadGraph fault) = AreNone order done
-Counts order done ReadFault = AreNone order done
-Counts order done WriteFault = IsCount order done
-Counts order done (BudgetSpent left) = IsCount order done
-Counts order done NoMemory = AreNone order done
+abbrev pub CountsUpdates : List Entry → List ℕ → Status → Type 0
+CountsUpdates order done Done = IsCount order done
+CountsUpdates order done (Usage fault) = AreNone order done
+CountsUpdates order done (BadJob fault) = AreNone order done
+CountsUpdates order done (BadGraph fault) = AreNone order done
+CountsUpdates order done ReadFault = AreNone order done
+CountsUpdates order done WriteFault = IsCount order done
+CountsUpdates order done (BudgetSpent left) = IsCount order done
+CountsUpdates order done NoMemory = AreNone order done
 
 -- no update was lost, no failure fired and no snapshot was taken
 pub record HasNoLosses (ended : Ended) : Type 0 where

@@ -45,10 +45,10 @@ pub record IsFront (most : ℕ) (text bytes : List ℕ) : Type 0 where
   pub whole : length bytes ≤ most → bytes ≡ text
 
 -- what reading a file's front answers, where the count of faults went from `before` to `now`
-abbrev pub TakesFront : ℕ → Option (List (List ℕ)) → Option (List ℕ) → ℕ → ℕ → Result (Vec ℕ Global) NotRead → Type 0
-TakesFront most names text before now (Ok bytes) = OfRead names text (λ whole. IsFront most whole bytes.items)
-TakesFront most names text before now (Err file.ReadFault) = Rose before now
-TakesFront most names text before now (Err file.NoMemory) = ⊤
+abbrev pub ReadsFront : ℕ → Option (List (List ℕ)) → Option (List ℕ) → ℕ → ℕ → Result (Vec ℕ Global) NotRead → Type 0
+ReadsFront most names text before now (Ok bytes) = OfRead names text (λ whole. IsFront most whole bytes.items)
+ReadsFront most names text before now (Err file.ReadFault) = Rose before now
+ReadsFront most names text before now (Err file.NoMemory) = ⊤
 
 -- what reading the job's file answers
 abbrev pub TakesJob : FilesState → ℕ → List ℕ → Result Job NoJob → Type 0
@@ -133,13 +133,13 @@ abbrev pub names_of : FilesState → List ℕ → List (List ℕ)
 names_of files file = file ∷ names_after files (files.contents file)
 
 -- a name, or none
-abbrev pub names_in : Option (List ℕ) → List (List ℕ)
-names_in None = []
-names_in (Some name) = name ∷ []
+abbrev pub order_names : Option (List ℕ) → List (List ℕ)
+order_names None = []
+order_names (Some name) = name ∷ []
 
 -- the file that a run writes: the one that the job names for the order
 abbrev pub orders_of : Result JobSayings JobFault → List (List ℕ)
-orders_of (Ok job) = names_in job.fields.order
+orders_of (Ok job) = order_names job.fields.order
 orders_of (Err fault) = []
 
 -- the names that files were made under are at most the one that the job gives for the order

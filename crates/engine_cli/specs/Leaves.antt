@@ -2,9 +2,9 @@
 use Rattle.std.specs.Prelude.{◌≡◌, ◌⊎◌, ℕ, List, Option, Some, IfSome}
 
 -- a name gives bytes of which this holds
-abbrev pub Gives : Option (List ℕ) → (List ℕ → Type 0) → Type 0
-Gives given P = (bytes : List ℕ) × (given ≡ Some bytes) × P bytes
+abbrev pub GivesText : Option (List ℕ) → (List ℕ → Type 0) → Type 0
+GivesText given P = (bytes : List ℕ) × (given ≡ Some bytes) × P bytes
 
 -- a name gives what it gave, or, where names are told, bytes of which this holds
 abbrev pub KeepsOrGives : Option (List (List ℕ)) → Option (List ℕ) → Option (List ℕ) → (List ℕ → Type 0) → Type 0
-KeepsOrGives names old new P = (new ≡ old) ⊎ IfSome names (λ told. Gives new P)
+KeepsOrGives names old new P = (new ≡ old) ⊎ IfSome names (λ told. GivesText new P)

@@ -12,7 +12,7 @@ use Rattle.job_words.specs.CommandLine.{IsCommandLine}
 use Rattle.gl_base.specs.Texts.{Text}
 use Rattle.job_words.specs.declared.words.Words.{Words}
 use Rattle.job_words.specs.declared.words.Words.TheVariants.{Run, Make}
-use Rattle.engine_cli.specs.Leaves.{Gives, KeepsOrGives}
+use Rattle.engine_cli.specs.Leaves.{GivesText, KeepsOrGives}
 use Rattle.engine_cli.specs.declared.status.Status.{Status}
 use Rattle.engine_cli.specs.declared.status.Status.TheVariants.{Done, Usage, BadJob, BadGraph, ReadFault, WriteFault, BudgetSpent, NoMemory}
 
@@ -51,7 +51,7 @@ LeavesFront plan text old new name = KeepsOrGives old.sinks.names (old.contents 
 
 -- where names are told this name gives this text of the plan's graph
 abbrev pub LeavesText : MakePlan → TextFile → FilesState → FilesState → List ℕ → Type 0
-LeavesText plan text old new name = IfSome old.sinks.names (λ told. Gives (new.contents name) (IsMade plan text))
+LeavesText plan text old new name = IfSome old.sinks.names (λ told. GivesText (new.contents name) (IsMade plan text))
 
 -- What making the two files says by its status: both names give the texts, where names are told; a write fault comes only
 -- where the count rose.

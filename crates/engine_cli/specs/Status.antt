@@ -8,15 +8,15 @@ use Rattle.engine_cli.specs.declared.status.Status.{Status}
 use Rattle.engine_cli.specs.declared.status.Status.TheVariants.{Done, Usage, BadJob, BadGraph, ReadFault, WriteFault, BudgetSpent, NoMemory}
 
 -- the number that a program ends with
-abbrev pub number_of : Status → ℕ
-number_of Done = 0
-number_of (Usage fault) = 1
-number_of (BadJob fault) = 2
-number_of (BadGraph fault) = 3
-number_of ReadFault = 5
-number_of WriteFault = 6
-number_of (BudgetSpent left) = 9
-number_of NoMemory = 11
+abbrev pub exit_number : Status → ℕ
+exit_number Done = 0
+exit_number (Usage fault) = 1
+exit_number (BadJob fault) = 2
+exit_number (BadGraph fault) = 3
+exit_number ReadFault = 5
+exit_number WriteFault = 6
+exit_number (BudgetSpent left) = 9
+exit_number NoMemory = 11
 
 -- the statuses at which nothing was written
 abbrev pub IsBeforeWriting : Status → Type 0
@@ -52,15 +52,15 @@ IsDoneOrNoMemory (BudgetSpent left) = ⊥
 IsDoneOrNoMemory NoMemory = ⊤
 
 -- a call that was refused
-abbrev pub IsRefused : Status → Type 0
-IsRefused Done = ⊥
-IsRefused (Usage fault) = ⊤
-IsRefused (BadJob fault) = ⊤
-IsRefused (BadGraph fault) = ⊤
-IsRefused ReadFault = ⊤
-IsRefused WriteFault = ⊤
-IsRefused (BudgetSpent left) = ⊤
-IsRefused NoMemory = ⊤
+abbrev pub IsRefusal : Status → Type 0
+IsRefusal Done = ⊥
+IsRefusal (Usage fault) = ⊤
+IsRefusal (BadJob fault) = ⊤
+IsRefusal (BadGraph fault) = ⊤
+IsRefusal ReadFault = ⊤
+IsRefusal WriteFault = ⊤
+IsRefusal (BudgetSpent left) = ⊤
+IsRefusal NoMemory = ⊤
 
 -- what a run ends with that was not made
 abbrev pub status_of_unprepared : Unprepared → Status

@@ -10,7 +10,7 @@ use Rattle.job_words.specs.declared.words.Words.{Words}
 use Rattle.job_words.specs.declared.words.Words.TheVariants.{Run, Make}
 use Rattle.engine_cli.specs.declared.ended.Ended.{Ended}
 use Rattle.engine_cli.specs.declared.status.Status.{Status}
-use Rattle.engine_cli.specs.Ended.{AreNone, Counts}
+use Rattle.engine_cli.specs.Ended.{AreNone, CountsUpdates}
 use Rattle.engine_cli.specs.FilesUsed.{HandsOver, WritesFiles}
 use Rattle.engine_cli.specs.Found.{HandsOrder, IsOrderName, names_of}
 use Rattle.engine_cli.specs.Made.{LeavesFront, Makes, edges_name, vertices_name}
@@ -22,7 +22,7 @@ use Rattle.engine_cli.specs.Status.{IsBeforeMaking, IsBeforeWriting, IsDoneOrNoM
 -- order's file ever gives anything else.
 pub record IsRun (file : List ℕ) (report : Bool) (before now : Moment) (tells : List ℕ → Type 0) (order : List Entry) (done : List ℕ) (status : Status) : Type 0 where
   pub says : Says file report before now tells order status
-  pub counts : Counts order done status
+  pub counts : CountsUpdates order done status
   pub complete : IsSound file before now → IsDoneOrNoMemory status
   pub sources : HandsOver before.files.sources.names now.files.sources.names (names_of before.files file)
   pub sinks : HandsOrder before.files now.files file

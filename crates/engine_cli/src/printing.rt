@@ -9,7 +9,7 @@ ghost use Rattle.job_config.specs.Views.{job_view};
 ghost use Rattle.order_text.specs.Orders.{IsEntryOf};
 ghost use Rattle.engine_cli.specs.Answer.{told_of};
 ghost use Rattle.engine_cli.specs.FilesUsed.{WritesFiles};
-ghost use Rattle.engine_cli.specs.Found.{names_in};
+ghost use Rattle.engine_cli.specs.Found.{order_names};
 ghost use Rattle.engine_cli.specs.Leaves.{KeepsOrGives};
 ghost use Rattle.engine_cli.specs.Printing.{Prints, printed_of};
 ghost use Rattle.engine_cli.specs.Says.{moment};
@@ -40,7 +40,7 @@ pub fn print_run<F: Files, K: Sink>(
         (moment (F.state files.old) (K.faults out.old) (K.held out.old))
         (moment (F.state files.new) (K.faults out.new) (K.held out.new)) }
     ensures no_memory { result ≡ Err NoMemoryAtOut → (out.new ≡ out.old) × ((F.state files.new).contents ≡ (F.state files.old).contents) }
-    ensures wrote { WritesFiles (names_in (job_view made.now.job).fields.order) (F.state files.old) (F.state files.new) }
+    ensures wrote { WritesFiles (order_names (job_view made.now.job).fields.order) (F.state files.old) (F.state files.new) }
     ensures faults { K.faults out.old ≤ K.faults out.new }
     ensures same { K.same out.old out.new }
 {

@@ -7,7 +7,7 @@ ghost use Rattle.engine_cli.specs.declared.reading.NotRead.TheVariants.{NoMemory
 ghost use Rattle.engine_cli.specs.Answer.{is_weighted};
 ghost use Rattle.engine_cli.specs.Causes.{not_read_of, reading_of};
 ghost use Rattle.engine_cli.specs.FilesUsed.{ReadsFiles};
-ghost use Rattle.engine_cli.specs.Found.{TakesFront, TakesVertices, TakesEdges, TakesGraph, graph_names};
+ghost use Rattle.engine_cli.specs.Found.{ReadsFront, TakesVertices, TakesEdges, TakesGraph, graph_names};
 
 use gl_base::{Algorithm, Job};
 use gl_outside::{Files, OpenFault, Source, SourceOf};
@@ -53,7 +53,7 @@ pub fn front_of<F: Files>(
     name: &str,
     most: usize,
 ) -> Result<Vec<u8>, NotRead>
-    ensures answer { TakesFront most (F.state files.old).sources.names ((F.state files.old).contents name.now)
+    ensures answer { ReadsFront most (F.state files.old).sources.names ((F.state files.old).contents name.now)
         (F.state files.old).sources.faults (F.state files.new).sources.faults result }
     ensures read { ReadsFiles (name.now ∷ []) (F.state files.old) (F.state files.new) }
     ensures handed { OnOk result (AppendsNames (F.state files.old).sources.names (F.state files.new).sources.names (name.now ∷ [])) }
@@ -64,7 +64,7 @@ pub fn front_of<F: Files>(
 
 /// The bytes of a source, or more than `most` of them where there are more.
 fn read_front<S: Source>(alloc: Global, source: &mut S, most: usize) -> Result<Vec<u8>, NotRead>
-    ensures answer { TakesFront most None (S.left source.old) (S.faults source.old) (S.faults source.new) result }
+    ensures answer { ReadsFront most None (S.left source.old) (S.faults source.old) (S.faults source.new) result }
     ensures later { S.faults source.old ≤ S.faults source.new }
     ensures same { S.same source.old source.new }
 {

@@ -79,7 +79,10 @@ impl From<NoRun> for Unprepared {
 
     fn from(no_run: NoRun) -> Self {
         match no_run {
-            NoRun::NoSource(source) => Unprepared::BadJob(JobFault::OutOfRange(Key::Source, source)),
+            NoRun::NoSource(source) => Unprepared::BadJob(JobFault::OutOfRange(
+                Key::Source,
+                source,
+            )),
             NoRun::NoMemory => Unprepared::NoMemory,
         }
     }

@@ -29,11 +29,11 @@ pub enum Status {
 
 impl Status {
     ghost use Rattle.std.specs.Prelude.{◌≡◌};
-    ghost use Rattle.engine_cli.specs.Status.{number_of};
+    ghost use Rattle.engine_cli.specs.Status.{exit_number};
 
     /// The number that a program ends with.
     pub fn number(&self) -> u8
-        ensures { result ≡ number_of self.now }
+        ensures { result ≡ exit_number self.now }
     {
         match self {
             Status::Done => 0,

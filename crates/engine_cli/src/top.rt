@@ -5,7 +5,7 @@ ghost use Rattle.job_words.specs.CommandLine.{IsCommandLine, command_line_of};
 ghost use Rattle.job_words.specs.WordForms.{texts};
 ghost use Rattle.job_words.specs.declared.words.Words.{Words};
 ghost use Rattle.engine_cli.specs.declared.status.Status.TheVariants.{Done, Usage, NoMemory};
-ghost use Rattle.engine_cli.specs.Status.{IsBeforeWriting, IsRefused};
+ghost use Rattle.engine_cli.specs.Status.{IsBeforeWriting, IsRefusal};
 ghost use Rattle.engine_cli.specs.Made.{IsAsked, IsOfFiles};
 ghost use Rattle.engine_cli.specs.Notes.{Tells, note_of};
 ghost use Rattle.engine_cli.specs.Says.{moment};
@@ -56,7 +56,7 @@ pub fn engine<F: Files, K: Sink, N: Sink, G: Gate + Sync>(
         × AreNone result.order.items result.done.items }
 
     // What is told of a refusal, and of work that has nothing to tell.
-    ensures note { IsRefused result.status → Tells (note_of result.status) (N.held note.old) (N.held note.new) (N.faults note.old) (N.faults note.new) }
+    ensures note { IsRefusal result.status → Tells (note_of result.status) (N.held note.old) (N.held note.new) (N.faults note.old) (N.faults note.new) }
     ensures quiet { (asked : Words) → IsCommandLine (texts words.now) asked → IsQuiet asked → result.status ≡ Done → note.new ≡ note.old }
 
     // What stays.
@@ -89,7 +89,7 @@ fn do_command<F: Files, K: Sink, N: Sink>(
         (moment (F.state files.new) (K.faults out.new) (K.held out.new))
         (λ told. Tells told (N.held note.old) (N.held note.new) (N.faults note.old) (N.faults note.new)) result }
     ensures files_only { IsOfFiles asked.now → out.new ≡ out.old }
-    ensures note { IsRefused result.status → Tells (note_of result.status) (N.held note.old) (N.held note.new) (N.faults note.old) (N.faults note.new) }
+    ensures note { IsRefusal result.status → Tells (note_of result.status) (N.held note.old) (N.held note.new) (N.faults note.old) (N.faults note.new) }
     ensures quiet { IsQuiet asked.now → result.status ≡ Done → note.new ≡ note.old }
     ensures untouched { IsBeforeWriting result.status → out.new ≡ out.old }
     ensures reads { (F.state files.old).sources.faults ≤ (F.state files.new).sources.faults }
@@ -118,7 +118,7 @@ fn run_file<F: Files, K: Sink, N: Sink>(
     ensures run { IsRun file.now is_reported (moment (F.state files.old) (K.faults out.old) (K.held out.old))
         (moment (F.state files.new) (K.faults out.new) (K.held out.new))
         (λ told. Tells told (N.held note.old) (N.held note.new) (N.faults note.old) (N.faults note.new)) result.order.items result.done.items result.status }
-    ensures note { IsRefused result.status → Tells (note_of result.status) (N.held note.old) (N.held note.new) (N.faults note.old) (N.faults note.new) }
+    ensures note { IsRefusal result.status → Tells (note_of result.status) (N.held note.old) (N.held note.new) (N.faults note.old) (N.faults note.new) }
     ensures quiet { is_reported ≡ false → result.status ≡ Done → note.new ≡ note.old }
     ensures untouched { IsBeforeWriting result.status → out.new ≡ out.old }
     ensures reads { (F.state files.old).sources.faults ≤ (F.state files.new).sources.faults }

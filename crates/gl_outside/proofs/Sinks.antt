@@ -14,12 +14,12 @@ use Rattle.std.proofs.lemmas.Slice.Eq.{bytes_eq-Decides}
 use Rattle.gl_outside.specs.Calls.{CallCounts}
 use Rattle.gl_outside.specs.FilesState.{FilesState, Opened, Written, is_opened, sink_of, written_of}
 use Rattle.gl_outside.specs.Frames.{OpensSink, WritesOnly, new_sink, unless, without_name}
-use Rattle.gl_outside.specs.Store.{NamedBytes, StoreState, bytes_at, name_at, bytes_of, newer, newest_name, sink_at, files_of_store}
+use Rattle.gl_outside.specs.Store.{NamedBytes, StoreState, bytes_at, name_at_place, bytes_of, newer, newest_name, sink_at, files_of_store}
 use Rattle.gl_outside.specs.Laws.{decide, found, newer-other, newest-none}
-use Rattle.gl_outside.specs.OpenFiles.{left_in, IsInside, appended, AreSinks}
+use Rattle.gl_outside.specs.OpenFiles.{left_in, IsOpenInside, appended, AreSinks}
 use Rattle.gl_outside.specs.declared.files.OpenFault.{OpenFault}
 use Rattle.gl_outside.specs.declared.mem_files.OpenFile.{OpenFile}
-use Rattle.gl_outside.proofs.StoredFiles.{bytes_at-append, bytes_of-push, bytes_of_other, IsInside-append, same_contents, same_files, same_opened, same_sinks, same_sources}
+use Rattle.gl_outside.proofs.StoredFiles.{bytes_at-append, bytes_of-push, bytes_of_other, IsOpenInside-append, same_contents, same_files, same_opened, same_sinks, same_sources}
 
 -- a file more takes its name from older ones
 newest-push : (files : List NamedBytes) (file : NamedBytes) (place : ℕ) → place < length files
@@ -45,7 +45,7 @@ newest-pushed [] file = refl
 newest-pushed (f ∷ fs) file = newest-pushed fs file
 
 -- a file that isn't the newest of a name is nothing to what the name gives
-set-replaced : (files : List NamedBytes) (place : ℕ) (new : NamedBytes) (name : List ℕ) (a : Option (List ℕ)) → new.name ≡ name_at files place
+set-replaced : (files : List NamedBytes) (place : ℕ) (new : NamedBytes) (name : List ℕ) (a : Option (List ℕ)) → new.name ≡ name_at_place files place
     → newest_name files place ≢ Some name → fold (newer name) a (slice_set files place new) ≡ fold (newer name) a files
 set-replaced [] place new name a same not = refl
 set-replaced (f ∷ fs) zero new name a same not = elim (found fs name) [
@@ -68,13 +68,13 @@ fold-some : (files : List NamedBytes) (name : List ℕ) (a b : Option (List ℕ)
 fold-some [] name a b some = some
 fold-some (f ∷ fs) name a b some = fold-some fs name (newer name a f) (newer name b f) (same-some f f name a b refl some)
 
-set-some : (files : List NamedBytes) (place : ℕ) (new : NamedBytes) (name : List ℕ) (a : Option (List ℕ)) → new.name ≡ name_at files place
+set-some : (files : List NamedBytes) (place : ℕ) (new : NamedBytes) (name : List ℕ) (a : Option (List ℕ)) → new.name ≡ name_at_place files place
     → is_some (fold (newer name) a (slice_set files place new)) ≡ is_some (fold (newer name) a files)
 set-some [] place new name a same = refl
 set-some (f ∷ fs) zero new name a same = fold-some fs name (newer name a new) (newer name a f) (same-some new f name a a same refl)
 set-some (f ∷ fs) (suc place) new name a same = set-some fs place new name (newer name a f) same
 
-newest-set : (files : List NamedBytes) (place k : ℕ) (new : NamedBytes) → new.name ≡ name_at files place → newest_name (slice_set files place new) k ≡ newest_name files k
+newest-set : (files : List NamedBytes) (place k : ℕ) (new : NamedBytes) → new.name ≡ name_at_place files place → newest_name (slice_set files place new) k ≡ newest_name files k
 newest-set [] place k new same = refl
 newest-set (f ∷ fs) zero zero new same = ap (λ (n : List ℕ). if is_some (bytes_of fs n) then None else Some n) same
 newest-set (f ∷ fs) zero (suc k) new same = refl
@@ -82,8 +82,8 @@ newest-set (f ∷ fs) (suc place) zero new same = ap (λ (b : Bool). if b then N
 newest-set (f ∷ fs) (suc place) (suc k) new same = newest-set fs place k new same
 
 -- the names stay as a piece is added to a file
-name_at-appended : (files : List NamedBytes) (place k : ℕ) (piece : List ℕ) (ready : ℕ) → place < length files → name_at (appended files place piece ready) k ≡ name_at files k
-name_at-appended files place k piece ready inside = elim (cases_eq k place) [
+name_at_place-appended : (files : List NamedBytes) (place k : ℕ) (piece : List ℕ) (ready : ℕ) → place < length files → name_at_place (appended files place piece ready) k ≡ name_at_place files k
+name_at_place-appended files place k piece ready inside = elim (cases_eq k place) [
   | inl e ↦ rw e (ap (λ (f : NamedBytes). f.name) (get_or-set_same files place _ _ inside))
   | inr apart ↦ ap (λ (f : NamedBytes). f.name) (get_or-set_other files place k _ _ apart)
 ]
@@ -197,7 +197,7 @@ sinks_apart files sinks i j p q are at_i at_j apart same =
 -- what is written to one file leaves the others, as callers see them
 sink_at-other : (files : List NamedBytes) (place k : ℕ) (piece : List ℕ) (ready : ℕ) → k ≢ place → sink_at (appended files place piece ready) k ≡ sink_at files k
 sink_at-other files place k piece ready apart =
-    ap (λ (n : Option (List ℕ)). record { name = n; bytes = Some (bytes_at (appended files place piece ready) k) }) (newest-set files place k (record { name = name_at files place; bytes = bytes_at files place ++ piece; ready = ready }) refl)
+    ap (λ (n : Option (List ℕ)). record { name = n; bytes = Some (bytes_at (appended files place piece ready) k) }) (newest-set files place k (record { name = name_at_place files place; bytes = bytes_at files place ++ piece; ready = ready }) refl)
     ∙ ap (λ (b : List ℕ). record { name = newest_name files k; bytes = Some b }) (bytes_at-appended_other files place k piece ready apart)
 
 -- the file of this number, as callers see it
@@ -236,7 +236,7 @@ pub writes_only : (old new : StoreState) (file place : ℕ) (piece : List ℕ) (
     → WritesOnly file (files_of_store old) (files_of_store new)
 writes_only old new file place piece ready is inside are files sinks names reads source_names opened =
     let now = appended old.files place piece ready in
-    let own : NamedBytes = record { name = name_at old.files place; bytes = bytes_at old.files place ++ piece; ready = ready } in
+    let own : NamedBytes = record { name = name_at_place old.files place; bytes = bytes_at old.files place ++ piece; ready = ready } in
     let seen : sink_of (files_of_store old) file ≡ sink_at old.files place = sink-seen old.files old.sinks file place is in
     let changed : map (sink_at new.files) new.sinks ≡ map (sink_at now) old.sinks = ap (λ (fs : List NamedBytes). map (sink_at fs) new.sinks) files ∙ ap (map (sink_at now)) sinks in
     let seen_now : sink_of (files_of_store new) file ≡ sink_at now place = ap (λ (ws : List Written). get_or ws file (record { name = None; bytes = None })) changed ∙ sink-seen now old.sinks file place is in
@@ -291,7 +291,7 @@ written-put files now file sinks k grown known = ap (λ (fs : List NamedBytes). 
     at (p ∷ ps) (suc k) known = at ps k (All-tail (λ q. q < length files) p ps known)
 
 -- and leaves what is read
-left_in-appended : (files : List NamedBytes) (place : ℕ) (piece : List ℕ) (ready : ℕ) (o : OpenFile) → place < length files → IsInside files o → left_in (appended files place piece ready) o ≡ left_in files o
+left_in-appended : (files : List NamedBytes) (place : ℕ) (piece : List ℕ) (ready : ℕ) (o : OpenFile) → place < length files → IsOpenInside files o → left_in (appended files place piece ready) o ≡ left_in files o
 left_in-appended files place piece ready o inside is = elim (cases_eq o.place place) [
   | inl e ↦
       let same : bytes_at (appended files place piece ready) o.place ≡ bytes_at files o.place ++ piece =
@@ -300,15 +300,15 @@ left_in-appended files place piece ready o inside is = elim (cases_eq o.place pl
   | inr apart ↦ ap (λ (bytes : List ℕ). drop o.at (take o.end bytes)) (bytes_at-appended_other files place o.place piece ready apart)
 ]
 
-pub map-left_in-appended : (files : List NamedBytes) (place : ℕ) (piece : List ℕ) (ready : ℕ) (opened : List OpenFile) → place < length files → All (IsInside files) opened
+pub map-left_in-appended : (files : List NamedBytes) (place : ℕ) (piece : List ℕ) (ready : ℕ) (opened : List OpenFile) → place < length files → All (IsOpenInside files) opened
     → map (left_in (appended files place piece ready)) opened ≡ map (left_in files) opened
 map-left_in-appended files place piece ready [] inside are = refl
 map-left_in-appended files place piece ready (o ∷ os) inside are =
-    let first = left_in-appended files place piece ready o inside (All-head (IsInside files) o os are) in
-    let rest = map-left_in-appended files place piece ready os inside (All-tail (IsInside files) o os are) in
+    let first = left_in-appended files place piece ready o inside (All-head (IsOpenInside files) o os are) in
+    let rest = map-left_in-appended files place piece ready os inside (All-tail (IsOpenInside files) o os are) in
     cc
 
-inside-appended : (files : List NamedBytes) (place : ℕ) (piece : List ℕ) (ready : ℕ) (o : OpenFile) → place < length files → IsInside files o → IsInside (appended files place piece ready) o
+inside-appended : (files : List NamedBytes) (place : ℕ) (piece : List ℕ) (ready : ℕ) (o : OpenFile) → place < length files → IsOpenInside files o → IsOpenInside (appended files place piece ready) o
 inside-appended files place piece ready o inside is = record {
   known = omega (arith, is.known, length-appended files place piece ready);
   order = is.order;
@@ -321,11 +321,11 @@ inside-appended files place piece ready o inside is = record {
   ];
 }
 
-pub all_inside-appended : (files now : List NamedBytes) (place : ℕ) (piece : List ℕ) (ready : ℕ) (opened : List OpenFile) → now ≡ appended files place piece ready → place < length files → All (IsInside files) opened → All (IsInside now) opened
+pub all_inside-appended : (files now : List NamedBytes) (place : ℕ) (piece : List ℕ) (ready : ℕ) (opened : List OpenFile) → now ≡ appended files place piece ready → place < length files → All (IsOpenInside files) opened → All (IsOpenInside now) opened
 all_inside-appended files now place piece ready opened e inside are =
-    subst (λ (fs : List NamedBytes). All (IsInside fs) opened) (sym e) (go opened are)
+    subst (λ (fs : List NamedBytes). All (IsOpenInside fs) opened) (sym e) (go opened are)
   where
-    go : (os : List OpenFile) → All (IsInside files) os → All (IsInside (appended files place piece ready)) os
+    go : (os : List OpenFile) → All (IsOpenInside files) os → All (IsOpenInside (appended files place piece ready)) os
     go os all = λ k d below. inside-appended files place piece ready (get_or os k d) inside (all k d below)
 
 pub are_sinks-appended : (files now : List NamedBytes) (sinks : List ℕ) (place : ℕ) (piece : List ℕ) (ready : ℕ) → now ≡ appended files place piece ready → AreSinks files sinks → AreSinks now sinks
@@ -334,9 +334,9 @@ are_sinks-appended files now sinks place piece ready e are =
     record { known = subst (λ (n : ℕ). All (λ p. p < n) sinks) (sym long) are.known; ascending = are.ascending }
 
 -- more files leave each open one as it is
-pub all_inside-append : (files now more : List NamedBytes) (opened : List OpenFile) → now ≡ files ++ more → All (IsInside files) opened → All (IsInside now) opened
+pub all_inside-append : (files now more : List NamedBytes) (opened : List OpenFile) → now ≡ files ++ more → All (IsOpenInside files) opened → All (IsOpenInside now) opened
 all_inside-append files now more opened e are =
-    subst (λ (fs : List NamedBytes). All (IsInside fs) opened) (sym e) (λ k d below. IsInside-append files more (get_or opened k d) (are k d below))
+    subst (λ (fs : List NamedBytes). All (IsOpenInside fs) opened) (sym e) (λ k d below. IsOpenInside-append files more (get_or opened k d) (are k d below))
 
 pub are_sinks-append : (files now more : List NamedBytes) (sinks : List ℕ) → now ≡ files ++ more → AreSinks files sinks → AreSinks now sinks
 are_sinks-append files now more sinks e are =

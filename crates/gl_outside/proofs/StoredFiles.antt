@@ -14,7 +14,7 @@ use Rattle.std.proofs.lemmas.List.Elements.{All-head, All-tail}
 use Rattle.std.proofs.lemmas.List.Sums.{fold-append}
 use Rattle.std.proofs.lemmas.Slice.Eq.{bytes_eq-Decides}
 use Rattle.gl_outside.specs.Store.{NamedBytes, StoreState, bytes_at, bytes_of, files_of_store, newer, sink_at}
-use Rattle.gl_outside.specs.OpenFiles.{left_in, IsInside}
+use Rattle.gl_outside.specs.OpenFiles.{left_in, IsOpenInside}
 use Rattle.gl_outside.specs.declared.mem_files.OpenFile.{OpenFile}
 
 -- what an index reads
@@ -25,22 +25,22 @@ pub bytes_at-append : (files more : List NamedBytes) (place : ℕ) → place < l
 bytes_at-append files more place inside = ap (λ (f : NamedBytes). f.bytes) (get_or_append_left files more _ place inside)
 
 -- more files leave the open ones as they are
-pub IsInside-append : (files more : List NamedBytes) (open_file : OpenFile) → IsInside files open_file → IsInside (files ++ more) open_file
-IsInside-append files more open_file inside = record {
+pub IsOpenInside-append : (files more : List NamedBytes) (open_file : OpenFile) → IsOpenInside files open_file → IsOpenInside (files ++ more) open_file
+IsOpenInside-append files more open_file inside = record {
   known = omega (arith, inside.known, length-append files more);
   order = inside.order;
   within = omega (arith, inside.within, ap (length {A = ℕ}) (bytes_at-append files more open_file.place inside.known));
 }
 
-pub left_in-append : (files more : List NamedBytes) (open_file : OpenFile) → IsInside files open_file → left_in (files ++ more) open_file ≡ left_in files open_file
+pub left_in-append : (files more : List NamedBytes) (open_file : OpenFile) → IsOpenInside files open_file → left_in (files ++ more) open_file ≡ left_in files open_file
 left_in-append files more open_file inside =
     ap (λ (bytes : List ℕ). drop open_file.at (take open_file.end bytes)) (bytes_at-append files more open_file.place inside.known)
 
-pub map-left_in-append : (files more : List NamedBytes) (opened : List OpenFile) → All (IsInside files) opened → map (left_in (files ++ more)) opened ≡ map (left_in files) opened
+pub map-left_in-append : (files more : List NamedBytes) (opened : List OpenFile) → All (IsOpenInside files) opened → map (left_in (files ++ more)) opened ≡ map (left_in files) opened
 map-left_in-append files more [] inside = refl
 map-left_in-append files more (o ∷ os) inside =
-    let first = left_in-append files more o (All-head (IsInside files) o os inside) in
-    let rest = map-left_in-append files more os (All-tail (IsInside files) o os inside) in
+    let first = left_in-append files more o (All-head (IsOpenInside files) o os inside) in
+    let rest = map-left_in-append files more os (All-tail (IsOpenInside files) o os inside) in
     cc
 
 -- a file more of this name is what the name gives

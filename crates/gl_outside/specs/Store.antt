@@ -40,8 +40,8 @@ abbrev pub bytes_at : List NamedBytes → ℕ → List ℕ
 bytes_at files place = (file_at files place).bytes
 
 -- its name
-abbrev pub name_at : List NamedBytes → ℕ → List ℕ
-name_at files place = (file_at files place).name
+abbrev pub name_at_place : List NamedBytes → ℕ → List ℕ
+name_at_place files place = (file_at files place).name
 
 -- how many it can hold before it takes memory
 abbrev pub ready_at : List NamedBytes → ℕ → ℕ

@@ -8,7 +8,7 @@ ghost use Rattle.gl_outside.specs.Frames.{OpensSource, OpensSink, ReadsOnly, Wri
 ghost use Rattle.gl_outside.specs.Names.{NotesName};
 ghost use Rattle.gl_outside.specs.Calls.{no_calls, NextFails, after_call};
 ghost use Rattle.gl_outside.specs.Store.{bytes_of, bytes_at, after_open, files_of_store, IsMissing, HasNoNumber, HasNoSinkNumber, ready_at, ready_in, WantsMemoryAt, WantsMemoryIn};
-ghost use Rattle.gl_outside.specs.OpenFiles.{left_in, IsInside, appended};
+ghost use Rattle.gl_outside.specs.OpenFiles.{left_in, IsOpenInside, appended};
 ghost use Rattle.gl_outside.specs.Laws.{name_filled};
 
 use crate::calls::Calls;
@@ -63,11 +63,11 @@ impl Model for MemFiles {
 
     ghost Value = { StoreState };
 
-    ghost use Rattle.gl_outside.specs.OpenFiles.{left_in, IsInside, AreSinks};
+    ghost use Rattle.gl_outside.specs.OpenFiles.{left_in, IsOpenInside, AreSinks};
 
     ghost view = { λ s. record { files = s.files.items; source_names = s.source_names.items; opened = map (left_in s.files.items) s.opened.items; reads = s.reads; sink_names = s.sink_names.items; sinks = s.sinks.items; writes = s.writes } };
 
-    ghost invariant = { λ s. All (IsInside s.files.items) s.opened.items × AreSinks s.files.items s.sinks.items };
+    ghost invariant = { λ s. All (IsOpenInside s.files.items) s.opened.items × AreSinks s.files.items s.sinks.items };
 }
 
 impl MemFiles {
@@ -274,10 +274,10 @@ fn newest(files: &[StoredFile], name: &str) -> Option<usize>
 
 /// Reads on in an open file. Returns how much that is, and the file as it is then.
 fn read_on(files: &[StoredFile], file: OpenFile, buf: &mut [u8]) -> (usize, OpenFile)
-    requires { IsInside files.now file }
+    requires { IsOpenInside files.now file }
     ensures count { result.0 ≡ min (length (left_in files.now file)) (length buf.old) }
     ensures bytes { left_in files.now file ≡ take result.0 buf.new ++ left_in files.now result.1 }
-    ensures inside { IsInside files.now result.1 }
+    ensures inside { IsOpenInside files.now result.1 }
 {
     let stored = &files[file.place];
     let count = copy_front(&stored.bytes[file.at..file.end], buf);

@@ -1,6 +1,10 @@
 //! `glab`: GraphLab on the command line. Its exit status is the number of the engine's status.
 #![tactic(auto)]
 
+ghost use Rattle.std.specs.Prelude.{◌≡◌, ◌<◌, IfOk, length};
+ghost use Rattle.std.specs.Process.{exit_status};
+ghost use Rattle.engine_cli.specs.Status.{exit_number};
+
 use engine_cli::{Status, engine};
 use gl_base::UsageFault;
 use gl_outside::{HostFiles, NoteSink, OpenGate, OutSink};
@@ -13,9 +17,8 @@ const TOO_MANY_WORDS: usize = 4294967295;
 
 fn main(rt: HostRuntime) -> ExitCode {
     let words = match words_of(&rt) {
-        Ok(words) if words.len() < TOO_MANY_WORDS => words,
-        Ok(_) => return ExitCode::from(Status::Usage(UsageFault::Line).number()),
-        Err(status) => return ExitCode::from(status.number()),
+        Ok(words) => words,
+        Err(status) => return exit_code(&status),
     };
     let mut files = HostFiles::new(rt.alloc(), &rt);
     let mut out = OutSink::new(io::writer(&rt));
@@ -28,16 +31,28 @@ fn main(rt: HostRuntime) -> ExitCode {
         &mut note,
         &OpenGate,
     );
-    ExitCode::from(ended.status.number())
+    exit_code(&ended.status)
 }
 
-/// The words after the program's name. Words that are no text are no command.
-fn words_of<R: Env + AllocGlobal>(rt: &R) -> Result<Vec<String>, Status> {
+/// What the program ends with: the number of the status.
+fn exit_code(status: &Status) -> ExitCode
+    ensures { exit_status result ≡ exit_number status.now }
+{
+    ExitCode::from(status.number())
+}
+
+/// The words after the program's name. Words that are no text are no command, and neither are more than any command has.
+fn words_of<R: Env + AllocGlobal>(rt: &R) -> Result<Vec<String>, Status>
+    ensures { IfOk result (λ words. length words.items < 4294967295) }
+{
     let args = env::args(rt).map_err(status_of)?;
-    match args.skip(1).collect(rt.alloc()) {
-        Ok(words) => Ok(words),
-        Err(_) => Err(Status::NoMemory),
+    let Ok(words): Result<Vec<String>, _> = args.skip(1).collect(rt.alloc()) else {
+        return Err(Status::NoMemory);
+    };
+    if words.len() >= TOO_MANY_WORDS {
+        return Err(Status::Usage(UsageFault::Line));
     }
+    Ok(words)
 }
 
 /// Why the words could not be read.

@@ -4,7 +4,7 @@ use Rattle.gl_outside.proofs.HostFrames.{changes_at, consumes_untold, number_ins
 use Rattle.gl_outside.proofs.host_files.HostFilesFiles.read.Goals as goal
 
 pub returns-in-Ok-clause-bytes : goal.returns-in-Ok-clause-bytes
-returns-in-Ok-clause-bytes g c = 
+returns-in-Ok-clause-bytes g c =
     consumes_untold _ _ _ _ c.in-Ok.count (constant {Y = Option (List ℕ)} None _ c.args.file.0) (constant {Y = Option (List ℕ)} None _ c.args.file.0)
 
 pub returns-in-Ok-clause-frame : goal.returns-in-Ok-clause-frame
