@@ -4,7 +4,6 @@ use Rattle.std.specs.Prelude.{List, None, Option, Some, [], false, pred, suc, tr
 use Rattle.gl_base.specs.declared.entries.Entry.TheVariants.{Go}
 use Rattle.gl_base.specs.declared.scopes.Claim.{Claim}
 use Rattle.gl_base.specs.declared.scopes.Mode.{Mode}
-use Rattle.gl_base.specs.declared.scopes.Mode.TheVariants.{Reader}
 use Rattle.gl_base.specs.declared.scopes.ScopeId.{ScopeId}
 use Rattle.cluster_core.specs.Effects.{admitted, begins, granted, marked, received, updated}
 use Rattle.cluster_core.specs.Messages.{Message, Section}

@@ -1,9 +1,6 @@
 -- Scopes of updates, and the canonical order in which a scope takes its locks: by the owner machine, and then by the vertex.
 pub use Rattle.scope_lists.specs.Scopes.{is_scope, mode_at, set_for}
-use Rattle.std.specs.Prelude.{Bool, List, None, Option, Some, false, if◌then◌else◌, nat_lt, true, ℕ, ◌&&◌, ◌-◌, ◌==◌, ◌||◌}
-use Rattle.gl_base.specs.declared.scopes.Mode.{Mode}
-use Rattle.gl_base.specs.declared.scopes.Mode.TheVariants.{Reader, Writer}
-use Rattle.gl_base.specs.declared.scopes.ScopeId.{ScopeId}
+use Rattle.std.specs.Prelude.{Bool, List, None, Option, Some, false, nat_lt, true, ℕ, ◌&&◌, ◌-◌, ◌==◌, ◌||◌}
 use Rattle.cluster_core.specs.Ranges.{all_passing, first_passing}
 use Rattle.cluster_core.specs.Settings.{Setting, is_in_scope}
 use Rattle.graph_core.specs.DataGraph.{size}
