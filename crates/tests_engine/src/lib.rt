@@ -1,11 +1,5 @@
-//! Tests of the top call over files in memory. Expected values are worked out by hand.
+//! What scenarios can't say of the top call: what it leaves where memory runs out.
 #![tactic(auto)]
 
 #[cfg(test)]
-mod calls;
-#[cfg(test)]
-mod making;
-#[cfg(test)]
-mod orders;
-#[cfg(test)]
-mod runs;
+mod memory;

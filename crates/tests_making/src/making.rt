@@ -31,51 +31,6 @@ fn sink(alloc: Global, failing: u64, room: u64) -> Result<MemSink, NoMemory> {
     Ok(MemSink::new(alloc, vec![in alloc; failing]?, room))
 }
 
-#[test]
-fn small_graphs_are_made(rt: HostRuntime) -> Result<(), Fail> {
-    let alloc = rt.alloc();
-    for (plan, vertices, edges) in [
-        (plan(7, 0, 0, None), "", ""),
-        (plan(7, 1, 0, None), "1\n", ""),
-        (plan(7, 2, 0, Some(3)), "1\n2\n", ""),
-        (plan(7, 3, 3, None), "1\n2\n3\n", "1 2\n2 3\n3 1\n"),
-        (
-            plan(7, 5, 5, Some(9)),
-            "1\n2\n3\n4\n5\n",
-            "1 3 7\n2 4 8\n3 5 9\n4 1 0\n5 2 1\n",
-        ),
-        (
-            plan(7, 5, 10, None),
-            "1\n2\n3\n4\n5\n",
-            "1 3\n2 4\n3 5\n4 1\n5 2\n1 2\n2 3\n3 4\n4 5\n5 1\n",
-        ),
-        (
-            plan(7, 6, 12, Some(0)),
-            "1\n2\n3\n4\n5\n6\n",
-            "1 3 0\n2 4 0\n3 5 0\n4 6 0\n5 1 0\n6 2 0\n1 2 0\n2 3 0\n3 4 0\n4 5 0\n5 6 0\n6 1 0\n",
-        ),
-    ] {
-        if !is_in_ranges(plan) {
-            panic!(rt; "{plan:?} is in its ranges");
-        }
-        let mut first = sink(alloc, 0, 1000)?;
-        let mut second = sink(alloc, 0, 1000)?;
-        assert_eq!(rt;
-            make_vertices(alloc, &mut first, &plan),
-            Ok(()),
-            "at {plan:?}"
-        );
-        assert_eq!(rt;
-            make_edges(alloc, &mut second, &plan),
-            Ok(()),
-            "at {plan:?}"
-        );
-        assert_eq!(rt; first.bytes(), vertices.as_bytes(), "at {plan:?}");
-        assert_eq!(rt; second.bytes(), edges.as_bytes(), "at {plan:?}");
-    }
-    Ok(())
-}
-
 // The line at this place, from 0 on, without its LF.
 fn line(text: &[u8], place: usize) -> Option<&[u8]> {
     text.split(|byte| *byte == b'\n').nth(place)

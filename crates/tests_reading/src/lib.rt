@@ -2,8 +2,10 @@
 #![tactic(auto)]
 
 #[cfg(test)]
-mod edges;
+mod limits;
 #[cfg(test)]
 mod pieces;
 #[cfg(test)]
-mod vertices;
+mod reads;
+#[cfg(test)]
+mod rows;

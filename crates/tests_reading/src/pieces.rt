@@ -1,7 +1,7 @@
 //! A source that gives a few bytes at a time.
 ghost use Rattle.std.specs.Prelude.{◌<◌};
 
-use gl_outside::{Failed, PlainSource, Source};
+use gl_outside::{Failed, MemSource, Source};
 use std::alloc::{AllocError, Global};
 
 /// Another source, of which at most so many bytes are given at once.
@@ -37,7 +37,14 @@ impl<S: Source> Source for InPieces<S> {
     }
 }
 
-/// The source of these bytes.
-pub fn plain_source(alloc: Global, text: &str) -> Result<PlainSource, AllocError> {
-    Ok(PlainSource::new(Vec::from_slice(alloc, text.as_bytes())?))
+/// The source of a text in pieces of at most `most` bytes, of which the call of the number `failing` fails.
+pub fn in_pieces(
+    alloc: Global,
+    text: &str,
+    most: usize,
+    failing: u64,
+) -> Result<InPieces<MemSource>, AllocError> {
+    let bytes = Vec::from_slice(alloc, text.as_bytes())?;
+    let source = MemSource::new(bytes, vec![in alloc; failing]?);
+    Ok(InPieces::new(source, most.max(1)))
 }
