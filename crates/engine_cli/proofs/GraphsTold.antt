@@ -26,11 +26,11 @@ tells job vertices edges ids g lists has =
     let same : ids ≡ g.ids =
     sorted_once lists.listed ids g.ids lists.are.ascending has.graph.graph.ascending lists.same
     (IsPermutation-trans lists.listed ids g.ids lists.same has.graph.same_ids) in
-    let Edges : List ℕ → Type 0 = λ ids. edges_of ids job.directed (is_weighted job.algorithm) edges ≡ Ok has.given in
-    let Graph : List ℕ → Type 0 = λ ids. IsGraphOf ids has.given job.directed g in
+    let Edges : List ℕ → Type 0 = λ ids. edges_of ids job.directed (is_weighted job.algorithm) edges ≡ Ok has.listed in
+    let Graph : List ℕ → Type 0 = λ ids. IsGraphOf ids has.listed job.directed g in
     record {
       vertex_lines = subst (ListsIds vertices) same lists;
-      listed = has.given;
+      listed = has.listed;
       edge_lines = subst Edges same has.lines;
       graph = subst Graph same has.graph;
     }

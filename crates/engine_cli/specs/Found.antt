@@ -66,9 +66,9 @@ TakesVertices names text before now (Err reading.NoMemory) = ⊤
 
 -- the edge text over these identifiers has the edges of the graph
 pub record ListsEdges (directed weighted : Bool) (ids : List ℕ) (g : DataGraph) (edges : List ℕ) : Type 0 where
-  pub given : List EdgeIn
-  pub lines : edges_of ids directed weighted edges ≡ Ok given
-  pub graph : IsGraphOf ids given directed g
+  pub listed : List EdgeIn
+  pub lines : edges_of ids directed weighted edges ≡ Ok listed
+  pub graph : IsGraphOf ids listed directed g
 
 -- what reading the edge file answers, over the vertices with these identifiers
 abbrev pub TakesEdges : Bool → Bool → List ℕ → Option (List (List ℕ)) → Option (List ℕ) → ℕ → ℕ → Result DataGraph Reading → Type 0
