@@ -1,6 +1,5 @@
 -- There is one greedy colouring, and it is proper.
-use Rattle.std.proofs.Common.{◌≡◌, ℕ, zero, suc, ◌+◌, ◌<◌, ◌≤◌, Bool, true, false, ◌||◌, ◌&&◌, List, [], ◌∷◌, length, map, get_or, eqb, refl, sym, ap, ◌∙◌, subst, ⊎_elim, Contains, All, arith}
-use Rattle.std.specs.List.{list_any}
+use Rattle.std.proofs.Common.{◌≡◌, ℕ, zero, suc, ◌+◌, ◌<◌, ◌≤◌, Bool, true, false, ◌||◌, ◌&&◌, length, map, get_or, eqb, refl, sym, ap, ◌∙◌, ⊎_elim, Contains, All, arith}
 use Rattle.std.proofs.lemmas.Bool.{cases_eq, cases_lt, eq-eqb, eqb-true}
 use Rattle.std.proofs.lemmas.List.{get_or-map, length-map}
 use Rattle.std.proofs.lemmas.List.Folds.{list_any_at}
@@ -11,7 +10,7 @@ use Rattle.graph_core.specs.Halves.{halves_of}
 use Rattle.graph_core.specs.Neighbours.{neighbours_of}
 use Rattle.graph_core.proofs.NeighbourLemmas.{halves_join}
 use Rattle.graph_core.proofs.VertexLaws.{neighbours_same, degree_counts}
-use Rattle.color_steps.specs.Greedy.{IsLowerNeighbour, HasLeastFree, IsGreedy}
+use Rattle.color_steps.specs.Greedy.{HasLeastFree, IsGreedy}
 use Rattle.color_steps.proofs.FewTaken.{few_taken}
 
 -- ---- there is one
@@ -77,10 +76,10 @@ within_degree : (g : DataGraph) (colour : ℕ → ℕ) (v : ℕ) → HasLeastFre
 within_degree g colour v is =
     let ns = neighbours_of g v in
     let few = few_taken (colour v) (map colour ns)
-        (λ j low high.
-        let (u, lower, same) = is.least j low high in
-        let (i, inside, read) = lower.1 in
-        (i, omega (arith, inside, length-map ns colour), get_or-map colour ns i u j inside ∙ ap colour read ∙ same)) in
+    (λ j low high.
+    let (u, lower, same) = is.least j low high in
+    let (i, inside, read) = lower.1 in
+    (i, omega (arith, inside, length-map ns colour), get_or-map colour ns i u j inside ∙ ap colour read ∙ same)) in
     omega (arith, few, length-map ns colour, degree_counts g v)
 
 pub greedy_proper : (g : DataGraph) (colour : ℕ → ℕ) → IsDataGraph g → IsGreedy g colour → IsProperColouring g colour

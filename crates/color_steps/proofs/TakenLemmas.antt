@@ -1,18 +1,16 @@
 -- Taken colours are those of lower neighbours, and the first free one is the next vertex's.
-use Rattle.std.proofs.Common.{◌≡◌, ℕ, zero, suc, ◌+◌, ◌<◌, ◌≤◌, Bool, true, false, ◌&&◌, if◌then◌else◌, List, [], ◌∷◌, ◌++◌, length, map, get_or, slice_index_or, eqb, nat_lt, refl, sym, ap, ◌∙◌, subst, ⊎_elim, Contains, arith}
-use Rattle.std.specs.List.{list_any}
-use Rattle.std.proofs.lemmas.Bool.{cases_Bool, cases_lt, eq-eqb, eqb-true, lt-ltb, ltb-true, and_parts, false≢true}
+use Rattle.std.proofs.Common.{◌≡◌, ℕ, ◌+◌, ◌<◌, ◌≤◌, true, false, List, [], ◌∷◌, ◌++◌, length, map, get_or, slice_index_or, eqb, nat_lt, refl, sym, ap, ◌∙◌, subst, ⊎_elim, Contains, arith}
+use Rattle.std.proofs.lemmas.Bool.{cases_Bool, cases_lt, eq-eqb, eqb-true, lt-ltb, ltb-true, and_parts}
 use Rattle.std.proofs.lemmas.List.{get_or-map, get_or_append_left, get_or_push, get_or_past, length-map, length-append}
 use Rattle.std.proofs.lemmas.List.Folds.{Any-from_list_any, list_any_at}
 use Rattle.graph_core.specs.declared.halves.Half.{Half}
 use Rattle.graph_core.specs.DataGraph.{DataGraph, IsDataGraph, size}
 use Rattle.graph_core.specs.Halves.{halves_of}
 use Rattle.graph_core.specs.HalfRows.{data_half}
-use Rattle.graph_core.specs.Neighbours.{neighbours_of}
 use Rattle.graph_core.proofs.EdgeLemmas.{map-map}
 use Rattle.graph_core.proofs.VertexLaws.{neighbours_same}
 use Rattle.color_steps.specs.Greedy.{IsLowerNeighbour, HasLeastFree}
-use Rattle.color_steps.specs.Inner.Stamps.{has_colour, is_taken, IsFirstWithout}
+use Rattle.color_steps.specs.Inner.Stamps.{has_colour, is_taken, AreStamped, IsFirstWithout}
 
 abbrev colour_in : List ℕ → ℕ → ℕ
 colour_in colours v = slice_index_or colours v 0
@@ -31,7 +29,7 @@ taken_by g colours halves k so are taken =
     let u = h.other.0 in
     let both = and_parts (nat_lt u v) (eqb (colour_in colours u) k) holds in
     let has : Contains (map (λ (x : Half). x.other.0) halves) u =
-        (i, omega (arith, inside, length-map halves (λ (x : Half). x.other.0)), get_or-map (λ (x : Half). x.other.0) halves i h u inside ∙ ap (λ (x : Half). x.other.0) read) in
+    (i, omega (arith, inside, length-map halves (λ (x : Half). x.other.0)), get_or-map (λ (x : Half). x.other.0) halves i h u inside ∙ ap (λ (x : Half). x.other.0) read) in
     let near = (neighbours_same g v u so).1 (subst (λ xs. Contains xs u) (sym (others g v halves are)) has) in
     (u, (ltb-true u v both.0, near), eqb-true (colour_in colours u) k both.1)
 
@@ -47,15 +45,11 @@ takes g colours halves u so are lower =
 
 -- ---- the stamps
 
--- what the turn of a vertex leaves on the stamps
-abbrev pub AreStamped : List ℕ → List Half → List ℕ → List ℕ → Type 0
-AreStamped colours halves old new = (k : ℕ) → k < length old → slice_index_or new k 0 ≡ (if is_taken colours halves k then length colours + 1 else slice_index_or old k 0)
+stamped : (stamp : ℕ) (colours : List ℕ) (halves : List Half) (old new : List ℕ) (k : ℕ) → AreStamped stamp colours halves old new → k < length old → is_taken colours halves k ≡ true → slice_index_or new k 0 ≡ stamp
+stamped stamp colours halves old new k are inside taken = are k inside ∙ rw taken refl
 
-stamped : (colours : List ℕ) (halves : List Half) (old new : List ℕ) (k : ℕ) → AreStamped colours halves old new → k < length old → is_taken colours halves k ≡ true → slice_index_or new k 0 ≡ length colours + 1
-stamped colours halves old new k are inside taken = are k inside ∙ rw taken refl
-
-left : (colours : List ℕ) (halves : List Half) (old new : List ℕ) (k : ℕ) → AreStamped colours halves old new → k < length old → is_taken colours halves k ≡ false → slice_index_or new k 0 ≡ slice_index_or old k 0
-left colours halves old new k are inside free = are k inside ∙ rw free refl
+left : (stamp : ℕ) (colours : List ℕ) (halves : List Half) (old new : List ℕ) (k : ℕ) → AreStamped stamp colours halves old new → k < length old → is_taken colours halves k ≡ false → slice_index_or new k 0 ≡ slice_index_or old k 0
+left stamp colours halves old new k are inside free = are k inside ∙ rw free refl
 
 -- what holds at the turn of a vertex: the stamps are of vertices before it, and no vertex before it has a colour above one more than its number
 pub record AreTurns (g : DataGraph) (colours stamps : List ℕ) : Type 0 where
@@ -64,31 +58,29 @@ pub record AreTurns (g : DataGraph) (colours stamps : List ℕ) : Type 0 where
   pub low : (u : ℕ) → u < length colours → slice_index_or colours u 0 ≤ u + 1
   pub greedy : (u : ℕ) → u < length colours → HasLeastFree g (λ w. slice_index_or colours w 0) u
 
-module _ (g : DataGraph) (colours old new : List ℕ) (halves : List Half) (so : IsDataGraph g) (halves_are : map data_half halves ≡ halves_of g (length colours)) (inside : length colours < size g) (turns : AreTurns g colours old) (same_room : length new ≡ length old) (are : AreStamped colours halves old new) where
-
-  last_free : slice_index_or new (length colours + 1) 0 ≡ length colours + 1 → ⊥
+module _ (g : DataGraph) (colours old new : List ℕ) (halves : List Half) (so : IsDataGraph g) (halves_are : map data_half halves ≡ halves_of g (length colours)) (inside : length colours < size g) (turns : AreTurns g colours old) (same_room : length new ≡ length old) (stamp : ℕ) (turn : stamp ≡ length colours + 1) (are : AreStamped stamp colours halves old new) where
+  last_free : slice_index_or new (length colours + 1) 0 ≡ stamp → ⊥
   last_free is =
       let short : length colours + 1 < length old = omega (arith, turns.room) in
       ⊎_elim
       (λ taken. let (u, lower, has) = taken_by g colours halves (length colours + 1) so halves_are taken in omega (arith, turns.low u lower.0, lower.0))
-      (λ free. omega (arith, left colours halves old new (length colours + 1) are short free, turns.past (length colours + 1)))
+      (λ free. omega (arith, left stamp colours halves old new (length colours + 1) are short free, turns.past (length colours + 1)))
       (cases_Bool (is_taken colours halves (length colours + 1)))
 
-  pub some_free : (k : ℕ) × (1 ≤ k) × (k < length new) × (slice_index_or new k 0 ≡ length colours + 1 → ⊥)
+  pub some_free : (k : ℕ) × (1 ≤ k) × (k < length new) × (slice_index_or new k 0 ≡ stamp → ⊥)
   some_free = (length colours + 1, omega arith, omega (arith, turns.room), last_free)
 
   past_still : (k : ℕ) → slice_index_or new k 0 ≤ length colours + 1
   past_still k =
       ⊎_elim
       (λ (short : k < length old). ⊎_elim
-      (λ taken. omega (arith, stamped colours halves old new k are short taken))
-      (λ free. omega (arith, left colours halves old new k are short free, turns.past k))
+      (λ taken. omega (arith, stamped stamp colours halves old new k are short taken))
+      (λ free. omega (arith, left stamp colours halves old new k are short free, turns.past k))
       (cases_Bool (is_taken colours halves k)))
       (λ long. omega (arith, get_or_past new k 0 (omega arith)))
       (cases_lt k (length old))
 
-  module _ (c : ℕ) (first : IsFirstWithout new (length colours + 1) c) where
-
+  module _ (c : ℕ) (first : IsFirstWithout new stamp c) where
     c_low : c ≤ length colours + 1
     c_low =
         ⊎_elim
@@ -128,13 +120,13 @@ module _ (g : DataGraph) (colours old new : List ℕ) (halves : List Half) (so :
           free = λ u lower same.
               let is : colour_in colours u ≡ c = sym (before_same u lower.0) ∙ same ∙ here in
               let taken = subst (λ k. is_taken colours halves k ≡ true) is (takes g colours halves u so halves_are lower) in
-              first.other (stamped colours halves old new c are (omega (arith, first.inside)) taken);
+              first.other (stamped stamp colours halves old new c are (omega (arith, first.inside)) taken);
           least = λ k one high.
-              let stamp = first.before k one (omega (arith, here, high)) in
+              let had = first.before k one (omega (arith, here, high)) in
               let short : k < length old = omega (arith, here, high, first.inside) in
               ⊎_elim
               (λ taken. let (u, lower, is) = taken_by g colours halves k so halves_are taken in (u, lower, before_same u lower.0 ∙ is))
-              (λ free. absurd (omega (arith, left colours halves old new k are short free, turns.past k)))
+              (λ free. absurd (omega (arith, left stamp colours halves old new k are short free, turns.past k)))
               (cases_Bool (is_taken colours halves k));
         }
 

@@ -1,9 +1,9 @@
 //! The greedy colouring: vertices ascending, each gets the least colour that no neighbour before it has.
-ghost use Rattle.std.specs.Prelude.{◌≡◌, ◌≢◌, ℕ, ◌+◌, ◌^◌, ◌<◌, ◌≤◌, if◌then◌else◌, length, slice_index_or, IfOk};
+ghost use Rattle.std.specs.Prelude.{◌≡◌, ◌≢◌, ℕ, ◌^◌, ◌<◌, ◌≤◌, length, slice_index_or, IfOk};
 ghost use Rattle.graph_core.specs.Colourings.{IsProperColouring};
 ghost use Rattle.graph_core.specs.DataGraph.{size};
 ghost use Rattle.color_steps.specs.Greedy.{IsGreedy};
-ghost use Rattle.color_steps.specs.Inner.Stamps.{is_taken, IsFirstWithout};
+ghost use Rattle.color_steps.specs.Inner.Stamps.{AreStamped, IsFirstWithout};
 
 use gl_base::{NoMemory, Vertex};
 use graph_core::{Graph, Half};
@@ -20,21 +20,20 @@ pub fn greedy_colouring(alloc: Global, graph: &Graph) -> Result<Vec<u32>, NoMemo
     let mut colours = Vec::with_capacity(alloc, count as usize)?;
     let mut stamps = vec![in alloc; 0; count as usize + 1]?;
     for v in 0..count {
-        stamp_taken(&mut stamps, graph.halves(Vertex(v)), &colours);
-        colours.push_reserved(first_without(&stamps, v + 1));
+        let stamp = v + 1;
+        stamp_taken(&mut stamps, stamp, graph.halves(Vertex(v)), &colours);
+        colours.push_reserved(first_without(&stamps, stamp));
     }
     Ok(colours)
 }
 
-/// Stamps the colour of each vertex that a half-edge leads to and that has one. The stamp is one more than the number of the vertex
-/// whose turn it is, so stamps of vertices before it need not be taken away.
-fn stamp_taken(stamps: &mut Vec<u32>, halves: &[Half], colours: &[u32])
-    requires few { length colours.now + 1 < 2 ^ 32 }
+/// Stamps the colour of each vertex that a half-edge leads to and that has one. No earlier turn had this stamp, so what it left
+/// need not be taken away.
+fn stamp_taken(stamps: &mut Vec<u32>, stamp: u32, halves: &[Half], colours: &[u32])
     requires low { (u : ℕ) → u < length colours.now → slice_index_or colours.now u 0 < length stamps.old.items }
     ensures len { length stamps.new.items ≡ length stamps.old.items }
-    ensures stamps { (k : ℕ) → k < length stamps.old.items → slice_index_or stamps.new.items k 0 ≡ (if is_taken colours.now halves.now k then length colours.now + 1 else slice_index_or stamps.old.items k 0) }
+    ensures stamps { AreStamped stamp colours.now halves.now stamps.old.items stamps.new.items }
 {
-    let stamp = colours.len() as u32 + 1;
     for half in halves {
         let other = half.other.0 as usize;
         if other < colours.len() {
