@@ -99,7 +99,7 @@ pub fn hub(rt: &impl Abort, alloc: Global, count: u64) -> Result<Graph, GraphFau
     graph_of(rt, alloc, &ids, &spokes, false)
 }
 
-fn identifiers(alloc: Global, count: u64) -> Result<Vec<u64>, AllocError> {
+pub fn identifiers(alloc: Global, count: u64) -> Result<Vec<u64>, AllocError> {
     let mut ids = Vec::new(alloc);
     for id in 0..count {
         ids.push(id)?;
@@ -107,7 +107,7 @@ fn identifiers(alloc: Global, count: u64) -> Result<Vec<u64>, AllocError> {
     Ok(ids)
 }
 
-fn spokes_of(alloc: Global, count: u64) -> Result<Vec<(u64, u64)>, AllocError> {
+pub fn spokes_of(alloc: Global, count: u64) -> Result<Vec<(u64, u64)>, AllocError> {
     let mut spokes = Vec::new(alloc);
     for id in 0..count {
         if id != 500 {

@@ -4,4 +4,6 @@
 #[cfg(test)]
 mod build;
 #[cfg(test)]
+mod colouring;
+#[cfg(test)]
 mod tests;

@@ -1,0 +1,3 @@
+pub mod FewTaken
+pub mod GreedyLaws
+pub mod TakenLemmas
