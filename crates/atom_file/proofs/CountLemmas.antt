@@ -7,7 +7,7 @@ use Rattle.atom_file.specs.declared.runs.RecordKind.TheVariants.{Vertices, Ghost
 use Rattle.atom_file.specs.declared.runs.Place.{Place}
 use Rattle.atom_file.specs.Fields.{field}
 use Rattle.atom_file.specs.Faults.{header_fault, record_size, record_key, records_fault, atom_fault}
-use Rattle.atom_file.specs.Inner.Runs.{fault_from, IsRun, IsRunBetween, IsBelow}
+use Rattle.atom_file.specs.Inner.Runs.{fault_from, IsRecordRun, IsRunBetween, IsBelow}
 use Rattle.atom_file.specs.Inner.Counts.{AreCounts}
 use Rattle.atom_file.proofs.FieldLemmas.{IsBytes, field-lt}
 
@@ -58,8 +58,8 @@ low_behind bytes a b c h first second third at_b at_c some inside sized =
       | inr (inr three) ↦ absurd (third some inside three)
     ]
 
-run_at : (bytes : List ℕ) (tag size at place n : ℕ) → place ≡ at → IsRun bytes tag size place n → IsRun bytes tag size at n
-run_at bytes tag size at place n e run = subst (λ (p : ℕ). IsRun bytes tag size p n) e run
+run_at : (bytes : List ℕ) (tag size at place n : ℕ) → place ≡ at → IsRecordRun bytes tag size place n → IsRecordRun bytes tag size at n
+run_at bytes tag size at place n e run = subst (λ (p : ℕ). IsRecordRun bytes tag size p n) e run
 
 -- three runs, one behind the other, up to the end of the file
 pub AreCounts-from_runs : (bytes : List ℕ) (start a b c : Place) (v g e : ℕ) → header_fault bytes ≡ None → start.at ≡ 20 → start.left ≡ field bytes 16 4 → IsRunBetween bytes Vertices start v a → IsRunBetween bytes Ghosts a g b → IsRunBetween bytes Edges b e c → c.left ≡ 0 → c.at ≡ length bytes → AreCounts bytes v g e

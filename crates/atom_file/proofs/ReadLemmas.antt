@@ -13,7 +13,7 @@ use Rattle.atom_file.specs.declared.faults.AtomFault.TheVariants.{BadTag}
 use Rattle.atom_file.specs.Fields.{field}
 use Rattle.atom_file.specs.Atoms.{Atom, header_of, record_count, atom_bytes, IsAtom, AtomFits}
 use Rattle.atom_file.specs.Faults.{torn_fault, value_fault, header_fault}
-use Rattle.atom_file.specs.Inner.Runs.{IsRun}
+use Rattle.atom_file.specs.Inner.Runs.{IsRecordRun}
 use Rattle.atom_file.specs.Inner.Counts.{AreCounts}
 use Rattle.atom_file.specs.Views.{vertex_at, ghost_at, edge_at, records_in}
 use Rattle.atom_file.proofs.FieldLemmas.{IsBytes, IsBytes-drop, IsBytes-take, two, four, eight, big_bytes-field, field-lt}
@@ -27,7 +27,7 @@ part bytes at end = take (end - at) (drop at bytes)
 IsBytes-part : (bytes : List ℕ) (at end : ℕ) → IsBytes bytes → IsBytes (part bytes at end)
 IsBytes-part bytes at end h = IsBytes-take (end - at) (drop at bytes) (IsBytes-drop at bytes h)
 
-module _ {T : Type 0} {tag size : ℕ} {number : T → ℕ} {Fits : T → Type 0} {write : T → List ℕ} {read : List ℕ → T} (form : IsForm tag size number Fits write read) (bytes : List ℕ) (at end n : ℕ) (to : end ≡ at + size * n) (run : IsRun bytes tag size at n) where
+module _ {T : Type 0} {tag size : ℕ} {number : T → ℕ} {Fits : T → Type 0} {write : T → List ℕ} {read : List ℕ → T} (form : IsForm tag size number Fits write read) (bytes : List ℕ) (at end n : ℕ) (to : end ≡ at + size * n) (run : IsRecordRun bytes tag size at n) where
   -- the first five bytes of each record stand in the part
   inside : (i b : ℕ) → i < n → b < 5 → size * i + b < end - at
   inside i b below few = omega (arith, mul-add-lt i size b n below (omega (arith, form.some)))

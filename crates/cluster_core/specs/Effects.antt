@@ -121,8 +121,8 @@ is_at None u = false
 is_at (Some v) u = v == u
 
 -- where machine a has unmarked vertices and none pending, the first unmarked one becomes pending
-abbrev pub seeded : Setting → ℕ → Part → Part
-seeded st a part =
+abbrev pub part_seeded : Setting → ℕ → Part → Part
+part_seeded st a part =
     record part { pending = λ u. is_at (seed_if (first_pending st part) (first_unmarked st a part)) u || part.pending u }
 
 -- no number
@@ -135,7 +135,7 @@ knows k part = record part { known = max part.known k; saved = if nat_lt part.kn
 
 -- machine a learns that snapshot k has begun
 abbrev pub begins : Setting → ℕ → ℕ → Part → Part
-begins st a k part = seeded st a (knows k part)
+begins st a k part = part_seeded st a (knows k part)
 
 -- news of an update: numbers, tasks and pending vertices are taken over, and the scope holds no lock here any more
 abbrev pub learns : ScopeId → News → Part → Part
@@ -276,7 +276,7 @@ mark_news st part v q =
 -- machine a makes the snapshot update of v: its neighbours that have no mark yet become pending
 abbrev pub marked : Setting → ℕ → ScopeId → ℕ → Part → Part
 marked st a s v part =
-    seeded st a (ends st a s v (mark_news st part v)
+    part_seeded st a (ends st a s v (mark_news st part v)
     (record part {
       datum = set_at part.datum v (marked_datum part v);
       pending = λ u. pends_for st part v a u || (part.pending u && not (u == v));

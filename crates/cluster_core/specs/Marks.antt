@@ -35,7 +35,7 @@ IsInPlace w a =
     × (((w.reports a ≡ (w.part a).saved ∷ []) × (w.collected a ≡ None)) ⊎ ((w.reports a ≡ []) × (w.collected a ≡ Some (w.part a).saved))))
 
 -- How far machines and vertices are with the snapshot under way.
-pub record AreMarks (st : Setting) (w : World) : Type 0 where
+pub record MarksHold (st : Setting) (w : World) : Type 0 where
   pub base : st.base ≤ w.acknowledged
   -- at most one snapshot is under way
   pub under : (w.begun ≡ w.acknowledged) ⊎ (w.begun ≡ suc w.acknowledged)

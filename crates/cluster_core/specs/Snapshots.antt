@@ -3,7 +3,7 @@ use Rattle.std.specs.Prelude.{List, None, [], false, ℕ, ◌<◌, ◌≡◌}
 use Rattle.gl_base.specs.declared.entries.Entry.{Entry}
 use Rattle.cluster_core.specs.Copies.{AreCopies}
 use Rattle.cluster_core.specs.Cuts.{IsCut}
-use Rattle.cluster_core.specs.Marks.{AreMarks}
+use Rattle.cluster_core.specs.Marks.{MarksHold}
 use Rattle.cluster_core.specs.Replays.{IsReplay}
 use Rattle.cluster_core.specs.Settings.{Setting}
 use Rattle.cluster_core.specs.Worlds.{World}
@@ -14,7 +14,7 @@ pub record IsConsistent (st : Setting) (w : World) : Type 0 where
   pub order : List Entry
   pub copies : AreCopies st w
   pub replay : IsReplay st w order
-  pub marks : AreMarks st w
+  pub marks : MarksHold st w
   pub count : ℕ → ℕ
   pub cut : st.base < w.begun → IsCut st w order count
 

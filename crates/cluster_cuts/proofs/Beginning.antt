@@ -5,7 +5,7 @@ use Rattle.std.proofs.lemmas.Bool.{and_from}
 use Rattle.gl_base.specs.declared.scopes.Datum.{Datum}
 use Rattle.graph_core.specs.DataGraph.{size}
 use Rattle.seq_run.specs.States.{GraphState}
-use Rattle.cluster_core.specs.Marks.{mark_of, IsMarking, AreMarks}
+use Rattle.cluster_core.specs.Marks.{mark_of, IsMarking, MarksHold}
 use Rattle.cluster_core.specs.Recovering.{recovered, going_on}
 use Rattle.cluster_core.specs.Runs.{IsStart}
 use Rattle.cluster_core.specs.Settings.{Setting, IsSetting}
@@ -21,7 +21,7 @@ module _ (st : Setting) (is : IsSetting st) (w : World) (start : IsStart st w) (
   nothing_under_way : (p q : ℕ) → way w p q ≡ []
   nothing_under_way p q = ap₂ (λ xs ys. xs ++ ys) (start.links p q) (start.outboxes p q)
 
-  pub marks_start : AreMarks st w
+  pub marks_start : MarksHold st w
   marks_start =
       record {
         base = le_of_eq (sym unmarked.acknowledged);

@@ -6,7 +6,7 @@ use Rattle.graph_core.specs.DataGraph.{size}
 use Rattle.cluster_core.specs.Actions.{marks}
 use Rattle.cluster_core.specs.Cuts.{HasMarkedEnd, IsToBeMarked, IsCut}
 use Rattle.cluster_core.specs.Effects.{nothing_saved, marked}
-use Rattle.cluster_core.specs.Marks.{mark_of, vertex_named, AreMarks}
+use Rattle.cluster_core.specs.Marks.{mark_of, vertex_named, MarksHold}
 use Rattle.cluster_core.specs.Messages.{Section, Message, Ask, Ready, Done}
 use Rattle.cluster_core.specs.Parts.{Part}
 use Rattle.cluster_core.specs.Settings.{Setting, IsSetting, nth_edge}
@@ -34,11 +34,11 @@ pub record IsCutFrame (st : Setting) (old new : World) : Type 0 where
   pub to_be : (u : ℕ) → u < size st.graph → IsToBeMarked st old u → IsToBeMarked st new u
 
 -- the owner of a marked vertex knows the newest snapshot
-pub marked_known : (st : Setting) → IsSetting st → (w : World) → AreMarks st w → (v : ℕ) → v < size st.graph → mark_of st w v ≡ w.begun → (w.part (st.owner v)).known ≡ w.begun
+pub marked_known : (st : Setting) → IsSetting st → (w : World) → MarksHold st w → (v : ℕ) → v < size st.graph → mark_of st w v ≡ w.begun → (w.part (st.owner v)).known ≡ w.begun
 marked_known st is w marks v within marked =
     le_antisymm (marks.known (st.owner v) (is.owner v within)).1 (subst (λ n. n ≤ (w.part (st.owner v)).known) marked (marks.marks v within).1)
 
-module _ (st : Setting) (is : IsSetting st) (old new : World) (frame : IsCutFrame st old new) (marks : AreMarks st old) where
+module _ (st : Setting) (is : IsSetting st) (old new : World) (frame : IsCutFrame st old new) (marks : MarksHold st old) where
   mark_was : (v : ℕ) → v < size st.graph → mark_of st new v ≡ new.begun → mark_of st old v ≡ old.begun
   mark_was v within marked = sym (frame.marks v within) ∙ marked ∙ frame.begun
 
@@ -108,7 +108,7 @@ quiet_named old new step u p q named =
     sym (vertex_named-dones u (way new p q)) ∙ ap (vertex_named u) (step.news p q) ∙ vertex_named-dones u (way old p q) ∙ named
 
 -- a machine that learns of a snapshot
-module _ (st : Setting) (w : World) (marks : AreMarks st w) (a k : ℕ) (new : Part) (learning : IsLearning st a k (w.part a) new) (low : k ≤ w.begun) (link : ℕ → ℕ → List Message) (orders : ℕ → List ℕ) where
+module _ (st : Setting) (w : World) (marks : MarksHold st w) (a k : ℕ) (new : Part) (learning : IsLearning st a k (w.part a) new) (low : k ≤ w.begun) (link : ℕ → ℕ → List Message) (orders : ℕ → List ℕ) where
   abbrev world : World
   world = learned w a new link orders
 

@@ -8,7 +8,7 @@ use Rattle.seq_run.specs.States.{GraphState}
 use Rattle.cluster_core.specs.Copies.{AreCopies}
 use Rattle.cluster_core.specs.Cuts.{cut_of, HasMarkedEnd, IsToBeMarked, IsCut}
 use Rattle.cluster_core.specs.Effects.{ends, is_left, other_end, is_end, saves_edge, save, marked_datum, pends_for, mark_news, marked}
-use Rattle.cluster_core.specs.Marks.{mark_of, names_vertex, vertex_named, AreMarks}
+use Rattle.cluster_core.specs.Marks.{mark_of, names_vertex, vertex_named, MarksHold}
 use Rattle.cluster_core.specs.Messages.{News, Done}
 use Rattle.cluster_core.specs.Parts.{Part}
 use Rattle.cluster_core.specs.Places.{done_near}
@@ -42,7 +42,7 @@ between_end e v x apart between = ⊎_elim
     (or_right (e.from == v) (e.to == v) (eq-eqb e.to v z.0), cond-false (e.from == v) e.to e.from (ne_eqb e.from v (λ same. apart (same ∙ sym z.0))) ∙ z.1))
     between
 
-module _ (st : Setting) (is : IsSetting st) (w : World) (s : ScopeId) (v : ℕ) (within : v < size st.graph) (owned : st.owner v ≡ s.home.0) (still : (p : ℕ) → done_near st v (way w p s.home.0) ≡ false) (copies : AreCopies st w) (order : List Entry) (replay : IsReplay st w order) (marks : AreMarks st w) (pends : (w.part s.home.0).pending v ≡ true) (count : ℕ → ℕ) (cut : IsCut st w order count) where
+module _ (st : Setting) (is : IsSetting st) (w : World) (s : ScopeId) (v : ℕ) (within : v < size st.graph) (owned : st.owner v ≡ s.home.0) (still : (p : ℕ) → done_near st v (way w p s.home.0) ≡ false) (copies : AreCopies st w) (order : List Entry) (replay : IsReplay st w order) (marks : MarksHold st w) (pends : (w.part s.home.0).pending v ≡ true) (count : ℕ → ℕ) (cut : IsCut st w order count) where
   abbrev own : Part
   own = w.part s.home.0
 

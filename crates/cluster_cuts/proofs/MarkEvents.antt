@@ -9,7 +9,7 @@ use Rattle.graph_core.proofs.HalvesLaws.{each-append, each-weaker}
 use Rattle.cluster_core.specs.Actions.{MaySend, MayRecord, delivers, begins_one, hears, sends_section, collects, records}
 use Rattle.cluster_core.specs.Copies.{AreCopies}
 use Rattle.cluster_core.specs.Effects.{newer_datum, begins, applied}
-use Rattle.cluster_core.specs.Marks.{mark_of, IsMarking, IsInPlace, AreMarks}
+use Rattle.cluster_core.specs.Marks.{mark_of, IsMarking, IsInPlace, MarksHold}
 use Rattle.cluster_core.specs.Messages.{News, Section, Message, Ask, Ready, Done}
 use Rattle.cluster_core.specs.Parts.{Part}
 use Rattle.cluster_core.specs.Ranges.{set_at}
@@ -27,7 +27,7 @@ use Rattle.cluster_cuts.proofs.MarkSteps.{marking_same, placed_same, newest_abov
 below_max : (m n x k b : ℕ) → m < b → n ≡ b → m < max x n
 below_max m n x k b low same = omega arith
 
-module _ (st : Setting) (is : IsSetting st) (w : World) (p q : ℕ) (s : ScopeId) (news : News) (behind : List Message) (first : w.link p q ≡ Done s news ∷ behind) (copies : AreCopies st w) (marks : AreMarks st w) where
+module _ (st : Setting) (is : IsSetting st) (w : World) (p q : ℕ) (s : ScopeId) (news : News) (behind : List Message) (first : w.link p q ≡ Done s news ∷ behind) (copies : AreCopies st w) (marks : MarksHold st w) where
   told_front : AllByRecursion (IsMarking st w) (Done s news ∷ way (taken w p q (Done s news) behind first) p q)
   told_front = subst (AllByRecursion (IsMarking st w)) (taken-here w p q (Done s news) behind first) (marks.told p q)
 
@@ -82,16 +82,16 @@ module _ (st : Setting) (is : IsSetting st) (w : World) (p q : ℕ) (s : ScopeId
       (λ (other : (i ≢ p) ⊎ (j ≢ q)). subst (AllByRecursion (IsMarking st w)) (sym (now ∙ taken-there w p q (Done s news) behind first i j other)) (marks.told i j))
       (same_way p q i j)
 
-  pub marks_come : AreMarks st (delivers st w p q (Done s news ∷ behind))
+  pub marks_come : MarksHold st (delivers st w p q (Done s news ∷ behind))
   marks_come = marks_learned st w marks q news.number after_news news_learn number_low new.link w.orders marks.orders told_now
 
 -- ---- an order is heard, and a snapshot begins
 
-module _ (st : Setting) (w : World) (marks : AreMarks st w) where
+module _ (st : Setting) (w : World) (marks : MarksHold st w) where
   pub order_low : (a k : ℕ) (behind : List ℕ) → w.orders a ≡ k ∷ behind → k ≤ w.begun
   order_low a k behind first = (subst (AllByRecursion (λ n. n ≤ w.begun)) first (marks.orders a)).0
 
-  pub marks_heard : (a k : ℕ) (behind : List ℕ) → w.orders a ≡ k ∷ behind → AreMarks st (hears st w a (k ∷ behind))
+  pub marks_heard : (a k : ℕ) (behind : List ℕ) → w.orders a ≡ k ∷ behind → MarksHold st (hears st w a (k ∷ behind))
   marks_heard a k behind first =
       marks_learned st w marks a k (begins st a k (w.part a)) (begins_learns st a k w marks) (order_low a k behind first) w.link (set_at w.orders a behind)
       (λ b. set_at-cases (AllByRecursion (λ n. n ≤ w.begun)) w.orders a behind b
@@ -123,7 +123,7 @@ module _ (st : Setting) (w : World) (marks : AreMarks st w) where
     marking_begun is over p q ms fit.1 all.1,
   )
 
-  pub marks_begin : IsSetting st → AreCopies st w → w.acknowledged ≡ w.begun → AreMarks st (begins_one w)
+  pub marks_begin : IsSetting st → AreCopies st w → w.acknowledged ≡ w.begun → MarksHold st (begins_one w)
   marks_begin is copies over =
       record {
         base = marks.base;
@@ -141,7 +141,7 @@ module _ (st : Setting) (w : World) (marks : AreMarks st w) where
 
   -- ---- a section is sent, comes, and all are recorded
 
-  pub marks_send : (a : ℕ) → MaySend st a (w.part a) → AreMarks st (sends_section w a)
+  pub marks_send : (a : ℕ) → MaySend st a (w.part a) → MarksHold st (sends_section w a)
   marks_send a may =
       let part : Part = record (w.part a) { sent = (w.part a).known } in
       let mark : (v : ℕ) → mark_of st (sends_section w a) v ≡ mark_of st w v = λ v. set_at-kept (λ (p : Part). (p.datum v).mark) w.part a part refl (st.owner v) in
@@ -192,7 +192,7 @@ module _ (st : Setting) (w : World) (marks : AreMarks st w) where
             (cases_eq b a);
       }
 
-  pub marks_collect : (a : ℕ) (section : Section) (behind : List Section) → w.reports a ≡ section ∷ behind → AreMarks st (collects w a (section ∷ behind))
+  pub marks_collect : (a : ℕ) (section : Section) (behind : List Section) → w.reports a ≡ section ∷ behind → MarksHold st (collects w a (section ∷ behind))
   marks_collect a section behind first =
       record {
         base = marks.base;
@@ -250,7 +250,7 @@ module _ (st : Setting) (w : World) (marks : AreMarks st w) where
   pub all_known : MayRecord st w → (a : ℕ) → a < st.machines → (w.part a).known ≡ w.begun
   all_known may a low = (marks.sent a low (section_come may a low).0 may.under).0
 
-  pub marks_record : IsSetting st → MayRecord st w → AreMarks st (records w)
+  pub marks_record : IsSetting st → MayRecord st w → MarksHold st (records w)
   marks_record is may =
       record {
         base = le_trans marks.base (le_of_lt may.under);

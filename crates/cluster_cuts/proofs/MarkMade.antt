@@ -9,7 +9,7 @@ use Rattle.graph_core.specs.DataGraph.{size}
 use Rattle.graph_core.proofs.HalvesLaws.{each-append}
 use Rattle.cluster_core.specs.Copies.{AreCopies}
 use Rattle.cluster_core.specs.Effects.{ends, is_left, save, marked_datum, number_if, pends_for, mark_news, marked}
-use Rattle.cluster_core.specs.Marks.{mark_of, IsMarking, IsInPlace, AreMarks}
+use Rattle.cluster_core.specs.Marks.{mark_of, IsMarking, IsInPlace, MarksHold}
 use Rattle.cluster_core.specs.Messages.{News, Message, Ask, Ready, Done}
 use Rattle.cluster_core.specs.Parts.{Part}
 use Rattle.cluster_core.specs.Places.{done_near}
@@ -24,7 +24,7 @@ use Rattle.cluster_numbers.proofs.NewsMade.{IsMade, mark_made, way_by}
 use Rattle.cluster_numbers.proofs.Replaying.{true_datum}
 use Rattle.cluster_cuts.proofs.MarkSteps.{seeded_pending, placed_same, newest_above}
 
-module _ (st : Setting) (is : IsSetting st) (w : World) (s : ScopeId) (v : ℕ) (within : v < size st.graph) (owned : st.owner v ≡ s.home.0) (still : (p : ℕ) → done_near st v (way w p s.home.0) ≡ false) (copies : AreCopies st w) (order : List Entry) (replay : IsReplay st w order) (marks : AreMarks st w) (pends : (w.part s.home.0).pending v ≡ true) where
+module _ (st : Setting) (is : IsSetting st) (w : World) (s : ScopeId) (v : ℕ) (within : v < size st.graph) (owned : st.owner v ≡ s.home.0) (still : (p : ℕ) → done_near st v (way w p s.home.0) ≡ false) (copies : AreCopies st w) (order : List Entry) (replay : IsReplay st w order) (marks : MarksHold st w) (pends : (w.part s.home.0).pending v ≡ true) where
   abbrev own : Part
   own = w.part s.home.0
 
@@ -195,7 +195,7 @@ module _ (st : Setting) (is : IsSetting st) (w : World) (s : ScopeId) (v : ℕ) 
       (λ (other : u ≡ v → ⊥). subst₂ (λ m n. (w.acknowledged ≤ m) × (m ≤ n)) (sym (mark_else u other)) (sym (known_same (st.owner u))) (marks.marks u low))
       (cases_eq u v)
 
-  pub marks_marked : AreMarks st world
+  pub marks_marked : MarksHold st world
   marks_marked =
       record {
         base = marks.base;

@@ -5,8 +5,8 @@ use Rattle.std.proofs.lemmas.Bool.{and_parts, or_cases, or_right, cond-false}
 use Rattle.graph_core.specs.DataGraph.{size}
 use Rattle.graph_core.proofs.HalvesLaws.{each-weaker}
 use Rattle.cluster_core.specs.Actions.{marks}
-use Rattle.cluster_core.specs.Effects.{first_unmarked, first_pending, seed_if, is_at, seeded, nothing_saved, knows, begins}
-use Rattle.cluster_core.specs.Marks.{mark_of, IsMarking, IsInPlace, AreMarks}
+use Rattle.cluster_core.specs.Effects.{first_unmarked, first_pending, seed_if, is_at, part_seeded, nothing_saved, knows, begins}
+use Rattle.cluster_core.specs.Marks.{mark_of, IsMarking, IsInPlace, MarksHold}
 use Rattle.cluster_core.specs.Messages.{Section, Message, Ask, Ready, Done}
 use Rattle.cluster_core.specs.Parts.{Part}
 use Rattle.cluster_core.specs.Ranges.{set_at}
@@ -23,7 +23,7 @@ seed_first None (Some v) u seed = ap Some (eqb-true v u seed)
 seed_first (Some v) unmarked u seed = absurd (true≢false (sym seed))
 
 -- who is pending after a seed was, or is an own vertex without a mark
-pub seeded_pending : (st : Setting) (a : ℕ) (part : Part) (u : ℕ) → (seeded st a part).pending u ≡ true → (part.pending u ≡ true) ⊎ ((u < size st.graph) × (st.owner u ≡ a) × ((part.datum u).mark < part.known))
+pub seeded_pending : (st : Setting) (a : ℕ) (part : Part) (u : ℕ) → (part_seeded st a part).pending u ≡ true → (part.pending u ≡ true) ⊎ ((u < size st.graph) × (st.owner u ≡ a) × ((part.datum u).mark < part.known))
 seeded_pending st a part u yes_pends = ⊎_elim
     (λ (seed : is_at (seed_if (first_pending st part) (first_unmarked st a part)) u ≡ true).
     let found = first_passing-some (λ v. st.owner v == a && nat_lt (part.datum v).mark part.known) 0 (size st.graph) u (seed_first (first_pending st part) (first_unmarked st a part) u seed) in
@@ -33,7 +33,7 @@ seeded_pending st a part u yes_pends = ⊎_elim
     (or_cases (is_at (seed_if (first_pending st part) (first_unmarked st a part)) u) (part.pending u) yes_pends)
 
 -- who is pending stays so
-pub seeded_more : (st : Setting) (a : ℕ) (part : Part) (u : ℕ) → part.pending u ≡ true → (seeded st a part).pending u ≡ true
+pub seeded_more : (st : Setting) (a : ℕ) (part : Part) (u : ℕ) → part.pending u ≡ true → (part_seeded st a part).pending u ≡ true
 seeded_more st a part u was = or_right (is_at (seed_if (first_pending st part) (first_unmarked st a part)) u) (part.pending u) was
 
 -- ---- messages under other marks
@@ -112,14 +112,14 @@ still_steps a b c one other =
       marks = λ m u. other.marks m u ∙ one.marks m u;
     }
 
-module _ (st : Setting) (old new : World) (step : IsStillStep old new) (marks : AreMarks st old) where
+module _ (st : Setting) (old new : World) (step : IsStillStep old new) (marks : MarksHold st old) where
   in_place_still : (a : ℕ) → IsInPlace old a → IsInPlace new a
   in_place_still a placed =
       placed_same (old.reports a) (new.reports a) (old.collected a) (new.collected a) old.acknowledged new.acknowledged old.begun new.begun
       (old.part a).sent (new.part a).sent (old.part a).saved (new.part a).saved
       (ap (λ (f : ℕ → List Section). f a) step.reports) (ap (λ (f : ℕ → Option Section). f a) step.collected) step.acknowledged step.begun (step.sent a) (step.saved a) placed
 
-  pub marks_still : ((p q : ℕ) → AllByRecursion (IsMarking st old) (way new p q)) → AreMarks st new
+  pub marks_still : ((p q : ℕ) → AllByRecursion (IsMarking st old) (way new p q)) → MarksHold st new
   marks_still told =
       record {
         base = subst (λ k. st.base ≤ k) (sym step.acknowledged) marks.base;
@@ -160,7 +160,7 @@ max_above n x k eq = omega arith
 max_below : (n x k most : ℕ) → n ≡ max x k → x ≤ most → k ≤ most → n ≤ most
 max_below n x k most eq one other = omega arith
 
-module _ (st : Setting) (w : World) (marks : AreMarks st w) (a k : ℕ) (new : Part) (learning : IsLearning st a k (w.part a) new) (low : k ≤ w.begun) (link : ℕ → ℕ → List Message) (orders : ℕ → List ℕ) where
+module _ (st : Setting) (w : World) (marks : MarksHold st w) (a k : ℕ) (new : Part) (learning : IsLearning st a k (w.part a) new) (low : k ≤ w.begun) (link : ℕ → ℕ → List Message) (orders : ℕ → List ℕ) where
   abbrev world : World
   world = learned w a new link orders
 
@@ -209,7 +209,7 @@ module _ (st : Setting) (w : World) (marks : AreMarks st w) (a k : ℕ) (new : P
       (w.part b).sent (world.part b).sent (w.part b).saved (world.part b).saved refl refl refl refl (sent_kept b) (saved_kept b was.0) (inr some))
       placed
 
-  pub marks_learned : ((b : ℕ) → AllByRecursion (λ n. n ≤ w.begun) (orders b)) → ((p q : ℕ) → AllByRecursion (IsMarking st w) (way world p q)) → AreMarks st world
+  pub marks_learned : ((b : ℕ) → AllByRecursion (λ n. n ≤ w.begun) (orders b)) → ((p q : ℕ) → AllByRecursion (IsMarking st w) (way world p q)) → MarksHold st world
   marks_learned orders_low told =
       record {
         base = marks.base;
@@ -235,7 +235,7 @@ low_max : (m x k : ℕ) → m < x → m < max x k
 low_max m x k low = omega arith
 
 -- to hear of a snapshot is such
-pub begins_learns : (st : Setting) (a k : ℕ) (w : World) → AreMarks st w → IsLearning st a k (w.part a) (begins st a k (w.part a))
+pub begins_learns : (st : Setting) (a k : ℕ) (w : World) → MarksHold st w → IsLearning st a k (w.part a) (begins st a k (w.part a))
 begins_learns st a k w marks =
     record {
       known = refl;

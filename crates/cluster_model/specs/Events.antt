@@ -74,14 +74,14 @@ edge_in st snapshot e =
     or_zero ((snapshot.sections (or_zero (first_passing (λ a. is_some ((snapshot.sections a).section.edges e)) 0 st.machines))).section.edges e)
 
 -- the numbers of a snapshot
-abbrev pub numbers_of : Setting → Snapshot → GraphState
-numbers_of st snapshot =
+abbrev pub snapshot_numbers : Setting → Snapshot → GraphState
+snapshot_numbers st snapshot =
     record { vertex = λ v. or_zero ((snapshot.sections (st.owner v)).section.vertices v); edge = edge_in st snapshot }
 
 -- the numbers of the last of these snapshots, and others where there is none
 abbrev pub newest_of : Setting → List Snapshot → GraphState → GraphState
 newest_of st [] numbers = numbers
-newest_of st (snapshot ∷ snapshots) numbers = newest_of st snapshots (numbers_of st snapshot)
+newest_of st (snapshot ∷ snapshots) numbers = newest_of st snapshots (snapshot_numbers st snapshot)
 
 -- the entries of the first so many machines in a snapshot, and of these snapshots
 abbrev pub entries_below : ℕ → Snapshot → List Entry

@@ -1,5 +1,5 @@
 -- What a job's file tells from which a job was read.
-use Rattle.std.proofs.Common.{◌≡◌, ◌≤◌, ◌<◌, ℕ, List, length, Option, None, Some, Result, Ok, Err, cond, refl, sym, ap, ◌∙◌, subst, arith, ⊎_elim, length-take}
+use Rattle.std.proofs.Common.{◌≡◌, ◌≤◌, ◌<◌, ℕ, List, length, None, Some, Ok, Err, cond, refl, sym, ap, ◌∙◌, arith, ⊎_elim, length-take}
 use Rattle.std.proofs.lemmas.Bool.{cases_lt, lt-ltb}
 use Rattle.gl_base.specs.declared.job_faults.JobFault.{JobFault}
 use Rattle.gl_base.specs.declared.job_faults.JobFault.TheVariants.{NotBuilt, TooLong}

@@ -1,5 +1,5 @@
 -- Files that are made one after another.
-use Rattle.std.proofs.Common.{◌≡◌, ◌≢◌, ◌≤◌, inl, inr, ℕ, zero, suc, List, [], ◌∷◌, ◌++◌, length, take, Option, None, Some, Result, Ok, Err, OnOk, IfSome, codes, get_or, refl, sym, ap, ◌∙◌, subst, arith}
+use Rattle.std.proofs.Common.{◌≡◌, ◌≢◌, ◌≤◌, inl, inr, ℕ, zero, suc, List, [], ◌∷◌, length, take, Option, None, Some, Result, Ok, Err, OnOk, IfSome, codes, get_or, refl, sym, ap, ◌∙◌, subst, arith}
 use Rattle.std.proofs.Math.Seq.{take-length}
 use Rattle.std.specs.Io.KnownBytes.{Appends}
 use Rattle.std.proofs.lemmas.List.{append_cancel_left}
@@ -16,7 +16,7 @@ use Rattle.engine_cli.specs.Leaves.{GivesText}
 use Rattle.std.specs.Option.{option_map}
 use Rattle.std.specs.Prelude.{Contains}
 use Rattle.gl_outside.specs.FilesState.{FilesState, Written, sink_of, written_of}
-use Rattle.gl_outside.specs.Frames.{ChangesSinks, OpensSink, WritesOnly}
+use Rattle.gl_outside.specs.Frames.{OpensSink, WritesOnly}
 use Rattle.gl_outside.specs.Laws.{name_kept}
 use Rattle.gl_outside.specs.declared.files.FileNo.{FileNo}
 use Rattle.gl_outside.specs.declared.files.OpenFault.{OpenFault}
@@ -25,7 +25,7 @@ use Rattle.gl_base.specs.declared.names.Name.{Name}
 use Rattle.job_words.specs.declared.words.Words.{Words}
 use Rattle.job_words.specs.declared.words.Words.TheVariants.{Make}
 use Rattle.engine_cli.specs.Found.{order_names}
-use Rattle.engine_cli.specs.FilesUsed.{HandsOver, WritesFiles}
+use Rattle.engine_cli.specs.FilesUsed.{WritesFiles}
 use Rattle.engine_cli.specs.Leaves.{KeepsOrGives}
 use Rattle.engine_cli.specs.Made.{IsFault, IsMade, IsMadeFront, LeavesFront, LeavesText, Makes, edges_name, vertices_name}
 use Rattle.engine_cli.specs.Status.{IsDoneOrNoMemory, status_of_writing}

@@ -14,11 +14,12 @@ use Rattle.seq_run.proofs.LevelsAndPaths.{levels_at_rest, paths_at_rest}
 use Rattle.seq_run.proofs.Labels.{components_at_rest}
 use Rattle.seq_run.proofs.Colours.{colours_at_rest}
 use Rattle.update_api.specs.Updates.{Update, update_of_levels, update_of_paths}
-use Rattle.engine_cli.specs.Plays.{AreEach, AreResults, HasStart, IsPlay, IsVertexOf, source_id, update_of}
+use Rattle.gl_base.specs.Lists.{AreEach}
+use Rattle.engine_cli.specs.Plays.{AreResults, HasStart, IsPlay, IsVertexOf, source_id, update_of}
 
 -- what holds of each number of the replay holds of the numbers that were kept
 each-of : (g : DataGraph) (number : ℕ → ℕ) (holds : ℕ → ℕ → Type 0) (numbers : List ℕ) → AreNumbers (size g) number numbers
-    → ((v : ℕ) → v < size g → holds v (number v)) → AreEach g holds numbers
+    → ((v : ℕ) → v < size g → holds v (number v)) → AreEach (size g) holds numbers
 each-of g number holds numbers are all =
     record {
       count = are.count;

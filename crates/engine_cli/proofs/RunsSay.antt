@@ -1,12 +1,9 @@
 -- What a run says at each place where it ends.
-use Rattle.std.proofs.Common.{◌≡◌, ◌≤◌, ◌⊎◌, inl, inr, ℕ, Bool, List, [], ◌∷◌, Option, None, Some, IfSome, Result, Ok, Err, take, refl, sym, ap, ◌∙◌, subst, ⊎_elim}
-use Rattle.std.specs.Prelude.{Contains, MatchOption}
+use Rattle.std.proofs.Common.{◌≡◌, ◌≤◌, ◌⊎◌, inl, inr, ℕ, Bool, List, [], ◌∷◌, Option, None, Some, IfSome, Ok, Err, take, refl, sym, ap, ◌∙◌, subst, ⊎_elim}
+use Rattle.std.specs.Prelude.{MatchOption}
 use Rattle.std.specs.declared.alloc.Global.{Global}
 use Rattle.std.specs.declared.vec.Vec.{Vec}
 use Rattle.gl_base.specs.declared.entries.Entry.{Entry}
-use Rattle.gl_base.specs.declared.jobs.Job.{Job}
-use Rattle.gl_base.specs.declared.job_faults.JobFault.TheVariants.{OutOfRange}
-use Rattle.gl_base.specs.declared.job_faults.Key.TheVariants.{Source}
 use Rattle.gl_base.specs.declared.numbers.Vertex.{Vertex}
 use Rattle.std.specs.Io.KnownBytes.{Appends}
 use Rattle.gl_outside.specs.Faults.{Rose}
@@ -36,13 +33,13 @@ use Rattle.engine_cli.specs.declared.status.Status.TheVariants.{Done, Usage, Bad
 use Rattle.engine_cli.specs.Answer.{IsAnswer, LacksSource, Printed, RefusesEdges, SpendsBudget, TellJobGraph}
 use Rattle.engine_cli.specs.Causes.{unprepared_graph, unprepared_job, unprepared_run}
 use Rattle.engine_cli.specs.Ended.{CountsUpdates}
-use Rattle.engine_cli.specs.FilesUsed.{HandsOver, OfRead, ReadsFiles, WritesFiles}
-use Rattle.engine_cli.specs.Found.{TakesJob, TakesGraph, FindsRun, IsOrderName, edges_after, graph_names, order_names, names_of}
+use Rattle.engine_cli.specs.FilesUsed.{HandsOver, ReadsFiles, WritesFiles}
+use Rattle.engine_cli.specs.Found.{TakesJob, TakesGraph, FindsRun, edges_after, graph_names, order_names, names_of}
 use Rattle.engine_cli.specs.Leaves.{KeepsOrGives}
 use Rattle.engine_cli.specs.Plays.{IsSpent, update_of}
 use Rattle.engine_cli.specs.Prepares.{IsMadeOf, IsPrepared}
 use Rattle.engine_cli.specs.Printing.{Prints, printed_of}
-use Rattle.engine_cli.specs.Says.{FailsAtOrder, FailsAtOut, IsSound, LeavesOrder, Moment, OfTexts, PrintsAnswer, Says, SaysJob}
+use Rattle.engine_cli.specs.Says.{FailsAtOrder, FailsAtOut, LeavesOrder, Moment, OfTexts, PrintsAnswer, Says, SaysJob}
 use Rattle.engine_cli.specs.Status.{IsBeforeMaking, IsBeforeWriting, status_of_unprepared}
 use Rattle.engine_cli.specs.Verbs.{IsRun}
 use Rattle.engine_cli.proofs.NamesHanded.{contains-named, hands-no-order, hands-order}

@@ -1,5 +1,5 @@
 -- Which files a call reads and writes, and what that leaves.
-use Rattle.std.specs.Prelude.{◌≡◌, ℕ, ◌≤◌, List, [], ◌∷◌, Contains, ⊤, Option, None, Some, Result, Ok, Err, take}
+use Rattle.std.specs.Prelude.{◌≡◌, ℕ, ◌≤◌, List, Contains, ⊤, Option, None, Some, take}
 use Rattle.gl_outside.specs.FilesState.{FilesState}
 use Rattle.gl_outside.specs.Frames.{ChangesSinks, ChangesSources}
 use Rattle.gl_outside.specs.Names.{AppendsNames}

@@ -1,5 +1,5 @@
 -- What `make` leaves.
-use Rattle.std.specs.Prelude.{◌≡◌, ℕ, ◌++◌, List, ⊤, Option, IfSome, codes, take}
+use Rattle.std.specs.Prelude.{◌≡◌, ℕ, ◌++◌, List, ⊤, IfSome, codes, take}
 use Rattle.gl_base.specs.declared.jobs.MakePlan.{MakePlan}
 use Rattle.gl_base.specs.declared.text_faults.TextFile.{TextFile}
 use Rattle.gl_base.specs.declared.text_faults.TextFile.TheVariants.{Vertices, Edges}

@@ -3,50 +3,13 @@ use Rattle.std.specs.Prelude.{◌⊎◌, ℕ, List, [], ◌∷◌, Option, codes
 use Rattle.std.specs.Io.KnownBytes.{Appends}
 use Rattle.gl_base.specs.declared.job_faults.JobFault.{JobFault}
 use Rattle.gl_base.specs.declared.job_faults.JobFault.TheVariants.{NotJson, TooLong, UnknownKey, Missing, WrongKind, OutOfRange, NotBuilt}
-use Rattle.gl_base.specs.declared.job_faults.Key.{Key}
-use Rattle.gl_base.specs.declared.job_faults.Key.TheVariants as key
+use Rattle.gl_base.specs.FaultNames.{key_name, text_file_name, text_kind_name}
 use Rattle.gl_base.specs.declared.text_faults.TextFault.{TextFault}
-use Rattle.gl_base.specs.declared.text_faults.TextFile.{TextFile}
-use Rattle.gl_base.specs.declared.text_faults.TextFile.TheVariants as file
-use Rattle.gl_base.specs.declared.text_faults.TextKind.{TextKind}
-use Rattle.gl_base.specs.declared.text_faults.TextKind.TheVariants as kind
 use Rattle.gl_outside.specs.Faults.{Rose}
 use Rattle.engine_cli.specs.declared.status.Status.{Status}
 use Rattle.engine_cli.specs.declared.status.Status.TheVariants.{Done, Usage, BadJob, BadGraph, ReadFault, WriteFault, BudgetSpent, NoMemory}
 use Rattle.gl_outside.specs.Fronts.{AppendsFront}
 use Rattle.engine_cli.specs.Writes.{joined}
-
-abbrev pub key_name : Key → List ℕ
-key_name key.Vertices = codes "vertices"
-key_name key.Edges = codes "edges"
-key_name key.Directed = codes "directed"
-key_name key.Algorithm = codes "algorithm"
-key_name key.Source = codes "source"
-key_name key.Engine = codes "engine"
-key_name key.Machines = codes "machines"
-key_name key.Atoms = codes "atoms"
-key_name key.Pipeline = codes "pipeline"
-key_name key.Budget = codes "budget"
-key_name key.Window = codes "window"
-key_name key.Store = codes "store"
-key_name key.AtomsAt = codes "atoms_at"
-key_name key.Order = codes "order"
-key_name key.Failures = codes "failures"
-
-abbrev pub file_name : TextFile → List ℕ
-file_name file.Vertices = codes "vertices"
-file_name file.Edges = codes "edges"
-
-abbrev pub kind_name : TextKind → List ℕ
-kind_name kind.Fields = codes "fields"
-kind_name kind.Number = codes "number"
-kind_name kind.TooLarge = codes "too large"
-kind_name kind.Double = codes "double"
-kind_name kind.TooMany = codes "too many"
-kind_name kind.Unknown = codes "unknown"
-kind_name kind.SelfLoop = codes "self-loop"
-kind_name kind.NoWeight = codes "no weight"
-kind_name kind.TooLong = codes "too long"
 
 -- what is told of a job's fault
 abbrev pub job_note : JobFault → List ℕ
@@ -61,7 +24,7 @@ job_note (NotBuilt k) = joined (codes "job: not built " ∷ key_name k ∷ codes
 -- what is told of a text's fault: the text, the line and the kind
 abbrev pub graph_note : TextFault → List ℕ
 graph_note fault =
-    joined (codes "graph: " ∷ file_name fault.file ∷ codes ":" ∷ decimal fault.line ∷ codes ": " ∷ kind_name fault.kind ∷ codes "\n" ∷ [])
+    joined (codes "graph: " ∷ text_file_name fault.file ∷ codes ":" ∷ decimal fault.line ∷ codes ": " ∷ text_kind_name fault.kind ∷ codes "\n" ∷ [])
 
 -- the verbs and their words
 abbrev pub usage : List ℕ

@@ -1,4 +1,5 @@
 -- Runs of a job's algorithm on a graph.
+use Rattle.gl_base.specs.Lists.{AreEach}
 use Rattle.std.specs.Prelude.{◌≡◌, ℕ, ◌<◌, ◌≤◌, true, List, length, slice_index, Option, None, Some, MatchOption}
 use Rattle.gl_base.specs.declared.entries.Entry.{Entry}
 use Rattle.gl_base.specs.declared.jobs.Algorithm.{Algorithm}
@@ -59,18 +60,13 @@ HasStart Components source g = Unit {0}
 HasStart Paths source g = IsThere g source
 HasStart Colours source g = Unit {0}
 
--- each vertex has a number of which this holds
-pub record AreEach (g : DataGraph) (holds : ℕ → ℕ → Type 0) (numbers : List ℕ) : Type 0 where
-  pub count : length numbers ≡ size g
-  pub each : (v : ℕ) → v < size g → holds v (slice_index numbers v)
-
 -- this holds of the vertex that the source names
 abbrev pub FromSource : DataGraph → Option ℕ → (ℕ → Type 0) → Type 0
 FromSource g source holds = (start : ℕ) × (id : ℕ) × (source ≡ Some id) × IsVertexOf g start id × holds start
 
 -- the numbers are levels, component labels or distances, or a proper colouring
 abbrev pub AreResults : Algorithm → Option ℕ → DataGraph → List ℕ → Type 0
-AreResults Levels source g numbers = FromSource g source (λ start. AreEach g (IsLevelOrInf g start) numbers)
-AreResults Components source g numbers = AreEach g (IsComponentLabel g) numbers
-AreResults Paths source g numbers = FromSource g source (λ start. AreEach g (IsDistanceOrInf g start) numbers)
+AreResults Levels source g numbers = FromSource g source (λ start. AreEach (size g) (IsLevelOrInf g start) numbers)
+AreResults Components source g numbers = AreEach (size g) (IsComponentLabel g) numbers
+AreResults Paths source g numbers = FromSource g source (λ start. AreEach (size g) (IsDistanceOrInf g start) numbers)
 AreResults Colours source g numbers = (length numbers ≡ size g) × IsProperColouring g (slice_index numbers)

@@ -1,7 +1,8 @@
 //! Tells on standard error why a call was refused.
 ghost use Rattle.std.specs.Prelude.{◌≡◌, ◌≤◌, [], ◌∷◌, codes, map};
 ghost use Rattle.gl_base.specs.declared.job_faults.JobFault.TheVariants.{OutOfRange};
-ghost use Rattle.engine_cli.specs.Notes.{Tells, file_name, graph_note, job_note, key_name, kind_name, note_of};
+ghost use Rattle.engine_cli.specs.Notes.{Tells, graph_note, job_note, note_of};
+ghost use Rattle.gl_base.specs.FaultNames.{key_name};
 ghost use Rattle.engine_cli.specs.Writes.{WritesAll, joined};
 
 use crate::Status;
@@ -65,7 +66,7 @@ fn tell_key<N: Sink>(note: &mut N, text: &str, key: Key) -> Result<(), Failed>
     ensures later { N.faults note.old ≤ N.faults note.new }
     ensures same { N.same note.old note.new }
 {
-    write_line(note, text, key_name(key))
+    write_line(note, text, key.name())
 }
 
 /// Writes which key's value is out of its range.
@@ -76,10 +77,7 @@ fn tell_range<N: Sink>(note: &mut N, key: Key, value: u64) -> Result<(), Failed>
 {
     let mut digits = Buffer::new();
     let value = digits.format(value);
-    write_texts(
-        note,
-        &["job: out of range ", key_name(key), " ", value, "\n"],
-    )
+    write_texts(note, &["job: out of range ", key.name(), " ", value, "\n"])
 }
 
 /// Writes why a graph text was refused, and where.
@@ -90,18 +88,10 @@ fn tell_graph<N: Sink>(note: &mut N, fault: TextFault) -> Result<(), Failed>
 {
     let mut digits = Buffer::new();
     let line = digits.format(fault.line);
-    let kind = kind_name(fault.kind);
+    let kind = fault.kind.name();
     write_texts(
         note,
-        &[
-            "graph: ",
-            file_name(fault.file),
-            ":",
-            line,
-            ": ",
-            kind,
-            "\n",
-        ],
+        &["graph: ", fault.file.name(), ":", line, ": ", kind, "\n"],
     )
 }
 
@@ -134,51 +124,4 @@ fn write_texts<N: Sink>(note: &mut N, texts: &[&str]) -> Result<(), Failed>
         write_all(note, text.as_bytes())?;
     }
     Ok(())
-}
-
-fn file_name(file: TextFile) -> &'static str
-    ensures { result.now ≡ file_name file }
-{
-    match file {
-        TextFile::Vertices => "vertices",
-        TextFile::Edges => "edges",
-    }
-}
-
-fn kind_name(kind: TextKind) -> &'static str
-    ensures { result.now ≡ kind_name kind }
-{
-    match kind {
-        TextKind::Fields => "fields",
-        TextKind::Number => "number",
-        TextKind::TooLarge => "too large",
-        TextKind::Double => "double",
-        TextKind::TooMany => "too many",
-        TextKind::Unknown => "unknown",
-        TextKind::SelfLoop => "self-loop",
-        TextKind::NoWeight => "no weight",
-        TextKind::TooLong => "too long",
-    }
-}
-
-fn key_name(key: Key) -> &'static str
-    ensures { result.now ≡ key_name key }
-{
-    match key {
-        Key::Vertices => "vertices",
-        Key::Edges => "edges",
-        Key::Directed => "directed",
-        Key::Algorithm => "algorithm",
-        Key::Source => "source",
-        Key::Engine => "engine",
-        Key::Machines => "machines",
-        Key::Atoms => "atoms",
-        Key::Pipeline => "pipeline",
-        Key::Budget => "budget",
-        Key::Window => "window",
-        Key::Store => "store",
-        Key::AtomsAt => "atoms_at",
-        Key::Order => "order",
-        Key::Failures => "failures",
-    }
 }

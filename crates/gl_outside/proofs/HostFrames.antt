@@ -4,7 +4,7 @@ use Rattle.std.specs.Io.KnownBytes.{Consumes, IsAtEnd}
 use Rattle.std.proofs.lemmas.Bool.Decides.{nat_tests}
 use Rattle.std.proofs.lemmas.Option.{slice_get_read}
 use Rattle.std.proofs.lemmas.List.{length-map, map-append, map-set}
-use Rattle.gl_outside.specs.FilesState.{FilesState, Opened, Written, is_opened, left_of, sink_of}
+use Rattle.gl_outside.specs.FilesState.{Opened, Written, is_opened, left_of, sink_of}
 use Rattle.gl_outside.specs.Frames.{OpensSink, ReadsOnly, WritesOnly, without_name}
 use Rattle.gl_outside.specs.Host.{ChangesAt, HostState, files_of_host}
 use Rattle.gl_outside.specs.Laws.{constant}

@@ -1,8 +1,8 @@
 -- What is known of a file that was just opened, and what calls leave alone together.
-use Rattle.std.proofs.Common.{◌≡◌, ◌≢◌, ℕ, ◌<◌, List, [], ◌∷◌, ◌++◌, map, length, get_or, Option, None, Some, Result, Ok, Err, IsTrue, nat_lt, slice_set, refl, sym, ap, ◌∙◌, subst, arith, length-append}
+use Rattle.std.proofs.Common.{◌≡◌, ◌≢◌, ℕ, List, [], ◌∷◌, ◌++◌, map, length, get_or, Option, None, Some, Result, Ok, Err, IsTrue, nat_lt, sym, ap, ◌∙◌, arith, length-append}
 use Rattle.std.specs.Option.{option_map}
 use Rattle.std.proofs.lemmas.Bool.{lt-ltb}
-use Rattle.std.proofs.lemmas.List.{length-map, length-set}
+use Rattle.std.proofs.lemmas.List.{length-map}
 use Rattle.std.proofs.Math.Seq.{get_or-append_seam}
 use Rattle.gl_outside.specs.FilesState.{FilesState, Opened, Written, is_opened, left_of, sink_of}
 use Rattle.gl_outside.specs.Frames.{ChangesSources, ChangesSinks, OpensSource, OpensSink, ReadsOnly, WritesOnly, new_sink, without_name}

@@ -1,25 +1,22 @@
 -- Lemmas on files in memory that are written.
-use Rattle.std.proofs.Common.{◌≡◌, ◌≢◌, ◌⊎◌, inl, inr, ℕ, ◌+◌, ◌<◌, ◌≤◌, Bool, true, false, List, [], ◌∷◌, ◌++◌, length, get_or, take, drop, map, Option, Some, None, Ok, Err, refl, sym, ap, ◌∙◌, subst, arith, length-append, length-set}
-use Rattle.std.specs.Prelude.{bytes_eq, All, zero, suc, slice_get, slice_set, fold, nat_lt, is_some, IsTrue, if◌then◌else◌}
+use Rattle.std.proofs.Common.{◌≡◌, ◌≢◌, inl, inr, ℕ, ◌+◌, ◌<◌, ◌≤◌, Bool, List, [], ◌∷◌, ◌++◌, length, get_or, take, drop, map, Option, Some, None, Ok, Err, refl, sym, ap, ◌∙◌, subst, arith, length-append, length-set}
+use Rattle.std.specs.Prelude.{bytes_eq, All, zero, suc, slice_get, slice_set, fold, is_some, IsTrue, if◌then◌else◌}
 use Rattle.std.specs.Option.{option_and_then}
 use Rattle.std.specs.Io.KnownBytes.{Appends}
 use Rattle.std.proofs.lemmas.List.{ext_get_or, get_or_append_left, get_or-set_same, get_or-set_other, get_or-map, length-map, map-append, set-get_or, take_all, take-append-le}
 use Rattle.std.proofs.Math.Seq.{get_or-append_seam}
-use Rattle.std.proofs.Math.ListN.{get_or-eq_default}
 use Rattle.std.proofs.lemmas.Option.{slice_get_within, get_or_from_slice_get, slice_get-get_or}
 use Rattle.std.proofs.lemmas.Bool.{cases_eq, cases_lt}
 use Rattle.std.proofs.lemmas.Bool.Decides.{nat_tests}
 use Rattle.std.proofs.lemmas.List.Elements.{All-head, All-tail, All-get_or, All-from_get_or}
-use Rattle.std.proofs.lemmas.Slice.Eq.{bytes_eq-Decides}
-use Rattle.gl_outside.specs.Calls.{CallCounts}
-use Rattle.gl_outside.specs.FilesState.{FilesState, Opened, Written, is_opened, sink_of, written_of}
-use Rattle.gl_outside.specs.Frames.{OpensSink, WritesOnly, new_sink, unless, without_name}
+use Rattle.gl_outside.specs.FilesState.{Written, is_opened, sink_of}
+use Rattle.gl_outside.specs.Frames.{OpensSink, WritesOnly, unless, without_name}
 use Rattle.gl_outside.specs.Store.{NamedBytes, StoreState, bytes_at, name_at_place, bytes_of, newer, newest_name, sink_at, files_of_store}
 use Rattle.gl_outside.specs.Laws.{decide, found, newer-other, newest-none}
 use Rattle.gl_outside.specs.OpenFiles.{left_in, IsOpenInside, appended, AreSinks}
 use Rattle.gl_outside.specs.declared.files.OpenFault.{OpenFault}
 use Rattle.gl_outside.specs.declared.mem_files.OpenFile.{OpenFile}
-use Rattle.gl_outside.proofs.StoredFiles.{bytes_at-append, bytes_of-push, bytes_of_other, IsOpenInside-append, same_contents, same_files, same_opened, same_sinks, same_sources}
+use Rattle.gl_outside.proofs.StoredFiles.{bytes_at-append, bytes_of-push, bytes_of_other, IsOpenInside-append, same_contents, same_files, same_opened, same_sources}
 
 -- a file more takes its name from older ones
 newest-push : (files : List NamedBytes) (file : NamedBytes) (place : ℕ) → place < length files

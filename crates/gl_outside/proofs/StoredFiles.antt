@@ -1,6 +1,6 @@
 -- Lemmas on files in memory, and on those that were opened.
-use Rattle.std.proofs.Common.{◌≡◌, ◌≢◌, ℕ, ◌<◌, Bool, true, false, List, [], ◌∷◌, ◌++◌, ◌-◌, ◌+◌, ◌≤◌, length, get_or, take, drop, map, Option, Some, None, Ok, Err, refl, sym, ap, ◌∙◌, arith, length-append, length-set}
-use Rattle.std.specs.Prelude.{bytes_eq, All, zero, suc, slice_get, slice_set, nat_lt, min, IsTrue}
+use Rattle.std.proofs.Common.{◌≡◌, ◌≢◌, ℕ, ◌<◌, Bool, true, false, List, [], ◌∷◌, ◌++◌, ◌-◌, ◌+◌, ◌≤◌, length, get_or, take, drop, map, Option, Some, None, Ok, Err, refl, sym, ap, ◌∙◌, arith, length-append}
+use Rattle.std.specs.Prelude.{bytes_eq, All, zero, suc, slice_get, slice_set, min, IsTrue}
 use Rattle.std.specs.Option.{option_map}
 use Rattle.std.specs.Io.KnownBytes.{Consumes, IsAtEnd}
 use Rattle.std.proofs.lemmas.Option.{slice_get-map, slice_get_read}

@@ -1,7 +1,5 @@
 -- The names that were handed to the opens, where they are told.
-use Rattle.std.specs.Prelude.{◌≡◌, ◌⊎◌, ◌≤◌, ℕ, List, [], ◌∷◌, ◌++◌, ⊤, Option, None, Some, Result, Ok, Err}
-use Rattle.gl_outside.specs.Faults.{Rose}
-use Rattle.gl_outside.specs.FilesState.{Opened}
+use Rattle.std.specs.Prelude.{◌≡◌, ◌⊎◌, ℕ, List, [], ◌∷◌, ◌++◌, ⊤, Option, None, Some, Result, Ok, Err}
 use Rattle.gl_outside.specs.declared.files.OpenFault.{OpenFault}
 use Rattle.gl_outside.specs.declared.files.OpenFault.TheVariants.{Failed, NoMemory}
 use Rattle.gl_outside.specs.declared.files.FileNo.{FileNo}

@@ -7,7 +7,7 @@ use Rattle.std.proofs.lemmas.List.{length-map, get_or-map, get_or-set_same, get_
 use Rattle.std.proofs.Math.ListN.{length-set}
 use Rattle.gl_base.specs.declared.numbers.Vertex.{Vertex}
 use Rattle.vertex_places.specs.Placing.{place_of_vertex, AreTheirPlaces, place_below, places_below}
-use Rattle.vertex_places.specs.Inner.Numbering.{AreNumbered}
+use Rattle.vertex_places.specs.Inner.Numbering.{HavePlaces}
 
 below-is : (bound number : ℕ) → number < bound → place_below bound number ≡ Some number
 below-is bound number less = rw (lt-ltb number bound less)
@@ -31,7 +31,7 @@ number_is bound numbers x k is = ⊎_elim
     absurd (none-some k (sym (get_or_past (places_below bound numbers) x None (omega arith)) ∙ is)))
     (cases_lt x (length numbers))
 
-pub are_places : (vertices : List Vertex) (count i : ℕ) (numbers : List ℕ) → AreNumbered vertices count i numbers → i ≡ length vertices → All (λ v. v.0 < count) vertices → AreTheirPlaces (places_below (length vertices) numbers) vertices
+pub are_places : (vertices : List Vertex) (count i : ℕ) (numbers : List ℕ) → HavePlaces vertices count i numbers → i ≡ length vertices → All (λ v. v.0 < count) vertices → AreTheirPlaces (places_below (length vertices) numbers) vertices
 are_places vertices count i numbers is whole below =
     let many = is.many in
     record {

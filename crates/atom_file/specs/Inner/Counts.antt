@@ -2,13 +2,13 @@
 use Rattle.std.specs.Prelude.{◌≡◌, ℕ, ◌+◌, ◌*◌, List, length, None}
 use Rattle.atom_file.specs.Fields.{field}
 use Rattle.atom_file.specs.Faults.{header_fault}
-use Rattle.atom_file.specs.Inner.Runs.{IsRun}
+use Rattle.atom_file.specs.Inner.Runs.{IsRecordRun}
 
 -- behind a header without a fault stand so many vertices, so many ghosts and so many edges, and nothing else
 pub record AreCounts (bytes : List ℕ) (vertices ghosts edges : ℕ) : Type 0 where
   pub header : header_fault bytes ≡ None
   pub whole : length bytes ≡ 20 + 13 * vertices + 15 * ghosts + 17 * edges
   pub count : field bytes 16 4 ≡ vertices + ghosts + edges
-  pub vertices_run : IsRun bytes 1 13 20 vertices
-  pub ghosts_run : IsRun bytes 2 15 (20 + 13 * vertices) ghosts
-  pub edges_run : IsRun bytes 3 17 (20 + 13 * vertices + 15 * ghosts) edges
+  pub vertices_run : IsRecordRun bytes 1 13 20 vertices
+  pub ghosts_run : IsRecordRun bytes 2 15 (20 + 13 * vertices) ghosts
+  pub edges_run : IsRecordRun bytes 3 17 (20 + 13 * vertices + 15 * ghosts) edges

@@ -24,7 +24,7 @@ abbrev pub fault_from : List ℕ → Place → Option AtomFault
 fault_from bytes place = records_fault bytes place.left place.least place.at
 
 -- from this place on stand n records with this tag and size, and their numbers rise
-pub record IsRun (bytes : List ℕ) (tag size at n : ℕ) : Type 0 where
+pub record IsRecordRun (bytes : List ℕ) (tag size at n : ℕ) : Type 0 where
   pub within : at + size * n ≤ length bytes
   pub tags : (i : ℕ) → i < n → slice_index bytes (at + size * i) ≡ tag
   pub rising : (i : ℕ) → i + 1 < n → field bytes (at + size * i + 1) 4 < field bytes (at + size * (i + 1) + 1) 4
@@ -33,7 +33,7 @@ pub record IsRun (bytes : List ℕ) (tag size at n : ℕ) : Type 0 where
 pub record IsRunBetween (bytes : List ℕ) (kind : RecordKind) (start : Place) (n : ℕ) (end : Place) : Type 0 where
   pub left : end.left + n ≡ start.left
   pub at : end.at ≡ start.at + size_of kind * n
-  pub run : IsRun bytes (tag_of kind) (size_of kind) start.at n
+  pub run : IsRecordRun bytes (tag_of kind) (size_of kind) start.at n
   pub passed : (end ≡ start) ⊎ (tag_of kind * 2 ^ 32 < end.least)
 
 -- a record that begins here has a key below the least one

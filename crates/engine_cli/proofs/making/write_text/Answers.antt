@@ -1,4 +1,3 @@
-use Rattle.std.proofs.Common.{rules}
 use Rattle.engine_cli.proofs.MadeFiles.{edges-front, vertices-front}
 use Rattle.engine_cli.proofs.making.write_text.Goals as goal
 

@@ -1,4 +1,3 @@
-use Rattle.std.proofs.Common.{ℕ, List, Some, sym, ap, ◌∙◌}
 use Rattle.engine_cli.proofs.MadeFiles.{writes-named, writes-nothing}
 use Rattle.engine_cli.proofs.printing.print_run.Goals.{in-Some+in_ok-lines+in_ok-write_order, in_default}
 use Rattle.engine_cli.proofs.printing.print_run.Goals as goal

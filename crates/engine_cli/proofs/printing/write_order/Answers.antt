@@ -1,4 +1,4 @@
-use Rattle.std.proofs.Common.{◌≡◌, inr, ℕ, List, take, refl, ap, rules}
+use Rattle.std.proofs.Common.{◌≡◌, inr, ℕ, take, refl, ap, rules}
 use Rattle.gl_outside.specs.FilesState.{FilesState}
 use Rattle.gl_outside.specs.declared.files.FileNo.{FileNo}
 use Rattle.gl_outside.proofs.Opening.{sink_opened}

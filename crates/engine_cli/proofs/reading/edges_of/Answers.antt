@@ -1,8 +1,6 @@
 use Rattle.std.proofs.Common.{Err, ap, rules}
-use Rattle.std.proofs.lemmas.Result.{err_from_is_err_and}
 use Rattle.gl_outside.specs.declared.files.FileNo.{FileNo}
 use Rattle.gl_outside.proofs.Opening.{source_opened}
-use Rattle.engine_cli.proofs.NamesHanded.{OnOk-of}
 use Rattle.engine_cli.proofs.TextsRead.{edges-of, edges-unopened, reads-file, reads-none}
 use Rattle.engine_cli.proofs.reading.edges_of.Goals as goal
 

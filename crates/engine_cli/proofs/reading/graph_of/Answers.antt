@@ -3,7 +3,7 @@ use Rattle.std.proofs.lemmas.Result.{err_from_is_err_and}
 use Rattle.job_config.specs.Views.{job_view}
 use Rattle.engine_cli.specs.Found.{edges_after, graph_names}
 use Rattle.engine_cli.proofs.GraphsTold.{edges-taken, vertices-refused, vertices-renamed}
-use Rattle.engine_cli.proofs.NamesHanded.{HandsOver-first, HandsOver-edges}
+use Rattle.engine_cli.proofs.NamesHanded.{HandsOver-edges}
 use Rattle.engine_cli.proofs.TextsRead.{reads-after, reads-more, renamed}
 use Rattle.engine_cli.proofs.reading.graph_of.Goals as goal
 

@@ -1,5 +1,4 @@
 use Rattle.std.proofs.Common.{Err, ap, rules}
-use Rattle.std.proofs.lemmas.Result.{err_from_is_err_and}
 use Rattle.gl_outside.specs.declared.files.FileNo.{FileNo}
 use Rattle.gl_outside.proofs.Opening.{source_opened}
 use Rattle.engine_cli.proofs.NamesHanded.{OnOk-of}

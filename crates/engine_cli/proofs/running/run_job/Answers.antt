@@ -1,4 +1,4 @@
-use Rattle.std.proofs.Common.{◌≡◌, ◌∷◌, [], ℕ, List, Err, length, refl, ap, ◌∙◌, rules}
+use Rattle.std.proofs.Common.{◌≡◌, ◌∷◌, [], ℕ, List, Err, length, refl, ap, rules}
 use Rattle.job_config.specs.Views.{job_view}
 use Rattle.engine_cli.specs.Plays.{update_of}
 use Rattle.engine_cli.specs.Says.{moment}

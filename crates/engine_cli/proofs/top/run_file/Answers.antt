@@ -1,4 +1,4 @@
-use Rattle.std.proofs.Common.{◌≡◌, ℕ, List, [], subst, sym, ◌∙◌, rules}
+use Rattle.std.proofs.Common.{◌≡◌, ℕ, List, subst}
 use Rattle.engine_cli.specs.Notes.{Tells}
 use Rattle.engine_cli.specs.Says.{moment}
 use Rattle.engine_cli.proofs.RunsSay.{run-retold}

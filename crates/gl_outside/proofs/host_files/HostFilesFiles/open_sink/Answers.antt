@@ -1,5 +1,4 @@
-use Rattle.std.proofs.Common.{◌≡◌, length, ap, ◌∙◌, [], ◌∷◌, ◌++◌, rules}
-use Rattle.gl_outside.specs.Host.{HostState}
+use Rattle.std.proofs.Common.{◌≡◌, length, [], ◌∷◌, ◌++◌, rules}
 use Rattle.gl_outside.proofs.HostFrames.{opens_host}
 use Rattle.gl_outside.proofs.host_files.HostFilesFiles.open_sink.Goals as goal
 

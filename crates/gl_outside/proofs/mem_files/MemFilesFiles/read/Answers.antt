@@ -1,7 +1,5 @@
-use Rattle.std.proofs.Common.{◌≡◌, ◌<◌, Some, length, slice_get, slice_set, ap, sym, subst, ◌∙◌, rules}
+use Rattle.std.proofs.Common.{◌≡◌, Some, slice_get, slice_set, ap, sym, ◌∙◌, rules}
 use Rattle.gl_outside.specs.Store.{StoreState}
-use Rattle.gl_outside.specs.FilesState.{left_of}
-use Rattle.gl_outside.specs.Store.{files_of_store}
 use Rattle.gl_outside.specs.OpenFiles.{left_in}
 use Rattle.gl_outside.proofs.StoredFiles.{left-seen, slice_get-map_read, slice_get-map_set, reads_next, reads_only, map-slice_set, number_inside, open_inside}
 use Rattle.gl_outside.proofs.mem_files.MemFilesFiles.read.Goals as goal
