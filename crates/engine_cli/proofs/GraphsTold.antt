@@ -13,7 +13,7 @@ use Rattle.graph_text.specs.declared.lists.Reading.{Reading}
 use Rattle.graph_text.specs.declared.lists.VertexList.{VertexList}
 use Rattle.graph_text.specs.declared.lists.Reading.TheVariants as reading
 use Rattle.engine_cli.specs.FilesUsed.{OfText}
-use Rattle.engine_cli.specs.Answer.{TellJobGraph, RefusesEdges, is_weighted}
+use Rattle.engine_cli.specs.Answer.{DescribeJobGraph, RefusesEdges, is_weighted}
 use Rattle.engine_cli.specs.Found.{ListsEdges, TakesVertices, TakesEdges, TakesGraph}
 use Rattle.gl_outside.proofs.Fronts.{Rose-later}
 use Rattle.engine_cli.proofs.TextsRead.{OfRead-both, text-before}
@@ -21,7 +21,7 @@ use Rattle.engine_cli.proofs.SortedOnce.{sorted_once}
 
 -- the texts that a graph was read from tell it
 tells : (job : JobFields) (vertices edges ids : List ℕ) (g : DataGraph) → ListsIds vertices ids
-    → ListsEdges job.directed (is_weighted job.algorithm) ids g edges → TellJobGraph job vertices edges g
+    → ListsEdges job.directed (is_weighted job.algorithm) ids g edges → DescribeJobGraph job vertices edges g
 tells job vertices edges ids g lists has =
     let same : ids ≡ g.ids =
     sorted_once lists.listed ids g.ids lists.are.ascending has.graph.graph.ascending lists.same
@@ -63,7 +63,7 @@ edges-taken files mid now job v e ids weighted names taken v_is e_is weighted_is
     go (Ok g) lists takes = (
       takes.0,
       OfRead-both files.sources.names (files.contents job.vertices) (files.contents job.edges) (λ bytes. ListsIds bytes ids)
-          (λ bytes. ListsEdges job.directed (is_weighted job.algorithm) ids g bytes) (λ v e. TellJobGraph job v e g) (λ v e p q. tells job v e ids g p q) lists
+          (λ bytes. ListsEdges job.directed (is_weighted job.algorithm) ids g bytes) (λ v e. DescribeJobGraph job v e g) (λ v e p q. tells job v e ids g p q) lists
           (text-before files mid names job.edges (λ bytes. ListsEdges job.directed (is_weighted job.algorithm) ids g bytes) frame noted takes.1),
     )
     go (Err (reading.Text fault)) lists takes =

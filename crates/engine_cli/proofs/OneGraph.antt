@@ -64,9 +64,9 @@ of_texts file before now P sound h =
 -- an edge text that is valid over a graph's identifiers has no fault over those that the vertex text lists
 edges_sound : (job : JobFields) (fault : TextFault) (vertices edges : List ℕ) → IsValid job vertices edges → RefusesEdges job fault vertices edges → ⊥
 edges_sound job fault vertices edges valid bad =
-    let same : bad.ids ≡ valid.graph.ids = one_list vertices bad.ids valid.graph.ids bad.lists valid.told.vertex_lines in
+    let same : bad.ids ≡ valid.graph.ids = one_list vertices bad.ids valid.graph.ids bad.lists valid.described.vertex_lines in
     let P : List ℕ → Type 0 = λ ids. edges_of ids job.directed (is_weighted job.algorithm) edges ≡ Err fault in
-    contradicts (sym valid.told.edge_lines ∙ subst P same bad.refused)
+    contradicts (sym valid.described.edge_lines ∙ subst P same bad.refused)
   where
     contradicts : {X E : Type 0} → {x : X} → {e : E} → Ok x ≡ Err e → ⊥
     contradicts e = cc
@@ -75,7 +75,7 @@ edges_sound job fault vertices edges valid bad =
 source_sound : (job : JobFields) (source : ℕ) (vertices edges : List ℕ) → IsValid job vertices edges → LacksSource job source vertices edges → ⊥
 source_sound job source vertices edges valid bad =
     let start = valid.source_there bad.needed source bad.asked in
-    let same : valid.graph.ids ≡ bad.graph.ids = one_list vertices valid.graph.ids bad.graph.ids valid.told.vertex_lines bad.told.vertex_lines in
+    let same : valid.graph.ids ≡ bad.graph.ids = one_list vertices valid.graph.ids bad.graph.ids valid.described.vertex_lines bad.described.vertex_lines in
     let P : List ℕ → Type 0 = λ ids. (start.0 < length ids) × (get_or ids start.0 0 ≡ source) in
     let there = subst P same (start.1.inside, start.1.is) in
     bad.lacks start.0 (record { inside = there.0; is = there.1 })
@@ -113,7 +113,7 @@ sound_is_done file report before now tells order (BadJob fault) says sound =
     says.1
 sound_is_done file report before now tells order (BadGraph fault) says sound =
     ⊎_elim
-    (λ first. lists_no_fault sound.vertices sound.valid.graph.ids fault sound.valid.told.vertex_lines
+    (λ first. lists_no_fault sound.vertices sound.valid.graph.ids fault sound.valid.described.vertex_lines
     (OfRead-bytes before.files.sources.names (before.files.contents sound.job.fields.vertices) sound.vertices (λ v. vertices_of v ≡ Err fault) sound.vertices_told first))
     (λ second. edges_sound sound.job.fields fault sound.vertices sound.edges sound.valid
     (of_texts file before now (RefusesEdges sound.job.fields fault) sound second))

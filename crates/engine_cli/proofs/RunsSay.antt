@@ -30,14 +30,14 @@ use Rattle.engine_cli.specs.declared.running.Unprepared.{Unprepared}
 use Rattle.engine_cli.specs.declared.running.Unprepared.TheVariants as why
 use Rattle.engine_cli.specs.declared.status.Status.{Status}
 use Rattle.engine_cli.specs.declared.status.Status.TheVariants.{Done, Usage, BadJob, BadGraph, ReadFault, WriteFault, BudgetSpent, NoMemory}
-use Rattle.engine_cli.specs.Answer.{IsAnswer, LacksSource, Printed, RefusesEdges, SpendsBudget, TellJobGraph}
+use Rattle.engine_cli.specs.Answer.{IsAnswer, LacksSource, Printed, RefusesEdges, SpendsBudget, DescribeJobGraph}
 use Rattle.engine_cli.specs.Causes.{unprepared_graph, unprepared_job, unprepared_run}
 use Rattle.engine_cli.specs.Ended.{CountsUpdates}
 use Rattle.engine_cli.specs.FilesUsed.{HandsOver, ReadsFiles, WritesFiles}
 use Rattle.engine_cli.specs.Found.{TakesJob, TakesGraph, FindsRun, edges_after, graph_names, order_names, names_of}
 use Rattle.engine_cli.specs.Leaves.{KeepsOrGives}
 use Rattle.engine_cli.specs.Plays.{IsSpent, update_of}
-use Rattle.engine_cli.specs.Prepares.{IsMadeOf, IsPrepared}
+use Rattle.engine_cli.specs.Prepares.{IsPreparedFrom, IsPrepared}
 use Rattle.engine_cli.specs.Printing.{Prints, printed_of}
 use Rattle.engine_cli.specs.Says.{FailsAtOrder, FailsAtOut, LeavesOrder, Moment, OfTexts, PrintsAnswer, Says, SaysJob}
 use Rattle.engine_cli.specs.Status.{IsBeforeMaking, IsBeforeWriting, status_of_unprepared}
@@ -74,7 +74,7 @@ graph-names-before files mid now job frame hands =
 
 -- no run on the graph was made
 pub run-unprepared : (files : FilesState) (now : ℕ) (file : List ℕ) (job : JobSayings) (g : DataGraph) (run : NoRun)
-    → SaysJob files file job → OfTexts files job.fields (λ vertices edges. TellJobGraph job.fields vertices edges g)
+    → SaysJob files file job → OfTexts files job.fields (λ vertices edges. DescribeJobGraph job.fields vertices edges g)
     → FindsRun job.fields g (Err run) → IsPrepared files now file (Err (unprepared_run run))
 run-unprepared files now file job g (no_run.NoSource source) says texts lacks = inr (
   job,
@@ -82,39 +82,39 @@ run-unprepared files now file job g (no_run.NoSource source) says texts lacks = 
   (
     source,
     refl,
-    OfRead-two files.sources.names (files.contents job.fields.vertices) (files.contents job.fields.edges) (λ vertices edges. TellJobGraph job.fields vertices edges g)
-        (LacksSource job.fields source) (λ v e t. record { graph = g; told = t; needed = lacks.needed; asked = lacks.asked; lacks = lacks.lacks }) texts,
+    OfRead-two files.sources.names (files.contents job.fields.vertices) (files.contents job.fields.edges) (λ vertices edges. DescribeJobGraph job.fields vertices edges g)
+        (LacksSource job.fields source) (λ v e t. record { graph = g; described = t; needed = lacks.needed; asked = lacks.asked; lacks = lacks.lacks }) texts,
   ),
 )
 run-unprepared files now file job g no_run.NoMemory says texts lacks = tt
 
 -- what a run that left no task says of what it prints
-answers : (files : FilesState) (file : List ℕ) (report : Bool) (made : Prepared) (holds : Option (List ℕ) → Printed → Type 0)
-    → IsMadeOf files file made → made.run.left ≡ None → holds (job_view made.job).fields.order (printed_of report made)
-    → PrintsAnswer files file report made.run.order.items holds
-answers files file report made holds is none kept =
-    let job = job_view made.job in
-    let p = update_of made.job.algorithm made.job.source in
-    let printed = printed_of report made in
-    let ended : MatchOption made.run.left (IsFinished made.graph p made.run.order.items) (IsSpent made.graph p made.job.budget made.run.order.items) = is.run.ended in
-    let finished : IsFinished made.graph p made.run.order.items =
-    subst (λ (left : Option Vertex). MatchOption left (IsFinished made.graph p made.run.order.items) (IsSpent made.graph p made.job.budget made.run.order.items)) none ended in (
+answers : (files : FilesState) (file : List ℕ) (report : Bool) (prepared : Prepared) (holds : Option (List ℕ) → Printed → Type 0)
+    → IsPreparedFrom files file prepared → prepared.run.left ≡ None → holds (job_view prepared.job).fields.order (printed_of report prepared)
+    → PrintsAnswer files file report prepared.run.order.items holds
+answers files file report prepared holds is none kept =
+    let job = job_view prepared.job in
+    let p = update_of prepared.job.algorithm prepared.job.source in
+    let printed = printed_of report prepared in
+    let ended : MatchOption prepared.run.left (IsFinished prepared.graph p prepared.run.order.items) (IsSpent prepared.graph p prepared.job.budget prepared.run.order.items) = is.run.ended in
+    let finished : IsFinished prepared.graph p prepared.run.order.items =
+    subst (λ (left : Option Vertex). MatchOption left (IsFinished prepared.graph p prepared.run.order.items) (IsSpent prepared.graph p prepared.job.budget prepared.run.order.items)) none ended in (
       printed,
       (
         job,
         is.job,
         (
           kept,
-          OfRead-two files.sources.names (files.contents job.fields.vertices) (files.contents job.fields.edges) (λ vertices edges. TellJobGraph job.fields vertices edges made.graph)
-              (λ vertices edges. IsAnswer job.fields report vertices edges printed made.run.order.items)
+          OfRead-two files.sources.names (files.contents job.fields.vertices) (files.contents job.fields.edges) (λ vertices edges. DescribeJobGraph job.fields vertices edges prepared.graph)
+              (λ vertices edges. IsAnswer job.fields report vertices edges printed prepared.run.order.items)
               (λ v e t. record {
-                graph = made.graph;
+                graph = prepared.graph;
                 graph_is = t;
-                numbers = made.run.numbers.items;
+                numbers = prepared.run.numbers.items;
                 play = is.run.play;
                 few = is.run.few;
                 finished = finished;
-                results = results-of made.job.algorithm made.job.source made.graph made.run.order.items made.run.numbers.items is.graph is.start is.run.play finished;
+                results = results-of prepared.job.algorithm prepared.job.source prepared.graph prepared.run.order.items prepared.run.numbers.items is.graph is.start is.run.play finished;
                 spelled = refl;
                 reported = refl;
                 listed = refl;
@@ -161,47 +161,47 @@ since-sinks : (before mid : Moment) → IsSince before mid → mid.files.sinks �
 since-sinks before mid since = ap (λ (s : FilesState). s.sinks) since.frame
 
 -- what a run says whose numbers were printed
-pub print-says : (file : List ℕ) (report : Bool) (made : Prepared) (before mid now : Moment) (bytes : Vec ℕ Global)
-    → IsMadeOf before.files file made → made.run.left ≡ None → IsSince before mid
-    → Prints (Ok bytes) (job_view made.job).fields.order (printed_of report made) mid now
-    → Says file report before now (λ told. bytes.items ≡ told) made.run.order.items Done
-print-says file report made before mid now bytes is none since prints =
-    let order = (job_view made.job).fields.order in
-    answers before.files file report made
-    (λ name printed. Appends before.held now.held printed.answer × (bytes.items ≡ printed.told) × LeavesOrder name before now printed.lines) is none (
-      subst (λ (old : Option (List ℕ)). Appends old now.held (printed_of report made).answer) since.held prints.1,
+pub print-says : (file : List ℕ) (report : Bool) (prepared : Prepared) (before mid now : Moment) (bytes : Vec ℕ Global)
+    → IsPreparedFrom before.files file prepared → prepared.run.left ≡ None → IsSince before mid
+    → Prints (Ok bytes) (job_view prepared.job).fields.order (printed_of report prepared) mid now
+    → Says file report before now (λ told. bytes.items ≡ told) prepared.run.order.items Done
+print-says file report prepared before mid now bytes is none since prints =
+    let order = (job_view prepared.job).fields.order in
+    answers before.files file report prepared
+    (λ name printed. Appends before.held now.held printed.answer × (bytes.items ≡ printed.report) × LeavesOrder name before now printed.lines) is none (
+      subst (λ (old : Option (List ℕ)). Appends old now.held (printed_of report prepared).answer) since.held prints.1,
       prints.0,
-      LeavesOrder-since order before mid now (printed_of report made).lines (since-sinks before mid since) prints.2,
+      LeavesOrder-since order before mid now (printed_of report prepared).lines (since-sinks before mid since) prints.2,
     )
 
 -- what it says where the order's file or the sink failed
-pub print-fails : (file : List ℕ) (report : Bool) (made : Prepared) (before mid now : Moment) (tells : List ℕ → Type 0)
-    → IsMadeOf before.files file made → made.run.left ≡ None → IsSince before mid
-    → Prints (Err WriteFaultAtOut) (job_view made.job).fields.order (printed_of report made) mid now
-    → Says file report before now tells made.run.order.items WriteFault
-print-fails file report made before mid now tells is none since prints =
-    let order = (job_view made.job).fields.order in
-    let printed = printed_of report made in
-    answers before.files file report made (λ name printed. FailsAtOrder name before now printed ⊎ FailsAtOut name before now printed) is none
+pub print-fails : (file : List ℕ) (report : Bool) (prepared : Prepared) (before mid now : Moment) (tells : List ℕ → Type 0)
+    → IsPreparedFrom before.files file prepared → prepared.run.left ≡ None → IsSince before mid
+    → Prints (Err WriteFaultAtOut) (job_view prepared.job).fields.order (printed_of report prepared) mid now
+    → Says file report before now tells prepared.run.order.items WriteFault
+print-fails file report prepared before mid now tells is none since prints =
+    let order = (job_view prepared.job).fields.order in
+    let printed = printed_of report prepared in
+    answers before.files file report prepared (λ name printed. FailsAtOrder name before now printed ⊎ FailsAtOut name before now printed) is none
     (⊎_elim
     (λ first. inl (FailsAtOrder-since order before mid now printed (since-sinks before mid since) since.held (ap (λ (s : FilesState). s.contents) since.frame) first))
     (λ second. inr (FailsAtOut-since order before mid now printed (since-sinks before mid since) since.faults since.held second))
     prints)
 
 -- what a run says whose budget is spent
-pub spent-says : (file : List ℕ) (report : Bool) (before now : Moment) (tells : List ℕ → Type 0) (made : Prepared) (left : Vertex)
-    → IsMadeOf before.files file made → made.run.left ≡ Some left → Says file report before now tells made.run.order.items (BudgetSpent left)
-spent-says file report before now tells made v is some =
+pub spent-says : (file : List ℕ) (report : Bool) (before now : Moment) (tells : List ℕ → Type 0) (prepared : Prepared) (left : Vertex)
+    → IsPreparedFrom before.files file prepared → prepared.run.left ≡ Some left → Says file report before now tells prepared.run.order.items (BudgetSpent left)
+spent-says file report before now tells prepared v is some =
     let files = before.files in
-    let job = job_view made.job in
-    let p = update_of made.job.algorithm made.job.source in
-    let spent : IsSpent made.graph p made.job.budget made.run.order.items v =
-    subst (λ (left : Option Vertex). MatchOption left (IsFinished made.graph p made.run.order.items) (IsSpent made.graph p made.job.budget made.run.order.items)) some is.run.ended in (
+    let job = job_view prepared.job in
+    let p = update_of prepared.job.algorithm prepared.job.source in
+    let spent : IsSpent prepared.graph p prepared.job.budget prepared.run.order.items v =
+    subst (λ (left : Option Vertex). MatchOption left (IsFinished prepared.graph p prepared.run.order.items) (IsSpent prepared.graph p prepared.job.budget prepared.run.order.items)) some is.run.ended in (
       job,
       is.job,
-      OfRead-two files.sources.names (files.contents job.fields.vertices) (files.contents job.fields.edges) (λ vertices edges. TellJobGraph job.fields vertices edges made.graph)
-          (SpendsBudget job.fields v made.run.order.items)
-          (λ w e t. record { graph = made.graph; graph_is = t; start = is.start; numbers = made.run.numbers.items; play = is.run.play; spent = spent }) is.texts,
+      OfRead-two files.sources.names (files.contents job.fields.vertices) (files.contents job.fields.edges) (λ vertices edges. DescribeJobGraph job.fields vertices edges prepared.graph)
+          (SpendsBudget job.fields v prepared.run.order.items)
+          (λ w e t. record { graph = prepared.graph; graph_is = t; start = is.start; numbers = prepared.run.numbers.items; play = is.run.play; spent = spent }) is.texts,
     )
 
 -- what a run says that was not made, and that no update counts
@@ -223,7 +223,7 @@ pub told-says : (file : List ℕ) (report : Bool) (before now : Moment) (tells r
     → (status ≡ Done → (told : List ℕ) → tells told → retells told)
     → Says file report before now tells order status → Says file report before now retells order status
 told-says file report before now tells retells order Done same says =
-    (says.0, (says.1.0, says.1.1, ((says.1.2.0.0, same refl says.0.told says.1.2.0.1, says.1.2.0.2), says.1.2.1)))
+    (says.0, (says.1.0, says.1.1, ((says.1.2.0.0, same refl says.0.report says.1.2.0.1, says.1.2.0.2), says.1.2.1)))
 told-says file report before now tells retells order (Usage fault) same says = says
 told-says file report before now tells retells order (BadJob fault) same says = says
 told-says file report before now tells retells order (BadGraph fault) same says = says

@@ -21,7 +21,7 @@ use Rattle.job_config.specs.Fields.{JobFields, needs_source}
 use Rattle.job_config.specs.Jobs.{JobSayings}
 use Rattle.job_config.specs.Ranges.{HasSource}
 use Rattle.job_config.specs.Views.{job_view}
-use Rattle.engine_cli.specs.Answer.{TellJobGraph}
+use Rattle.engine_cli.specs.Answer.{DescribeJobGraph}
 use Rattle.engine_cli.specs.FilesUsed.{HandsOver, OfRead, OfText}
 use Rattle.engine_cli.specs.Plays.{HasStart, IsVertexOf, RunsTo, update_of}
 use Rattle.engine_cli.specs.Runs.{not_built, run_of}
@@ -79,7 +79,7 @@ TakesEdges directed weighted ids names text before now (Err reading.NoMemory) = 
 
 -- what reading both files of the job answers
 abbrev pub TakesGraph : FilesState → ℕ → JobFields → Result DataGraph Reading → Type 0
-TakesGraph files now job (Ok g) = IsDataGraph g × OfTexts files job (λ vertices edges. TellJobGraph job vertices edges g)
+TakesGraph files now job (Ok g) = IsDataGraph g × OfTexts files job (λ vertices edges. DescribeJobGraph job vertices edges g)
 TakesGraph files now job (Err (reading.Text fault)) = RefusesTexts files fault job
 TakesGraph files now job (Err reading.ReadFault) = Rose files.sources.faults now
 TakesGraph files now job (Err reading.NoMemory) = ⊤

@@ -42,5 +42,5 @@ note_of (BudgetSpent left) = codes "budget spent\n"
 note_of NoMemory = codes "out of memory\n"
 
 -- the whole text was appended, or a front of it where the sink failed
-abbrev pub Tells : List ℕ → Option (List ℕ) → Option (List ℕ) → ℕ → ℕ → Type 0
-Tells text old new before now = Appends old new text ⊎ (Rose before now × AppendsFront old new text)
+abbrev pub WritesNote : List ℕ → Option (List ℕ) → Option (List ℕ) → ℕ → ℕ → Type 0
+WritesNote text old new before now = Appends old new text ⊎ (Rose before now × AppendsFront old new text)

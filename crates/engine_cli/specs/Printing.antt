@@ -8,22 +8,22 @@ use Rattle.graph_text.specs.declared.making.Writing.TheVariants.{WriteFault, NoM
 use Rattle.order_text.specs.Answers.{answer_text}
 use Rattle.order_text.specs.Orders.{order_text}
 use Rattle.engine_cli.specs.declared.running.Prepared.{Prepared}
-use Rattle.engine_cli.specs.Answer.{Printed, told_of}
+use Rattle.engine_cli.specs.Answer.{Printed, report_of}
 use Rattle.engine_cli.specs.Says.{FailsAtOrder, FailsAtOut, LeavesOrder, Moment}
 
 -- what is printed of a run
 abbrev pub printed_of : Bool → Prepared → Printed
-printed_of report made =
-    let text = answer_text made.job.algorithm made.graph.ids made.run.numbers.items in
+printed_of report prepared =
+    let text = answer_text prepared.job.algorithm prepared.graph.ids prepared.run.numbers.items in
     record {
       answer = text;
-      told = told_of report made.graph made.run.numbers.items text;
-      lines = order_text made.graph.ids made.run.order.items;
+      report = report_of report prepared.graph prepared.run.numbers.items text;
+      lines = order_text prepared.graph.ids prepared.run.order.items;
     }
 
 -- all was printed, and what is reported is handed back; or the order's file or `out` failed
 abbrev pub Prints : Result (Vec ℕ Global) Writing → Option (List ℕ) → Printed → Moment → Moment → Type 0
 Prints (Ok bytes) order printed before now =
-    (bytes.items ≡ printed.told) × Appends before.held now.held printed.answer × LeavesOrder order before now printed.lines
+    (bytes.items ≡ printed.report) × Appends before.held now.held printed.answer × LeavesOrder order before now printed.lines
 Prints (Err WriteFault) order printed before now = FailsAtOrder order before now printed ⊎ FailsAtOut order before now printed
 Prints (Err NoMemory) order printed before now = ⊤

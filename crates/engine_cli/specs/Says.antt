@@ -84,7 +84,7 @@ pub record FailsAtOut (order : Option (List ℕ)) (before now : Moment) (printed
 abbrev pub Says : List ℕ → Bool → Moment → Moment → (List ℕ → Type 0) → List Entry → Status → Type 0
 Says file report before now tells order Done =
     PrintsAnswer before.files file report order
-    (λ name printed. Appends before.held now.held printed.answer × tells printed.told × LeavesOrder name before now printed.lines)
+    (λ name printed. Appends before.held now.held printed.answer × tells printed.report × LeavesOrder name before now printed.lines)
 Says file report before now tells order (Usage fault) = ⊥
 Says file report before now tells order (BadJob fault) = (order ≡ []) × RefusesJob before.files file fault
 Says file report before now tells order (BadGraph fault) = (order ≡ []) × OfJob before.files file (RefusesTexts before.files fault)

@@ -12,7 +12,7 @@ ghost use Rattle.engine_cli.specs.Status.{IsRefusal};
 ghost use Rattle.engine_cli.specs.Causes.{writing_of};
 ghost use Rattle.engine_cli.specs.FilesUsed.{WritesFiles};
 ghost use Rattle.engine_cli.specs.Made.{IsAsked, IsFault, IsMade, IsMadeFront, IsOfFiles, LeavesFront, LeavesText, edges_name, ending_of, vertices_name};
-ghost use Rattle.engine_cli.specs.Notes.{Tells, note_of};
+ghost use Rattle.engine_cli.specs.Notes.{WritesNote, note_of};
 ghost use Rattle.engine_cli.specs.Verbs.{IsMaking};
 
 use crate::Status;
@@ -40,7 +40,7 @@ pub fn files_only<F: Files, K: Sink, N: Sink>(
     ensures sinks { ChangesSinks (F.state files.old) (F.state files.new) }
     ensures later { (F.state files.old).sinks.faults ≤ (F.state files.new).sinks.faults }
     ensures untouched { out.new ≡ out.old }
-    ensures note { IsRefusal result → Tells (note_of result) (N.held note.old) (N.held note.new) (N.faults note.old) (N.faults note.new) }
+    ensures note { IsRefusal result → WritesNote (note_of result) (N.held note.old) (N.held note.new) (N.faults note.old) (N.faults note.new) }
     ensures done { result ≡ Done → note.new ≡ note.old }
     ensures notes { N.faults note.old ≤ N.faults note.new }
     ensures same_note { N.same note.old note.new }

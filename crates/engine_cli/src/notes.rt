@@ -1,7 +1,7 @@
-//! Tells on standard error why a call was refused.
+//! WritesNote on standard error why a call was refused.
 ghost use Rattle.std.specs.Prelude.{◌≡◌, ◌≤◌, [], ◌∷◌, codes, map};
 ghost use Rattle.gl_base.specs.declared.job_faults.JobFault.TheVariants.{OutOfRange};
-ghost use Rattle.engine_cli.specs.Notes.{Tells, graph_note, job_note, note_of};
+ghost use Rattle.engine_cli.specs.Notes.{WritesNote, graph_note, job_note, note_of};
 ghost use Rattle.gl_base.specs.FaultNames.{key_name};
 ghost use Rattle.engine_cli.specs.Writes.{WritesAll, joined};
 
@@ -14,10 +14,10 @@ use itoa::Buffer;
 const USAGE: &str =
     "usage: glab run|resume|init|cut JOB\nusage: glab make PREFIX --number N --vertices N --edges N [--weight N]\n";
 
-/// Tells why a call was refused, and hands on the status. A fault of `note` is passed over.
+/// WritesNote why a call was refused, and hands on the status. A fault of `note` is passed over.
 pub fn refuse<N: Sink>(note: &mut N, status: Status) -> Status
     ensures status { result ≡ status }
-    ensures told { Tells (note_of result) (N.held note.old) (N.held note.new) (N.faults note.old) (N.faults note.new) }
+    ensures note { WritesNote (note_of result) (N.held note.old) (N.held note.new) (N.faults note.old) (N.faults note.new) }
     ensures later { N.faults note.old ≤ N.faults note.new }
     ensures same { N.same note.old note.new }
 {
@@ -27,7 +27,7 @@ pub fn refuse<N: Sink>(note: &mut N, status: Status) -> Status
 
 /// Writes one line for the status, and nothing for `Done`.
 fn tell<N: Sink>(note: &mut N, status: &Status) -> Result<(), Failed>
-    ensures told { WritesAll result (note_of status.now) (N.held note.old) (N.held note.new) (N.faults note.old) (N.faults note.new) }
+    ensures note { WritesAll result (note_of status.now) (N.held note.old) (N.held note.new) (N.faults note.old) (N.faults note.new) }
     ensures later { N.faults note.old ≤ N.faults note.new }
     ensures same { N.same note.old note.new }
 {
@@ -45,7 +45,7 @@ fn tell<N: Sink>(note: &mut N, status: &Status) -> Result<(), Failed>
 
 /// Writes why a job was refused.
 fn tell_job<N: Sink>(note: &mut N, fault: &JobFault) -> Result<(), Failed>
-    ensures told { WritesAll result (job_note fault.now) (N.held note.old) (N.held note.new) (N.faults note.old) (N.faults note.new) }
+    ensures note { WritesAll result (job_note fault.now) (N.held note.old) (N.held note.new) (N.faults note.old) (N.faults note.new) }
     ensures later { N.faults note.old ≤ N.faults note.new }
     ensures same { N.same note.old note.new }
 {
@@ -62,7 +62,7 @@ fn tell_job<N: Sink>(note: &mut N, fault: &JobFault) -> Result<(), Failed>
 
 /// Writes a text and the key that it is about.
 fn tell_key<N: Sink>(note: &mut N, text: &str, key: Key) -> Result<(), Failed>
-    ensures told { WritesAll result (joined (text.now ∷ key_name key ∷ codes "\n" ∷ [])) (N.held note.old) (N.held note.new) (N.faults note.old) (N.faults note.new) }
+    ensures note { WritesAll result (joined (text.now ∷ key_name key ∷ codes "\n" ∷ [])) (N.held note.old) (N.held note.new) (N.faults note.old) (N.faults note.new) }
     ensures later { N.faults note.old ≤ N.faults note.new }
     ensures same { N.same note.old note.new }
 {
@@ -71,7 +71,7 @@ fn tell_key<N: Sink>(note: &mut N, text: &str, key: Key) -> Result<(), Failed>
 
 /// Writes which key's value is out of its range.
 fn tell_range<N: Sink>(note: &mut N, key: Key, value: u64) -> Result<(), Failed>
-    ensures told { WritesAll result (job_note (OutOfRange key value)) (N.held note.old) (N.held note.new) (N.faults note.old) (N.faults note.new) }
+    ensures note { WritesAll result (job_note (OutOfRange key value)) (N.held note.old) (N.held note.new) (N.faults note.old) (N.faults note.new) }
     ensures later { N.faults note.old ≤ N.faults note.new }
     ensures same { N.same note.old note.new }
 {
@@ -82,7 +82,7 @@ fn tell_range<N: Sink>(note: &mut N, key: Key, value: u64) -> Result<(), Failed>
 
 /// Writes why a graph text was refused, and where.
 fn tell_graph<N: Sink>(note: &mut N, fault: TextFault) -> Result<(), Failed>
-    ensures told { WritesAll result (graph_note fault) (N.held note.old) (N.held note.new) (N.faults note.old) (N.faults note.new) }
+    ensures note { WritesAll result (graph_note fault) (N.held note.old) (N.held note.new) (N.faults note.old) (N.faults note.new) }
     ensures later { N.faults note.old ≤ N.faults note.new }
     ensures same { N.same note.old note.new }
 {
@@ -97,7 +97,7 @@ fn tell_graph<N: Sink>(note: &mut N, fault: TextFault) -> Result<(), Failed>
 
 /// Writes a text.
 fn write_text<N: Sink>(note: &mut N, text: &str) -> Result<(), Failed>
-    ensures told { WritesAll result text.now (N.held note.old) (N.held note.new) (N.faults note.old) (N.faults note.new) }
+    ensures note { WritesAll result text.now (N.held note.old) (N.held note.new) (N.faults note.old) (N.faults note.new) }
     ensures later { N.faults note.old ≤ N.faults note.new }
     ensures same { N.same note.old note.new }
 {
@@ -107,7 +107,7 @@ fn write_text<N: Sink>(note: &mut N, text: &str) -> Result<(), Failed>
 
 /// Writes a line of two texts.
 fn write_line<N: Sink>(note: &mut N, text: &str, word: &str) -> Result<(), Failed>
-    ensures told { WritesAll result (joined (text.now ∷ word.now ∷ codes "\n" ∷ [])) (N.held note.old) (N.held note.new) (N.faults note.old) (N.faults note.new) }
+    ensures note { WritesAll result (joined (text.now ∷ word.now ∷ codes "\n" ∷ [])) (N.held note.old) (N.held note.new) (N.faults note.old) (N.faults note.new) }
     ensures later { N.faults note.old ≤ N.faults note.new }
     ensures same { N.same note.old note.new }
 {
@@ -116,7 +116,7 @@ fn write_line<N: Sink>(note: &mut N, text: &str, word: &str) -> Result<(), Faile
 
 /// Writes these texts, one after another.
 fn write_texts<N: Sink>(note: &mut N, texts: &[&str]) -> Result<(), Failed>
-    ensures told { WritesAll result (joined (map (λ t. t.now) texts.now)) (N.held note.old) (N.held note.new) (N.faults note.old) (N.faults note.new) }
+    ensures note { WritesAll result (joined (map (λ t. t.now) texts.now)) (N.held note.old) (N.held note.new) (N.faults note.old) (N.faults note.new) }
     ensures later { N.faults note.old ≤ N.faults note.new }
     ensures same { N.same note.old note.new }
 {

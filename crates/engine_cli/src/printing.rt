@@ -7,7 +7,7 @@ ghost use Rattle.graph_core.specs.DataGraph.{size};
 ghost use Rattle.graph_text.specs.declared.making.Writing.TheVariants.{WriteFault, NoMemory as NoMemoryAtOut};
 ghost use Rattle.job_config.specs.Views.{job_view};
 ghost use Rattle.order_text.specs.Orders.{IsEntryOf};
-ghost use Rattle.engine_cli.specs.Answer.{told_of};
+ghost use Rattle.engine_cli.specs.Answer.{report_of};
 ghost use Rattle.engine_cli.specs.FilesUsed.{WritesFiles};
 ghost use Rattle.engine_cli.specs.Found.{order_names};
 ghost use Rattle.engine_cli.specs.Leaves.{KeepsOrGives};
@@ -25,45 +25,45 @@ use std::alloc::Global;
 use sync_folds::Fold;
 
 /// Writes the order of a run to the file that the job names for it, and then prints a line for each vertex: its identifier
-/// and the number at its place. What is to be told of the answer is handed back. All memory is taken before anything is
+/// and the number at its place. What is to be report of the answer is handed back. All memory is taken before anything is
 /// written, so that want of it leaves files and `out` as they were.
 pub fn print_run<F: Files, K: Sink>(
     alloc: Global,
     files: &mut F,
     out: &mut K,
-    made: &Prepared,
+    prepared: &Prepared,
     is_reported: bool,
 ) -> Result<Vec<u8>, Writing>
-    requires numbers { length made.now.run.numbers.items ≡ size made.now.graph }
-    requires entries { All (IsEntryOf made.now.graph) made.now.run.order.items }
-    ensures printed { Prints result (job_view made.now.job).fields.order (printed_of is_reported made.now)
+    requires numbers { length prepared.now.run.numbers.items ≡ size prepared.now.graph }
+    requires entries { All (IsEntryOf prepared.now.graph) prepared.now.run.order.items }
+    ensures printed { Prints result (job_view prepared.now.job).fields.order (printed_of is_reported prepared.now)
         (moment (F.state files.old) (K.faults out.old) (K.held out.old))
         (moment (F.state files.new) (K.faults out.new) (K.held out.new)) }
     ensures no_memory { result ≡ Err NoMemoryAtOut → (out.new ≡ out.old) × ((F.state files.new).contents ≡ (F.state files.old).contents) }
-    ensures wrote { WritesFiles (order_names (job_view made.now.job).fields.order) (F.state files.old) (F.state files.new) }
+    ensures wrote { WritesFiles (order_names (job_view prepared.now.job).fields.order) (F.state files.old) (F.state files.new) }
     ensures faults { K.faults out.old ≤ K.faults out.new }
     ensures same { K.same out.old out.new }
 {
-    let Prepared { job, graph, run } = made;
+    let Prepared { job, graph, run } = prepared;
     let text = answer(alloc, graph, &run.numbers, job.algorithm)?;
-    let told = told_of(alloc, graph, &run.numbers, &text, is_reported)?;
+    let report = report_of(alloc, graph, &run.numbers, &text, is_reported)?;
     if let Some(name) = &job.order {
         let lines = order_bytes(alloc, graph, &run.order)?;
         write_order(files, name.as_str(), &lines)?;
     }
     write_all(out, &text)?;
-    Ok(told)
+    Ok(report)
 }
 
 /// The report of the answer, where it is asked for.
-fn told_of(
+fn report_of(
     alloc: Global,
     graph: &Graph,
     numbers: &[u64],
     text: &[u8],
     is_reported: bool,
 ) -> Result<Vec<u8>, NoMemory>
-    ensures { IfOk result (λ told. told.items ≡ told_of is_reported graph.now numbers.now text.now) }
+    ensures { IfOk result (λ report. report.items ≡ report_of is_reported graph.now numbers.now text.now) }
 {
     if !is_reported {
         return Ok(Vec::new(alloc));

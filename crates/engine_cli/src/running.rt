@@ -24,7 +24,7 @@ use std::alloc::Global;
 #[derive(Drop)]
 pub struct RunEnd {
     pub status: Status,
-    pub told: Vec<u8>,
+    pub report: Vec<u8>,
     pub order: Vec<Entry>,
     pub done: Vec<u64>,
 }
@@ -99,27 +99,32 @@ pub fn run_job<F: Files, K: Sink>(
 ) -> RunEnd
     ensures run { IsRun file.now is_reported (moment (F.state files.old) (K.faults out.old) (K.held out.old))
         (moment (F.state files.new) (K.faults out.new) (K.held out.new))
-        (λ told. result.told.items ≡ told) result.order.items result.done.items result.status }
-    ensures quiet { is_reported ≡ false → result.told.items ≡ [] }
+        (λ report. result.report.items ≡ report) result.order.items result.done.items result.status }
+    ensures quiet { is_reported ≡ false → result.report.items ≡ [] }
     ensures untouched { IsBeforeWriting result.status → out.new ≡ out.old }
     ensures reads { (F.state files.old).sources.faults ≤ (F.state files.new).sources.faults }
     ensures writes { (F.state files.old).sinks.faults ≤ (F.state files.new).sinks.faults }
     ensures faults { K.faults out.old ≤ K.faults out.new }
     ensures same { K.same out.old out.new }
 {
-    let made = match prepare(alloc, file, files) {
-        Ok(made) => made,
+    let prepared = match prepare(alloc, file, files) {
+        Ok(prepared) => prepared,
         Err(why) => return refused(alloc, why.into()),
     };
-    let Ok(done) = Vec::from_elem(alloc, made.run.order.len() as u64, 1) else {
+    let Ok(done) = Vec::from_elem(alloc, prepared.run.order.len() as u64, 1) else {
         return refused(alloc, Status::NoMemory);
     };
-    if let Some(left) = made.run.left {
-        return ended(Status::BudgetSpent { left }, Vec::new(alloc), made, done);
+    if let Some(left) = prepared.run.left {
+        return ended(
+            Status::BudgetSpent { left },
+            Vec::new(alloc),
+            prepared,
+            done,
+        );
     }
-    match print_run(alloc, files, out, &made, is_reported) {
-        Ok(told) => ended(Status::Done, told, made, done),
-        Err(Writing::WriteFault) => ended(Status::WriteFault, Vec::new(alloc), made, done),
+    match print_run(alloc, files, out, &prepared, is_reported) {
+        Ok(report) => ended(Status::Done, report, prepared, done),
+        Err(Writing::WriteFault) => ended(Status::WriteFault, Vec::new(alloc), prepared, done),
         Err(Writing::NoMemory) => refused(alloc, Status::NoMemory),
     }
 }
@@ -136,16 +141,16 @@ fn prepare<F: Files>(alloc: Global, file: &str, files: &mut F) -> Result<Prepare
 }
 
 /// The end of a run that was made, with what is to be told of it.
-fn ended(status: Status, told: Vec<u8>, made: Prepared, done: Vec<u64>) -> RunEnd
+fn ended(status: Status, report: Vec<u8>, prepared: Prepared, done: Vec<u64>) -> RunEnd
     ensures status { result.status ≡ status }
-    ensures told { result.told.items ≡ told.items }
-    ensures order { result.order.items ≡ made.run.order.items }
+    ensures report { result.report.items ≡ report.items }
+    ensures order { result.order.items ≡ prepared.run.order.items }
     ensures done { result.done.items ≡ done.items }
 {
-    let Prepared { run, .. } = made;
+    let Prepared { run, .. } = prepared;
     RunEnd {
         status,
-        told,
+        report,
         order: run.order,
         done,
     }
@@ -154,13 +159,13 @@ fn ended(status: Status, told: Vec<u8>, made: Prepared, done: Vec<u64>) -> RunEn
 /// The end of a run that was refused before it was made, or that left nothing.
 fn refused(alloc: Global, status: Status) -> RunEnd
     ensures status { result.status ≡ status }
-    ensures told { result.told.items ≡ [] }
+    ensures report { result.report.items ≡ [] }
     ensures order { result.order.items ≡ [] }
     ensures done { result.done.items ≡ [] }
 {
     RunEnd {
         status,
-        told: Vec::new(alloc),
+        report: Vec::new(alloc),
         order: Vec::new(alloc),
         done: Vec::new(alloc),
     }

@@ -7,7 +7,7 @@ ghost use Rattle.job_words.specs.declared.words.Words.{Words};
 ghost use Rattle.engine_cli.specs.declared.status.Status.TheVariants.{Done, Usage, NoMemory};
 ghost use Rattle.engine_cli.specs.Status.{IsBeforeWriting, IsRefusal};
 ghost use Rattle.engine_cli.specs.Made.{IsAsked, IsOfFiles};
-ghost use Rattle.engine_cli.specs.Notes.{Tells, note_of};
+ghost use Rattle.engine_cli.specs.Notes.{WritesNote, note_of};
 ghost use Rattle.engine_cli.specs.Says.{moment};
 ghost use Rattle.engine_cli.specs.Ended.{AreNone, HasNoLosses};
 ghost use Rattle.engine_cli.specs.Verbs.{IsCall, IsQuiet, IsRun};
@@ -47,7 +47,7 @@ pub fn engine<F: Files, K: Sink, N: Sink, G: Gate + Sync>(
     // What the verb leaves, by each status.
     ensures verb { (asked : Words) → IsCommandLine (texts words.now) asked → IsCall asked (moment (F.state files.old) (K.faults out.old) (K.held out.old))
         (moment (F.state files.new) (K.faults out.new) (K.held out.new))
-        (λ told. Tells told (N.held note.old) (N.held note.new) (N.faults note.old) (N.faults note.new)) result }
+        (λ report. WritesNote report (N.held note.old) (N.held note.new) (N.faults note.old) (N.faults note.new)) result }
     ensures files_only { (asked : Words) → IsCommandLine (texts words.now) asked → IsOfFiles asked → out.new ≡ out.old }
 
     // Other words.
@@ -56,7 +56,7 @@ pub fn engine<F: Files, K: Sink, N: Sink, G: Gate + Sync>(
         × AreNone result.order.items result.done.items }
 
     // What is told of a refusal, and of work that has nothing to tell.
-    ensures note { IsRefusal result.status → Tells (note_of result.status) (N.held note.old) (N.held note.new) (N.faults note.old) (N.faults note.new) }
+    ensures note { IsRefusal result.status → WritesNote (note_of result.status) (N.held note.old) (N.held note.new) (N.faults note.old) (N.faults note.new) }
     ensures quiet { (asked : Words) → IsCommandLine (texts words.now) asked → IsQuiet asked → result.status ≡ Done → note.new ≡ note.old }
 
     // What stays.
@@ -87,9 +87,9 @@ fn do_command<F: Files, K: Sink, N: Sink>(
     requires { IsAsked asked.now }
     ensures verb { IsCall asked.now (moment (F.state files.old) (K.faults out.old) (K.held out.old))
         (moment (F.state files.new) (K.faults out.new) (K.held out.new))
-        (λ told. Tells told (N.held note.old) (N.held note.new) (N.faults note.old) (N.faults note.new)) result }
+        (λ report. WritesNote report (N.held note.old) (N.held note.new) (N.faults note.old) (N.faults note.new)) result }
     ensures files_only { IsOfFiles asked.now → out.new ≡ out.old }
-    ensures note { IsRefusal result.status → Tells (note_of result.status) (N.held note.old) (N.held note.new) (N.faults note.old) (N.faults note.new) }
+    ensures note { IsRefusal result.status → WritesNote (note_of result.status) (N.held note.old) (N.held note.new) (N.faults note.old) (N.faults note.new) }
     ensures quiet { IsQuiet asked.now → result.status ≡ Done → note.new ≡ note.old }
     ensures untouched { IsBeforeWriting result.status → out.new ≡ out.old }
     ensures reads { (F.state files.old).sources.faults ≤ (F.state files.new).sources.faults }
@@ -117,8 +117,8 @@ fn run_file<F: Files, K: Sink, N: Sink>(
 ) -> Ended
     ensures run { IsRun file.now is_reported (moment (F.state files.old) (K.faults out.old) (K.held out.old))
         (moment (F.state files.new) (K.faults out.new) (K.held out.new))
-        (λ told. Tells told (N.held note.old) (N.held note.new) (N.faults note.old) (N.faults note.new)) result.order.items result.done.items result.status }
-    ensures note { IsRefusal result.status → Tells (note_of result.status) (N.held note.old) (N.held note.new) (N.faults note.old) (N.faults note.new) }
+        (λ report. WritesNote report (N.held note.old) (N.held note.new) (N.faults note.old) (N.faults note.new)) result.order.items result.done.items result.status }
+    ensures note { IsRefusal result.status → WritesNote (note_of result.status) (N.held note.old) (N.held note.new) (N.faults note.old) (N.faults note.new) }
     ensures quiet { is_reported ≡ false → result.status ≡ Done → note.new ≡ note.old }
     ensures untouched { IsBeforeWriting result.status → out.new ≡ out.old }
     ensures reads { (F.state files.old).sources.faults ≤ (F.state files.new).sources.faults }
@@ -131,12 +131,12 @@ fn run_file<F: Files, K: Sink, N: Sink>(
 {
     let RunEnd {
         status,
-        told,
+        report,
         order,
         done,
     } = run_job(alloc, file, is_reported, files, out);
     let status = match status {
-        Status::Done => tell_report(note, &told),
+        Status::Done => tell_report(note, &report),
         status => refuse(note, status),
     };
     Ended {
@@ -149,16 +149,16 @@ fn run_file<F: Files, K: Sink, N: Sink>(
     }
 }
 
-/// Tells what is reported of an answer that was printed. A fault of `note` is passed over.
-fn tell_report<N: Sink>(note: &mut N, told: &[u8]) -> Status
+/// WritesNote what is reported of an answer that was printed. A fault of `note` is passed over.
+fn tell_report<N: Sink>(note: &mut N, report: &[u8]) -> Status
     ensures status { result ≡ Done }
-    ensures told { Tells told.now (N.held note.old) (N.held note.new) (N.faults note.old) (N.faults note.new) }
-    ensures quiet { told.now ≡ [] → note.new ≡ note.old }
+    ensures note { WritesNote report.now (N.held note.old) (N.held note.new) (N.faults note.old) (N.faults note.new) }
+    ensures quiet { report.now ≡ [] → note.new ≡ note.old }
     ensures later { N.faults note.old ≤ N.faults note.new }
     ensures same { N.same note.old note.new }
 {
-    if !told.is_empty() {
-        let _ = write_all(note, told);
+    if !report.is_empty() {
+        let _ = write_all(note, report);
     }
     Status::Done
 }

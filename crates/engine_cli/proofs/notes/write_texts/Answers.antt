@@ -4,8 +4,8 @@ use Rattle.gl_outside.proofs.Fronts.{Rose-later}
 use Rattle.engine_cli.proofs.TextsJoined.{joined-next, joined-stopped, text_at}
 use Rattle.engine_cli.proofs.notes.write_texts.Goals as goal
 
-pub returns-in_err-write_all-clause-told : goal.returns-in_err-write_all-clause-told
-returns-in_err-write_all-clause-told g c =
+pub returns-in_err-write_all-clause-note : goal.returns-in_err-write_all-clause-note
+returns-in_err-write_all-clause-note g c =
     let exit = err_from_is_err_and c.from_residual.result c.from_residual.ensures.1 in
     let at = text_at c.args.texts.now c.loop-text.text-index _ (search rules) c.as_bytes.ensures.value in
     rw exit.1 (

@@ -1,7 +1,7 @@
 use Rattle.std.proofs.Common.{[], ◌∷◌, refl}
 use Rattle.std.proofs.lemmas.Result.{err_from_is_err_and}
 use Rattle.job_config.specs.Views.{job_view}
-use Rattle.engine_cli.specs.Answer.{TellJobGraph}
+use Rattle.engine_cli.specs.Answer.{DescribeJobGraph}
 use Rattle.engine_cli.specs.Found.{names_after, names_of}
 use Rattle.engine_cli.specs.Says.{OfTexts}
 use Rattle.engine_cli.proofs.NamesHanded.{HandsOver-graph}
@@ -47,8 +47,8 @@ returns-in_err-run-clause-answer g c =
     let exit = err_from_is_err_and c.from_residual-in_err-run.result c.from_residual-in_err-run.ensures.1 in
     let files = g.F.Files.state c.args.files.now in
     let job = job_view c.in_ok-job.job in
-    let texts : OfTexts files job.fields (λ vertices edges. TellJobGraph job.fields vertices edges c.in_ok-graph.graph) =
-    texts-before files (g.F.Files.state c.job_of.new.files) (c.args.file.now ∷ []) job.fields (λ vertices edges. TellJobGraph job.fields vertices edges c.in_ok-graph.graph)
+    let texts : OfTexts files job.fields (λ vertices edges. DescribeJobGraph job.fields vertices edges c.in_ok-graph.graph) =
+    texts-before files (g.F.Files.state c.job_of.new.files) (c.args.file.now ∷ []) job.fields (λ vertices edges. DescribeJobGraph job.fields vertices edges c.in_ok-graph.graph)
     c.in_ok-job.ensures.read.frame c.in_ok-job.ensures.handed c.in_ok-graph.ensures.answer.1 in
     rw (exit.1, exit.2) (run-unprepared files (g.F.Files.state c.graph_of.new.files).sources.faults c.args.file.now job c.in_ok-graph.graph c.in_err-run.field-0.0
     c.in_ok-job.ensures.answer.1 texts c.in_err-run.ensures)
@@ -67,7 +67,7 @@ returns-clause-answer g c =
     let job = job_view c.in_ok-job.job in
     record {
       job = c.in_ok-job.ensures.answer.1;
-      texts = texts-before files (g.F.Files.state c.job_of.new.files) (c.args.file.now ∷ []) job.fields (λ vertices edges. TellJobGraph job.fields vertices edges c.in_ok-graph.graph)
+      texts = texts-before files (g.F.Files.state c.job_of.new.files) (c.args.file.now ∷ []) job.fields (λ vertices edges. DescribeJobGraph job.fields vertices edges c.in_ok-graph.graph)
           c.in_ok-job.ensures.read.frame c.in_ok-job.ensures.handed c.in_ok-graph.ensures.answer.1;
       graph = c.in_ok-graph.ensures.answer.0;
       start = c.in_ok-run.ensures.0;

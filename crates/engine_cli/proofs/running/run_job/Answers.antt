@@ -27,29 +27,29 @@ pub returns-in-Some-clause-run : goal.returns-in-Some-clause-run
 returns-in-Some-clause-run g c =
     let before = moment (g.F.Files.state c.args.files.now) (g.K.Sink.faults c.args.out.now) (g.K.Sink.held c.args.out.now) in
     let now = moment (g.F.Files.state c.prepare.new.files) (g.K.Sink.faults c.args.out.now) (g.K.Sink.held c.args.out.now) in
-    let made = c.in-Ok.made in
-    let done : c.ended.result.done.items ≡ length made.run.order.items ∷ [] = search rules in
-    let tells : List ℕ → Type 0 = λ told. c.ended.result.told.items ≡ told in
+    let prepared = c.in-Ok.prepared in
+    let done : c.ended.result.done.items ≡ length prepared.run.order.items ∷ [] = search rules in
+    let tells : List ℕ → Type 0 = λ told. c.ended.result.report.items ≡ told in
     rw (c.ended.ensures.status, c.ended.ensures.order)
-    (ends-early c.args.file.now c.args.is_reported before now tells made.run.order.items c.ended.result.done.items (BudgetSpent c.in-Some.left)
-    (spent-says c.args.file.now c.args.is_reported before now tells made c.in-Some.left c.in-Ok.ensures.answer c.in-Some.is) done c.in-Ok.ensures.read)
+    (ends-early c.args.file.now c.args.is_reported before now tells prepared.run.order.items c.ended.result.done.items (BudgetSpent c.in-Some.left)
+    (spent-says c.args.file.now c.args.is_reported before now tells prepared c.in-Some.left c.in-Ok.ensures.answer c.in-Some.is) done c.in-Ok.ensures.read)
 
 pub print_run-requires-clause-entries : goal.print_run-requires-clause-entries
 print_run-requires-clause-entries g c =
-    let made = c.in-Ok.made in
-    entries-inside made.graph (update_of made.job.algorithm made.job.source) c.in-Ok.ensures.answer.graph made.run.order.items c.in-Ok.ensures.answer.run.play.valid
+    let prepared = c.in-Ok.prepared in
+    entries-inside prepared.graph (update_of prepared.job.algorithm prepared.job.source) c.in-Ok.ensures.answer.graph prepared.run.order.items c.in-Ok.ensures.answer.run.play.valid
 
 pub returns-in-Ok-print_run-clause-run : goal.returns-in-Ok-print_run-clause-run
 returns-in-Ok-print_run-clause-run g c =
     let before = moment (g.F.Files.state c.args.files.now) (g.K.Sink.faults c.args.out.now) (g.K.Sink.held c.args.out.now) in
     let mid = moment (g.F.Files.state c.prepare.new.files) (g.K.Sink.faults c.args.out.now) (g.K.Sink.held c.args.out.now) in
     let now = moment (g.F.Files.state c.print_run.new.files) (g.K.Sink.faults c.print_run.new.out) (g.K.Sink.held c.print_run.new.out) in
-    let made = c.in-Ok.made in
+    let prepared = c.in-Ok.prepared in
     let since : IsSince before mid = record { frame = c.in-Ok.ensures.read.frame; faults = refl; held = refl } in
-    let done : c.ended-in-Ok-print_run.result.done.items ≡ length made.run.order.items ∷ [] = search rules in
-    rw (c.ended-in-Ok-print_run.ensures.status, c.ended-in-Ok-print_run.ensures.order, c.ended-in-Ok-print_run.ensures.told)
-    (ends-late c.args.file.now c.args.is_reported before mid now _ (job_view made.job) made.run.order.items c.ended-in-Ok-print_run.result.done.items Done
-    (print-says c.args.file.now c.args.is_reported made before mid now c.in-Ok-print_run.told c.in-Ok.ensures.answer c.in_default-left.is since c.in-Ok-print_run.ensures.printed) done
+    let done : c.ended-in-Ok-print_run.result.done.items ≡ length prepared.run.order.items ∷ [] = search rules in
+    rw (c.ended-in-Ok-print_run.ensures.status, c.ended-in-Ok-print_run.ensures.order, c.ended-in-Ok-print_run.ensures.report)
+    (ends-late c.args.file.now c.args.is_reported before mid now _ (job_view prepared.job) prepared.run.order.items c.ended-in-Ok-print_run.result.done.items Done
+    (print-says c.args.file.now c.args.is_reported prepared before mid now c.in-Ok-print_run.report c.in-Ok.ensures.answer c.in_default-left.is since c.in-Ok-print_run.ensures.printed) done
     c.in-Ok.ensures.read c.in-Ok.ensures.answer.job c.in-Ok-print_run.ensures.wrote (λ early. early) (λ early. absurd early))
 
 pub returns-in-Err-WriteFault-clause-run : goal.returns-in-Err-WriteFault-clause-run
@@ -57,13 +57,13 @@ returns-in-Err-WriteFault-clause-run g c =
     let before = moment (g.F.Files.state c.args.files.now) (g.K.Sink.faults c.args.out.now) (g.K.Sink.held c.args.out.now) in
     let mid = moment (g.F.Files.state c.prepare.new.files) (g.K.Sink.faults c.args.out.now) (g.K.Sink.held c.args.out.now) in
     let now = moment (g.F.Files.state c.print_run.new.files) (g.K.Sink.faults c.print_run.new.out) (g.K.Sink.held c.print_run.new.out) in
-    let made = c.in-Ok.made in
+    let prepared = c.in-Ok.prepared in
     let since : IsSince before mid = record { frame = c.in-Ok.ensures.read.frame; faults = refl; held = refl } in
-    let done : c.ended-in-Err-WriteFault.result.done.items ≡ length made.run.order.items ∷ [] = search rules in
-    let tells : List ℕ → Type 0 = λ told. c.ended-in-Err-WriteFault.result.told.items ≡ told in
+    let done : c.ended-in-Err-WriteFault.result.done.items ≡ length prepared.run.order.items ∷ [] = search rules in
+    let tells : List ℕ → Type 0 = λ told. c.ended-in-Err-WriteFault.result.report.items ≡ told in
     rw (c.ended-in-Err-WriteFault.ensures.status, c.ended-in-Err-WriteFault.ensures.order)
-    (ends-late c.args.file.now c.args.is_reported before mid now tells (job_view made.job) made.run.order.items c.ended-in-Err-WriteFault.result.done.items WriteFault
-    (print-fails c.args.file.now c.args.is_reported made before mid now tells c.in-Ok.ensures.answer c.in_default-left.is since (rw c.in-Err-WriteFault.field-0-is at c.in-Err-WriteFault.ensures.printed)) done
+    (ends-late c.args.file.now c.args.is_reported before mid now tells (job_view prepared.job) prepared.run.order.items c.ended-in-Err-WriteFault.result.done.items WriteFault
+    (print-fails c.args.file.now c.args.is_reported prepared before mid now tells c.in-Ok.ensures.answer c.in_default-left.is since (rw c.in-Err-WriteFault.field-0-is at c.in-Err-WriteFault.ensures.printed)) done
     c.in-Ok.ensures.read c.in-Ok.ensures.answer.job c.in-Err-WriteFault.ensures.wrote (λ early. early) (λ early. absurd early))
 
 pub returns-in-Err-NoMemory-clause-run : goal.returns-in-Err-NoMemory-clause-run
@@ -71,8 +71,8 @@ returns-in-Err-NoMemory-clause-run g c =
     let before = moment (g.F.Files.state c.args.files.now) (g.K.Sink.faults c.args.out.now) (g.K.Sink.held c.args.out.now) in
     let mid = moment (g.F.Files.state c.prepare.new.files) (g.K.Sink.faults c.args.out.now) (g.K.Sink.held c.args.out.now) in
     let now = moment (g.F.Files.state c.print_run.new.files) (g.K.Sink.faults c.print_run.new.out) (g.K.Sink.held c.print_run.new.out) in
-    let made = c.in-Ok.made in
+    let prepared = c.in-Ok.prepared in
     rw (c.refused-in-Err-NoMemory.ensures.status, c.refused-in-Err-NoMemory.ensures.order, c.refused-in-Err-NoMemory.ensures.done)
-    (ends-late c.args.file.now c.args.is_reported before mid now _ (job_view made.job) [] [] NoMemory refl (refl, refl)
+    (ends-late c.args.file.now c.args.is_reported before mid now _ (job_view prepared.job) [] [] NoMemory refl (refl, refl)
     c.in-Ok.ensures.read c.in-Ok.ensures.answer.job c.in-Err-NoMemory.ensures.wrote (λ early. early)
     (λ early. (c.in-Err-NoMemory.ensures.no_memory (ap Err c.in-Err-NoMemory.field-0-is)).1))
