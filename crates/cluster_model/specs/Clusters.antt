@@ -55,4 +55,4 @@ call_way c a = c.calls a ++ c.coordinator.out a
 
 -- what is on the way from machine a to the coordinator
 abbrev pub report_way : Cluster → ℕ → List Report
-report_way c a = c.reports a ++ (c.machine a).told
+report_way c a = c.reports a ++ (c.machine a).out

@@ -15,7 +15,7 @@ use Rattle.cluster_model.specs.Leading.{HasStoreRoom, RecordIsDue, Snapshot, Sna
 use Rattle.cluster_model.specs.Machines.{Machine}
 use Rattle.cluster_model.specs.Rounds.{StepIsDue}
 use Rattle.cluster_model.specs.Totals.{total}
-use Rattle.cluster_model.specs.Working.{or_zero, admits, fails, goes_back, grants, hands, has_room, takes_call, makes_mark, prompt, receives, sections, tells, makes_update}
+use Rattle.cluster_model.specs.Working.{or_zero, admits, fails, goes_back, grants, hands, has_room, takes_call, makes_mark, prompt, receives, sections, hands_report, makes_update}
 use Rattle.seq_run.specs.States.{GraphState}
 
 -- what may happen in a cluster
@@ -114,7 +114,7 @@ MayDo st c (Admit a v) = IsAwake st c a × MayAdmitNow st a v (c.machine a)
 MayDo st c (Grant a x) = IsAwake st c a × MayGrant st a x (c.machine a).part
 MayDo st c (Send p q) = IsAwake st c p × (q < st.machines) × HasFirst ((c.machine p).part.out q)
 MayDo st c (SendCall a) = (a < st.machines) × HasNext (c.coordinator.out a)
-MayDo st c (SendReport a) = IsAwake st c a × HasNext (c.machine a).told
+MayDo st c (SendReport a) = IsAwake st c a × HasNext (c.machine a).out
 MayDo st c (Deliver p q) = IsAwake st c q × (p < st.machines) × HasFirst (c.link p q)
 MayDo st c (DeliverCall a) = IsAwake st c a × HasNext (c.calls a)
 MayDo st c (DeliverReport a) = (a < st.machines) × HasNext (c.reports a)
@@ -148,7 +148,7 @@ sends_call c a (call ∷ behind) = with_calls (with_coordinator c (hands_call a 
 -- and the first report
 abbrev pub sends_report : Cluster → ℕ → List Report → Cluster
 sends_report c a [] = c
-sends_report c a (report ∷ behind) = with_reports (with_machine c a (tells behind (c.machine a))) a (c.reports a ++ report ∷ [])
+sends_report c a (report ∷ behind) = with_reports (with_machine c a (hands_report behind (c.machine a))) a (c.reports a ++ report ∷ [])
 
 -- the first message of the link is received
 abbrev pub delivers_message : Setting → Cluster → ℕ → ℕ → List Message → Cluster
@@ -201,7 +201,7 @@ after_event st c (Admit a v) = with_machine c a (prompt st a (admits st a v (c.m
 after_event st c (Grant a x) = with_machine c a (prompt st a (grants st a x (c.machine a)))
 after_event st c (Send p q) = sends_message c p q ((c.machine p).part.out q)
 after_event st c (SendCall a) = sends_call c a (c.coordinator.out a)
-after_event st c (SendReport a) = sends_report c a (c.machine a).told
+after_event st c (SendReport a) = sends_report c a (c.machine a).out
 after_event st c (Deliver p q) = delivers_message st c p q (c.link p q)
 after_event st c (DeliverCall a) = delivers_call st c a (c.calls a)
 after_event st c (DeliverReport a) = delivers_report c a (c.reports a)

@@ -34,7 +34,7 @@ pub record Machine : Type 0 where
   pub done : ℕ
   pub failed : Bool
   -- what waits to be sent to the coordinator
-  pub told : List Report
+  pub out : List Report
 
 -- its updates that are outside the last snapshot that it knows to be acknowledged
 abbrev pub outside : Machine → ℕ

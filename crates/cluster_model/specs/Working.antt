@@ -28,19 +28,19 @@ rest_of (x ∷ xs) = xs
 -- ---- the window
 
 -- half of the window, rounded up
-abbrev pub half_of : Setting → ℕ
-half_of st = (st.window + 1) / 2
+abbrev pub half_window : Setting → ℕ
+half_window st = (st.window + 1) / 2
 
 -- where at least half of the window is outside the last snapshot that it knows of, it asks for the next one, once
 abbrev pub asks_more : Setting → Machine → Bool
-asks_more st m = st.stored && not m.wanted && nat_le (half_of st) (outside m)
+asks_more st m = st.stored && not m.wanted && nat_le (half_window st) (outside m)
 
 -- it asks where the test passes
 abbrev pub asks_if : Bool → Machine → Machine
 asks_if test m =
     record m {
       wanted = m.wanted || test;
-      told = if test then m.told ++ Want m.acknowledged ∷ [] else m.told;
+      out = if test then m.out ++ Want m.acknowledged ∷ [] else m.out;
     }
 
 -- it asks for the next snapshot where it has to
@@ -70,7 +70,7 @@ answers_if st test m =
     record m {
       part = record m.part { closed = m.part.closed || test };
       held = if test then None else m.held;
-      told = if test then m.told ++ Count (or_zero m.held) (count_of st m) ∷ [] else m.told;
+      out = if test then m.out ++ Count (or_zero m.held) (count_of st m) ∷ [] else m.out;
     }
 
 -- a machine that holds a wave answers it as soon as it may
@@ -95,10 +95,10 @@ abbrev pub grants : Setting → ℕ → ℕ → Machine → Machine
 grants st a x m = let part = granted st a x m.part in record m { part = part; sent = m.sent + gained st m.part part }
 
 -- the snapshot of which a message tells
-abbrev pub number_in : Message → ℕ
-number_in (Ask s v rest) = 0
-number_in (Ready s) = 0
-number_in (Done s news) = news.number
+abbrev pub snapshot_in : Message → ℕ
+snapshot_in (Ask s v rest) = 0
+snapshot_in (Ready s) = 0
+snapshot_in (Done s news) = news.number
 
 -- where a new snapshot begins, no vertex is marked, so all entries are before the marks
 abbrev pub before_at : ℕ → Machine → List Entry
@@ -116,8 +116,8 @@ receives st a message m =
       part = part;
       sent = m.sent + gained st m.part part;
       received = suc m.received;
-      before = before_at (number_in message) m;
-      behind = behind_at (number_in message) m;
+      before = before_at (snapshot_in message) m;
+      behind = behind_at (snapshot_in message) m;
     }
 
 -- a planned scope ends
@@ -154,7 +154,7 @@ sections m =
       part = record m.part { sent = m.part.known };
       before = [];
       unsure = m.unsure ++ length m.before ∷ [];
-      told = m.told ++ Saved m.part.known m.part.saved m.before ∷ [];
+      out = m.out ++ Saved m.part.known m.part.saved m.before ∷ [];
     }
 
 -- its oldest section that it wasn't sure of is acknowledged
@@ -173,8 +173,8 @@ abbrev pub hands : ℕ → List Message → Machine → Machine
 hands q behind m = record m { part = record m.part { out = set_at m.part.out q behind } }
 
 -- the first report goes away
-abbrev pub tells : List Report → Machine → Machine
-tells behind m = record m { told = behind }
+abbrev pub hands_report : List Report → Machine → Machine
+hands_report behind m = record m { out = behind }
 
 -- it does nothing more in this attempt
 abbrev pub fails : Machine → Machine
@@ -197,5 +197,5 @@ goes_back st numbers k a m =
       wanted = false;
       done = m.done + length m.part.log;
       failed = false;
-      told = [];
+      out = [];
     }
