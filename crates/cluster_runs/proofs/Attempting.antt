@@ -23,7 +23,7 @@ use Rattle.cluster_cuts.proofs.Beginning.{first_kept}
 use Rattle.cluster_cuts.proofs.CutLists.{updates_push-same, updates_push-other, cut_push-out, cut_same}
 use Rattle.cluster_cuts.proofs.CutsGoOn.{step_goes, goes_not, goes_then}
 use Rattle.cluster_cuts.proofs.CutsKept.{one_step, recorded, recorded_cut}
-use Rattle.cluster_runs.specs.Attempts.{Attempt, Beginning, done_with, is_reached, StopsAt, AreRising, IsAttempt}
+use Rattle.cluster_runs.specs.Attempts.{Attempt, Beginning, done_with, is_reached, StopsAtFailure, AreRising, IsAttempt}
 use Rattle.cluster_runs.specs.Recorded.{AreRecorded, shared_of}
 
 -- ---- counts of vertices of the graph alone
@@ -207,7 +207,7 @@ module _ (st : Setting) (is : IsSetting st) (failures : List FailureAt) (b : Beg
   pub attempt_recorded : AreRecorded st start actions attempt.kept attempt.made
   attempt_recorded = whole_run.recorded
 
-  pub attempt_is : replay st.graph st.program b.front ≡ st.start → b.next ≡ start.next → AllByRecursion (StopsAt b attempt.made) failures → IsAttempt (shared_of st failures) b attempt
+  pub attempt_is : replay st.graph st.program b.front ≡ st.start → b.next ≡ start.next → AllByRecursion (StopsAtFailure b attempt.made) failures → IsAttempt (shared_of st failures) b attempt
   attempt_is numbers next stops =
       record {
         tickets = subst₂ AreUpdatesFrom (sym next) (sym all_new) whole_run.gone.tickets;

@@ -45,8 +45,8 @@ abbrev pub is_reached : (ℕ → ℕ) → (ℕ → ℕ) → FailureAt → Bool
 is_reached before now failure = nat_lt (before failure.machine.0) failure.after && nat_le failure.after (now failure.machine.0)
 
 -- a machine that reaches the count of the failure makes no more updates
-abbrev pub StopsAt : Beginning → List Entry → FailureAt → Type 0
-StopsAt b made failure = is_reached b.done (done_with b made) failure ≡ true → done_with b made failure.machine.0 ≡ failure.after
+abbrev pub StopsAtFailure : Beginning → List Entry → FailureAt → Type 0
+StopsAtFailure b made failure = is_reached b.done (done_with b made) failure ≡ true → done_with b made failure.machine.0 ≡ failure.after
 
 -- each cut has of each vertex at least as many updates as the one before
 abbrev pub AreRising : (ℕ → ℕ) → List (ℕ → ℕ) → Type 0
@@ -62,4 +62,4 @@ pub record IsAttempt (shared : Shared) (b : Beginning) (a : Attempt) : Type 0 wh
   pub cuts : AllByRecursion (λ count. IsValidFrom shared.graph shared.program (replay shared.graph shared.program b.front) (all_tasks shared.graph) (cut_of count a.made)) a.kept
   pub rising : AreRising (λ v. 0) a.kept
   pub struck : a.struck ≡ count_by (is_reached b.done (done_with b a.made)) shared.failures
-  pub stops : AllByRecursion (StopsAt b a.made) shared.failures
+  pub stops : AllByRecursion (StopsAtFailure b a.made) shared.failures

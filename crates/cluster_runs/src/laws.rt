@@ -20,7 +20,7 @@ ghost use Rattle.cluster_core.specs.Stages.{Stage};
 ghost use Rattle.cluster_core.specs.Worlds.{World};
 ghost use Rattle.cluster_places.specs.Steps.{AreApart, IsInStep};
 ghost use Rattle.cluster_cuts.specs.Goings.{HoldCut};
-ghost use Rattle.cluster_runs.specs.Attempts.{Attempt, Beginning, IsAttempt, StopsAt};
+ghost use Rattle.cluster_runs.specs.Attempts.{Attempt, Beginning, IsAttempt, StopsAtFailure};
 ghost use Rattle.cluster_runs.specs.Recorded.{AreRecorded, shared_of};
 
 /// A cluster starts coherent.
@@ -92,5 +92,5 @@ pub fn runs_are_attempts()
         × ((v : ℕ) → v < size st.graph → ((new.part (st.owner v)).datum v).value ≡ (replay_of st a.made).vertex v)
         × (new.next ≡ b.next + length a.made)
         × AreRecorded st start actions a.kept a.made
-        × (AllByRecursion (StopsAt b a.made) failures → IsAttempt (shared_of st failures) b a) }
+        × (AllByRecursion (StopsAtFailure b a.made) failures → IsAttempt (shared_of st failures) b a) }
 {}
