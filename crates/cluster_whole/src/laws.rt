@@ -17,6 +17,7 @@ ghost use Rattle.cluster_model.specs.Clusters.{BaseView, Cluster};
 ghost use Rattle.cluster_model.specs.Events.{Event, IsCourse, MayDo, after_event, recovers, setting_after};
 ghost use Rattle.cluster_model.specs.Leading.{RecordIsDue};
 ghost use Rattle.cluster_whole.specs.Views.{IsMove, world_of};
+ghost use Rattle.cluster_whole.specs.Windows.{AreWithin};
 ghost use Rattle.cluster_whole.specs.Whole.{IsNoRecovery, IsWhole, setting_behind};
 
 /// Each event but a recovery is an action of the core of the cluster, or none, and behind it one machine at most is told of a step or
@@ -59,6 +60,14 @@ pub fn whole_clusters_are_serial()
         × ((a : ℕ) → (c.machine a).part.log ≡ entries_of a order)
         × ((v : ℕ) → v < size st.graph → ((c.machine (st.owner v)).part.datum v).value ≡ (replay_of st order).vertex v)
         × ((u : ℕ) → u < size st.graph → (tasks_of st order u ≡ true) ↔ IsTask st (world_of c) u) }
+{}
+
+/// Each event keeps what a machine counts by itself: its scopes in flight, those of them that were admitted for an update, and that its
+/// updates outside the last snapshot that it knows to be acknowledged, with these, are no more than its window. Nothing else of the
+/// cluster is used, and no engine.
+pub fn events_keep_windows()
+    ensures kept { (st : Setting) (c : Cluster) (event : Event) → MayDo st c event → AreWithin st c → AreWithin st (after_event st c event) }
+    ensures begins { (st : Setting) (base : BaseView) (c : Cluster) → AreWithin st (recovers st base c) }
 {}
 
 /// Where a record is due, the sections that have come hold the numbers of a cut of the order, and the cut is valid.

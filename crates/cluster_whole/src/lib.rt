@@ -5,6 +5,6 @@
 mod laws;
 
 pub use laws::{
-    clusters_begin_whole, courses_stay_whole, cuts_go_on, events_are_moves, events_keep_clusters_whole, fronts_may_be_received, records_hold_cuts,
+    clusters_begin_whole, courses_stay_whole, cuts_go_on, events_are_moves, events_keep_clusters_whole, events_keep_windows, fronts_may_be_received, records_hold_cuts,
     whole_clusters_are_serial, whole_clusters_exclude,
 };
