@@ -1,23 +1,21 @@
 -- Each event but a recovery is an action of the core, or none, and may turn a machine to the next step.
-use Rattle.std.proofs.Common.{◌≡◌, ◌≢◌, ◌<◌, ℕ, suc, pred, Bool, true, false, ◌&&◌, is_some, None, Option, Some, List, [], ◌∷◌, ◌++◌, inl, inr, refl, sym, ◌∙◌, ap, subst, append-nil, append_assoc}
+use Rattle.std.proofs.Common.{◌≡◌, ℕ, suc, pred, Bool, ◌&&◌, is_some, None, Option, Some, List, [], ◌∷◌, ◌++◌, inl, inr, refl, sym, ◌∙◌, ap, subst, append-nil}
 use Rattle.gl_base.specs.declared.entries.Entry.{Entry}
 use Rattle.gl_base.specs.declared.entries.Entry.TheVariants.{Go}
-use Rattle.gl_base.specs.declared.scopes.Counted.{Counted}
-use Rattle.gl_base.specs.declared.scopes.ScopeId.{ScopeId}
 use Rattle.cluster_core.specs.Actions.{Action, HasFirst, HasOrder, HasSection, MayHappen, after, begins_one, collects, delivers, draws, hears, marks, records, sends, sends_section, updates}
 use Rattle.cluster_core.specs.Messages as core
 use Rattle.cluster_core.specs.Messages.{Message}
 use Rattle.cluster_core.specs.Parts.{Part}
 use Rattle.cluster_core.specs.Ranges.{set_at}
 use Rattle.cluster_core.specs.Settings.{Setting}
-use Rattle.cluster_core.specs.Worlds.{World, with_link, with_part}
+use Rattle.cluster_core.specs.Worlds.{World, with_part}
 use Rattle.cluster_core.specs.Actions as act
 use Rattle.cluster_core.proofs.Basics.{set_at-holds, set_at-kept, set_at-other, set_at-same}
 use Rattle.cluster_model.specs.Calls.{Begin, Call, Committed, Count, Report, Saved, Step, Want, Wave, begins_in, sections_in}
-use Rattle.cluster_model.specs.Clusters.{BaseView, Cluster, call_way, report_way, with_coordinator, with_machine, with_messages}
+use Rattle.cluster_model.specs.Clusters.{BaseView, Cluster, call_way, report_way, with_machine}
 use Rattle.cluster_model.specs.Events.{Event, Admit, DeliverCall, DeliverReport, Deliver, Fail, Grant, Mark, MayDo, PutBegin, PutStep, PutWave, Record, Recover, Section, Send, SendCall, SendReport, Stop, Update, after_event, delivers_call, delivers_message, delivers_report, makes, saves, sends_call, sends_message, sends_report}
 use Rattle.cluster_model.specs.Rounds.{with_step}
-use Rattle.cluster_model.specs.Leading.{Come, Coordinator, RecordIsDue, acknowledges, begins_snapshot, hands_call, puts_step, puts_wave, takes_report}
+use Rattle.cluster_model.specs.Leading.{Come}
 use Rattle.cluster_model.specs.Machines.{Machine, count_of}
 use Rattle.cluster_model.specs.Working.{admits, asks_if, asks_more, commits, fails, grants, hands, hands_report, is_done, makes_mark, makes_update, or_zero, prompt, receives, sections, takes_call, works_on}
 use Rattle.cluster_whole.specs.Views.{IsMove, IsTurned, section_of, world_of}
@@ -39,7 +37,7 @@ turns_alone st old new a turned turns is = (old, inl refl, inr (a, turned, turns
 
 module _ (st : Setting) (c : Cluster) where
   -- a machine, links and tickets change, and what goes to and from the coordinator stays as it was
-  abbrev changed : ℕ → Machine → (ℕ → ℕ → List Message) → (ℕ → List Call) → ℕ → ℕ → Cluster
+  abbrev pub changed : ℕ → Machine → (ℕ → ℕ → List Message) → (ℕ → List Call) → ℕ → ℕ → Cluster
   changed a new link calls next left =
       record {
         machine = set_at c.machine a new;
@@ -54,7 +52,7 @@ module _ (st : Setting) (c : Cluster) where
       }
 
   -- the same, in the core
-  abbrev changed_world : ℕ → Part → (ℕ → ℕ → List Message) → (ℕ → List ℕ) → ℕ → ℕ → World
+  abbrev pub changed_world : ℕ → Part → (ℕ → ℕ → List Message) → (ℕ → List ℕ) → ℕ → ℕ → World
   changed_world a part link orders next left =
       let w : World = world_of c in
       record {
@@ -74,7 +72,7 @@ module _ (st : Setting) (c : Cluster) where
   sections_kept a new same b =
       set_at-holds (λ (b : ℕ) (m : Machine). sections_in (c.reports b ++ m.out) ≡ sections_in (c.reports b ++ (c.machine b).out)) c.machine a new b same (λ off. refl)
 
-  one_machine : (a : ℕ) (new : Machine) (link : ℕ → ℕ → List Message) (calls : ℕ → List Call) (orders : ℕ → List ℕ) (next left : ℕ) →
+  pub one_machine : (a : ℕ) (new : Machine) (link : ℕ → ℕ → List Message) (calls : ℕ → List Call) (orders : ℕ → List ℕ) (next left : ℕ) →
       sections_in (c.reports a ++ new.out) ≡ sections_in (c.reports a ++ (c.machine a).out) →
       ((b : ℕ) → begins_in (calls b ++ c.coordinator.out b) ≡ orders b) →
       world_of (changed a new link calls next left) ≡ changed_world a new.part link orders next left
@@ -152,18 +150,18 @@ module _ (st : Setting) (c : Cluster) where
       }
 
   -- asking for a snapshot is no section
-  asked : (a : ℕ) (m : Machine) (test : Bool) → sections_in (c.reports a ++ (asks_if test m).out) ≡ sections_in (c.reports a ++ m.out)
+  pub asked : (a : ℕ) (m : Machine) (test : Bool) → sections_in (c.reports a ++ (asks_if test m).out) ≡ sections_in (c.reports a ++ m.out)
   asked a m test = sections_told test (c.reports a) m.out (Want m.acknowledged) refl
 
   -- the first call is gone
-  call_gone : (a : ℕ) (call : Call) (behind : List Call) → c.calls a ≡ call ∷ behind → begins_in (call ∷ []) ≡ [] → (b : ℕ) →
+  pub call_gone : (a : ℕ) (call : Call) (behind : List Call) → c.calls a ≡ call ∷ behind → begins_in (call ∷ []) ≡ [] → (b : ℕ) →
       begins_in (set_at c.calls a behind b ++ c.coordinator.out b) ≡ begins_in (call_way c b)
   call_gone a call behind first none b =
       set_at-holds (λ (b : ℕ) (xs : List Call). begins_in (xs ++ c.coordinator.out b) ≡ begins_in (call_way c b)) c.calls a behind b
       (sym (ap (λ (xs : List Call). begins_in (xs ++ c.coordinator.out a)) first ∙ begins-append (call ∷ []) (behind ++ c.coordinator.out a) ∙ ap (λ (ks : List ℕ). ks ++ begins_in (behind ++ c.coordinator.out a)) none))
       (λ off. refl)
 
-  begin_gone : (a k : ℕ) (behind : List Call) (b : ℕ) →
+  pub begin_gone : (a k : ℕ) (behind : List Call) (b : ℕ) →
       begins_in (set_at c.calls a behind b ++ c.coordinator.out b) ≡ set_at (world_of c).orders a (begins_in (behind ++ c.coordinator.out a)) b
   begin_gone a k behind b =
       let rest : List ℕ = begins_in (behind ++ c.coordinator.out a) in

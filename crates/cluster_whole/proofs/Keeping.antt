@@ -1,5 +1,5 @@
 -- A move keeps copies, numbers, marks and the cut, and order and cut go on; with locks it keeps each scope in one place.
-use Rattle.std.proofs.Common.{◌≡◌, ℕ, ◌<◌, ◌⊎◌, refl, sym, ◌∙◌, ap, subst, inl, inr, ⊎_elim}
+use Rattle.std.proofs.Common.{◌≡◌, ℕ, ◌⊎◌, refl, sym, ap, subst, inl, inr, ⊎_elim}
 use Rattle.std.specs.List.{AllByRecursion}
 use Rattle.gl_base.specs.declared.scopes.Datum.{Datum}
 use Rattle.gl_base.specs.declared.scopes.ScopeId.{ScopeId}
@@ -20,7 +20,7 @@ use Rattle.cluster_cuts.specs.Goings.{BeginsOne, IsOneStep, StaysSo, UpdatesOne}
 use Rattle.cluster_cuts.proofs.CutFrames.{cut_framed, quiet_named, still_frame}
 use Rattle.cluster_cuts.proofs.CutsKept.{one_step}
 use Rattle.cluster_cuts.proofs.MarkSteps.{IsStillStep, marking-dones, marking-from_dones, marks_still}
-use Rattle.cluster_whole.specs.Views.{IsMove, IsTurned, MayAct, MayTurn}
+use Rattle.cluster_whole.specs.Views.{IsMove, IsTurned, MayTurn}
 
 -- ---- a turn
 

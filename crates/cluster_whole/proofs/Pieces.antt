@@ -1,8 +1,6 @@
 -- What is seen of lists that are joined, and of functions changed at one place.
-use Rattle.std.proofs.Common.{◌≡◌, ◌≢◌, ℕ, Bool, true, false, if◌then◌else◌, List, [], ◌∷◌, ◌++◌, refl, sym, ◌∙◌, ap, subst, ⊎_elim, append_assoc, append-nil}
+use Rattle.std.proofs.Common.{◌≡◌, ◌≢◌, ℕ, Bool, true, false, if◌then◌else◌, List, [], ◌∷◌, ◌++◌, refl, sym, ◌∙◌, ap, ⊎_elim, append_assoc, append-nil}
 use Rattle.std.proofs.lemmas.Bool.{cases_eq, eq-eqb, ne_eqb}
-use Rattle.gl_base.specs.declared.entries.Entry.{Entry}
-use Rattle.gl_base.specs.declared.scopes.Counted.{Counted}
 use Rattle.cluster_core.specs.Messages.{Section}
 use Rattle.cluster_core.specs.Ranges.{set_at}
 use Rattle.cluster_model.specs.Calls.{Begin, Call, Committed, Count, Report, Saved, Step, Want, Wave, begins_in, sections_in}

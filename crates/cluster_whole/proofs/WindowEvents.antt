@@ -1,5 +1,5 @@
 -- Each event keeps all windows.
-use Rattle.std.proofs.Common.{◌≡◌, ℕ, suc, pred, Option, Some, List, [], ◌∷◌, refl, sym, subst}
+use Rattle.std.proofs.Common.{ℕ, Option, List, sym, subst}
 use Rattle.gl_base.specs.declared.entries.Entry.{Entry}
 use Rattle.gl_base.specs.declared.entries.Entry.TheVariants.{Go}
 use Rattle.cluster_core.specs.Messages.{Message}

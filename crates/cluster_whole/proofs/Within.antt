@@ -1,12 +1,11 @@
 -- Each event of a machine keeps the number of its scopes in flight, and its window.
-use Rattle.std.proofs.Common.{◌≡◌, ◌≢◌, ◌⊎◌, ℕ, zero, suc, pred, ◌+◌, ◌<◌, ◌≤◌, ◌==◌, ◌&&◌, ◌||◌, not, nat_lt, Bool, true, false, if◌then◌else◌, None, Option, Some, List, [], ◌∷◌, ◌++◌, length, sum_by, refl, sym, ◌∙◌, ap, subst, ⊎_elim, inl, inr, le_trans, le_refl, le_of_eq, lt-suc_self, lt_trans, ne_of_lt, length-append, arith}
+use Rattle.std.proofs.Common.{◌≡◌, ◌≢◌, ◌⊎◌, ℕ, zero, suc, pred, ◌+◌, ◌<◌, ◌≤◌, ◌==◌, ◌&&◌, ◌||◌, not, nat_lt, Bool, true, false, if◌then◌else◌, None, Option, Some, List, [], ◌∷◌, ◌++◌, length, sum_by, refl, sym, ◌∙◌, ap, subst, ⊎_elim, inl, inr, le_trans, le_refl, lt-suc_self, lt_trans, ne_of_lt, length-append, arith}
 use Rattle.std.proofs.lemmas.List.Sums.{sum_by-append}
-use Rattle.std.proofs.lemmas.Bool.{and_from, both_ways, cases_Bool, false_from_ne_true, ltb-true, ne_eqb, or_left, or_right}
+use Rattle.std.proofs.lemmas.Bool.{and_from, both_ways, cases_Bool, false_from_ne_true, ltb-true, ne_eqb, or_right}
 use Rattle.gl_base.specs.declared.entries.Entry.{Entry}
-use Rattle.gl_base.specs.declared.entries.Entry.TheVariants.{Go}
 use Rattle.gl_base.specs.declared.scopes.Claim.{Claim}
 use Rattle.gl_base.specs.declared.scopes.ScopeId.{ScopeId}
-use Rattle.cluster_core.specs.Effects.{admitted, admitted_by, first_pending, first_unmarked, is_at, knows, pends_for, seed_if, asks_for, begins, first_granted, goes_away, goes_on, granted, in_flight, marked, moves_on, next_scope, posts, received, sets_out, takes_lock, updated}
+use Rattle.cluster_core.specs.Effects.{admitted_by, first_pending, first_unmarked, is_at, knows, pends_for, seed_if, asks_for, begins, first_granted, goes_away, goes_on, in_flight, moves_on, next_scope, posts, received, sets_out, takes_lock}
 use Rattle.cluster_core.specs.Messages.{Ask, Done, Message, Ready}
 use Rattle.cluster_core.specs.Parts.{Part, Stand}
 use Rattle.cluster_core.specs.Scopes.{is_scope, machines_from, own_from, set_for}

@@ -1,3 +1,4 @@
 pub mod Views
 pub mod Whole
 pub mod Windows
+pub mod Steps

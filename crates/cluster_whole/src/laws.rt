@@ -1,24 +1,34 @@
 //! Laws of the cluster. Each is the contract of a function that does nothing.
-ghost use Rattle.std.specs.Prelude.{◌≡◌, ℕ, ◌+◌, ◌<◌, length, ◌↔◌, true, List, ◌++◌, ◌∷◌};
+ghost use Rattle.std.specs.Prelude.{◌≡◌, ℕ, ◌+◌, ◌<◌, ◌≤◌, length, ◌↔◌, true, None, List, [], ◌++◌, ◌∷◌};
 ghost use Rattle.std.specs.List.{AllByRecursion};
 ghost use Rattle.gl_base.specs.declared.entries.Entry.{Entry};
+ghost use Rattle.gl_base.specs.declared.scopes.Counted.{Counted};
+ghost use Rattle.gl_base.specs.declared.scopes.ScopeId.{ScopeId};
 ghost use Rattle.graph_core.specs.DataGraph.{size};
 ghost use Rattle.seq_run.specs.Orders.{all_tasks, IsValidFrom};
+ghost use Rattle.cluster_core.specs.Actions.{MayGrant};
 ghost use Rattle.cluster_core.specs.Cuts.{Begins, cut_of, updates_at};
 ghost use Rattle.cluster_core.specs.Messages.{Message};
 ghost use Rattle.cluster_core.specs.Places.{IsExclusive};
 ghost use Rattle.cluster_core.specs.Receiving.{MayReceive};
 ghost use Rattle.cluster_core.specs.Recovering.{going_on};
 ghost use Rattle.cluster_core.specs.Replays.{IsTask, entries_of, replay_of, tasks_of};
-ghost use Rattle.cluster_core.specs.Settings.{IsSetting, Locking, Setting};
+ghost use Rattle.cluster_core.specs.Settings.{Chromatic, IsSetting, Locking, Setting};
 ghost use Rattle.cluster_core.specs.Snapshots.{IsConsistent};
+ghost use Rattle.cluster_core.specs.Worlds.{way};
 ghost use Rattle.cluster_cuts.specs.Goings.{AreUpdatesFrom, HoldCut};
+ghost use Rattle.cluster_model.specs.Calls.{Call, Count, Report, Step, Wave};
 ghost use Rattle.cluster_model.specs.Clusters.{BaseView, Cluster};
+ghost use Rattle.cluster_model.specs.Counting.{MayBeCounted};
 ghost use Rattle.cluster_model.specs.Events.{Event, IsCourse, MayDo, after_event, recovers, setting_after};
 ghost use Rattle.cluster_model.specs.Leading.{RecordIsDue};
+ghost use Rattle.cluster_model.specs.Machines.{outside};
+ghost use Rattle.cluster_model.specs.Rounds.{StepIsDue};
+ghost use Rattle.cluster_model.specs.Totals.{total};
+ghost use Rattle.cluster_whole.specs.Steps.{under_way};
 ghost use Rattle.cluster_whole.specs.Views.{IsMove, world_of};
 ghost use Rattle.cluster_whole.specs.Windows.{AreWithin};
-ghost use Rattle.cluster_whole.specs.Whole.{IsNoRecovery, IsWhole, setting_behind};
+ghost use Rattle.cluster_whole.specs.Whole.{AreColoured, IsNoRecovery, IsWhole, setting_behind};
 
 /// Each event but a recovery is an action of the core of the cluster, or none, and behind it one machine at most is told of a step or
 /// admits nothing more in it.
@@ -29,19 +39,19 @@ pub fn events_are_moves()
 
 /// A cluster begins whole, at the start and after each recovery, whatever was before and whatever it goes back to.
 pub fn clusters_begin_whole()
-    ensures { (st : Setting) (base : BaseView) (c : Cluster) → IsSetting st →
+    ensures { (st : Setting) (base : BaseView) (c : Cluster) → IsSetting st → AreColoured st st.engine →
         IsWhole (going_on st base.numbers base.number) (recovers st base c) }
 {}
 
-/// Where scopes take locks each event that may happen leaves a whole cluster whole.
+/// Each event that may happen leaves a whole cluster whole, with locks and with colours.
 pub fn events_keep_clusters_whole()
-    ensures { (st : Setting) (c : Cluster) (event : Event) → IsSetting st → st.engine ≡ Locking → MayDo st c event → IsWhole st c →
+    ensures { (st : Setting) (c : Cluster) (event : Event) → IsSetting st → MayDo st c event → IsWhole st c →
         IsWhole (setting_after st event) (after_event st c event) }
 {}
 
 /// So does every list of events, with failures and recoveries among them.
 pub fn courses_stay_whole()
-    ensures { (st : Setting) (events : List Event) (old new : Cluster) → IsSetting st → st.engine ≡ Locking → IsWhole st old →
+    ensures { (st : Setting) (events : List Event) (old new : Cluster) → IsSetting st → IsWhole st old →
         IsCourse st old events new → IsWhole (setting_behind st events) new }
 {}
 
@@ -52,14 +62,38 @@ pub fn whole_clusters_exclude()
 {}
 
 /// The logs of a whole cluster are the parts of one valid order. Its replay on the undivided graph gives the numbers that the owners
-/// of the vertices have, and its tasks are theirs and those that are on the way.
+/// of the vertices have, and its tasks are theirs and those that are on the way. No machine's window is passed.
 pub fn whole_clusters_are_serial()
-    ensures { (st : Setting) (c : Cluster) → IsWhole st c →
+    ensures order { (st : Setting) (c : Cluster) → IsWhole st c →
         (order : List Entry)
         × IsValidFrom st.graph st.program st.start (all_tasks st.graph) order
         × ((a : ℕ) → (c.machine a).part.log ≡ entries_of a order)
         × ((v : ℕ) → v < size st.graph → ((c.machine (st.owner v)).part.datum v).value ≡ (replay_of st order).vertex v)
         × ((u : ℕ) → u < size st.graph → (tasks_of st order u ≡ true) ↔ IsTask st (world_of c) u) }
+    ensures windows { (st : Setting) (c : Cluster) (a : ℕ) → IsWhole st c → st.stored ≡ true →
+        outside (c.machine a) + (c.machine a).plans ≤ st.window }
+{}
+
+/// With colours, where the next step is due, no message is on its way between machines, each machine has closed the newest step, and
+/// no scope is in flight.
+pub fn due_steps_are_over()
+    ensures { (st : Setting) (colour : ℕ → ℕ) (colours : ℕ) (c : Cluster) → IsWhole st c → st.engine ≡ Chromatic colour colours →
+        StepIsDue st.engine c.coordinator.rounds →
+        ((p q : ℕ) → way (world_of c) p q ≡ [])
+        × ((a : ℕ) → (c.machine a).part.closed ≡ true)
+        × ((s : ScopeId) → (c.machine s.home.0).part.flight s ≡ None) }
+{}
+
+/// With colours no lock is ever granted: nobody waits for one.
+pub fn grants_never_happen()
+    ensures { (st : Setting) (colour : ℕ → ℕ) (colours a x : ℕ) (c : Cluster) → IsWhole st c → st.engine ≡ Chromatic colour colours →
+        MayGrant st a x (c.machine a).part → ⊥ }
+{}
+
+/// With colours, what machines sent each other was received or is on its way.
+pub fn counts_are_balanced()
+    ensures { (st : Setting) (colour : ℕ → ℕ) (colours : ℕ) (c : Cluster) → IsWhole st c → st.engine ≡ Chromatic colour colours →
+        total st.machines (λ a. (c.machine a).sent) ≡ total st.machines (λ a. (c.machine a).received) + under_way st (world_of c) }
 {}
 
 /// Each event keeps what a machine counts by itself: its scopes in flight, those of them that were admitted for an update, and that its
@@ -82,7 +116,7 @@ pub fn records_hold_cuts()
 /// cut begins, at each vertex, with the updates of an earlier one.
 pub fn cuts_go_on()
     ensures { (st : Setting) (events : List Event) (old new : Cluster) (whole : IsWhole st old) →
-        IsSetting st → st.engine ≡ Locking → AllByRecursion IsNoRecovery events → IsCourse st old events new → st.base < old.coordinator.begun →
+        IsSetting st → AllByRecursion IsNoRecovery events → IsCourse st old events new → st.base < old.coordinator.begun →
         (next : IsConsistent st (world_of new)) × (rest : List Entry)
         × (next.order ≡ whole.consistent.order ++ rest)
         × AreUpdatesFrom old.next rest
@@ -91,8 +125,17 @@ pub fn cuts_go_on()
             Begins (updates_at v (cut_of whole.consistent.count whole.consistent.order)) (updates_at v (cut_of next.count next.order))) }
 {}
 
-/// Where scopes take locks, the first message on each link between machines meets what its receiver may rely on.
+/// With locks the first message on each link between machines meets what its receiver may rely on. With colours a step that comes is
+/// the newest and finds no scope in flight, a wave finds none held, and counts are of the newest wave and missing.
 pub fn fronts_may_be_received()
-    ensures { (st : Setting) (c : Cluster) (p q : ℕ) (message : Message) (behind : List Message) →
-        IsSetting st → IsWhole st c → c.link p q ≡ message ∷ behind → MayReceive st p q (c.machine q).part message }
+    ensures messages { (st : Setting) (c : Cluster) (p q : ℕ) (message : Message) (behind : List Message) →
+        IsSetting st → IsWhole st c → st.engine ≡ Locking → c.link p q ≡ message ∷ behind → MayReceive st p q (c.machine q).part message }
+    ensures step { (st : Setting) (c : Cluster) (colour : ℕ → ℕ) (colours a newest : ℕ) (behind : List Call) →
+        IsWhole st c → st.engine ≡ Chromatic colour colours → a < st.machines → c.calls a ≡ Step newest ∷ behind →
+        (newest ≡ c.coordinator.rounds.colour) × ((s : ScopeId) → s.home.0 ≡ a → (c.machine a).part.flight s ≡ None) }
+    ensures wave { (st : Setting) (c : Cluster) (colour : ℕ → ℕ) (colours a k : ℕ) (behind : List Call) →
+        IsWhole st c → st.engine ≡ Chromatic colour colours → a < st.machines → c.calls a ≡ Wave k ∷ behind → (c.machine a).held ≡ None }
+    ensures counts { (st : Setting) (c : Cluster) (colour : ℕ → ℕ) (colours a k : ℕ) (counts : Counted) (behind : List Report) →
+        IsWhole st c → st.engine ≡ Chromatic colour colours → a < st.machines → c.reports a ≡ Count k counts ∷ behind →
+        MayBeCounted c.coordinator.rounds.counting a k }
 {}

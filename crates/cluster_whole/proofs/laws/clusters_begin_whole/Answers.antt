@@ -3,4 +3,4 @@ use Rattle.cluster_whole.proofs.Wholeness.{recovered_whole}
 use Rattle.cluster_whole.proofs.laws.clusters_begin_whole.Goals as goal
 
 pub returns : goal.returns
-returns c = λ st base cluster is. recovered_whole st is base cluster
+returns c = λ st base cluster is coloured. recovered_whole st is coloured base cluster

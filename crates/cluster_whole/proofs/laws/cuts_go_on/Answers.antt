@@ -5,6 +5,6 @@ use Rattle.cluster_whole.proofs.Wholeness.{goes_on}
 use Rattle.cluster_whole.proofs.laws.cuts_go_on.Goals as goal
 
 pub returns : goal.returns
-returns c = λ st events old new whole is locks none course begun.
-    let goes = goes_on st is locks events none old new whole course in
+returns c = λ st events old new whole is none course begun.
+    let goes = goes_on st is events none old new whole course in
     (goes.next, goes.rest, goes.order, goes.tickets, goes.drawn, λ v within. cuts_grow st (world_of old) (world_of new) whole.consistent goes begun v within)

@@ -1,4 +1,4 @@
--- Each scope holds the locks of its place.
+-- Each scope holds the locks of its place, or neighbours are not of one colour.
 use Rattle.cluster_whole.proofs.Wholeness.{is_exclusive}
 use Rattle.cluster_whole.proofs.laws.whole_clusters_exclude.Goals as goal
 
