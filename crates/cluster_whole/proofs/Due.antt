@@ -144,8 +144,7 @@ module _ (st : Setting) (colour : ℕ → ℕ) (c : Cluster) (t : AreInTurn st c
 
     pub due_made : (a : ℕ) → a < st.machines → (t.made a ≡ true) × (is_told (t.turn a) ≡ true)
     due_made a low =
-        let told = t.told due.whole a low in
-        (
+        let told = t.told due.whole a low in (
           ⊎_elim
               (λ (none : rounds.steps ≡ 0). (t.machines a low).first none)
               (λ (even : AreEven rounds). (t.machines a low).in_turn (since_some rounds.since even.two) (told_come (t.turn a) told))

@@ -125,16 +125,18 @@ module _ (st : Setting) (is : IsSetting st) (locks : st.engine ≡ Locking) (old
       ⊎_elim
       (λ (same : new ≡ mid). subst (Placed st) (sym same) at)
       (λ (t : (a : ℕ) × (part : Part) × IsTurned (mid.part a) part × (new ≡ with_part mid a part)).
-      subst (Placed st) (sym t.3)
-      (at.0, aside_keeps st mid at.0 at.1 t.0 t.1 (record {
-        flight = ap (λ (p : Part). p.flight) t.2;
-        ready = ap (λ (p : Part). p.ready) t.2;
-        stand = ap (λ (p : Part). p.stand) t.2;
-        holder = ap (λ (p : Part). p.holder) t.2;
-        queue = ap (λ (p : Part). p.queue) t.2;
-        out = ap (λ (p : Part). p.out) t.2;
-        serial = ap (λ (p : Part). p.serial) t.2;
-      })))
+      subst (Placed st) (sym t.3) (
+        at.0,
+        aside_keeps st mid at.0 at.1 t.0 t.1 (record {
+          flight = ap (λ (p : Part). p.flight) t.2;
+          ready = ap (λ (p : Part). p.ready) t.2;
+          stand = ap (λ (p : Part). p.stand) t.2;
+          holder = ap (λ (p : Part). p.holder) t.2;
+          queue = ap (λ (p : Part). p.queue) t.2;
+          out = ap (λ (p : Part). p.out) t.2;
+          serial = ap (λ (p : Part). p.serial) t.2;
+        }),
+      ))
       turn
 
   pub move_places : (new : World) → IsMove st old new → Placed st new

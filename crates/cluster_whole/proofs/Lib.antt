@@ -14,3 +14,4 @@ pub mod Telling
 pub mod Stepping
 pub mod Restarting
 pub mod Colours
+pub mod Logging

@@ -1,5 +1,5 @@
 -- Each event leaves a whole cluster whole, and so does every list of events.
-use Rattle.std.proofs.Common.{◌≡◌, List, [], ◌∷◌, refl, sym, ap, subst}
+use Rattle.std.proofs.Common.{ℕ, ◌≡◌, List, [], ◌∷◌, refl, sym, ap, subst, ◌++◌, arith, ◌<◌}
 use Rattle.std.specs.List.{AllByRecursion}
 use Rattle.cluster_core.specs.Actions.{MayRecord}
 use Rattle.cluster_core.specs.Places.{IsExclusive}
@@ -17,15 +17,20 @@ use Rattle.cluster_cuts.proofs.CutsGoOn.{goes_not, goes_then, step_goes}
 use Rattle.cluster_model.specs.Clusters.{BaseView, Cluster}
 use Rattle.cluster_model.specs.Events.{Event, Admit, DeliverCall, DeliverReport, Deliver, Fail, Grant, Mark, MayDo, IsCourse, PutBegin, PutStep, PutWave, Record, Recover, Section, Send, SendCall, SendReport, Stop, Update, after_event, recovers, setting_after}
 use Rattle.cluster_model.specs.Leading.{RecordIsDue}
+use Rattle.cluster_whole.specs.Logged.{IsLogged, Logged}
 use Rattle.cluster_whole.specs.Views.{section_of, world_of}
 use Rattle.cluster_whole.specs.Whole.{AreColoured, AreKeptApart, IsNoRecovery, IsWhole, setting_behind}
 use Rattle.cluster_whole.specs.Windows.{AreWithin}
+use Rattle.cluster_whole.proofs.Logging.{step_logs}
 use Rattle.cluster_whole.proofs.Restarting.{recovered_turn}
 use Rattle.cluster_whole.proofs.Stepping.{event_turn}
 use Rattle.cluster_whole.proofs.WindowEvents.{windows_kept}
 use Rattle.cluster_whole.proofs.Within.{back_within}
 use Rattle.cluster_whole.proofs.Joining.{event_leads}
 use Rattle.cluster_whole.proofs.Keeping.{move_places, move_step}
+
+not_less : (n : ℕ) → n < n → ⊥
+not_less n low = omega arith
 
 -- the setting of an attempt that begins with this base
 abbrev pub begun_with : Setting → BaseView → Setting
@@ -49,6 +54,13 @@ recovered_whole st is coloured base c =
       apart = recovered_apart st st.engine coloured base c;
       consistent = first_kept (begun_with st base) (begun_is st is base) w (recovered_starts st base.numbers base.number (world_of c)) (recovered_unmarked st base.numbers base.number (world_of c));
     }
+
+-- and nothing is logged yet
+pub recovered_logs : (st : Setting) → IsSetting st → AreColoured st st.engine → (base : BaseView) (c : Cluster) →
+    (whole : IsWhole (begun_with st base) (recovers st base c)) × IsLogged (begun_with st base) (world_of (recovers st base c)) whole.consistent []
+unfolding recovered_whole
+recovered_logs st is coloured base c =
+    (recovered_whole st is coloured base c, record { order = refl; cut = λ begun. absurd (not_less base.number begun); low = tt })
 
 apart_excludes : (st : Setting) → IsSetting st → (engine : Engine) (c : Cluster) → AreKeptApart engine st c → IsExclusive st (world_of c)
 apart_excludes st is Locking c apart = exclusive st is (world_of c) apart.0 apart.1
@@ -118,6 +130,15 @@ module _ (st : Setting) (is : IsSetting st) where
 
   pub event_moved : (c : Cluster) → IsWhole st c → (event : Event) → MayDo st c event → IsNoRecovery event → IsWhole st (after_event st c event)
   event_moved c whole event may other = whole_with c whole event may other (event_step c whole event may other).next
+
+  -- and the updates that are logged for snapshots go on
+  pub event_logs : (c : Cluster) (whole : IsWhole st c) (event : Event) (logged : List Logged) → MayDo st c event → IsNoRecovery event → IsLogged st (world_of c) whole.consistent logged →
+      (next : IsWhole st (after_event st c event)) × (more : List Logged) × IsLogged st (world_of (after_event st c event)) next.consistent (logged ++ more)
+  unfolding whole_with
+  event_logs c whole event logged may other was =
+      let one = event_step c whole event may other in
+      let goes = step_logs st is (world_of c) whole.consistent (world_of (after_event st c event)) logged was one in
+      (whole_with c whole event may other one.next, goes.0, goes.1)
 
   -- ---- every list of events of an attempt
 

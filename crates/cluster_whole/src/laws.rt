@@ -6,13 +6,13 @@ ghost use Rattle.gl_base.specs.declared.scopes.Counted.{Counted};
 ghost use Rattle.gl_base.specs.declared.scopes.ScopeId.{ScopeId};
 ghost use Rattle.graph_core.specs.DataGraph.{size};
 ghost use Rattle.seq_run.specs.Orders.{all_tasks, IsValidFrom};
-ghost use Rattle.cluster_core.specs.Actions.{MayGrant};
+ghost use Rattle.cluster_core.specs.Actions.{MayGrant, MayUpdate};
 ghost use Rattle.cluster_core.specs.Cuts.{Begins, cut_of, updates_at};
 ghost use Rattle.cluster_core.specs.Messages.{Message};
 ghost use Rattle.cluster_core.specs.Places.{IsExclusive};
 ghost use Rattle.cluster_core.specs.Receiving.{MayReceive};
 ghost use Rattle.cluster_core.specs.Recovering.{going_on};
-ghost use Rattle.cluster_core.specs.Replays.{IsTask, entries_of, replay_of, tasks_of};
+ghost use Rattle.cluster_core.specs.Replays.{IsFresh, IsTask, entries_of, replay_of, tasks_of};
 ghost use Rattle.cluster_core.specs.Settings.{Chromatic, IsSetting, Locking, Setting};
 ghost use Rattle.cluster_core.specs.Snapshots.{IsConsistent};
 ghost use Rattle.cluster_core.specs.Worlds.{way};
@@ -25,6 +25,7 @@ ghost use Rattle.cluster_model.specs.Leading.{RecordIsDue};
 ghost use Rattle.cluster_model.specs.Machines.{outside};
 ghost use Rattle.cluster_model.specs.Rounds.{StepIsDue};
 ghost use Rattle.cluster_model.specs.Totals.{total};
+ghost use Rattle.cluster_whole.specs.Logged.{IsLogged, Logged};
 ghost use Rattle.cluster_whole.specs.Steps.{under_way};
 ghost use Rattle.cluster_whole.specs.Views.{IsMove, world_of};
 ghost use Rattle.cluster_whole.specs.Windows.{AreWithin};
@@ -122,7 +123,27 @@ pub fn cuts_go_on()
         × AreUpdatesFrom old.next rest
         × (new.next ≡ old.next + length rest)
         × ((v : ℕ) → v < size st.graph →
-            Begins (updates_at v (cut_of whole.consistent.count whole.consistent.order)) (updates_at v (cut_of next.count next.order))) }
+        Begins (updates_at v (cut_of whole.consistent.count whole.consistent.order)) (updates_at v (cut_of next.count next.order))) }
+{}
+
+/// Each event but a recovery goes on with the updates that are logged for snapshots: of each update the number of the first snapshot that
+/// has it, the one behind the mark that its vertex had then. The order is these updates, and the newest snapshot's cut is those with
+/// its number or a lower one. The next cluster is whole, so this chains.
+pub fn events_log_for_snapshots()
+    ensures begins { (st : Setting) (base : BaseView) (c : Cluster) → IsSetting st → AreColoured st st.engine →
+        (whole : IsWhole (going_on st base.numbers base.number) (recovers st base c))
+        × IsLogged (going_on st base.numbers base.number) (world_of (recovers st base c)) whole.consistent [] }
+    ensures goes_on { (st : Setting) (c : Cluster) (whole : IsWhole st c) (event : Event) (logged : List Logged) →
+        IsSetting st → MayDo st c event → IsNoRecovery event → IsLogged st (world_of c) whole.consistent logged →
+        (next : IsWhole st (after_event st c event)) × (more : List Logged)
+        × IsLogged st (world_of (after_event st c event)) next.consistent (logged ++ more) }
+{}
+
+/// An update that may happen in a whole cluster is fresh: its machine lends it what the replay of the order has there, of its vertex,
+/// its edges and its neighbours.
+pub fn whole_updates_are_fresh()
+    ensures { (st : Setting) (c : Cluster) (whole : IsWhole st c) (s : ScopeId) (may : MayUpdate s (c.machine s.home.0).part c.left) →
+        IsSetting st → IsFresh st (replay_of st whole.consistent.order) (c.machine s.home.0).part may.vertex }
 {}
 
 /// With locks the first message on each link between machines meets what its receiver may rely on. With colours a step that comes is
