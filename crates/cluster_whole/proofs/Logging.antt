@@ -63,6 +63,9 @@ all_later : (k : ℕ) (logged : List Logged) → AllByRecursion (λ l. l.number 
 all_later k [] all = tt
 all_later k (l ∷ logged) all = (le_up l.number k all.0, all_later k logged all.1)
 
+above : (n k : ℕ) → n ≤ k → n < suc k
+above n k low = omega arith
+
 suc_low : (n k : ℕ) → n ≤ k → suc n ≤ suc k
 suc_low n k low = omega arith
 
@@ -70,11 +73,12 @@ suc_low n k low = omega arith
 
 module _ (st : Setting) (is : IsSetting st) (w : World) (kept : IsConsistent st w) (new : World) (logged : List Logged) (was : IsLogged st w kept logged) where
   abbrev Goes : IsConsistent st new → Type 0
-  Goes next = (more : List Logged) × IsLogged st new next (logged ++ more)
+  Goes next = (more : List Logged) × AllByRecursion (λ l. w.acknowledged < l.number) more × IsLogged st new next (logged ++ more)
 
   stays : (next : IsConsistent st new) → StaysSo st w kept new next → Goes next
   stays next same = (
     [],
+    tt,
     subst (IsLogged st new next) (sym (append-nil logged)) (record {
       order = same.order ∙ was.order;
       cut = λ begun. (λ i. cut_of (same.count i) (same.order i)) ∙ was.cut (subst (λ (n : ℕ). st.base < n) same.begun begun) ∙ ap (λ (n : ℕ). entries_to n logged) (sym same.begun);
@@ -88,6 +92,7 @@ module _ (st : Setting) (is : IsSetting st) (w : World) (kept : IsConsistent st 
       let l : Logged = record { entry = entry; number = suc (mark_of st w one.vertex) } in
       let mark_low : mark_of st w one.vertex ≤ w.begun = le_trans (kept.marks.marks one.vertex one.within).1 (kept.marks.known (st.owner one.vertex) (is.owner one.vertex one.within)).1 in (
         l ∷ [],
+        (above w.acknowledged (mark_of st w one.vertex) (kept.marks.marks one.vertex one.within).0, tt),
         record {
           order = one.order ∙ ap (λ (es : List Entry). es ++ entry ∷ []) was.order ∙ sym (map_more logged (l ∷ []));
           cut = λ begun.
@@ -107,6 +112,7 @@ module _ (st : Setting) (is : IsSetting st) (w : World) (kept : IsConsistent st 
   begins : (next : IsConsistent st new) → BeginsOne st w kept new next → Goes next
   begins next one = (
     [],
+    tt,
     subst (IsLogged st new next) (sym (append-nil logged)) (record {
       order = one.order ∙ was.order;
       cut = λ begun. one.whole ∙ one.order ∙ was.order ∙ sym (all_up_to (suc w.begun) logged was.low) ∙ ap (λ (n : ℕ). entries_to n logged) (sym one.begun);
@@ -114,7 +120,7 @@ module _ (st : Setting) (is : IsSetting st) (w : World) (kept : IsConsistent st 
     }),
   )
 
-  pub step_logs : (one : IsOneStep st w kept new) → (more : List Logged) × IsLogged st new one.next (logged ++ more)
+  pub step_logs : (one : IsOneStep st w kept new) → (more : List Logged) × AllByRecursion (λ l. w.acknowledged < l.number) more × IsLogged st new one.next (logged ++ more)
   step_logs one =
       ⊎_elim
       (λ (same : StaysSo st w kept new one.next). stays one.next same)

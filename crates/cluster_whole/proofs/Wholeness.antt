@@ -133,12 +133,12 @@ module _ (st : Setting) (is : IsSetting st) where
 
   -- and the updates that are logged for snapshots go on
   pub event_logs : (c : Cluster) (whole : IsWhole st c) (event : Event) (logged : List Logged) → MayDo st c event → IsNoRecovery event → IsLogged st (world_of c) whole.consistent logged →
-      (next : IsWhole st (after_event st c event)) × (more : List Logged) × IsLogged st (world_of (after_event st c event)) next.consistent (logged ++ more)
+      (next : IsWhole st (after_event st c event)) × (more : List Logged) × AllByRecursion (λ l. c.coordinator.acknowledged < l.number) more × IsLogged st (world_of (after_event st c event)) next.consistent (logged ++ more)
   unfolding whole_with
   event_logs c whole event logged may other was =
       let one = event_step c whole event may other in
       let goes = step_logs st is (world_of c) whole.consistent (world_of (after_event st c event)) logged was one in
-      (whole_with c whole event may other one.next, goes.0, goes.1)
+      (whole_with c whole event may other one.next, goes.0, goes.1, goes.2)
 
   -- ---- every list of events of an attempt
 

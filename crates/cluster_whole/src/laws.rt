@@ -128,7 +128,8 @@ pub fn cuts_go_on()
 
 /// Each event but a recovery goes on with the updates that are logged for snapshots: of each update the number of the first snapshot that
 /// has it, the one behind the mark that its vertex had then. The order is these updates, and the newest snapshot's cut is those with
-/// its number or a lower one. The next cluster is whole, so this chains.
+/// its number or a lower one. What is logged later is of no snapshot that was acknowledged, so its updates stay those that they are. The
+/// next cluster is whole, so this chains.
 pub fn events_log_for_snapshots()
     ensures begins { (st : Setting) (base : BaseView) (c : Cluster) → IsSetting st → AreColoured st st.engine →
         (whole : IsWhole (going_on st base.numbers base.number) (recovers st base c))
@@ -136,6 +137,7 @@ pub fn events_log_for_snapshots()
     ensures goes_on { (st : Setting) (c : Cluster) (whole : IsWhole st c) (event : Event) (logged : List Logged) →
         IsSetting st → MayDo st c event → IsNoRecovery event → IsLogged st (world_of c) whole.consistent logged →
         (next : IsWhole st (after_event st c event)) × (more : List Logged)
+        × AllByRecursion (λ l. c.coordinator.acknowledged < l.number) more
         × IsLogged st (world_of (after_event st c event)) next.consistent (logged ++ more) }
 {}
 
