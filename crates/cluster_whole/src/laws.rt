@@ -25,7 +25,7 @@ ghost use Rattle.cluster_model.specs.Leading.{RecordIsDue};
 ghost use Rattle.cluster_model.specs.Machines.{outside};
 ghost use Rattle.cluster_model.specs.Rounds.{StepIsDue};
 ghost use Rattle.cluster_model.specs.Totals.{total};
-ghost use Rattle.cluster_whole.specs.Logged.{IsLogged, Logged};
+ghost use Rattle.cluster_whole.specs.Logged.{IsLogged, Logged, entries_to};
 ghost use Rattle.cluster_whole.specs.Steps.{under_way};
 ghost use Rattle.cluster_whole.specs.Views.{IsMove, world_of};
 ghost use Rattle.cluster_whole.specs.Windows.{AreWithin};
@@ -105,12 +105,16 @@ pub fn events_keep_windows()
     ensures begins { (st : Setting) (base : BaseView) (c : Cluster) → AreWithin st (recovers st base c) }
 {}
 
-/// Where a record is due, the sections that have come hold the numbers of a cut of the order, and the cut is valid.
+/// Where a record is due, the sections that have come hold the numbers of a cut of the order. The cut is valid, and it is the updates that
+/// are logged for this snapshot or for one before.
 pub fn records_hold_cuts()
     ensures held { (st : Setting) (c : Cluster) (whole : IsWhole st c) → IsSetting st → RecordIsDue st c.coordinator →
         HoldCut st (world_of c) whole.consistent.count whole.consistent.order }
     ensures valid { (st : Setting) (c : Cluster) (whole : IsWhole st c) → IsSetting st → RecordIsDue st c.coordinator →
         IsValidFrom st.graph st.program st.start (all_tasks st.graph) (cut_of whole.consistent.count whole.consistent.order) }
+    ensures updates { (st : Setting) (c : Cluster) (whole : IsWhole st c) (logged : List Logged) → RecordIsDue st c.coordinator →
+        IsLogged st (world_of c) whole.consistent logged →
+        cut_of whole.consistent.count whole.consistent.order ≡ entries_to c.coordinator.begun logged }
 {}
 
 /// Within an attempt, whatever happens once a snapshot was begun: the order goes on, each new update has the next ticket, and a later
