@@ -1,0 +1,17 @@
+pub mod Pieces
+pub mod Joining
+pub mod Keeping
+pub mod Wholeness
+pub mod Counting
+pub mod Within
+pub mod WindowEvents
+pub mod Flows
+pub mod Due
+pub mod Turning
+pub mod Rounding
+pub mod Hearing
+pub mod Telling
+pub mod Stepping
+pub mod Restarting
+pub mod Colours
+pub mod Logging

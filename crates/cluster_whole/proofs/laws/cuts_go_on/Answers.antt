@@ -1,0 +1,10 @@
+-- Event after event the order and the cut go on.
+use Rattle.cluster_cuts.proofs.CutsGoOn.{cuts_grow}
+use Rattle.cluster_whole.specs.Views.{world_of}
+use Rattle.cluster_whole.proofs.Wholeness.{goes_on}
+use Rattle.cluster_whole.proofs.laws.cuts_go_on.Goals as goal
+
+pub returns : goal.returns
+returns c = λ st events old new whole is none course begun.
+    let goes = goes_on st is events none old new whole course in
+    (goes.next, goes.rest, goes.order, goes.tickets, goes.drawn, λ v within. cuts_grow st (world_of old) (world_of new) whole.consistent goes begun v within)

@@ -1,0 +1,23 @@
+-- With locks each scope is in its place; with colours each machine is where the newest step and wave have it.
+use Rattle.cluster_places.proofs.Fronts.{front}
+use Rattle.cluster_whole.specs.Views.{world_of}
+use Rattle.cluster_whole.proofs.Colours.{in_places, in_turn}
+use Rattle.cluster_whole.proofs.Hearing.{none_held, step_is_newest, was_free}
+use Rattle.cluster_whole.proofs.Telling.{may_be_counted}
+use Rattle.cluster_whole.proofs.laws.fronts_may_be_received.Goals as goal
+
+pub returns-clause-messages : goal.returns-clause-messages
+returns-clause-messages c = λ st cluster p q message behind is whole locks first.
+    let placed = in_places st cluster whole locks in
+    front st is (world_of cluster) placed.0 placed.1 p q (whole.consistent.copies.told p q) message behind first
+
+pub returns-clause-step : goal.returns-clause-step
+returns-clause-step c = λ st cluster colour colours a newest behind whole chromatic low first.
+    let t = in_turn st colour colours cluster whole chromatic in
+    (step_is_newest st colour cluster t a low behind newest first, λ s home. was_free st colour cluster t a low behind newest first s home)
+
+pub returns-clause-wave : goal.returns-clause-wave
+returns-clause-wave c = λ st cluster colour colours a k behind whole chromatic low first. none_held st colour cluster (in_turn st colour colours cluster whole chromatic) a low behind k first
+
+pub returns-clause-counts : goal.returns-clause-counts
+returns-clause-counts c = λ st cluster colour colours a k counts behind whole chromatic low first. may_be_counted st colour cluster (in_turn st colour colours cluster whole chromatic) a low k counts behind first
