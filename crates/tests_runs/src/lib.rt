@@ -5,6 +5,8 @@ mod callers;
 #[cfg(test)]
 mod graphs;
 #[cfg(test)]
+mod shuffled;
+#[cfg(test)]
 mod tables;
 #[cfg(test)]
 mod tasks;
