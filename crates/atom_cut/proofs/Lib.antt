@@ -1,1 +1,4 @@
 pub mod AssignLemmas
+pub mod FillLemmas
+pub mod CountLemmas
+pub mod IndexLemmas
