@@ -1,5 +1,8 @@
 -- The parts of the index.
-use Rattle.std.proofs.Common.{◌≡◌, ℕ, suc, ◌+◌, ◌<◌, ◌≤◌, Bool, true, false, cond, List, [], ◌∷◌, ◌++◌, length, get_or, take, refl, sym, ap, ◌∙◌, arith, append_assoc}
+use Rattle.std.proofs.Common.{◌≡◌, ℕ, zero, suc, ◌+◌, ◌-◌, ◌*◌, ◌^◌, eqb, length-append, ◌<◌, ◌≤◌, Bool, true, false, cond, List, [], ◌∷◌, ◌++◌, length, get_or, take, refl, sym, ap, ◌∙◌, arith, append_assoc}
+use Rattle.std.proofs.Math.Nat.{add-mul}
+use Rattle.atom_cut.specs.declared.metas.MetaEdge.{MetaEdge}
+use Rattle.atom_cut.specs.MetaEdges.{meta_edge, metas_behind, metas_among}
 use Rattle.std.specs.List.{filter, flat_map, range_with_len}
 use Rattle.std.proofs.lemmas.List.{take_more}
 use Rattle.std.proofs.lemmas.Grind.{flat_map-append}
@@ -44,7 +47,7 @@ counts_same g of atoms lines are =
     ∙ ap (λ n. flat_map (λ a. count_bytes (graph_atom g of a)) (range_with_len 0 n)) are.count
 
 -- what passes a test is no more than all
-filter_le : {X : Type 0} (p : X → Bool) (xs : List X) → length (filter p xs) ≤ length xs
+pub filter_le : {X : Type 0} (p : X → Bool) (xs : List X) → length (filter p xs) ≤ length xs
 filter_le p [] = omega arith
 filter_le p (x ∷ xs) = keep (p x) (filter p xs) (filter_le p xs)
   where
@@ -76,3 +79,24 @@ pub behind_three : (old n1 n2 n3 a b k c : List ℕ) → n1 ≡ old ++ a → n2 
 behind_three old n1 n2 n3 a b k c first second third is =
     third ∙ ap (λ (x : List ℕ). x ++ k) (second ∙ ap (λ (x : List ℕ). x ++ b) first) ∙ ap (λ (x : List ℕ). old ++ a ++ b ++ x) is
     ∙ append_assoc (old ++ a) b c ∙ append_assoc old a (b ++ c) ∙ ap (λ (x : List ℕ). old ++ x) (sym (append_assoc a b c))
+
+-- each of a range gives few
+flat_map-few : {X : Type 0} (f : ℕ → List X) (most s n : ℕ) → ((i : ℕ) → length (f i) ≤ most) → length (flat_map f (range_with_len s n)) ≤ n * most
+flat_map-few f most s zero few = omega arith
+flat_map-few f most s (suc n) few =
+    let more : suc n * most ≡ most + n * most = ap (λ m. m * most) (omega arith) ∙ add-mul 1 n most ∙ ap (λ m. m + n * most) (omega arith) in
+    omega (arith, more, length-append (f s) (flat_map f (range_with_len (s + 1) n)), few s, flat_map-few f most (s + 1) n few)
+
+meta_edge-le : (count : ℕ → ℕ → ℕ) (a b : ℕ) → length (meta_edge count a b) ≤ 1
+meta_edge-le count a b = one (eqb (count a b) 0) (record { a = record { 0 = a }; b = record { 0 = b }; count = count a b })
+  where
+    one : (t : Bool) (e : MetaEdge) → length (cond t [] (e ∷ [])) ≤ 1
+    one true e = omega arith
+    one false e = omega arith
+
+-- there are no more meta-edges than pairs
+pub metas_few : (count : ℕ → ℕ → ℕ) (atoms : ℕ) → atoms ≤ 1024 → length (metas_among count atoms) < 2 ^ 32
+metas_few count atoms few =
+    let behind = λ (a : ℕ). flat_map-few (meta_edge count a) 1 (a + 1) (atoms - (a + 1)) (meta_edge-le count a) in
+    let all = flat_map-few (λ a. metas_behind count a (atoms - (a + 1))) 1024 0 atoms (λ a. omega (arith, behind a, few)) in
+    omega (arith, all, few)

@@ -1,6 +1,6 @@
 //! Meta-edges: the pairs of atoms with an edge between them.
 ghost use Rattle.std.specs.Prelude.{◌≡◌, ℕ, ◌+◌, ◌-◌, ◌*◌, ◌^◌, ◌<◌, ◌≤◌, ◌++◌, if◌then◌else◌, length, slice_index, All, IfOk, OnOk};
-ghost use Rattle.graph_core.specs.DataGraph.{size};
+ghost use Rattle.graph_core.specs.DataGraph.{IsDataGraph, size};
 ghost use Rattle.atom_cut.specs.Cuts.{atom_numbers};
 ghost use Rattle.atom_cut.specs.MetaEdges.{are_both, meta_edge, meta_edges, metas_among, metas_behind};
 ghost use Rattle.atom_cut.specs.Inner.Counting.{AreCounted, count_in, pair_place};
@@ -27,7 +27,8 @@ pub fn metas_of(
     requires few { atoms ≤ MAX_ATOMS }
     requires each { length of.now ≡ size graph.now }
     requires below { All (λ a. a.0 < atoms) of.now }
-    ensures { IfOk result (λ metas. metas.items ≡ meta_edges graph.now (atom_numbers of.now) atoms) }
+    ensures graph { OnOk result (IsDataGraph graph.now) }
+    ensures metas { IfOk result (λ metas. metas.items ≡ meta_edges graph.now (atom_numbers of.now) atoms) }
 {
     let counts = counts_of(alloc, graph, of, atoms)?;
     list_metas(alloc, atoms, &counts)
@@ -38,7 +39,8 @@ fn counts_of(alloc: Global, graph: &Graph, of: &[AtomNo], atoms: u16) -> Result<
     requires few { atoms ≤ MAX_ATOMS }
     requires each { length of.now ≡ size graph.now }
     requires below { All (λ a. a.0 < atoms) of.now }
-    ensures { IfOk result (λ counts. AreCounted graph.now (atom_numbers of.now) atoms (length graph.now.edges) counts.items) }
+    ensures graph { OnOk result (IsDataGraph graph.now) }
+    ensures counts { IfOk result (λ counts. AreCounted graph.now (atom_numbers of.now) atoms (length graph.now.edges) counts.items) }
 {
     let mut counts = vec![in alloc; 0u32; atoms as usize * atoms as usize]?;
     count_edges(graph, of, atoms, &mut counts);
@@ -51,7 +53,8 @@ fn count_edges(graph: &Graph, of: &[AtomNo], atoms: u16, counts: &mut [u32])
     requires each { length of.now ≡ size graph.now }
     requires below { All (λ a. a.0 < atoms) of.now }
     requires none { AreCounted graph.now (atom_numbers of.now) atoms 0 counts.old }
-    ensures { AreCounted graph.now (atom_numbers of.now) atoms (length graph.now.edges) counts.new }
+    ensures graph { IsDataGraph graph.now }
+    ensures counts { AreCounted graph.now (atom_numbers of.now) atoms (length graph.now.edges) counts.new }
 {
     for e in 0..graph.m() {
         let line = graph.edge(EdgeNo(e));
