@@ -6,6 +6,7 @@ use crate::files::{COUNTLESS, EMPTY, FALLEN, FIRST, INDEX, SECOND, TWICE, UNKNOW
 use crate::graphs::graph_of;
 use atom_cut::{atoms_by_growth, cut};
 use atom_file::{AtomFault, AtomView, write_atom};
+use atom_gather::check_index;
 use atom_place::place;
 use gl_base::{
     AtomNo, EdgeLine, EdgeNo, GhostLine, Lines, MachineNo, NoMemory, Vertex, VertexLine,
@@ -234,4 +235,36 @@ fn a_cut_has_its_lines_and_its_index(rt: HostRuntime) -> Result<(), Fail> {
     assert!(rt; are_lines(rt.alloc(), &made.lines[0], &WHOLE));
     assert!(rt; made.index.len() == 64);
     Ok(())
+}
+
+#[test]
+fn the_form_of_an_index_is_told(rt: HostRuntime) {
+    assert_eq!(rt; check_index(&INDEX), Ok(2));
+    for length in 0..84usize {
+        assert_eq!(rt;
+            check_index(&INDEX[..length]),
+            Err(AtomFault::Torn(length as u64))
+        );
+    }
+    for place in 0..84usize {
+        let mut bytes = INDEX;
+        bytes[place] = bytes[place].wrapping_add(1);
+        assert_eq!(rt; check_index(&bytes).err(), index_fault_where_raised(place));
+    }
+    let mut longer = [0; 92];
+    longer[..84].copy_from_slice(&INDEX);
+    assert_eq!(rt; check_index(&longer), Err(AtomFault::Trailing(84)));
+    longer[75] = 2;
+    assert_eq!(rt; check_index(&longer), Err(AtomFault::OutOfOrder(84)));
+}
+
+/// The first fault of the form of the index where the byte at a place is raised by one.
+fn index_fault_where_raised(place: usize) -> Option<AtomFault> {
+    match place {
+        0..8 => Some(AtomFault::BadTag(0)),
+        8..12 => Some(AtomFault::BadTag(8)),
+        45 => Some(AtomFault::BadTag(45)),
+        46..48 | 72..76 => Some(AtomFault::Torn(84)),
+        _ => None,
+    }
 }
