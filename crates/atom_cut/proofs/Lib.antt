@@ -1,1 +1,5 @@
 pub mod AssignLemmas
+pub mod FillLemmas
+pub mod CountLemmas
+pub mod IndexLemmas
+pub mod RangeLemmas

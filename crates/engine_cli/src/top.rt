@@ -149,7 +149,7 @@ fn run_file<F: Files, K: Sink, N: Sink>(
     }
 }
 
-/// WritesNote what is reported of an answer that was printed. A fault of `note` is passed over.
+/// Writes what is reported of an answer that was printed. A fault of `note` is passed over.
 fn tell_report<N: Sink>(note: &mut N, report: &[u8]) -> Status
     ensures status { result ≡ Done }
     ensures note { WritesNote report.now (N.held note.old) (N.held note.new) (N.faults note.old) (N.faults note.new) }

@@ -4,9 +4,9 @@ use graph_core::{EdgeIn, Graph, GraphFault};
 use std::alloc::{AllocError, Global};
 use std::process::Abort;
 
-/// The identifiers below a number.
-fn ids_below(alloc: Global, count: u64) -> Result<Vec<u64>, AllocError> {
-    (0..count).collect(alloc)
+/// The identifiers from one to below another.
+fn ids_between(alloc: Global, least: u64, end: u64) -> Result<Vec<u64>, AllocError> {
+    (least..end).collect(alloc)
 }
 
 /// Edges between these identifiers, each of weight 1.
@@ -22,15 +22,16 @@ fn edges_of(alloc: Global, pairs: &[(u64, u64)]) -> Result<Vec<EdgeIn>, AllocErr
     Ok(edges)
 }
 
-/// The graph with the identifiers below a number, and edges between these pairs of them.
+/// The graph with the identifiers from one to below another, and edges between these pairs of them.
 pub fn graph_of(
     rt: &impl Abort,
     alloc: Global,
-    count: u64,
+    least: u64,
+    end: u64,
     pairs: &[(u64, u64)],
     directed: bool,
 ) -> Result<Graph, GraphFault> {
-    let ids = ids_below(alloc, count)?;
+    let ids = ids_between(alloc, least, end)?;
     let edges = edges_of(alloc, pairs)?;
     assert!(rt; ids.iter().all(|id| *id <= MAX_ID));
     assert!(rt; ids.len() <= MAX_VERTICES);

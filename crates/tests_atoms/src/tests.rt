@@ -2,12 +2,15 @@
 ghost use Rattle.std.specs.Prelude.{◌≡◌, IfOk};
 ghost use Rattle.atom_file.specs.Atoms.{IsAtom, atom_bytes};
 
-use crate::files::{COUNTLESS, EMPTY, FALLEN, FIRST, SECOND, TWICE, UNKNOWN, WHOLE};
+use crate::files::{COUNTLESS, EMPTY, FALLEN, FIRST, INDEX, SECOND, TWICE, UNKNOWN, WHOLE};
 use crate::graphs::graph_of;
-use atom_cut::atoms_by_growth;
+use atom_cut::{atoms_by_growth, cut};
 use atom_file::{AtomFault, AtomView, write_atom};
+use atom_gather::check_index;
 use atom_place::place;
-use gl_base::{AtomNo, EdgeLine, EdgeNo, GhostLine, MachineNo, NoMemory, Vertex, VertexLine};
+use gl_base::{
+    AtomNo, EdgeLine, EdgeNo, GhostLine, Lines, MachineNo, NoMemory, Vertex, VertexLine,
+};
 use graph_core::growth;
 use std::alloc::Global;
 use std::test::Fail;
@@ -188,7 +191,7 @@ const CUTS: [Cut<'static>; 5] = [
 #[test]
 fn graphs_grow_and_are_cut(rt: HostRuntime) -> Result<(), Fail> {
     for cut in &CUTS {
-        let graph = graph_of(&rt, rt.alloc(), cut.count, cut.edges, cut.directed)?;
+        let graph = graph_of(&rt, rt.alloc(), 0, cut.count, cut.edges, cut.directed)?;
         assert!(rt; graph.n() == 0 || cut.first < graph.n());
         let order = growth(rt.alloc(), &graph, Vertex(cut.first))?;
         assert!(rt; order.iter().map(|v| v.0).eq(cut.order.iter().copied()));
@@ -197,4 +200,71 @@ fn graphs_grow_and_are_cut(rt: HostRuntime) -> Result<(), Fail> {
         assert!(rt; of.iter().map(|a| a.0).eq(cut.of.iter().copied()));
     }
     Ok(())
+}
+
+/// The lines of the atom that a file tells.
+fn lines_in(alloc: Global, file: &[u8]) -> Option<Lines> {
+    let view = AtomView::read(file).ok()?;
+    view.lines(alloc).ok()
+}
+
+/// Whether these are the lines of the atom that a file tells.
+fn are_lines(alloc: Global, lines: &Lines, file: &[u8]) -> bool {
+    match lines_in(alloc, file) {
+        Some(told) => {
+            lines.vertices.as_slice() == told.vertices.as_slice()
+                && lines.ghosts.as_slice() == told.ghosts.as_slice()
+                && lines.edges.as_slice() == told.edges.as_slice()
+        }
+        None => false,
+    }
+}
+
+#[test]
+fn a_cut_has_its_lines_and_its_index(rt: HostRuntime) -> Result<(), Fail> {
+    let graph = graph_of(&rt, rt.alloc(), 1, 5, &[(1, 2), (2, 3)], false)?;
+    let made = cut(rt.alloc(), &graph, 2)?;
+    assert_eq!(rt; made.of.as_slice(), [0, 0, 1, 1].map(AtomNo).as_slice());
+    assert_eq!(rt; made.index.as_slice(), INDEX.as_slice());
+    assert!(rt; made.lines.len() == 2);
+    for (lines, file) in made.lines.iter().zip([&FIRST[..], &SECOND[..]]) {
+        assert!(rt; are_lines(rt.alloc(), lines, file));
+    }
+    let made = cut(rt.alloc(), &graph, 1)?;
+    assert!(rt; made.lines.len() == 1);
+    assert!(rt; are_lines(rt.alloc(), &made.lines[0], &WHOLE));
+    assert!(rt; made.index.len() == 64);
+    Ok(())
+}
+
+#[test]
+fn the_form_of_an_index_is_told(rt: HostRuntime) {
+    assert_eq!(rt; check_index(&INDEX), Ok(2));
+    for length in 0..84usize {
+        assert_eq!(rt;
+            check_index(&INDEX[..length]),
+            Err(AtomFault::Torn(length as u64))
+        );
+    }
+    for place in 0..84usize {
+        let mut bytes = INDEX;
+        bytes[place] = bytes[place].wrapping_add(1);
+        assert_eq!(rt; check_index(&bytes).err(), index_fault_where_raised(place));
+    }
+    let mut longer = [0; 92];
+    longer[..84].copy_from_slice(&INDEX);
+    assert_eq!(rt; check_index(&longer), Err(AtomFault::Trailing(84)));
+    longer[75] = 2;
+    assert_eq!(rt; check_index(&longer), Err(AtomFault::OutOfOrder(84)));
+}
+
+/// The first fault of the form of the index where the byte at a place is raised by one.
+fn index_fault_where_raised(place: usize) -> Option<AtomFault> {
+    match place {
+        0..8 => Some(AtomFault::BadTag(0)),
+        8..12 => Some(AtomFault::BadTag(8)),
+        45 => Some(AtomFault::BadTag(45)),
+        46..48 | 72..76 => Some(AtomFault::Torn(84)),
+        _ => None,
+    }
 }

@@ -1,0 +1,12 @@
+use Rattle.std.proofs.Common.{◌≡◌, length}
+use Rattle.graph_core.specs.DataGraph.{size}
+use Rattle.atom_cut.specs.Cuts.{atom_numbers}
+use Rattle.atom_cut.specs.Inner.Filling.{AllHold}
+use Rattle.atom_cut.proofs.lines.add_edges.Given as goal
+
+abbrev pub invariant-loop-e : goal.invariant-loop-e
+invariant-loop-e l =
+    record {
+      hold : AllHold l.graph (atom_numbers l.of) (size l.graph) (size l.graph) l.e l.lines;
+      count : length l.lines ≡ length l.initial.lines;
+    }

@@ -1,0 +1,3 @@
+pub mod MetaLemmas
+pub mod FileLemmas
+pub mod CompareLemmas

@@ -1,0 +1,2 @@
+pub mod IndexForm
+pub mod Files
