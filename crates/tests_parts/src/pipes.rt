@@ -1,5 +1,5 @@
 //! The pipeline: who is in flight, and in which order a scope takes its locks.
-use gl_base::{MachineNo, Mode, Vertex};
+use gl_base::{MachineNo, Mode, ScopeId, Vertex};
 use scope_pipe::{Next, PipeFault, ScopePipe};
 use std::test::Fail;
 
@@ -54,6 +54,50 @@ fn in_canonical_order(rt: HostRuntime) -> Result<(), Fail> {
             left.rest.as_slice(),
             [MachineNo(1), MachineNo(3)].as_slice()
         );
+    }
+    assert_eq!(rt; pipe.entered_count(), 0);
+    Ok(())
+}
+
+/// The scope of place n among those that are admitted 256 at a time at each of 16 machines.
+fn scope(n: u32) -> ScopeId {
+    ScopeId {
+        home: MachineNo((n / 256 % 16) as u16),
+        serial: (n % 256) as u64,
+    }
+}
+
+#[test]
+fn wide_and_crowded(rt: HostRuntime) -> Result<(), Fail> {
+    let mut pipe = ScopePipe::new(rt.alloc(), MachineNo(0), 256)?;
+    for vertex in 0..256 {
+        if pipe.next_id().serial < u64::MAX {
+            assert!(rt; pipe.admit(Vertex(vertex)).is_ok());
+        }
+    }
+    if pipe.next_id().serial < u64::MAX {
+        assert_eq!(rt; pipe.admit(Vertex(256)).err(), Some(PipeFault::Full));
+    }
+    assert_eq!(rt; pipe.flight_count(), 256);
+    for n in 0..4096 {
+        let id = scope(n);
+        let part = Vec::from_slice(rt.alloc(), &[Vertex(n)])?;
+        if !pipe.has_come(id) && pipe.entered_count() < 4096 {
+            pipe.enter(id, Vertex(n), part, Vec::new(rt.alloc()));
+        }
+    }
+    assert_eq!(rt; pipe.entered_count(), 4096);
+    for n in 0..4096 {
+        let id = scope(n);
+        if pipe.has_come(id) {
+            assert_eq!(rt; pipe.advance(id), Next::Lock(Vertex(n), Mode::Writer));
+        }
+    }
+    for n in 0..4096 {
+        let id = scope(n);
+        if pipe.has_come(id) {
+            assert_eq!(rt; pipe.leave(id).centre, Vertex(n));
+        }
     }
     assert_eq!(rt; pipe.entered_count(), 0);
     Ok(())
