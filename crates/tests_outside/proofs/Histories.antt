@@ -8,7 +8,7 @@ abbrev range : ByteRange
 range = record { at = 1; size = 1 }
 
 inside : All (IsOutside 1) (range ∷ []) → ⊥
-inside all = elim (all 0 range (omega arith)) [ | inl before ↦ absurd (omega (arith, before)) | inr behind ↦ absurd (omega (arith, behind)) ]
+inside all = elim (all 0 range (omega arith)) [ inl before ↦ absurd (omega (arith, before)) | inr behind ↦ absurd (omega (arith, behind)) ]
 
 outside : All (IsOutside 2) (range ∷ [])
 outside zero d lt = inr (omega arith)

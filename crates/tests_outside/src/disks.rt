@@ -44,7 +44,11 @@ fn a_disk_fails_where_it_is_told(rt: HostRuntime) -> Result<(), Fail> {
         let mut seen = Vec::new(alloc);
         let mut disk = MemDisk::new(alloc, Vec::new(alloc), vec![in alloc; failing]?, stop);
         play(&mut disk, &mut seen)?;
-        assert_eq!(rt; seen.as_slice(), want.as_bytes(), "with {failing} and {stop}");
+        assert_eq!(rt;
+            seen.as_slice(),
+            want.as_bytes(),
+            "with {failing} and {stop}"
+        );
         assert_eq!(rt; disk.bytes(), bytes.as_bytes(), "with {failing} and {stop}");
     }
     Ok(())
@@ -64,8 +68,16 @@ fn disks_are_known_by_name(rt: HostRuntime) -> Result<(), Fail> {
         };
         let mut seen = Vec::new(alloc);
         play(&mut DiskOf::new(&mut files, file), &mut seen)?;
-        assert_eq!(rt; seen.as_slice(), want.as_bytes(), "with {failing} and {stop}");
-        assert_eq!(rt; files.disk_bytes("a"), bytes.as_bytes(), "with {failing} and {stop}");
+        assert_eq!(rt;
+            seen.as_slice(),
+            want.as_bytes(),
+            "with {failing} and {stop}"
+        );
+        assert_eq!(rt;
+            files.disk_bytes("a"),
+            bytes.as_bytes(),
+            "with {failing} and {stop}"
+        );
         assert_eq!(rt; files.disk_bytes("b").is_empty(), true);
     }
     Ok(())
@@ -76,7 +88,12 @@ fn disks_are_put_and_opened(rt: HostRuntime) -> Result<(), Fail> {
     let alloc = rt.alloc();
     let mut files = disks_failing(alloc, vec![in alloc; 1]?, 2);
     assert_eq!(rt; files.open_disk("a"), Err(OpenFault::Failed));
-    assert_eq!(rt; files.put_disk("a", Vec::from_slice(alloc, b"kept")?).is_ok(), true);
+    assert_eq!(rt;
+        files
+            .put_disk("a", Vec::from_slice(alloc, b"kept")?)
+            .is_ok(),
+        true
+    );
     assert_eq!(rt; files.open_disk("a"), Ok(FileNo(0)));
     assert_eq!(rt; files.disk_bytes("a"), b"kept".as_slice());
     assert_eq!(rt; files.open_disk("b"), Err(OpenFault::Failed));

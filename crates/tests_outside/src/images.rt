@@ -15,5 +15,4 @@ pub fn images_of_a_write()
     ensures only { (image : List ℕ) → images_now synced image → image ≡ 1 ∷ 9 ∷ 3 ∷ [] }
     ensures earlier { images_since synced 1 (1 ∷ 7 ∷ 3 ∷ []) }
     ensures later { images_since synced 2 (1 ∷ 7 ∷ 3 ∷ []) → ⊥ }
-{
-}
+{}

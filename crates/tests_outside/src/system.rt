@@ -1,8 +1,6 @@
 //! The objects over the system.
 use crate::disks::play;
-use gl_outside::{
-    DiskOf, Failed, FileNo, Files, HostFiles, NoteSink, OpenFault, OutSink, Sink,
-};
+use gl_outside::{DiskOf, Failed, FileNo, Files, HostFiles, NoteSink, OpenFault, OutSink, Sink};
 use std::test::Fail;
 use std::{env, fs, io};
 
