@@ -3,3 +3,5 @@ pub mod Sinks
 pub mod HostFrames
 pub mod Opening
 pub mod Fronts
+pub mod Disks
+pub mod DiskPlaces
