@@ -150,7 +150,8 @@ pub record AreWatched (st : Setting) (counting : Counting) (begun : ℕ) (c : Cl
   pub fresh : counting.waiting ≡ false → (a : ℕ) → a < st.machines → slice_index_or (turned counting.waves).wave a None ≡ None
   pub some : counting.waiting ≡ true → 0 < counting.put_out
   -- before the first wave nothing has come
-  pub first : counting.put_out ≡ 0 → (a : ℕ) → a < st.machines → slice_index_or counting.waves.wave a None ≡ None
+  pub first : counting.put_out ≡ 0 → (a : ℕ) → a < st.machines →
+      (slice_index_or counting.waves.wave a None ≡ None) × (slice_index_or counting.waves.before a None ≡ None)
   pub many : length counting.waves.wave ≡ st.machines
   pub many_before : length counting.waves.before ≡ st.machines
   pub numbers : (st.base ≤ watch.begun_before) × (watch.begun_before ≤ watch.begun_newest) × (watch.begun_newest ≤ begun)
