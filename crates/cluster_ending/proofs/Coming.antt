@@ -90,7 +90,7 @@ last_waiting counting is = rw (is) refl
 pub last_whole : (counting : Counting) → counting.waiting ≡ false → last_counts counting ≡ counting.waves.before
 last_whole counting is = rw (is) refl
 
-turned_before_long : (ws : TwoWaves) (machines : ℕ) → length ws.wave ≡ machines → length ws.before ≡ machines → length (turned ws).before ≡ machines
+pub turned_before_long : (ws : TwoWaves) (machines : ℕ) → length ws.wave ≡ machines → length ws.before ≡ machines → length (turned ws).before ≡ machines
 turned_before_long ws machines wave before =
     ⊎_elim
     (λ (all : all_answered ws.wave ≡ true). ap (λ (x : TwoWaves). length x.before) (turned_whole ws all) ∙ wave)

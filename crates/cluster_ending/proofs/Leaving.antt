@@ -130,7 +130,7 @@ module _ (st : Setting) (is : IsSetting st) (w : World) (told : (p q : ℕ) → 
       let h = done_part a (begins st a k (w.part a)) refl refl (λ q u. refl) in
       record { left = record { tasks = h.left.tasks; wakes = h.left.wakes }; logs = h.logs }
 
-  done_action : IsExclusive st w → (action : Action) → MayHappen st w action → StaysDone st w (after st w action)
+  pub done_action : IsExclusive st w → (action : Action) → MayHappen st w action → StaysDone st w (after st w action)
   done_action apart (Admit a v) may = done_quiet (after st w (Admit a v)) (part_quiet w a (admitted st a v (w.part a)) (admitted-quiet st a v (w.part a)))
   done_action apart (Grant a x) may = done_quiet (after st w (Grant a x)) (part_quiet w a (granted st a x (w.part a)) (granted-quiet st a x (w.part a)))
   done_action apart (Send p q) may =

@@ -5,3 +5,6 @@ pub mod Deeds
 pub mod Idle
 pub mod Turns
 pub mod Coming
+pub mod Putting
+pub mod Growing
+pub mod Watching

@@ -8,6 +8,7 @@ use Rattle.cluster_core.specs.Ways.{vertex_woken}
 use Rattle.cluster_model.specs.Calls.{Begin, Call, Committed, Step, Wave, begins_in}
 use Rattle.cluster_model.specs.Clusters.{Cluster, call_way, report_way}
 use Rattle.cluster_model.specs.Counting.{Counting}
+use Rattle.cluster_model.specs.Events.{Admit, Deliver, DeliverCall, DeliverReport, Event, Fail, Grant, Mark, PutBegin, PutStep, PutWave, Record, Recover, Section, Send, SendCall, SendReport, Stop, Update}
 use Rattle.cluster_model.specs.Machines.{Machine, count_of}
 use Rattle.cluster_model.specs.Totals.{total}
 use Rattle.cluster_model.specs.TwoWaves.{IsIdleAnswer, total_received, total_sent, turned}
@@ -165,3 +166,26 @@ pub record AreWatched (st : Setting) (counting : Counting) (begun : ℕ) (c : Cl
 -- the same, of what the coordinator has counted and begun
 abbrev pub IsWatched : Setting → Cluster → Watch → Type 0
 IsWatched st c watch = AreWatched st c.coordinator.rounds.counting c.coordinator.begun c watch
+
+-- ---- what events do
+
+-- the event puts a wave out
+abbrev pub puts_wave_out : Event → Bool
+puts_wave_out (Admit a v) = false
+puts_wave_out (Grant a x) = false
+puts_wave_out (Send p q) = false
+puts_wave_out (SendCall a) = false
+puts_wave_out (SendReport a) = false
+puts_wave_out (Deliver p q) = false
+puts_wave_out (DeliverCall a) = false
+puts_wave_out (DeliverReport a) = false
+puts_wave_out (Update s) = false
+puts_wave_out (Mark s) = false
+puts_wave_out (Section a) = false
+puts_wave_out Record = false
+puts_wave_out PutBegin = false
+puts_wave_out PutStep = false
+puts_wave_out PutWave = true
+puts_wave_out (Fail a) = false
+puts_wave_out (Recover base) = false
+puts_wave_out Stop = false
