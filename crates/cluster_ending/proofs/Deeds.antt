@@ -15,7 +15,7 @@ use Rattle.cluster_model.specs.Totals.{total}
 use Rattle.cluster_whole.specs.Steps.{Holds, IsCalled, Tells, Told, Turn, counts_in, under_way}
 use Rattle.cluster_whole.specs.Views.{world_of}
 use Rattle.cluster_whole.proofs.Flows.{below_all, same_flows, total_from-more, total_from-same}
-use Rattle.cluster_ending.specs.Watched.{AreWatched, HasAnswered, HasMoved, HasNoTask, HasNoTaskLeft, HasTold, IsAtRest, IsDoneSince, IsIdleWave, IsNotAbove, IsTurnOf, SomeMoved, Watch, last_counts, shown_by, shown_in, told_behind, waves_in}
+use Rattle.cluster_ending.specs.Watched.{AreWatched, HasAnswered, HasMoved, HoldsNoTask, HasNoTaskLeft, HasTold, IsAtRest, IsDoneSince, IsIdleWave, IsNotAbove, IsTurnOf, SomeMoved, Watch, last_counts, shown_by, shown_in, told_behind, waves_in}
 use Rattle.cluster_ending.proofs.Leaving.{StaysDone}
 use Rattle.cluster_ending.proofs.Words.{IsLikeCalls, like_behind}
 
@@ -61,7 +61,7 @@ fewer new old then now less low = omega arith
 -- What the waves see of a machine that does something, where these snapshots are on their way to it.
 pub record IsSeen (st : Setting) (begins : List ℕ) (m new : Machine) : Type 0 where
   pub low : IsNotAbove (count_of st m) (count_of st new)
-  pub free : new.received ≡ m.received → HasNoTask st m.part → HasNoTask st new.part × (length new.part.log ≡ length m.part.log)
+  pub free : new.received ≡ m.received → HoldsNoTask st m.part → HoldsNoTask st new.part × (length new.part.log ≡ length m.part.log)
   pub rests : begins ≡ [] → new.received ≡ m.received → is_idle st m.part ≡ true → count_of st new ≡ count_of st m
 
 -- a machine that counts the same, and has the same tasks

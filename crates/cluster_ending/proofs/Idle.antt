@@ -8,7 +8,7 @@ use Rattle.cluster_core.specs.Ranges.{first_passing}
 use Rattle.cluster_core.specs.Settings.{Setting}
 use Rattle.cluster_core.proofs.Basics.{first_passing-none}
 use Rattle.cluster_model.specs.Machines.{is_idle, waits}
-use Rattle.cluster_ending.specs.Watched.{HasNoTask}
+use Rattle.cluster_ending.specs.Watched.{HoldsNoTask}
 
 no_first : (o : Option ℕ) → is_none o ≡ true → o ≡ None
 no_first None is = refl
@@ -46,7 +46,7 @@ module _ (st : Setting) (part : Part) (idle : is_idle st part ≡ true) where
   third : (no_tasks ≡ true) × (no_pending ≡ true)
   third = and_parts no_tasks no_pending second.0
 
-  pub idle_tasks : HasNoTask st part
+  pub idle_tasks : HoldsNoTask st part
   idle_tasks v within = none_passes part.task (size st.graph) third.0 v within
 
   pub idle_pending : (v : ℕ) → v < size st.graph → part.pending v ≡ false

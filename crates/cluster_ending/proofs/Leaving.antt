@@ -23,7 +23,7 @@ use Rattle.cluster_numbers.proofs.Quiet.{admitted-quiet, dones, goes_on-quiet, g
 use Rattle.cluster_numbers.proofs.QuietWorlds.{IsQuietStep, part_quiet, quiet_steps, sent_quiet, taken_quiet}
 use Rattle.cluster_numbers.proofs.Told.{vertex_woken-dones}
 use Rattle.cluster_whole.specs.Views.{IsMove, IsTurned, MayAct, MayTurn}
-use Rattle.cluster_ending.specs.Watched.{HasNoTask, HasNoTaskLeft}
+use Rattle.cluster_ending.specs.Watched.{HoldsNoTask, HasNoTaskLeft}
 
 -- no task is left afterwards, and no update was made
 pub record StaysDone (st : Setting) (w v : World) : Type 0 where
@@ -114,7 +114,7 @@ module _ (st : Setting) (is : IsSetting st) (w : World) (told : (p q : ℕ) → 
       let same : (p' q' : ℕ) → way v p' q' ≡ way mid p' q' = λ p' q'. ap (λ (ms : List Message). mid.link p' q' ++ ms) (set_at-kept (λ (part : Part). part.out q') w.part q new refl p') in
       record {
         left = record {
-          tasks = λ a low. set_at-holds (λ (a : ℕ) (part : Part). a < st.machines → HasNoTask st part) w.part q new a
+          tasks = λ a low. set_at-holds (λ (a : ℕ) (part : Part). a < st.machines → HoldsNoTask st part) w.part q new a
               (λ low u within. or_both (news.wakes u) ((w.part q).task u) (or_none (news.wakes u) (vertex_woken u (way mid p q)) (here u)).0 (left.tasks q low u within))
               (λ off low. left.tasks a low) low;
           wakes = λ p' q' u p_low q_low within. ap (vertex_woken u) (same p' q') ∙ ⊎_elim

@@ -8,3 +8,5 @@ pub mod Coming
 pub mod Putting
 pub mod Growing
 pub mod Watching
+pub mod Finding
+pub mod Courses

@@ -21,7 +21,7 @@ use Rattle.cluster_whole.specs.Views.{world_of}
 use Rattle.cluster_whole.proofs.Telling.{turned_part, turned_whole}
 use Rattle.cluster_whole.proofs.Turning.{counts_pushed}
 use Rattle.graph_core.specs.DataGraph.{size}
-use Rattle.cluster_ending.specs.Watched.{AreWatched, HasAnswered, HasMoved, HasNoTask, HasTold, IsAtRest, IsDoneSince, IsIdleWave, IsNotAbove, IsTurnOf, Watch, behind_wave, last_counts, shown_by, shown_in, told_behind, waves_in}
+use Rattle.cluster_ending.specs.Watched.{AreWatched, HasAnswered, HasMoved, HoldsNoTask, HasTold, IsAtRest, IsDoneSince, IsIdleWave, IsNotAbove, IsTurnOf, Watch, behind_wave, last_counts, shown_by, shown_in, told_behind, waves_in}
 use Rattle.cluster_ending.proofs.Deeds.{IsAlike, alike_balanced, alike_deed, alike_done, alike_rests, deed_keeps, low_again, seen_alike, turn_seen}
 use Rattle.cluster_ending.proofs.Idle.{idle_tasks}
 use Rattle.cluster_ending.proofs.Words.{calls_again, calls_same}

@@ -33,7 +33,7 @@ use Rattle.cluster_whole.proofs.Joining.{asked, begin_gone, changed, changed_wor
 use Rattle.cluster_whole.proofs.Pieces.{passed, read_at, set_twice}
 use Rattle.cluster_whole.proofs.Stepping.{nil_cons}
 use Rattle.cluster_whole.proofs.Turning.{counts-append, counts_pushed, counts_told}
-use Rattle.cluster_ending.specs.Watched.{AreWatched, HasNoTask, HasNoTaskLeft, IsNotAbove, Watch, puts_wave_out, waves_in}
+use Rattle.cluster_ending.specs.Watched.{AreWatched, HoldsNoTask, HasNoTaskLeft, IsNotAbove, Watch, puts_wave_out, waves_in}
 use Rattle.cluster_ending.proofs.Coming.{come_watched}
 use Rattle.cluster_ending.proofs.Deeds.{IsAlike, IsDeed, IsSeen, IsWorkAt, alike_deed, deed_keeps, low_again, work_deed}
 use Rattle.cluster_ending.proofs.Growing.{IsLonger, admitted_longer, granted_longer, marked_longer, received_longer, updated_longer}
@@ -80,7 +80,7 @@ received-log st a (Done s news) part = refl
 
 -- a machine that was not idle
 seen_busy : (st : Setting) (begins : List ℕ) (m new : Machine) → m.sent ≤ new.sent → m.received ≤ new.received → length m.part.log ≤ length new.part.log →
-    (HasNoTask st m.part → HasNoTask st new.part × (length new.part.log ≡ length m.part.log)) → (is_idle st m.part ≡ true → ⊥) → IsSeen st begins m new
+    (HoldsNoTask st m.part → HoldsNoTask st new.part × (length new.part.log ≡ length m.part.log)) → (is_idle st m.part ≡ true → ⊥) → IsSeen st begins m new
 seen_busy st begins m new sent received updates free busy =
     record { low = record { sent = sent; received = received; updates = updates }; free = λ got none. free none; rests = λ none got idle. absurd (busy idle) }
 

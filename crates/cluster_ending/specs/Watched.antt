@@ -72,12 +72,12 @@ HasMoved c d = (c.received < d.received) ⊎ (c.sent < d.sent)
 -- ---- what is left
 
 -- the machine has no task
-abbrev pub HasNoTask : Setting → Part → Type 0
-HasNoTask st part = (v : ℕ) → v < size st.graph → part.task v ≡ false
+abbrev pub HoldsNoTask : Setting → Part → Type 0
+HoldsNoTask st part = (v : ℕ) → v < size st.graph → part.task v ≡ false
 
 -- No machine has a task, and no message on its way between machines wakes a vertex.
 pub record HasNoTaskLeft (st : Setting) (w : World) : Type 0 where
-  pub tasks : (a : ℕ) → a < st.machines → HasNoTask st (w.part a)
+  pub tasks : (a : ℕ) → a < st.machines → HoldsNoTask st (w.part a)
   pub wakes : (p q u : ℕ) → p < st.machines → q < st.machines → u < size st.graph → vertex_woken u (way w p q) ≡ false
 
 -- Each machine is idle, and no message is on its way between machines.
@@ -96,7 +96,7 @@ pub record IsDoneSince (st : Setting) (c : Cluster) (counts : List (Option Count
 pub record HasTold (st : Setting) (begun_then begun : ℕ) (counts : Counted) (m : Machine) : Type 0 where
   pub low : IsNotAbove counts (count_of st m)
   -- where it was idle and has received nothing since, it has no task and made no update
-  pub untasked : counts.idle ≡ true → m.received ≡ counts.received → HasNoTask st m.part × (length m.part.log ≡ counts.updates)
+  pub untasked : counts.idle ≡ true → m.received ≡ counts.received → HoldsNoTask st m.part × (length m.part.log ≡ counts.updates)
   -- and where no snapshot was begun since, it is as it was
   pub resting : begun_then ≡ begun → counts.idle ≡ true → m.received ≡ counts.received → count_of st m ≡ counts
 
