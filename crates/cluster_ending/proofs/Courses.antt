@@ -3,6 +3,7 @@ use Rattle.std.proofs.Common.{◌≡◌, ◌⊎◌, ℕ, suc, ◌+◌, ◌<◌, 
 use Rattle.std.specs.List.{AllByRecursion}
 use Rattle.gl_base.specs.declared.scopes.ScopeId.{ScopeId}
 use Rattle.cluster_core.specs.Messages.{Message}
+use Rattle.cluster_core.specs.Recovering.{going_on}
 use Rattle.cluster_core.specs.Settings.{IsSetting, Setting}
 use Rattle.cluster_model.specs.Calls.{Call, Count, Report, Saved, Want}
 use Rattle.cluster_model.specs.Clusters.{BaseView, Cluster}
@@ -10,14 +11,58 @@ use Rattle.cluster_model.specs.Events.{Event, Admit, DeliverCall, DeliverReport,
 use Rattle.cluster_model.specs.Leading.{HasSeenTheEnd}
 use Rattle.cluster_whole.specs.Steps.{Turn}
 use Rattle.cluster_whole.specs.Views.{world_of}
-use Rattle.cluster_whole.specs.Whole.{IsNoRecovery, IsWhole, setting_behind}
-use Rattle.cluster_whole.proofs.Wholeness.{event_moved, is_exclusive, setting_is, setting_same, whole_kept}
+use Rattle.cluster_whole.specs.Whole.{AreColoured, IsNoRecovery, IsWhole, setting_behind}
+use Rattle.cluster_whole.proofs.Wholeness.{begun_is, event_moved, is_exclusive, recovered_whole, whole_kept}
 use Rattle.cluster_ending.specs.Ends.{HasEnded, IsFollowed, IsNoBegin}
 use Rattle.cluster_ending.specs.Watched.{AreWatched, IsWatched, Watch, puts_wave_out}
 use Rattle.cluster_ending.proofs.Finding.{at_rest, rest_ends}
 use Rattle.cluster_ending.proofs.Putting.{recovered_watched}
 use Rattle.cluster_ending.proofs.Turns.{StayWatched, watch_of}
 use Rattle.cluster_ending.proofs.Watching.{event_watched}
+
+-- ---- the setting behind an event
+
+setting_same : (st : Setting) (event : Event) → IsNoRecovery event → setting_after st event ≡ st
+setting_same st (Admit a v) other = refl
+setting_same st (Grant a x) other = refl
+setting_same st (Send p q) other = refl
+setting_same st (SendCall a) other = refl
+setting_same st (SendReport a) other = refl
+setting_same st (Deliver p q) other = refl
+setting_same st (DeliverCall a) other = refl
+setting_same st (DeliverReport a) other = refl
+setting_same st (Update s) other = refl
+setting_same st (Mark s) other = refl
+setting_same st (Section a) other = refl
+setting_same st Record other = refl
+setting_same st PutBegin other = refl
+setting_same st PutStep other = refl
+setting_same st PutWave other = refl
+setting_same st (Fail a) other = refl
+setting_same st Stop other = refl
+setting_same st (Recover base) other = absurd (other base refl)
+
+setting_is : (st : Setting) → IsSetting st → (event : Event) → IsSetting (setting_after st event)
+setting_is st is (Admit a v) = is
+setting_is st is (Grant a x) = is
+setting_is st is (Send p q) = is
+setting_is st is (SendCall a) = is
+setting_is st is (SendReport a) = is
+setting_is st is (Deliver p q) = is
+setting_is st is (DeliverCall a) = is
+setting_is st is (DeliverReport a) = is
+setting_is st is (Update s) = is
+setting_is st is (Mark s) = is
+setting_is st is (Section a) = is
+setting_is st is Record = is
+setting_is st is PutBegin = is
+setting_is st is PutStep = is
+setting_is st is PutWave = is
+setting_is st is (Fail a) = is
+setting_is st is Stop = is
+setting_is st is (Recover base) = begun_is st is base
+
+-- ---- each event, and every list of events
 
 -- the waves behind an event
 abbrev pub WatchBehind : Setting → Cluster → Event → Watch → Watch → Type 0
@@ -195,3 +240,24 @@ since_ends st is events others no_begins old new followed course two end =
   where
     suc_since : (n : ℕ) → suc n < n → ⊥
     suc_since n less = omega arith
+
+-- ---- from the start of an attempt on
+
+setting_behind_is : (st : Setting) → IsSetting st → (events : List Event) → IsSetting (setting_behind st events)
+setting_behind_is st is [] = is
+setting_behind_is st is (event ∷ events) = setting_behind_is (setting_after st event) (setting_is st is event) events
+
+-- the setting then, and that the cluster is followed
+pub record IsBegun (st : Setting) (c : Cluster) : Type 0 where
+  pub is : IsSetting st
+  pub followed : IsFollowed st c
+
+pub start_followed : (st : Setting) → IsSetting st → AreColoured st st.engine → (base : BaseView) (first : Cluster) (events : List Event) (c : Cluster) → IsCourse (going_on st base.numbers base.number) (recovers st base first) events c →
+    IsBegun (setting_behind (going_on st base.numbers base.number) events) c
+start_followed st is coloured base first events c course =
+    let begun : Setting = going_on st base.numbers base.number in
+    let begun_set : IsSetting begun = begun_is st is base in
+    record {
+      is = setting_behind_is begun begun_set events;
+      followed = courses_followed begun begun_set events (recovers st base first) c (recovered_whole st is coloured base first, _, recovered_watched st begun base first refl refl) course;
+    }

@@ -10,3 +10,4 @@ pub mod Growing
 pub mod Watching
 pub mod Finding
 pub mod Courses
+pub mod Fronts

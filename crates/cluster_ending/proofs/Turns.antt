@@ -275,8 +275,8 @@ module _ (st : Setting) (counting : Counting) (begun : ℕ) (c : Cluster) (turn 
   it = wave_first number seen (turn a) (waves_in rest) (sym (ap waves_in way_is) ∙ (was.machines a low).calls)
 
   -- the wave is the newest, and the machine holds none
-  pub called_newest : (seen ≡ number) × ((c.machine a).held ≡ None)
-  called_newest = (it.1, (was.machines a low).held ∙ ap (held_of number) it.0)
+  pub called_newest : (seen ≡ number) × ((c.machine a).held ≡ None) × (turn a ≡ IsCalled)
+  called_newest = (it.1, (was.machines a low).held ∙ ap (held_of number) it.0, it.0)
 
   heard_alike : IsAlike st c heard
   heard_alike =

@@ -2,3 +2,8 @@
 #![tactic(auto)]
 
 mod laws;
+
+pub use laws::{
+    counts_are_true, courses_end_where_waves_say, events_keep_waves, no_task_comes_again,
+    quiet_waves_end_all, quiet_waves_leave_no_task, waves_may_be_received,
+};
