@@ -11,3 +11,4 @@ pub mod Watching
 pub mod Finding
 pub mod Courses
 pub mod Fronts
+pub mod Informing
