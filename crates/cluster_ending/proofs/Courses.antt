@@ -42,7 +42,7 @@ setting_same st (Fail a) other = refl
 setting_same st Stop other = refl
 setting_same st (Recover base) other = absurd (other base refl)
 
-setting_is : (st : Setting) → IsSetting st → (event : Event) → IsSetting (setting_after st event)
+pub setting_is : (st : Setting) → IsSetting st → (event : Event) → IsSetting (setting_after st event)
 setting_is st is (Admit a v) = is
 setting_is st is (Grant a x) = is
 setting_is st is (Send p q) = is

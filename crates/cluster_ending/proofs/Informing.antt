@@ -110,7 +110,7 @@ module _ (acknowledged : ℕ) (calls : List Call) (reports : List Report) where
 
 -- ---- a snapshot is acknowledged at a machine
 
-some_length : (ks : List ℕ) (known sent k : ℕ) → length ks + known ≡ sent → k ≡ suc known → k ≤ sent → (oldest : ℕ) × (behind : List ℕ) × (ks ≡ oldest ∷ behind)
+pub some_length : (ks : List ℕ) (known sent k : ℕ) → length ks + known ≡ sent → k ≡ suc known → k ≤ sent → (oldest : ℕ) × (behind : List ℕ) × (ks ≡ oldest ∷ behind)
 some_length [] known sent k is next low = absurd (omega arith)
 some_length (oldest ∷ behind) known sent k is next low = (oldest, behind, refl)
 

@@ -12,3 +12,4 @@ pub mod Finding
 pub mod Courses
 pub mod Fronts
 pub mod Informing
+pub mod Reporting

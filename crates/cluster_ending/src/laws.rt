@@ -2,11 +2,14 @@
 ghost use Rattle.std.specs.Prelude.{◌≡◌, ◌⊎◌, ℕ, ◌+◌, ◌<◌, ◌≤◌, suc, length, slice_index_or, None, Some, List, [], ◌∷◌, ◌++◌, if◌then◌else◌};
 ghost use Rattle.std.specs.List.{AllByRecursion};
 ghost use Rattle.gl_base.specs.declared.scopes.Counted.{Counted};
+ghost use Rattle.gl_base.specs.declared.entries.Entry.{Entry};
+ghost use Rattle.cluster_core.specs.Messages.{Section};
 ghost use Rattle.cluster_core.specs.Recovering.{going_on};
 ghost use Rattle.cluster_core.specs.Settings.{IsSetting, Setting};
 ghost use Rattle.cluster_ending.specs.Ends.{HasEnded, HasFinishedOrder, IsFollowed, IsNoBegin};
+ghost use Rattle.cluster_ending.specs.Snapshotting.{AreInformed, MayBeSaved, MayBegin, MayCommit};
 ghost use Rattle.cluster_ending.specs.Watched.{HasNoTaskLeft, IsNotAbove, IsWatched, Watch, puts_wave_out};
-ghost use Rattle.cluster_model.specs.Calls.{Call, Count, Report, Wave};
+ghost use Rattle.cluster_model.specs.Calls.{Begin, Call, Committed, Count, Report, Saved, Want, Wave};
 ghost use Rattle.cluster_model.specs.Clusters.{BaseView, Cluster, report_way};
 ghost use Rattle.cluster_model.specs.Counting.{MayBeCounted};
 ghost use Rattle.cluster_model.specs.Events.{Event, IsCourse, MayDo, after_event, recovers, setting_after};
@@ -95,4 +98,27 @@ pub fn waves_may_be_received()
         (suc k ≡ c.coordinator.rounds.counting.put_out) × ((c.machine a).held ≡ None) }
     ensures counts { (st : Setting) (c : Cluster) (watch : Watch) (a k : ℕ) (counts : Counted) (behind : List Report) →
         IsWatched st c watch → a < st.machines → c.reports a ≡ Count k counts ∷ behind → MayBeCounted c.coordinator.rounds.counting a k }
+{}
+
+/// What machines and coordinator know of each other's snapshots: a recovery begins it, and each event and every list of events keeps it.
+pub fn events_keep_machines_informed()
+    ensures begins { (st : Setting) (base : BaseView) (c : Cluster) → AreInformed (recovers st base c) }
+    ensures goes_on { (st : Setting) (c : Cluster) (event : Event) → IsWhole st c → AreInformed c → MayDo st c event → AreInformed (after_event st c event) }
+    ensures course { (st : Setting) (events : List Event) (old new : Cluster) →
+        IsSetting st → IsWhole st old → AreInformed old → IsCourse st old events new → AreInformed new }
+{}
+
+/// With locks and with colours: a snapshot that comes to a machine is none that is new to it, or the next one, and then all its vertices
+/// have the mark of the one before. One that is acknowledged is the next one that the machine doesn't know to be, and the machine has
+/// the length of its section. A section is of the snapshot under way, and none of its machine has come. A want is of no newer
+/// snapshot than the acknowledged one.
+pub fn snapshots_may_be_received()
+    ensures begin { (st : Setting) (c : Cluster) (a k : ℕ) (behind : List Call) →
+        IsWhole st c → a < st.machines → c.calls a ≡ Begin k ∷ behind → (k ≤ c.coordinator.begun) × MayBegin st a k (c.machine a) }
+    ensures committed { (st : Setting) (c : Cluster) (a k : ℕ) (behind : List Call) →
+        IsWhole st c → AreInformed c → a < st.machines → c.calls a ≡ Committed k ∷ behind → MayCommit k (c.machine a) }
+    ensures saved { (st : Setting) (c : Cluster) (a k : ℕ) (section : Section) (entries : List Entry) (behind : List Report) →
+        IsWhole st c → AreInformed c → a < st.machines → c.reports a ≡ Saved k section entries ∷ behind → MayBeSaved a k c.coordinator }
+    ensures want { (c : Cluster) (a k : ℕ) (behind : List Report) →
+        AreInformed c → c.reports a ≡ Want k ∷ behind → k ≤ c.coordinator.acknowledged }
 {}
