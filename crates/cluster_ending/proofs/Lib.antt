@@ -13,3 +13,4 @@ pub mod Courses
 pub mod Fronts
 pub mod Informing
 pub mod Reporting
+pub mod WorkedWaves
