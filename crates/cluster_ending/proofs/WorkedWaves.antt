@@ -80,7 +80,7 @@ lone_setting =
     }
   where
     no_edges : AllPairs IsBefore []
-    no_edges i j within rises = absurd (none_below j within)
+    no_edges i j d rises within = absurd (none_below j within)
 
 none_flies : (v : ℕ) → None ≡ Some v → ⊥
 none_flies v is = cc
