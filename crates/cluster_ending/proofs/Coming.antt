@@ -12,12 +12,12 @@ use Rattle.cluster_model.specs.Clusters.{Cluster, call_way, with_coordinator, wi
 use Rattle.cluster_model.specs.Counting.{Counting, MayBeCounted, count_answer}
 use Rattle.cluster_model.specs.Leading.{takes_report}
 use Rattle.cluster_model.specs.Machines.{count_of}
-use Rattle.cluster_model.specs.TwoWaves.{TwoWaves, all_answered, no_counts, turned}
+use Rattle.cluster_model.specs.TwoWaves.{TwoWaves, all_answered, turned}
 use Rattle.cluster_whole.specs.Steps.{Holds, IsCalled, Tells, Told, Turn, calls_of, come_of, counts_in, held_of, is_told, reports_of}
 use Rattle.cluster_whole.proofs.Telling.{turned_part, turned_whole}
 use Rattle.cluster_ending.specs.Watched.{AreWatched, HasAnswered, IsNotAbove, IsTurnOf, last_counts, shown_by, shown_in, told_behind}
 use Rattle.cluster_ending.proofs.Deeds.{IsAlike}
-use Rattle.cluster_ending.proofs.Turns.{StayWatched, goes_alike, turn_as, watch_of}
+use Rattle.cluster_ending.proofs.Turns.{goes_alike, turn_as, watch_of}
 
 not_true : (x : Bool) → not x ≡ true → x ≡ false
 not_true true is = sym is

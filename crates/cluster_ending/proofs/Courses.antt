@@ -1,5 +1,5 @@
 -- Each event, and every list of events, keeps the waves; and what is known where no snapshot begins.
-use Rattle.std.proofs.Common.{◌≡◌, ◌⊎◌, ℕ, suc, ◌+◌, ◌<◌, ◌≤◌, Bool, true, false, if◌then◌else◌, Option, None, Some, List, [], ◌∷◌, refl, sym, ◌∙◌, ap, subst, le_antisymm, le_refl, le_trans, arith}
+use Rattle.std.proofs.Common.{◌≡◌, ℕ, suc, ◌+◌, ◌<◌, ◌≤◌, Bool, true, false, if◌then◌else◌, Option, None, Some, List, [], ◌∷◌, refl, sym, ◌∙◌, subst, le_antisymm, le_refl, le_trans, arith}
 use Rattle.std.specs.List.{AllByRecursion}
 use Rattle.gl_base.specs.declared.scopes.ScopeId.{ScopeId}
 use Rattle.cluster_core.specs.Messages.{Message}
@@ -9,15 +9,13 @@ use Rattle.cluster_model.specs.Calls.{Call, Count, Report, Saved, Want}
 use Rattle.cluster_model.specs.Clusters.{BaseView, Cluster}
 use Rattle.cluster_model.specs.Events.{Event, Admit, DeliverCall, DeliverReport, Deliver, Fail, Grant, Mark, MayDo, IsCourse, PutBegin, PutStep, PutWave, Record, Recover, Section, Send, SendCall, SendReport, Stop, Update, after_event, delivers_call, delivers_message, delivers_report, makes, recovers, saves, sends_call, sends_message, sends_report, setting_after}
 use Rattle.cluster_model.specs.Leading.{HasSeenTheEnd}
-use Rattle.cluster_whole.specs.Steps.{Turn}
-use Rattle.cluster_whole.specs.Views.{world_of}
 use Rattle.cluster_whole.specs.Whole.{AreColoured, IsNoRecovery, IsWhole, setting_behind}
 use Rattle.cluster_whole.proofs.Wholeness.{begun_is, event_moved, is_exclusive, recovered_whole, whole_kept}
 use Rattle.cluster_ending.specs.Ends.{HasEnded, IsFollowed, IsNoBegin}
-use Rattle.cluster_ending.specs.Watched.{AreWatched, IsWatched, Watch, puts_wave_out}
+use Rattle.cluster_ending.specs.Watched.{IsWatched, Watch, puts_wave_out}
 use Rattle.cluster_ending.proofs.Finding.{at_rest, rest_ends}
 use Rattle.cluster_ending.proofs.Putting.{recovered_watched}
-use Rattle.cluster_ending.proofs.Turns.{StayWatched, watch_of}
+use Rattle.cluster_ending.proofs.Turns.{watch_of}
 use Rattle.cluster_ending.proofs.Watching.{event_watched}
 
 -- ---- the setting behind an event

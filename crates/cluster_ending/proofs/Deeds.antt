@@ -1,9 +1,7 @@
 -- A machine does something, or what waves see stays as it was.
-use Rattle.std.proofs.Common.{◌≡◌, ◌≢◌, ◌⊎◌, ℕ, zero, suc, ◌+◌, ◌<◌, ◌≤◌, Bool, true, false, Option, None, Some, List, [], ◌∷◌, length, slice_index_or, refl, sym, ◌∙◌, ap, subst, ⊎_elim, inl, inr, le_refl, le_trans, arith}
+use Rattle.std.proofs.Common.{◌≡◌, ◌≢◌, ℕ, ◌+◌, ◌<◌, ◌≤◌, Bool, true, List, [], ◌∷◌, length, refl, sym, ◌∙◌, ap, subst, ⊎_elim, inl, inr, le_refl, le_trans, arith}
 use Rattle.std.proofs.lemmas.Bool.{cases_eq}
 use Rattle.gl_base.specs.declared.scopes.Counted.{Counted}
-use Rattle.graph_core.specs.DataGraph.{size}
-use Rattle.cluster_core.specs.Messages.{Message}
 use Rattle.cluster_core.specs.Settings.{Setting}
 use Rattle.cluster_core.specs.Ways.{vertex_woken}
 use Rattle.cluster_core.specs.Worlds.{way}
@@ -14,8 +12,8 @@ use Rattle.cluster_model.specs.Machines.{Machine, count_of, is_idle}
 use Rattle.cluster_model.specs.Totals.{total}
 use Rattle.cluster_whole.specs.Steps.{Holds, IsCalled, Tells, Told, Turn, counts_in, under_way}
 use Rattle.cluster_whole.specs.Views.{world_of}
-use Rattle.cluster_whole.proofs.Flows.{below_all, same_flows, total_from-more, total_from-same}
-use Rattle.cluster_ending.specs.Watched.{AreWatched, HasAnswered, HasMoved, HoldsNoTask, HasNoTaskLeft, HasTold, IsAtRest, IsDoneSince, IsIdleWave, IsNotAbove, IsTurnOf, SomeMoved, Watch, last_counts, shown_by, shown_in, told_behind, waves_in}
+use Rattle.cluster_whole.proofs.Flows.{below_all, same_flows, total_from-more}
+use Rattle.cluster_ending.specs.Watched.{AreWatched, HasAnswered, HasMoved, HoldsNoTask, HasNoTaskLeft, HasTold, IsAtRest, IsDoneSince, IsNotAbove, IsTurnOf, SomeMoved, Watch, last_counts, shown_by, shown_in, told_behind}
 use Rattle.cluster_ending.proofs.Leaving.{StaysDone}
 use Rattle.cluster_ending.proofs.Words.{IsLikeCalls, like_behind}
 

@@ -1,11 +1,9 @@
 -- What two waves that show the end leave.
-use Rattle.std.proofs.Common.{◌≡◌, ◌≢◌, ◌⊎◌, ℕ, zero, suc, pred, ◌+◌, ◌<◌, ◌≤◌, Bool, true, false, Option, None, Some, List, [], ◌∷◌, length, sum_by, slice_index_or, refl, sym, ◌∙◌, ap, subst, ⊎_elim, inl, inr, le_refl, arith}
+use Rattle.std.proofs.Common.{◌≡◌, ◌⊎◌, ℕ, zero, suc, ◌+◌, ◌<◌, ◌≤◌, true, false, Option, None, Some, List, length, sum_by, slice_index_or, refl, sym, ◌∙◌, ap, subst, ⊎_elim, inl, inr, arith}
 use Rattle.std.proofs.lemmas.Bool.{both_ways, false_from_ne_true}
 use Rattle.std.proofs.lemmas.List.Elements.{All-get_or}
 use Rattle.gl_base.specs.declared.scopes.Counted.{Counted}
-use Rattle.gl_base.specs.declared.scopes.ScopeId.{ScopeId}
-use Rattle.graph_core.specs.DataGraph.{size}
-use Rattle.cluster_core.specs.Replays.{IsTask, tasks_of}
+use Rattle.cluster_core.specs.Replays.{tasks_of}
 use Rattle.cluster_core.specs.Settings.{IsSetting, Setting}
 use Rattle.cluster_core.specs.Ways.{vertex_woken}
 use Rattle.cluster_core.specs.Worlds.{way}
@@ -13,16 +11,16 @@ use Rattle.cluster_model.specs.Clusters.{Cluster}
 use Rattle.cluster_model.specs.Counting.{Counting}
 use Rattle.cluster_model.specs.Leading.{HasSeenTheEnd}
 use Rattle.cluster_model.specs.Machines.{count_of}
-use Rattle.cluster_model.specs.Totals.{total, total_from}
-use Rattle.cluster_model.specs.TwoWaves.{IsIdleAnswer, TwoWaves, received_of, sent_of, total_received, total_sent}
-use Rattle.cluster_whole.specs.Steps.{Holds, IsCalled, Tells, Told, Turn, come_of, is_told, under_way}
+use Rattle.cluster_model.specs.Totals.{total}
+use Rattle.cluster_model.specs.TwoWaves.{IsIdleAnswer, TwoWaves, received_of, sent_of, total_sent}
+use Rattle.cluster_whole.specs.Steps.{Holds, IsCalled, Tells, Told, Turn, come_of, is_told}
 use Rattle.cluster_whole.specs.Views.{world_of}
 use Rattle.cluster_whole.specs.Whole.{IsWhole}
 use Rattle.cluster_whole.proofs.Due.{sums_are}
 use Rattle.cluster_whole.proofs.Flows.{nothing_under_way}
 use Rattle.cluster_whole.proofs.Within.{is_free}
 use Rattle.cluster_ending.specs.Ends.{HasEnded, HasFinishedOrder}
-use Rattle.cluster_ending.specs.Watched.{AreWatched, HasAnswered, HasMoved, HasNoTaskLeft, IsAtRest, IsDoneSince, IsIdleWave, IsNotAbove, IsWatched, SomeMoved, Watch, last_counts, shown_by, shown_in}
+use Rattle.cluster_ending.specs.Watched.{HasAnswered, HasNoTaskLeft, IsAtRest, IsDoneSince, IsIdleWave, IsNotAbove, IsWatched, SomeMoved, Watch, last_counts, shown_by, shown_in}
 use Rattle.cluster_ending.proofs.Coming.{last_whole}
 use Rattle.cluster_ending.proofs.Idle.{idle_flying, idle_pending, idle_queues, idle_tasks}
 use Rattle.cluster_ending.proofs.Leaving.{none_woken}

@@ -1,5 +1,5 @@
 -- What a machine relies on where a wave comes, and the coordinator where counts come; and what counts say.
-use Rattle.std.proofs.Common.{◌≡◌, ◌⊎◌, ℕ, zero, suc, pred, ◌<◌, ◌≤◌, ◌&&◌, Bool, true, false, is_some, Option, None, Some, List, [], ◌∷◌, ◌++◌, length, slice_index_or, refl, sym, ◌∙◌, ap, subst, ⊎_elim, inl, inr, arith}
+use Rattle.std.proofs.Common.{◌≡◌, ◌⊎◌, ℕ, zero, suc, pred, ◌<◌, ◌&&◌, Bool, true, false, is_some, Option, None, Some, List, [], ◌∷◌, ◌++◌, slice_index_or, refl, sym, ◌∙◌, ap, subst, ⊎_elim, inl, inr, arith}
 use Rattle.std.proofs.lemmas.Bool.{both_ways, cases_Bool}
 use Rattle.gl_base.specs.declared.scopes.Counted.{Counted}
 use Rattle.cluster_core.specs.Settings.{Setting}
@@ -7,14 +7,14 @@ use Rattle.cluster_model.specs.Calls.{Call, Count, Report, Wave}
 use Rattle.cluster_model.specs.Clusters.{Cluster, report_way}
 use Rattle.cluster_model.specs.Counting.{Counting}
 use Rattle.cluster_model.specs.Machines.{Machine, count_of}
-use Rattle.cluster_model.specs.TwoWaves.{TwoWaves, all_answered, turned}
+use Rattle.cluster_model.specs.TwoWaves.{TwoWaves, all_answered}
 use Rattle.cluster_model.specs.Working.{answers_if, is_done, or_zero, prompt}
-use Rattle.cluster_whole.specs.Steps.{Holds, IsCalled, Tells, Told, Turn, come_of, counts_in, is_told, reports_of}
+use Rattle.cluster_whole.specs.Steps.{Holds, IsCalled, Tells, Told, Turn, come_of, counts_in, is_told}
 use Rattle.cluster_whole.proofs.Telling.{turned_part, turned_whole}
-use Rattle.cluster_ending.specs.Watched.{AreWatched, HasAnswered, IsNotAbove, IsWatched, Watch, last_counts, shown_by, shown_in}
+use Rattle.cluster_ending.specs.Watched.{HasAnswered, IsNotAbove, IsWatched, Watch, shown_by, shown_in}
 use Rattle.cluster_ending.proofs.Coming.{count_first, last_waiting}
 use Rattle.cluster_ending.proofs.Deeds.{low_again, low_then}
-use Rattle.cluster_ending.proofs.Turns.{called_newest, watch_of}
+use Rattle.cluster_ending.proofs.Turns.{called_newest}
 
 pred_put : (n : ℕ) → 0 < n → suc (pred n) ≡ n
 pred_put zero some = omega arith

@@ -1,12 +1,11 @@
 -- What a machine does takes nothing out of its outboxes to machines.
-use Rattle.std.proofs.Common.{◌≡◌, ℕ, suc, ◌≤◌, ◌==◌, ◌&&◌, not, Bool, true, false, if◌then◌else◌, Option, None, Some, List, [], ◌∷◌, ◌++◌, length, sym, subst, le_refl, le_trans, length-append, arith, ◌+◌}
+use Rattle.std.proofs.Common.{ℕ, suc, ◌≤◌, ◌==◌, ◌&&◌, not, Bool, true, false, if◌then◌else◌, Option, None, Some, List, [], ◌∷◌, ◌++◌, length, sym, subst, le_refl, length-append, arith, ◌+◌}
 use Rattle.gl_base.specs.declared.entries.Entry.{Entry}
 use Rattle.gl_base.specs.declared.scopes.Claim.{Claim}
 use Rattle.gl_base.specs.declared.scopes.ScopeId.{ScopeId}
 use Rattle.cluster_core.specs.Effects.{admitted, admitted_by, asks_for, first_granted, goes_away, goes_on, granted, in_flight, mark_news, marked, moves_on, news_for, next_scope, posts, received, sets_out, takes_lock, updated}
 use Rattle.cluster_core.specs.Messages.{Ask, Done, Message, Ready}
 use Rattle.cluster_core.specs.Parts.{Part, Stand}
-use Rattle.cluster_core.specs.Ranges.{set_at}
 use Rattle.cluster_core.specs.Scopes.{machines_from, own_from, set_for, takes_part}
 use Rattle.cluster_core.specs.Settings.{Chromatic, Engine, Locking, Setting}
 use Rattle.cluster_core.proofs.Basics.{set_at-holds}

@@ -1,5 +1,5 @@
 -- What an idle machine has not.
-use Rattle.std.proofs.Common.{◌≡◌, ℕ, ◌+◌, ◌<◌, ◌≤◌, ◌&&◌, ◌==◌, Bool, true, false, is_none, Option, None, Some, List, [], ◌∷◌, refl, sym, ◌∙◌, ap, arith}
+use Rattle.std.proofs.Common.{◌≡◌, ℕ, ◌+◌, ◌<◌, ◌≤◌, ◌&&◌, ◌==◌, Bool, true, false, is_none, Option, None, Some, List, [], ◌∷◌, refl, arith}
 use Rattle.std.proofs.lemmas.Bool.{and_parts, both_ways, eqb-true}
 use Rattle.gl_base.specs.declared.scopes.Claim.{Claim}
 use Rattle.graph_core.specs.DataGraph.{size}

@@ -1,11 +1,10 @@
 -- The coordinator puts a wave out or begins a snapshot, and what a recovery begins with.
-use Rattle.std.proofs.Common.{◌≡◌, ◌≢◌, ◌⊎◌, ℕ, zero, suc, pred, ◌+◌, ◌<◌, ◌≤◌, Bool, true, false, is_some, Option, None, Some, List, [], ◌∷◌, ◌++◌, length, sum_by, slice_index_or, refl, sym, ◌∙◌, ap, subst, ⊎_elim, inl, inr, le_refl, le_trans, append_assoc, append-nil, arith}
+use Rattle.std.proofs.Common.{◌≡◌, ◌⊎◌, ℕ, zero, suc, pred, ◌+◌, ◌<◌, ◌≤◌, true, false, is_some, Option, None, Some, List, [], ◌∷◌, ◌++◌, length, slice_index_or, refl, sym, ◌∙◌, ap, subst, ⊎_elim, inl, inr, le_refl, le_trans, append_assoc, append-nil, arith}
 use Rattle.std.proofs.lemmas.Bool.{both_ways, cases_Bool, cases_lt}
 use Rattle.std.proofs.lemmas.List.{get_or-replicate, length-replicate}
 use Rattle.std.proofs.lemmas.List.Elements.{All-get_or}
 use Rattle.std.proofs.lemmas.List.Folds.{list_all_at}
 use Rattle.gl_base.specs.declared.scopes.Counted.{Counted}
-use Rattle.cluster_core.specs.Messages.{Message}
 use Rattle.cluster_core.specs.Settings.{Setting}
 use Rattle.cluster_core.specs.Ways.{vertex_woken}
 use Rattle.cluster_core.specs.Worlds.{way}
@@ -23,7 +22,7 @@ use Rattle.cluster_whole.proofs.Due.{sums_are}
 use Rattle.cluster_whole.proofs.Flows.{nothing_under_way, total_from-none}
 use Rattle.cluster_whole.proofs.Pieces.{begins_pushed}
 use Rattle.cluster_whole.proofs.Telling.{turned_part, turned_whole}
-use Rattle.cluster_ending.specs.Watched.{AreWatched, HasAnswered, HasMoved, HasTold, IsAtRest, IsDoneSince, IsIdleWave, IsNotAbove, IsTurnOf, SomeMoved, Watch, behind_wave, last_counts, shown_by, shown_in, told_behind, waves_in}
+use Rattle.cluster_ending.specs.Watched.{AreWatched, HasAnswered, HasMoved, HasTold, IsAtRest, IsDoneSince, IsIdleWave, IsNotAbove, IsTurnOf, SomeMoved, Watch, behind_wave, last_counts, told_behind, waves_in}
 use Rattle.cluster_ending.proofs.Coming.{turned_before_long}
 use Rattle.cluster_ending.proofs.Sums.{all_or_some}
 use Rattle.cluster_ending.proofs.Turns.{watch_of}

@@ -1,14 +1,13 @@
 -- What a machine relies on where word of a snapshot comes, and the coordinator where a section or a want does.
-use Rattle.std.proofs.Common.{◌≡◌, ◌⊎◌, ℕ, suc, ◌+◌, ◌<◌, ◌≤◌, true, false, Option, None, Some, List, [], ◌∷◌, ◌++◌, length, refl, sym, ◌∙◌, ap, subst, ⊎_elim, inl, inr, arith}
+use Rattle.std.proofs.Common.{◌≡◌, ◌⊎◌, ℕ, suc, ◌+◌, ◌<◌, ◌≤◌, Option, None, Some, List, [], ◌∷◌, ◌++◌, refl, sym, ◌∙◌, ap, subst, ⊎_elim, inl, inr, arith}
 use Rattle.std.specs.List.{AllByRecursion}
 use Rattle.std.proofs.lemmas.Bool.{cases_lt}
 use Rattle.gl_base.specs.declared.entries.Entry.{Entry}
-use Rattle.graph_core.specs.DataGraph.{size}
 use Rattle.cluster_core.specs.Marks.{MarksHold, mark_of}
 use Rattle.cluster_core.specs.Messages as core
 use Rattle.cluster_core.specs.Settings.{IsSetting, Setting}
 use Rattle.cluster_model.specs.Calls.{Begin, Call, Committed, Report, Saved, Want, begins_in, sections_in}
-use Rattle.cluster_model.specs.Clusters.{BaseView, Cluster, call_way, report_way}
+use Rattle.cluster_model.specs.Clusters.{BaseView, Cluster, report_way}
 use Rattle.cluster_model.specs.Events.{Event, Admit, DeliverCall, DeliverReport, Deliver, Fail, Grant, Mark, MayDo, IsCourse, PutBegin, PutStep, PutWave, Record, Recover, Section, Send, SendCall, SendReport, Stop, Update, after_event, recovers, setting_after}
 use Rattle.cluster_model.specs.Leading.{Come}
 use Rattle.cluster_model.specs.Machines.{Machine}
@@ -48,10 +47,13 @@ begin_front st c marks a low k behind first =
       ⊎_elim
           (λ (less : known < k).
           let next = next_known k known c.coordinator.acknowledged c.coordinator.begun less begun (marks.known a low).0 marks.under in
-          inr (next.0, λ v within owned.
-          let mark = marks.marks v within in
-          subst (λ (b : ℕ). ((c.machine b).part.datum v).mark ≡ (c.machine b).part.known) owned
-          (same_mark (mark_of st (world_of c) v) (c.machine (st.owner v)).part.known c.coordinator.acknowledged mark.0 mark.1 (ap (λ (b : ℕ). (c.machine b).part.known) owned ∙ next.1))))
+          inr (
+            next.0,
+            λ v within owned.
+                let mark = marks.marks v within in
+                subst (λ (b : ℕ). ((c.machine b).part.datum v).mark ≡ (c.machine b).part.known) owned
+                (same_mark (mark_of st (world_of c) v) (c.machine (st.owner v)).part.known c.coordinator.acknowledged mark.0 mark.1 (ap (λ (b : ℕ). (c.machine b).part.known) owned ∙ next.1)),
+          ))
           (λ (high : k ≤ known). inl high)
           (cases_lt known k),
     )

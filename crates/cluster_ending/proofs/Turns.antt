@@ -1,27 +1,20 @@
 -- A machine has a wave, or answers it, and the coordinator has its counts.
-use Rattle.std.proofs.Common.{◌≡◌, ◌≢◌, ◌⊎◌, ℕ, zero, suc, pred, ◌+◌, ◌<◌, ◌≤◌, ◌&&◌, ◌||◌, not, Bool, true, false, if◌then◌else◌, is_some, Option, None, Some, List, [], ◌∷◌, ◌++◌, length, slice_index_or, slice_set, refl, sym, ◌∙◌, ap, subst, ⊎_elim, inl, inr, le_refl, get_or-set_same, get_or-set_other, arith}
-use Rattle.std.proofs.lemmas.Bool.{and_parts, both_ways, cases_Bool, cases_eq}
-use Rattle.std.proofs.lemmas.List.{get_or-replicate, length-set}
-use Rattle.std.proofs.lemmas.List.Folds.{list_all_at}
+use Rattle.std.proofs.Common.{◌≡◌, ◌≢◌, ◌⊎◌, ℕ, pred, ◌+◌, ◌<◌, ◌≤◌, ◌&&◌, ◌||◌, Bool, true, false, is_some, Option, None, Some, List, [], ◌∷◌, ◌++◌, length, slice_index_or, refl, sym, ◌∙◌, ap, subst, ⊎_elim, inl, inr}
+use Rattle.std.proofs.lemmas.Bool.{and_parts, both_ways, cases_eq}
 use Rattle.gl_base.specs.declared.scopes.Counted.{Counted}
 use Rattle.cluster_core.specs.Messages.{Message}
-use Rattle.cluster_core.specs.Ranges.{first_passing, set_at}
+use Rattle.cluster_core.specs.Ranges.{set_at}
 use Rattle.cluster_core.specs.Settings.{Setting}
-use Rattle.cluster_core.specs.Worlds.{way}
-use Rattle.cluster_core.proofs.Basics.{set_at-cases, set_at-holds, set_at-kept, set_at-other, set_at-same}
-use Rattle.cluster_model.specs.Calls.{Begin, Call, Committed, Count, Report, Saved, Step, Want, Wave, begins_in}
-use Rattle.cluster_model.specs.Clusters.{Cluster, call_way, report_way, with_calls, with_coordinator, with_machine, with_reports}
-use Rattle.cluster_model.specs.Counting.{Counting, MayBeCounted, count_answer}
-use Rattle.cluster_model.specs.Leading.{takes_report}
-use Rattle.cluster_model.specs.Machines.{Machine, count_of, is_idle}
-use Rattle.cluster_model.specs.TwoWaves.{TwoWaves, all_answered, answered, no_counts, turned}
+use Rattle.cluster_core.proofs.Basics.{set_at-holds, set_at-kept, set_at-other, set_at-same}
+use Rattle.cluster_model.specs.Calls.{Begin, Call, Committed, Count, Report, Step, Wave, begins_in}
+use Rattle.cluster_model.specs.Clusters.{Cluster, call_way, report_way, with_calls, with_machine}
+use Rattle.cluster_model.specs.Counting.{Counting}
+use Rattle.cluster_model.specs.Machines.{Machine, count_of}
+use Rattle.cluster_model.specs.TwoWaves.{turned}
 use Rattle.cluster_model.specs.Working.{answers_if, is_done, or_zero, prompt, takes_call}
 use Rattle.cluster_whole.specs.Steps.{Holds, IsCalled, Tells, Told, Turn, calls_of, come_of, counts_in, held_of, is_told, reports_of}
-use Rattle.cluster_whole.specs.Views.{world_of}
-use Rattle.cluster_whole.proofs.Telling.{turned_part, turned_whole}
 use Rattle.cluster_whole.proofs.Turning.{counts_pushed}
-use Rattle.graph_core.specs.DataGraph.{size}
-use Rattle.cluster_ending.specs.Watched.{AreWatched, HasAnswered, HasMoved, HoldsNoTask, HasTold, IsAtRest, IsDoneSince, IsIdleWave, IsNotAbove, IsTurnOf, Watch, behind_wave, last_counts, shown_by, shown_in, told_behind, waves_in}
+use Rattle.cluster_ending.specs.Watched.{AreWatched, HasAnswered, HasMoved, HasTold, IsAtRest, IsDoneSince, IsIdleWave, IsNotAbove, IsTurnOf, Watch, behind_wave, last_counts, shown_by, shown_in, told_behind, waves_in}
 use Rattle.cluster_ending.proofs.Deeds.{IsAlike, alike_balanced, alike_deed, alike_done, alike_rests, deed_keeps, low_again, seen_alike, turn_seen}
 use Rattle.cluster_ending.proofs.Idle.{idle_tasks}
 use Rattle.cluster_ending.proofs.Words.{calls_again, calls_same}
@@ -207,11 +200,11 @@ module _ (st : Setting) (counting : Counting) (begun : ℕ) (c : Cluster) (turn 
 
     has_answered : StayWatched st counting begun (answering true) before newest
     has_answered = (
-        next,
-        goes_alike st counting counting begun c (answering true) (watch_of turn before newest) (watch_of next before newest) was (answer_alike true) refl shown_same refl refl answered_at
-            (λ whole b within. absurd (both_ways false refl (ap is_told (sym its.0) ∙ was.told whole a low)))
-            was.fresh was.some was.first was.many was.many_before,
-      )
+      next,
+      goes_alike st counting counting begun c (answering true) (watch_of turn before newest) (watch_of next before newest) was (answer_alike true) refl shown_same refl refl answered_at
+          (λ whole b within. absurd (both_ways false refl (ap is_told (sym its.0) ∙ was.told whole a low)))
+          was.fresh was.some was.first was.many was.many_before,
+    )
 
   by_test : (test : Bool) → (test ≡ true → is_some m.held ≡ true) → StayWatched st counting begun (answering test) before newest
   by_test true may = has_answered (may refl)

@@ -1,12 +1,8 @@
 -- Each event keeps the waves.
-use Rattle.std.proofs.Common.{◌≡◌, ◌≢◌, ◌⊎◌, ℕ, zero, suc, pred, ◌+◌, ◌-◌, ◌<◌, ◌≤◌, Bool, true, false, if◌then◌else◌, Option, None, Some, List, [], ◌∷◌, ◌++◌, length, refl, sym, ◌∙◌, ap, subst, ⊎_elim, le_refl, le_of_eq, append-nil, append_assoc, length-append, arith}
-use Rattle.std.specs.List.{AllByRecursion}
-use Rattle.std.proofs.lemmas.Bool.{both_ways, cases_eq}
+use Rattle.std.proofs.Common.{◌≡◌, ℕ, suc, pred, ◌+◌, ◌<◌, ◌≤◌, Bool, true, if◌then◌else◌, Option, List, [], ◌∷◌, ◌++◌, length, refl, sym, ◌∙◌, ap, subst, ⊎_elim, le_refl, le_of_eq, append-nil, append_assoc, length-append, arith}
+use Rattle.std.proofs.lemmas.Bool.{both_ways}
 use Rattle.gl_base.specs.declared.entries.Entry.{Entry}
 use Rattle.gl_base.specs.declared.entries.Entry.TheVariants.{Go}
-use Rattle.gl_base.specs.declared.scopes.Counted.{Counted}
-use Rattle.gl_base.specs.declared.scopes.ScopeId.{ScopeId}
-use Rattle.graph_core.specs.DataGraph.{size}
 use Rattle.cluster_core.specs.Actions.{Action, HasFirst, MayHappen, MayUpdate, after, delivers, hears, marks, sends, updates}
 use Rattle.cluster_core.specs.Actions as act
 use Rattle.cluster_core.specs.Copies.{AreCopies}
@@ -18,24 +14,24 @@ use Rattle.cluster_core.specs.Ranges.{set_at}
 use Rattle.cluster_core.specs.Settings.{IsSetting, Setting}
 use Rattle.cluster_core.specs.Worlds.{World, way}
 use Rattle.cluster_core.proofs.Basics.{set_at-holds, set_at-kept, set_at-other, set_at-same}
-use Rattle.cluster_core.proofs.Taking.{same_way, sent-way, taken, taken-here, taken-there}
-use Rattle.cluster_numbers.proofs.Quiet.{IsQuiet, admitted-quiet, goes_on-quiet, granted-quiet}
+use Rattle.cluster_core.proofs.Taking.{sent-way, taken, taken-here, taken-there}
+use Rattle.cluster_numbers.proofs.Quiet.{admitted-quiet, goes_on-quiet, granted-quiet}
 use Rattle.cluster_model.specs.Calls.{Begin, Call, Committed, Count, Report, Saved, Step, Want, Wave, begins_in, sections_in}
 use Rattle.cluster_model.specs.Clusters.{BaseView, Cluster, call_way, report_way}
 use Rattle.cluster_model.specs.Counting.{Counting}
 use Rattle.cluster_model.specs.Events.{Event, Admit, DeliverCall, DeliverReport, Deliver, Fail, Grant, Mark, MayDo, PutBegin, PutStep, PutWave, Record, Recover, Section, Send, SendCall, SendReport, Stop, Update, after_event, delivers_call, delivers_message, delivers_report, makes, saves, sends_call, sends_message, sends_report}
 use Rattle.cluster_model.specs.Machines.{Machine, count_of, gained, is_idle}
-use Rattle.cluster_model.specs.Working.{admits, asks_if, asks_more, commits, fails, grants, hands, hands_report, makes_mark, makes_update, prompt, receives, sections, takes_call, works_on}
+use Rattle.cluster_model.specs.Working.{admits, asks_more, commits, fails, grants, hands, hands_report, makes_mark, makes_update, prompt, receives, sections, takes_call, works_on}
 use Rattle.cluster_whole.specs.Steps.{Turn, counts_in, under_way}
 use Rattle.cluster_whole.specs.Views.{world_of}
-use Rattle.cluster_whole.proofs.Flows.{gained_none, part_flows, same_flows, taken_flows}
+use Rattle.cluster_whole.proofs.Flows.{part_flows, same_flows, taken_flows}
 use Rattle.cluster_whole.proofs.Joining.{asked, begin_gone, changed, changed_world, one_machine}
 use Rattle.cluster_whole.proofs.Pieces.{passed, read_at, set_twice}
 use Rattle.cluster_whole.proofs.Stepping.{nil_cons}
 use Rattle.cluster_whole.proofs.Turning.{counts-append, counts_pushed, counts_told}
-use Rattle.cluster_ending.specs.Watched.{AreWatched, HoldsNoTask, HasNoTaskLeft, IsNotAbove, Watch, puts_wave_out, waves_in}
+use Rattle.cluster_ending.specs.Watched.{AreWatched, HoldsNoTask, puts_wave_out, waves_in}
 use Rattle.cluster_ending.proofs.Coming.{come_watched}
-use Rattle.cluster_ending.proofs.Deeds.{IsAlike, IsDeed, IsSeen, IsWorkAt, alike_deed, deed_keeps, low_again, work_deed}
+use Rattle.cluster_ending.proofs.Deeds.{IsAlike, IsDeed, IsSeen, alike_deed, deed_keeps, work_deed}
 use Rattle.cluster_ending.proofs.Growing.{IsLonger, admitted_longer, granted_longer, marked_longer, received_longer, updated_longer}
 use Rattle.cluster_ending.proofs.Idle.{idle_pending, idle_queues, idle_tasks}
 use Rattle.cluster_ending.proofs.Leaving.{StaysDone, done_action}

@@ -1,19 +1,18 @@
 -- The worked waves, computed by the definitions.
-use Rattle.std.proofs.Common.{◌≡◌, ℕ, zero, suc, ◌<◌, ◌≤◌, ◌==◌, Bool, true, false, Option, None, Some, List, [], ◌∷◌, All, AllPairs, slice_index, refl, sym, ap, ◌∙◌, subst, inl, inr, arith}
+use Rattle.std.proofs.Common.{◌≡◌, ℕ, ◌<◌, ◌≤◌, true, false, Option, None, Some, List, [], ◌∷◌, All, AllPairs, refl, sym, subst, inr, arith}
 use Rattle.std.proofs.lemmas.Bool.{both_ways}
 use Rattle.std.proofs.lemmas.List.Elements.{All-cons, All-nil}
-use Rattle.std.proofs.lemmas.List.Kept.{AllPairs-cons}
 use Rattle.gl_base.specs.declared.limits.TheConstants.{MAX_ID}
 use Rattle.gl_base.specs.declared.scopes.Counted.{Counted}
 use Rattle.gl_base.specs.declared.scopes.Mode.{Mode}
-use Rattle.graph_core.specs.DataGraph.{DataEdge, IsBefore, IsEdge}
+use Rattle.graph_core.specs.DataGraph.{IsBefore, IsEdge}
 use Rattle.cluster_core.specs.Ranges.{all_passing, first_passing}
 use Rattle.cluster_core.specs.Recovering.{going_on}
-use Rattle.cluster_core.specs.Settings.{Chromatic, Engine, IsSetting, Locking}
+use Rattle.cluster_core.specs.Settings.{Chromatic, IsSetting, Locking}
 use Rattle.cluster_model.specs.Events.{IsCourse}
 use Rattle.cluster_model.specs.Leading.{HasSeenTheEnd}
 use Rattle.cluster_model.specs.Totals.{total_from}
-use Rattle.cluster_model.specs.TwoWaves.{IsIdleAnswer, ShowTheEnd, TwoWaves, no_counts, total_received, total_sent}
+use Rattle.cluster_model.specs.TwoWaves.{IsIdleAnswer, ShowTheEnd, no_counts, total_received, total_sent}
 use Rattle.cluster_ending.specs.FourWaves.{after_four_waves, after_lone_run, after_one_wave, after_three_waves, after_two_waves, early_answers, idle_answer, late_answers, lone_events, on_one_machine, started_from}
 
 pub first_waves : after_one_wave.coordinator.rounds.counting.waves ≡ record { before = no_counts 2; wave = early_answers }
@@ -99,19 +98,43 @@ unfolding first_passing all_passing total_from
 lone_may =
     let awake : (0 < 1) × (0 < 1) = (omega arith, omega arith) in (
       (refl, (record { machine = awake.0; runs = refl }, record { may = record { vertex = awake.0; owned = refl; due = inr refl; fresh = λ s is. none_flies 0 is; turn = awake.0 }; room = inr refl })),
-      ((refl, (record { machine = awake.0; runs = refl }, record { vertex = awake.0; owned = refl; claim = _; behind = _; first = refl; together = λ s mode is. absurd (none_holds mode is) })),
-      ((refl, (record { machine = awake.0; runs = refl }, record { vertex = _; flight = refl; ready = refl; not_pending = refl; task = refl; ticket = omega arith })),
-      ((refl, ((λ due. none_stored due.stored), (λ due. no_colours due.colour due.colours due.by), record { time = refl; whole = refl })),
-      ((refl, (awake.0, record { message = _; behind = _; first = refl })),
-      ((refl, (record { machine = awake.0; runs = refl }, record { message = _; behind = _; first = refl })),
-      ((refl, (record { machine = awake.0; runs = refl }, record { message = _; behind = _; first = refl })),
-      ((refl, (awake.0, record { message = _; behind = _; first = refl })),
-      ((refl, ((λ due. none_stored due.stored), (λ due. no_colours due.colour due.colours due.by), record { time = refl; whole = refl })),
-      ((refl, (awake.0, record { message = _; behind = _; first = refl })),
-      ((refl, (record { machine = awake.0; runs = refl }, record { message = _; behind = _; first = refl })),
-      ((refl, (record { machine = awake.0; runs = refl }, record { message = _; behind = _; first = refl })),
-      ((refl, (awake.0, record { message = _; behind = _; first = refl })),
-      refl)))))))))))),
+      (
+        (refl, (record { machine = awake.0; runs = refl }, record { vertex = awake.0; owned = refl; claim = _; behind = _; first = refl; together = λ s mode is. absurd (none_holds mode is) })),
+        (
+          (refl, (record { machine = awake.0; runs = refl }, record { vertex = _; flight = refl; ready = refl; not_pending = refl; task = refl; ticket = omega arith })),
+          (
+            (refl, ((λ due. none_stored due.stored), (λ due. no_colours due.colour due.colours due.by), record { time = refl; whole = refl })),
+            (
+              (refl, (awake.0, record { message = _; behind = _; first = refl })),
+              (
+                (refl, (record { machine = awake.0; runs = refl }, record { message = _; behind = _; first = refl })),
+                (
+                  (refl, (record { machine = awake.0; runs = refl }, record { message = _; behind = _; first = refl })),
+                  (
+                    (refl, (awake.0, record { message = _; behind = _; first = refl })),
+                    (
+                      (refl, ((λ due. none_stored due.stored), (λ due. no_colours due.colour due.colours due.by), record { time = refl; whole = refl })),
+                      (
+                        (refl, (awake.0, record { message = _; behind = _; first = refl })),
+                        (
+                          (refl, (record { machine = awake.0; runs = refl }, record { message = _; behind = _; first = refl })),
+                          (
+                            (refl, (record { machine = awake.0; runs = refl }, record { message = _; behind = _; first = refl })),
+                            (
+                              (refl, (awake.0, record { message = _; behind = _; first = refl })),
+                              refl,
+                            ),
+                          ),
+                        ),
+                      ),
+                    ),
+                  ),
+                ),
+              ),
+            ),
+          ),
+        ),
+      ),
     )
 
 abbrev lone_answers : List (Option Counted)

@@ -1,7 +1,6 @@
 -- What the coordinator and the machines tell each other of snapshots, and what each relies on where it comes.
 use Rattle.std.specs.List.{AllByRecursion}
 use Rattle.std.specs.Prelude.{List, None, [], length, suc, ℕ, ⊤, ◌+◌, ◌<◌, ◌∷◌, ◌≡◌, ◌≤◌, ◌⊎◌}
-use Rattle.cluster_core.specs.Messages.{Section}
 use Rattle.cluster_core.specs.Settings.{Setting}
 use Rattle.cluster_model.specs.Calls.{Begin, Call, Committed, Count, Report, Saved, Step, Want, Wave}
 use Rattle.cluster_model.specs.Clusters.{Cluster, call_way, report_way}

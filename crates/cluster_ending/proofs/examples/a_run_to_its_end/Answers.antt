@@ -1,5 +1,4 @@
 -- Each event, computed.
-use Rattle.std.proofs.Common.{refl}
 use Rattle.cluster_ending.proofs.WorkedWaves.{lone_begun, lone_end, lone_may, lone_setting}
 use Rattle.cluster_ending.proofs.examples.a_run_to_its_end.Goals as goal
 
