@@ -14,3 +14,4 @@ pub mod Fronts
 pub mod Informing
 pub mod Reporting
 pub mod WorkedWaves
+pub mod Stepless

@@ -60,3 +60,16 @@ pub record MayBeSaved (a k : ℕ) (c : Coordinator) : Type 0 where
   pub newest : k ≡ c.begun
   pub under : c.acknowledged < c.begun
   pub missing : c.come a ≡ None
+
+-- ---- steps
+
+-- the call is no step
+abbrev pub IsNoStep : Call → Type 0
+IsNoStep (Begin k) = ⊤
+IsNoStep (Committed k) = ⊤
+IsNoStep (Wave k) = ⊤
+IsNoStep (Step colour) = ⊥
+
+-- no step is on its way to a machine
+abbrev pub HasNoSteps : Cluster → Type 0
+HasNoSteps c = (a : ℕ) → AllByRecursion IsNoStep (call_way c a)

@@ -5,11 +5,11 @@ ghost use Rattle.gl_base.specs.declared.scopes.Counted.{Counted};
 ghost use Rattle.gl_base.specs.declared.entries.Entry.{Entry};
 ghost use Rattle.cluster_core.specs.Messages.{Section};
 ghost use Rattle.cluster_core.specs.Recovering.{going_on};
-ghost use Rattle.cluster_core.specs.Settings.{IsSetting, Setting};
+ghost use Rattle.cluster_core.specs.Settings.{IsSetting, Locking, Setting};
 ghost use Rattle.cluster_ending.specs.Ends.{HasEnded, HasFinishedOrder, IsFollowed, IsNoBegin};
-ghost use Rattle.cluster_ending.specs.Snapshotting.{AreInformed, MayBeSaved, MayBegin, MayCommit};
+ghost use Rattle.cluster_ending.specs.Snapshotting.{AreInformed, HasNoSteps, MayBeSaved, MayBegin, MayCommit};
 ghost use Rattle.cluster_ending.specs.Watched.{HasNoTaskLeft, IsNotAbove, IsWatched, Watch, puts_wave_out};
-ghost use Rattle.cluster_model.specs.Calls.{Begin, Call, Committed, Count, Report, Saved, Want, Wave};
+ghost use Rattle.cluster_model.specs.Calls.{Begin, Call, Committed, Count, Report, Saved, Step, Want, Wave};
 ghost use Rattle.cluster_model.specs.Clusters.{BaseView, Cluster, report_way};
 ghost use Rattle.cluster_model.specs.Counting.{MayBeCounted};
 ghost use Rattle.cluster_model.specs.Events.{Event, IsCourse, MayDo, after_event, recovers, setting_after};
@@ -121,4 +121,13 @@ pub fn snapshots_may_be_received()
         IsWhole st c → AreInformed c → a < st.machines → c.reports a ≡ Saved k section entries ∷ behind → MayBeSaved a k c.coordinator }
     ensures want { (c : Cluster) (a k : ℕ) (behind : List Report) →
         AreInformed c → c.reports a ≡ Want k ∷ behind → k ≤ c.coordinator.acknowledged }
+{}
+
+/// With locks no step is ever on its way: a recovery begins so, and each event and every list of events leaves it so.
+pub fn locks_know_no_steps()
+    ensures begins { (st : Setting) (base : BaseView) (c : Cluster) → HasNoSteps (recovers st base c) }
+    ensures goes_on { (st : Setting) (c : Cluster) (event : Event) → st.engine ≡ Locking → HasNoSteps c → MayDo st c event → HasNoSteps (after_event st c event) }
+    ensures course { (st : Setting) (events : List Event) (old new : Cluster) →
+        st.engine ≡ Locking → HasNoSteps old → IsCourse st old events new → HasNoSteps new }
+    ensures front { (c : Cluster) (a colour : ℕ) (behind : List Call) → HasNoSteps c → c.calls a ≡ Step colour ∷ behind → ⊥ }
 {}
