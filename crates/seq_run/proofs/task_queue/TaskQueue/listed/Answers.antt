@@ -4,7 +4,7 @@ use Rattle.std.proofs.lemmas.List.{get_or-map, length-map}
 use Rattle.gl_base.specs.declared.numbers.Vertex.{Vertex}
 use Rattle.graph_core.specs.Growth.{numbers_of}
 use Rattle.seq_run.proofs.Queueing.{added_listed}
-use Rattle.seq_run.proofs.task_queue.TaskQueue.all.Goals as goal
+use Rattle.seq_run.proofs.task_queue.TaskQueue.listed.Goals as goal
 
 inside : (tasks : List Bool) (vertices : List Vertex) (at : ℕ) (d : Vertex) → length tasks ≡ length vertices → at < length vertices → All (λ v. v < length vertices) (numbers_of vertices) → (slice_index_or vertices at d).0 < length tasks
 inside tasks vertices at d count within below =

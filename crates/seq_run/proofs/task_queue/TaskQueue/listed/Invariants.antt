@@ -1,7 +1,7 @@
 use Rattle.std.proofs.Common.{◌≡◌, ℕ, length, take}
 use Rattle.graph_core.specs.Growth.{is_listed, numbers_of}
 use Rattle.seq_run.specs.Inner.TaskQueues.{flag}
-use Rattle.seq_run.proofs.task_queue.TaskQueue.all.Given as goal
+use Rattle.seq_run.proofs.task_queue.TaskQueue.listed.Given as goal
 
 abbrev pub invariant-loop-vertex : goal.invariant-loop-vertex
 invariant-loop-vertex l =
