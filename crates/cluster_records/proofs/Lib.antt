@@ -1,0 +1,12 @@
+pub mod Filtering
+pub mod Entering
+pub mod Listing
+pub mod Listed
+pub mod Coming
+pub mod Gathering
+pub mod Numbering
+pub mod Recording
+pub mod Merging
+pub mod Accounts
+pub mod Based
+pub mod Courses

@@ -1,0 +1,3 @@
+pub mod Listed
+pub mod Recorded
+pub mod Bases

@@ -1,0 +1,82 @@
+//! Laws of the entries of snapshots. Each is the contract of a function that does nothing.
+ghost use Rattle.std.specs.List.Sorted.{IsPermutation};
+ghost use Rattle.std.specs.Prelude.{◌≡◌, ℕ, suc, ◌+◌, ◌<◌, ◌≤◌, List, [], ◌++◌, length, Some};
+ghost use Rattle.std.specs.List.{AllByRecursion};
+ghost use Rattle.cluster_core.specs.Cuts.{Begins, cut_of, updates_at};
+ghost use Rattle.cluster_core.specs.Recovering.{going_on};
+ghost use Rattle.cluster_core.specs.Settings.{IsSetting, Setting};
+ghost use Rattle.cluster_model.specs.ByTicket.{restarts};
+ghost use Rattle.cluster_model.specs.Clusters.{BaseView, Cluster};
+ghost use Rattle.cluster_model.specs.Events.{Event, GoesBackTo, IsCourse, MayDo, Section, after_event, entries_in_all, failures_in, recovers};
+ghost use Rattle.cluster_model.specs.Leading.{Come, RecordIsDue, acknowledges};
+ghost use Rattle.cluster_records.specs.Bases.{IsBase, IsBased};
+ghost use Rattle.cluster_records.specs.Listed.{Logged, entries_at, entries_to};
+ghost use Rattle.cluster_records.specs.Recorded.{IsAccounted, IsGoodSnapshot, snapshot_due};
+ghost use Rattle.cluster_whole.specs.Whole.{AreColoured, IsNoRecovery, IsWhole, setting_behind};
+
+/// Each event but a recovery goes on with the updates that are logged for snapshots, and each of them stands where it belongs. A machine's
+/// list before the marks is its updates for the snapshot that it knows, until its section is sent; its list behind the marks is those for
+/// the next one. A section on its way, or come, has its machine's updates that the newest snapshot is the first to have. The snapshots
+/// that were acknowledged are good. What is logged later is of no snapshot that was acknowledged. A recovery begins with no update.
+pub fn events_keep_accounts()
+    ensures begins { (st : Setting) (base : BaseView) (c : Cluster) → IsSetting st → AreColoured st st.engine →
+        (whole : IsWhole (going_on st base.numbers base.number) (recovers st base c))
+        × IsAccounted (going_on st base.numbers base.number) (recovers st base c) whole [] }
+    ensures goes_on { (st : Setting) (c : Cluster) (whole : IsWhole st c) (event : Event) (logged : List Logged) →
+        IsSetting st → MayDo st c event → IsNoRecovery event → IsAccounted st c whole logged →
+        (next : IsWhole st (after_event st c event)) × (more : List Logged)
+        × AllByRecursion (λ l. c.coordinator.acknowledged < l.number) more
+        × IsAccounted st (after_event st c event) next (logged ++ more) }
+{}
+
+/// A section that a machine sends is of the newest snapshot, and has just those of its updates that the snapshot is the first to have.
+pub fn sections_have_their_entries()
+    ensures { (st : Setting) (c : Cluster) (whole : IsWhole st c) (a : ℕ) (logged : List Logged) →
+        IsSetting st → MayDo st c (Section a) → IsAccounted st c whole logged →
+        ((c.machine a).part.known ≡ c.coordinator.begun) × ((c.machine a).before ≡ entries_at a c.coordinator.begun logged) }
+{}
+
+/// Where a record is due, each section that has come has just those updates of its machine that the snapshot is the first to have.
+pub fn records_have_their_entries()
+    ensures { (st : Setting) (c : Cluster) (whole : IsWhole st c) (a : ℕ) (logged : List Logged) →
+        IsSetting st → IsAccounted st c whole logged → RecordIsDue st c.coordinator → a < st.machines →
+        (come : Come) × (c.coordinator.come a ≡ Some come) × (come.entries ≡ entries_at a c.coordinator.begun logged) }
+{}
+
+/// The entries of all snapshots of an attempt together are the updates that the last one has, each once. A record is of the next number,
+/// adds a good snapshot, and makes that the cut of the order. Each snapshot begins, at each vertex, with those before.
+pub fn records_make_cuts()
+    ensures updates { (st : Setting) (c : Cluster) (whole : IsWhole st c) (logged : List Logged) →
+        IsSetting st → IsAccounted st c whole logged →
+        IsPermutation (entries_in_all st c.coordinator.snapshots) (entries_to c.coordinator.acknowledged logged) }
+    ensures record { (st : Setting) (c : Cluster) (whole : IsWhole st c) (logged : List Logged) →
+        IsSetting st → IsAccounted st c whole logged → RecordIsDue st c.coordinator →
+        (c.coordinator.begun ≡ suc c.coordinator.acknowledged)
+        × IsGoodSnapshot st logged (snapshot_due c.coordinator)
+        × IsPermutation (entries_in_all st (acknowledges st c.coordinator).snapshots) (cut_of whole.consistent.count whole.consistent.order) }
+{}
+
+/// A recovery goes back to the newest acknowledged snapshot. The base's order is that of the base before, the updates that the newest
+/// snapshot has besides, in the order in which they were made, and a restart for each failure. Its numbers are the replay of that
+/// order from the start state of the program on. Whatever happens in a call, this chains.
+pub fn recoveries_go_back()
+    ensures { (st : Setting) (c : Cluster) (whole : IsWhole st c) (logged : List Logged) (base : BaseView) →
+        IsSetting st → IsAccounted st c whole logged → IsBased st c logged → GoesBackTo st c base →
+        (base.number ≡ c.coordinator.acknowledged)
+        × (base.order ≡ (c.base.order ++ entries_to c.coordinator.acknowledged logged) ++ restarts (failures_in st c) c.next)
+        × IsBase st base c.next }
+{}
+
+/// After every list of events, with failures and recoveries among them, the updates of the newest attempt are accounted for, and it
+/// goes on from its base.
+pub fn courses_keep_accounts()
+    ensures begins { (st : Setting) (base : BaseView) (c : Cluster) → IsSetting st → AreColoured st st.engine → IsBase st base c.next →
+        (whole : IsWhole (going_on st base.numbers base.number) (recovers st base c))
+        × IsAccounted (going_on st base.numbers base.number) (recovers st base c) whole []
+        × IsBased (going_on st base.numbers base.number) (recovers st base c) [] }
+    ensures goes_on { (st : Setting) (events : List Event) (old new : Cluster) (whole : IsWhole st old) (logged : List Logged) →
+        IsSetting st → IsCourse st old events new → IsAccounted st old whole logged → IsBased st old logged →
+        (next : IsWhole (setting_behind st events) new) × (now : List Logged)
+        × IsAccounted (setting_behind st events) new next now
+        × IsBased (setting_behind st events) new now }
+{}
