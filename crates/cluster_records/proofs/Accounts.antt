@@ -12,7 +12,7 @@ use Rattle.cluster_model.specs.Leading.{Come}
 use Rattle.cluster_whole.specs.Logged.{Logged}
 use Rattle.cluster_whole.specs.Whole.{AreColoured, IsNoRecovery, IsWhole}
 use Rattle.cluster_whole.proofs.Wholeness.{recovered_logs}
-use Rattle.cluster_records.specs.Recorded.{AreRecorded, IsAccounted, IsSinceBase}
+use Rattle.cluster_records.specs.Recorded.{AreGoodSnapshots, IsAccounted, IsSinceBase}
 use Rattle.cluster_records.proofs.Coming.{events_coming, update_coming}
 use Rattle.cluster_records.proofs.Entering.{IsNoUpdate, draws_none, next_whole, own_logged, still_logged, update_logged}
 use Rattle.cluster_records.proofs.Listed.{events_listed, own_mark, update_listed}
@@ -36,7 +36,7 @@ if_same false = refl
 none_some : (come : Come) → None ≡ Some come → ⊥
 none_some come is = cc
 
-begun_recorded : (st : Setting) (base : BaseView) (c : Cluster) → AreRecorded (going_on st base.numbers base.number) (recovers st base c) []
+begun_recorded : (st : Setting) (base : BaseView) (c : Cluster) → AreGoodSnapshots (going_on st base.numbers base.number) (recovers st base c) []
 begun_recorded st base c = record { numbered = refl; good = tt }
 
 pub begun_accounts : (st : Setting) → IsSetting st → AreColoured st st.engine → (base : BaseView) (c : Cluster) →
@@ -77,7 +77,7 @@ module _ (st : Setting) (is : IsSetting st) (c : Cluster) (whole : IsWhole st c)
       )
 
   -- an event that makes no update, where the snapshots stay good
-  unlogged : (event : Event) (may : MayDo st c event) (other : IsNoRecovery event) → IsNoUpdate event → AreRecorded st (after_event st c event) logged →
+  unlogged : (event : Event) (may : MayDo st c event) (other : IsNoRecovery event) → IsNoUpdate event → AreGoodSnapshots st (after_event st c event) logged →
       (next : IsWhole st (after_event st c event)) × IsAccounted st (after_event st c event) next (logged ++ [])
   unlogged event may other none records =
       let next : IsWhole st (after_event st c event) = next_whole st is c whole event may other in (
@@ -91,11 +91,11 @@ module _ (st : Setting) (is : IsSetting st) (c : Cluster) (whole : IsWhole st c)
         }),
       )
 
-  still : (event : Event) → MayDo st c event → IsNoRecovery event → IsNoRecord event → AreRecorded st (after_event st c event) logged
+  still : (event : Event) → MayDo st c event → IsNoRecovery event → IsNoRecord event → AreGoodSnapshots st (after_event st c event) logged
   still event may other none = still_recorded st is c whole logged account.records (after_event st c event) (adds_none st c event may other none)
 
   -- the snapshots stay good, and a record adds one
-  records_kept : (event : Event) → MayDo st c event → IsNoRecovery event → IsNoUpdate event → AreRecorded st (after_event st c event) logged
+  records_kept : (event : Event) → MayDo st c event → IsNoRecovery event → IsNoUpdate event → AreGoodSnapshots st (after_event st c event) logged
   records_kept (Admit a v) may other none = still (Admit a v) may other (λ same. cc)
   records_kept (Grant a x) may other none = still (Grant a x) may other (λ same. cc)
   records_kept (Send p q) may other none = still (Send p q) may other (λ same. cc)

@@ -24,7 +24,7 @@ use Rattle.cluster_whole.specs.Logged.{Logged}
 use Rattle.cluster_whole.specs.Views.{section_of, world_of}
 use Rattle.cluster_whole.specs.Whole.{IsNoRecovery, IsWhole}
 use Rattle.cluster_whole.proofs.Pieces.{passed, read_at}
-use Rattle.cluster_records.specs.Listed.{AreComing, AreListed, HasItsUpdates, entries_at, is_in}
+use Rattle.cluster_records.specs.Listed.{AreComing, AreListed, HasItsUpdates, entries_at, is_first_in}
 use Rattle.cluster_records.proofs.Entering.{IsNoUpdate, update_logged}
 use Rattle.cluster_records.proofs.Filtering.{in_no, in_other, other_entry, passing-more_out}
 
@@ -200,9 +200,9 @@ module _ (st : Setting) (is : IsSetting st) (c : Cluster) (whole : IsWhole st c)
   grown s v b low within owner =
       let l : Logged = update_logged st c s v in
       let more : List Logged = logged ++ l ∷ [] in
-      let same : is_in b w.begun l ≡ false → AllByRecursion (HasItsUpdates b w.begun more) (report_way c b) × ((x : Come) → c.coordinator.come b ≡ Some x → x.entries ≡ entries_at b w.begun more) =
+      let same : is_first_in b w.begun l ≡ false → AllByRecursion (HasItsUpdates b w.begun more) (report_way c b) × ((x : Come) → c.coordinator.come b ≡ Some x → x.entries ≡ entries_at b w.begun more) =
       λ no.
-      let kept : entries_at b w.begun more ≡ entries_at b w.begun logged = passing-more_out (is_in b w.begun) logged l no in
+      let kept : entries_at b w.begun more ≡ entries_at b w.begun logged = passing-more_out (is_first_in b w.begun) logged l no in
       (same_told b w.begun logged more kept (report_way c b) (still b low), λ x here. (coming b low).come x here ∙ sym kept) in
       ⊎_elim
       (λ (at : b ≡ s.home.0). ⊎_elim

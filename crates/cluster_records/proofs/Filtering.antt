@@ -10,7 +10,7 @@ use Rattle.gl_base.specs.declared.numbers.MachineNo.{MachineNo}
 use Rattle.gl_base.specs.declared.numbers.Vertex.{Vertex}
 use Rattle.cluster_core.specs.Replays.{is_of}
 use Rattle.cluster_whole.specs.Logged.{Logged, all_entries, entries_to, entry_of, is_up_to}
-use Rattle.cluster_records.specs.Listed.{IsNextAtMost, entries_at, is_in}
+use Rattle.cluster_records.specs.Listed.{IsNextAtMost, entries_at, is_first_in}
 
 -- the entries of those that pass
 abbrev pub passing : (Logged → Bool) → List Logged → List Entry
@@ -73,13 +73,13 @@ later_kept k logged more all = passing-none_more (is_up_to k) logged more (none_
 
 -- ---- of a machine and a snapshot
 
-pub in_yes : (a k : ℕ) (l : Logged) → is_of a l.entry ≡ true → l.number ≡ k → is_in a k l ≡ true
+pub in_yes : (a k : ℕ) (l : Logged) → is_of a l.entry ≡ true → l.number ≡ k → is_first_in a k l ≡ true
 in_yes a k l own is = and_from (is_of a l.entry) (l.number == k) own (eq-eqb l.number k is)
 
-pub in_no : (a k : ℕ) (l : Logged) → l.number ≢ k → is_in a k l ≡ false
+pub in_no : (a k : ℕ) (l : Logged) → l.number ≢ k → is_first_in a k l ≡ false
 in_no a k l other = and_right (is_of a l.entry) (l.number == k) (ne_eqb l.number k other)
 
-pub in_other : (a k : ℕ) (l : Logged) → is_of a l.entry ≡ false → is_in a k l ≡ false
+pub in_other : (a k : ℕ) (l : Logged) → is_of a l.entry ≡ false → is_first_in a k l ≡ false
 in_other a k l other = and_left (is_of a l.entry) (l.number == k) other
 
 too_high : (n k j : ℕ) → n ≤ suc k → suc k < j → n ≡ j → ⊥
@@ -89,8 +89,8 @@ too_high n k j low high is = omega arith
 pub none_later : (a k j : ℕ) (logged : List Logged) → suc k < j → AllByRecursion (IsNextAtMost a k) logged → entries_at a j logged ≡ []
 none_later a k j [] high all = refl
 none_later a k j (l ∷ logged) high all =
-    passing-cons_out (is_in a j) l logged
-    (false_from_ne_true (is_in a j l) (λ is. let both = and_parts (is_of a l.entry) (l.number == j) is in too_high l.number k j (all.0 both.0) high (eqb-true l.number j both.1)))
+    passing-cons_out (is_first_in a j) l logged
+    (false_from_ne_true (is_first_in a j l) (λ is. let both = and_parts (is_of a l.entry) (l.number == j) is in too_high l.number k j (all.0 both.0) high (eqb-true l.number j both.1)))
     ∙ none_later a k j logged high all.1
 
 le_next : (n k j : ℕ) → n ≤ suc k → k ≤ j → n ≤ suc j

@@ -10,8 +10,8 @@ use Rattle.cluster_core.specs.Settings.{IsSetting, Setting}
 use Rattle.cluster_model.specs.Events.{entries_below, entries_in_all}
 use Rattle.cluster_model.specs.Leading.{Snapshot}
 use Rattle.cluster_whole.specs.Logged.{Logged, entries_to, is_up_to}
-use Rattle.cluster_records.specs.Listed.{entries_at, is_in}
-use Rattle.cluster_records.specs.Recorded.{AreNumbered, HasNewUpdates, IsOwnUpdate, IsSinceBase}
+use Rattle.cluster_records.specs.Listed.{entries_at, is_first_in}
+use Rattle.cluster_records.specs.Recorded.{GoOnByNumber, HasNewUpdates, IsOwnUpdate, IsSinceBase}
 use Rattle.cluster_records.proofs.Filtering.{in_no, in_other, in_yes, nothing_up_to, other_entry, own_entry, passing-cons_in, passing-cons_out, up_to_no, up_to_yes}
 
 -- the updates of the first so many machines that snapshot k is the first to have, machine by machine
@@ -31,10 +31,10 @@ none_gathered zero k = refl
 none_gathered (suc a) k = ap (λ (es : List Entry). es ++ []) (none_gathered a k)
 
 -- of another snapshot, or of a machine further on
-skips : (n k : ℕ) (l : Logged) (ls : List Logged) → ((a : ℕ) → a < n → is_in a k l ≡ false) → gathered n k (l ∷ ls) ≡ gathered n k ls
+skips : (n k : ℕ) (l : Logged) (ls : List Logged) → ((a : ℕ) → a < n → is_first_in a k l ≡ false) → gathered n k (l ∷ ls) ≡ gathered n k ls
 skips zero k l ls none = refl
 skips (suc a) k l ls none =
-    ap₂ (λ (xs ys : List Entry). xs ++ ys) (skips a k l ls (λ b low. none b (lt_trans low (lt-suc_self a)))) (passing-cons_out (is_in a k) l ls (none a (lt-suc_self a)))
+    ap₂ (λ (xs ys : List Entry). xs ++ ys) (skips a k l ls (λ b low. none b (lt_trans low (lt-suc_self a)))) (passing-cons_out (is_first_in a k) l ls (none a (lt-suc_self a)))
 
 none_below : (a : ℕ) → a < 0 → ⊥
 none_below a low = omega arith
@@ -58,12 +58,12 @@ takes (suc n) k a l ls number own others low =
     from
     (ap₂ (λ (xs ys : List Entry). xs ++ ys)
     (skips n k l ls (λ b less. in_other b k l (others b (λ same. not_less n b less (same ∙ at)))))
-    (passing-cons_in (is_in n k) l ls (in_yes n k l (subst (λ (b : ℕ). is_of b l.entry ≡ true) at own) number)))
+    (passing-cons_in (is_first_in n k) l ls (in_yes n k l (subst (λ (b : ℕ). is_of b l.entry ≡ true) at own) number)))
     refl
     (IsPermutation-middle (gathered n k ls) l.entry (entries_at n k ls)))
     (λ (off : a ≢ n).
     from
-    (ap (λ (es : List Entry). gathered n k (l ∷ ls) ++ es) (passing-cons_out (is_in n k) l ls (in_other n k l (others n (λ same. off (sym same))))))
+    (ap (λ (es : List Entry). gathered n k (l ∷ ls) ++ es) (passing-cons_out (is_first_in n k) l ls (in_other n k l (others n (λ same. off (sym same))))))
     refl
     (IsPermutation-append_left (entries_at n k ls) (gathered n k (l ∷ ls)) (l.entry ∷ gathered n k ls) (takes n k a l ls number own others (below a n low off))))
     (cases_eq a n)
@@ -149,7 +149,7 @@ module _ (st : Setting) (is : IsSetting st) where
         from (ap (λ (es : List Entry). entries_to low logged ++ es) (below_gathered st.machines snapshot logged has ∙ ap (λ (k : ℕ). gathered st.machines k logged) number)) refl
         (new_gathered st.machines low logged (all_made logged since))
 
-    pub more_gathered : (low high : ℕ) (snapshots : List Snapshot) → AreNumbered low snapshots high → AllByRecursion (HasNewUpdates st logged) snapshots → IsPermutation (entries_to low logged ++ entries_in_all st snapshots) (entries_to high logged)
+    pub more_gathered : (low high : ℕ) (snapshots : List Snapshot) → GoOnByNumber low snapshots high → AllByRecursion (HasNewUpdates st logged) snapshots → IsPermutation (entries_to low logged ++ entries_in_all st snapshots) (entries_to high logged)
     more_gathered low high [] numbered has = from (append-nil (entries_to low logged)) (ap (λ (k : ℕ). entries_to k logged) numbered) (IsPermutation-refl (entries_to low logged))
     more_gathered low high (snapshot ∷ snapshots) numbered has =
         let rest : List Entry = entries_in_all st snapshots in
@@ -160,6 +160,6 @@ module _ (st : Setting) (is : IsSetting st) where
         (more_gathered (suc low) high snapshots numbered.1 has.1))
 
     -- the entries of all snapshots are the updates that the last one has, each once
-    pub all_gathered : (high : ℕ) (snapshots : List Snapshot) → AreNumbered st.base snapshots high → AllByRecursion (HasNewUpdates st logged) snapshots → IsPermutation (entries_in_all st snapshots) (entries_to high logged)
+    pub all_gathered : (high : ℕ) (snapshots : List Snapshot) → GoOnByNumber st.base snapshots high → AllByRecursion (HasNewUpdates st logged) snapshots → IsPermutation (entries_in_all st snapshots) (entries_to high logged)
     all_gathered high snapshots numbered has =
         subst (λ (es : List Entry). IsPermutation (es ++ entries_in_all st snapshots) (entries_to high logged)) (nothing_up_to st.base logged (all_since logged since)) (more_gathered st.base high snapshots numbered has)

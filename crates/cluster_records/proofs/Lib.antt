@@ -10,3 +10,5 @@ pub mod Merging
 pub mod Accounts
 pub mod Based
 pub mod Courses
+pub mod Outside
+pub mod Sizing

@@ -17,7 +17,7 @@ use Rattle.cluster_model.specs.Calls.{Begin, Call, Committed, Report, Step, Wave
 use Rattle.cluster_model.specs.Clusters.{Cluster}
 use Rattle.cluster_model.specs.Events.{Event, Admit, DeliverCall, DeliverReport, Deliver, Fail, Grant, Mark, MayDo, PutBegin, PutStep, PutWave, Record, Recover, Section, Send, SendCall, SendReport, Stop, Update, after_event, delivers_call, delivers_message, delivers_report, makes, saves, sends_call, sends_message, sends_report}
 use Rattle.cluster_model.specs.Machines.{Machine}
-use Rattle.cluster_model.specs.Working.{admits, fails, grants, hands, hands_report, makes_mark, makes_update, prompt, receives, sections, snapshot_in, takes_call}
+use Rattle.cluster_model.specs.Working.{admits, fails, grants, hands, hands_report, makes_mark, makes_update, prompt, receives, sections, snapshot_in, takes_call, works_on}
 use Rattle.cluster_whole.specs.Logged.{Logged}
 use Rattle.cluster_whole.specs.Views.{world_of}
 use Rattle.cluster_whole.specs.Whole.{IsNoRecovery, IsWhole}
@@ -26,7 +26,7 @@ use Rattle.cluster_records.proofs.Entering.{IsNoUpdate, update_logged}
 use Rattle.cluster_records.proofs.Filtering.{other_entry, own_entry}
 use Rattle.cluster_records.proofs.Listing.{before_logged, behind_logged, other_logged, same_listed, section_listed, told_listed}
 
-under_low : (begun acknowledged : ℕ) → (begun ≡ acknowledged) ⊎ (begun ≡ suc acknowledged) → begun ≤ suc acknowledged
+pub under_low : (begun acknowledged : ℕ) → (begun ≡ acknowledged) ⊎ (begun ≡ suc acknowledged) → begun ≤ suc acknowledged
 under_low begun acknowledged is =
     ⊎_elim (λ (none : begun ≡ acknowledged). le_up begun acknowledged none) (λ (one : begun ≡ suc acknowledged). le_of_eq one) is
   where
@@ -69,7 +69,7 @@ received_known st a (Ask s v rest) part = (goes_on-quiet st a s v 0 rest part).k
 received_known st a (Ready s) part = sym (max_none part.known)
 received_known st a (Done s news) part = refl
 
-received_sent : (st : Setting) (a : ℕ) (m : Message) (part : Part) → (received st a m part).sent ≡ part.sent
+pub received_sent : (st : Setting) (a : ℕ) (m : Message) (part : Part) → (received st a m part).sent ≡ part.sent
 received_sent st a (Ask s v rest) part = (goes_on-quiet st a s v 0 rest part).sent
 received_sent st a (Ready s) part = refl
 received_sent st a (Done s news) part = refl
@@ -83,6 +83,18 @@ not_marked mark known begun less is now = omega arith
 less_than : (sent known begun : ℕ) → sent ≤ begun → known ≡ begun → sent ≢ begun → sent < known
 less_than sent known begun most is off =
     ⊎_elim (λ (less : sent < known). less) (λ (high : known ≤ sent). absurd (off (le_antisymm most (subst (λ (n : ℕ). n ≤ sent) is high)))) (cases_lt sent known)
+
+near_all : (sent known begun : ℕ) → sent ≡ begun → known ≡ begun → (sent ≤ known) × (known ≤ suc sent)
+near_all sent known begun one two = (omega arith, omega arith)
+
+near_none : (sent known acknowledged begun : ℕ) → sent ≡ begun → begun ≤ acknowledged → acknowledged ≤ known → known ≤ begun → (sent ≤ known) × (known ≤ suc sent)
+near_none sent known acknowledged begun one two three four = (omega arith, omega arith)
+
+near_old : (sent known acknowledged begun : ℕ) → sent < begun → begun ≤ suc acknowledged → acknowledged ≤ sent → acknowledged ≤ known → known ≤ begun → (sent ≤ known) × (known ≤ suc sent)
+near_old sent known acknowledged begun one two three four five = (omega arith, omega arith)
+
+lower : (n m : ℕ) → n ≤ m → n ≢ m → n < m
+lower n m most off = ⊎_elim (λ (is : n < m). is) (λ (high : m ≤ n). absurd (off (le_antisymm most high))) (cases_lt n m)
 
 module _ (st : Setting) (is : IsSetting st) (c : Cluster) (whole : IsWhole st c) where
   abbrev w : World
@@ -186,27 +198,52 @@ module _ (st : Setting) (is : IsSetting st) (c : Cluster) (whole : IsWhole st c)
     events_listed Stop may other none = listed
 
     -- an update is listed before the marks or behind them
-    pub update_listed : (s : ScopeId) (may : MayDo st c (Update s)) → st.owner may.1.vertex ≡ s.home.0 → may.1.vertex < size st.graph → AreListed st (after_event st c (Update s)) (logged ++ update_logged st c s may.1.vertex ∷ [])
-    update_listed s may owner within =
+    pub made_listed : (s : ScopeId) (may : MayDo st c (Update s)) → st.owner may.1.vertex ≡ s.home.0 → may.1.vertex < size st.graph →
+        IsListed s.home.0 (works_on st s.home.0 s may.1.vertex (update_logged st c s may.1.vertex).entry (c.machine s.home.0)) (logged ++ update_logged st c s may.1.vertex ∷ [])
+    made_listed s may owner within =
         let a : ℕ = s.home.0 in
         let v : ℕ = may.1.vertex in
         let m : Machine = c.machine a in
         let l : Logged = update_logged st c s v in
         let mark : ℕ = (m.part.datum v).mark in
-        let made : Machine = prompt st a (makes_update st a s v l.entry m) in
+        let done : Machine = works_on st a s v l.entry m in
         let low : a < st.machines = may.0.machine in
         let own = own_entry a s.home (record { 0 = v }) c.next refl in
-        subst (λ (flight : Option ℕ). AreListed st (makes st c s flight) (logged ++ l ∷ [])) (sym may.1.flight)
-        (λ b. set_at-holds (λ (b : ℕ) (m : Machine). b < st.machines → IsListed b m (logged ++ l ∷ [])) c.machine a made b
-        (λ fits. ⊎_elim
+        ⊎_elim
         (λ (less : mark < m.part.known).
         let test : nat_lt mark m.part.known ≡ true = lt-ltb mark m.part.known less in
         let both = unmarked_unsent a v low within owner less in
-        before_logged a m logged (listed a low) made l own both.0 both.1
-        (cond-true (nat_lt mark m.part.known) (m.before ++ l.entry ∷ []) m.before test) (cond-true (nat_lt mark m.part.known) m.behind (m.behind ++ l.entry ∷ []) test) refl refl)
+        before_logged a m logged (listed a low) done l own both.0 both.1
+        (cond-true (nat_lt mark m.part.known) (m.before ++ l.entry ∷ []) m.before test)
+        (cond-true (nat_lt mark m.part.known) m.behind (m.behind ++ l.entry ∷ []) test) refl refl)
         (λ (high : m.part.known ≤ mark).
         let test : nat_lt mark m.part.known ≡ false = le-ltb mark m.part.known high in
-        behind_logged a m logged (listed a low) made l own (ap (λ (n : ℕ). suc n) (le_antisymm (own_mark a v within owner).1 high))
-        (cond-false (nat_lt mark m.part.known) (m.before ++ l.entry ∷ []) m.before test) (cond-false (nat_lt mark m.part.known) m.behind (m.behind ++ l.entry ∷ []) test) refl refl)
-        (cases_lt mark m.part.known))
+        behind_logged a m logged (listed a low) done l own (ap (λ (n : ℕ). suc n) (le_antisymm (own_mark a v within owner).1 high))
+        (cond-false (nat_lt mark m.part.known) (m.before ++ l.entry ∷ []) m.before test)
+        (cond-false (nat_lt mark m.part.known) m.behind (m.behind ++ l.entry ∷ []) test) refl refl)
+        (cases_lt mark m.part.known)
+
+    pub update_listed : (s : ScopeId) (may : MayDo st c (Update s)) → st.owner may.1.vertex ≡ s.home.0 → may.1.vertex < size st.graph → AreListed st (after_event st c (Update s)) (logged ++ update_logged st c s may.1.vertex ∷ [])
+    update_listed s may owner within =
+        let a : ℕ = s.home.0 in
+        let v : ℕ = may.1.vertex in
+        let l : Logged = update_logged st c s v in
+        let done : Machine = works_on st a s v l.entry (c.machine a) in
+        let made : Machine = prompt st a (makes_update st a s v l.entry (c.machine a)) in
+        subst (λ (flight : Option ℕ). AreListed st (makes st c s flight) (logged ++ l ∷ [])) (sym may.1.flight)
+        (λ b. set_at-holds (λ (b : ℕ) (m : Machine). b < st.machines → IsListed b m (logged ++ l ∷ [])) c.machine a made b
+        (λ fits. same_listed a done (logged ++ l ∷ []) (made_listed s may owner within) made refl refl refl refl)
         (λ off fits. other_logged b (c.machine b) logged (listed b fits) l (other_entry b s.home (record { 0 = v }) c.next (λ is. off (sym is)))))
+
+    -- a machine has sent its section of the snapshot that it knows, or of the one before
+    pub sent_near : (a : ℕ) → a < st.machines → ((w.part a).sent ≤ (w.part a).known) × ((w.part a).known ≤ suc (w.part a).sent)
+    sent_near a low =
+        let known = marks.known a low in
+        let sent = marks.sent_low a low in
+        ⊎_elim
+        (λ (all : (w.part a).sent ≡ w.begun). ⊎_elim
+        (λ (under : w.acknowledged < w.begun). near_all (w.part a).sent (w.part a).known w.begun all (marks.sent a low all under).0)
+        (λ (none : w.begun ≤ w.acknowledged). near_none (w.part a).sent (w.part a).known w.acknowledged w.begun all none known.0 known.1)
+        (cases_lt w.acknowledged w.begun))
+        (λ (off : (w.part a).sent ≢ w.begun). near_old (w.part a).sent (w.part a).known w.acknowledged w.begun (lower (w.part a).sent w.begun sent.1 off) few sent.0 known.0 known.1)
+        (cases_eq (w.part a).sent w.begun)

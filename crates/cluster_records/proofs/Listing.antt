@@ -8,7 +8,7 @@ use Rattle.cluster_core.specs.Replays.{is_of}
 use Rattle.cluster_model.specs.Machines.{Machine}
 use Rattle.cluster_model.specs.Working.{before_at, behind_at}
 use Rattle.cluster_whole.specs.Logged.{Logged}
-use Rattle.cluster_records.specs.Listed.{IsListed, IsNextAtMost, entries_at, is_in}
+use Rattle.cluster_records.specs.Listed.{IsListed, IsNextAtMost, entries_at, is_first_in}
 use Rattle.cluster_records.proofs.Filtering.{in_no, in_other, in_yes, next_weaker, none_later, passing-more_in, passing-more_out}
 
 max_low : (n k : ℕ) → k ≤ n → max n k ≡ n
@@ -84,8 +84,8 @@ module _ (a : ℕ) (m : Machine) (logged : List Logged) (listed : IsListed a m l
   pub other_logged : (l : Logged) → is_of a l.entry ≡ false → IsListed a m (logged ++ l ∷ [])
   other_logged l other =
       record {
-        before = listed.before ∙ sym (ap (λ (es : List Entry). if_unsent m.part.sent m.part.known es) (passing-more_out (is_in a m.part.known) logged l (in_other a m.part.known l other)));
-        behind = listed.behind ∙ sym (passing-more_out (is_in a (suc m.part.known)) logged l (in_other a (suc m.part.known) l other));
+        before = listed.before ∙ sym (ap (λ (es : List Entry). if_unsent m.part.sent m.part.known es) (passing-more_out (is_first_in a m.part.known) logged l (in_other a m.part.known l other)));
+        behind = listed.behind ∙ sym (passing-more_out (is_first_in a (suc m.part.known)) logged l (in_other a (suc m.part.known) l other));
         next = each-append (IsNextAtMost a m.part.known) logged (l ∷ []) listed.next (λ own. absurd (absurd_own (is_of a l.entry) other own), tt);
       }
 
@@ -96,11 +96,11 @@ module _ (a : ℕ) (m : Machine) (logged : List Logged) (listed : IsListed a m l
       let now : nat_lt m.part.sent m.part.known ≡ true = lt-ltb m.part.sent m.part.known unsent in
       record {
         before = before ∙ ap (λ (es : List Entry). es ++ l.entry ∷ []) (listed.before ∙ cond-true (nat_lt m.part.sent m.part.known) (entries_at a m.part.known logged) [] now)
-            ∙ sym (passing-more_in (is_in a m.part.known) logged l (in_yes a m.part.known l own number))
+            ∙ sym (passing-more_in (is_first_in a m.part.known) logged l (in_yes a m.part.known l own number))
             ∙ sym (cond-true (nat_lt m.part.sent m.part.known) (entries_at a m.part.known (logged ++ l ∷ [])) [] now)
             ∙ (λ i. if_unsent (sym sent i) (sym known i) (entries_at a (sym known i) (logged ++ l ∷ [])));
         behind = behind ∙ listed.behind
-            ∙ sym (passing-more_out (is_in a (suc m.part.known)) logged l (in_no a (suc m.part.known) l (λ is. suc_other m.part.known (sym is ∙ number))))
+            ∙ sym (passing-more_out (is_first_in a (suc m.part.known)) logged l (in_no a (suc m.part.known) l (λ is. suc_other m.part.known (sym is ∙ number))))
             ∙ ap (λ (k : ℕ). entries_at a (suc k) (logged ++ l ∷ [])) (sym known);
         next = subst (λ (k : ℕ). AllByRecursion (IsNextAtMost a k) (logged ++ l ∷ [])) (sym known)
             (each-append (IsNextAtMost a m.part.known) logged (l ∷ []) listed.next (λ is. subst (λ (n : ℕ). n ≤ suc m.part.known) (sym number) (up_to_suc m.part.known), tt));
@@ -112,10 +112,10 @@ module _ (a : ℕ) (m : Machine) (logged : List Logged) (listed : IsListed a m l
   behind_logged new l own number before behind known sent =
       record {
         before = before ∙ listed.before
-            ∙ ap (λ (es : List Entry). if_unsent m.part.sent m.part.known es) (sym (passing-more_out (is_in a m.part.known) logged l (in_no a m.part.known l (λ is. suc_other m.part.known (sym number ∙ is)))))
+            ∙ ap (λ (es : List Entry). if_unsent m.part.sent m.part.known es) (sym (passing-more_out (is_first_in a m.part.known) logged l (in_no a m.part.known l (λ is. suc_other m.part.known (sym number ∙ is)))))
             ∙ (λ i. if_unsent (sym sent i) (sym known i) (entries_at a (sym known i) (logged ++ l ∷ [])));
         behind = behind ∙ ap (λ (es : List Entry). es ++ l.entry ∷ []) listed.behind
-            ∙ sym (passing-more_in (is_in a (suc m.part.known)) logged l (in_yes a (suc m.part.known) l own number))
+            ∙ sym (passing-more_in (is_first_in a (suc m.part.known)) logged l (in_yes a (suc m.part.known) l own number))
             ∙ ap (λ (k : ℕ). entries_at a (suc k) (logged ++ l ∷ [])) (sym known);
         next = subst (λ (k : ℕ). AllByRecursion (IsNextAtMost a k) (logged ++ l ∷ [])) (sym known)
             (each-append (IsNextAtMost a m.part.known) logged (l ∷ []) listed.next (λ is. subst (λ (n : ℕ). n ≤ suc m.part.known) (sym number) (le_refl (suc m.part.known)), tt));

@@ -27,8 +27,8 @@ use Rattle.cluster_whole.specs.Logged.{IsLogged, Logged, all_entries, entries_to
 use Rattle.cluster_whole.specs.Views.{section_of, world_of}
 use Rattle.cluster_whole.specs.Whole.{IsNoRecovery, IsWhole}
 use Rattle.cluster_whole.proofs.Wholeness.{may_record}
-use Rattle.cluster_records.specs.Listed.{AreComing, is_in}
-use Rattle.cluster_records.specs.Recorded.{AreNumbered, AreRecorded, HasNewUpdates, IsGoodSnapshot, HaveSameNumbers, snapshot_due}
+use Rattle.cluster_records.specs.Listed.{AreComing, is_first_in}
+use Rattle.cluster_records.specs.Recorded.{GoOnByNumber, AreGoodSnapshots, HasNewUpdates, IsGoodSnapshot, HaveSameNumbers, snapshot_due}
 use Rattle.cluster_records.proofs.Coming.{come_entries}
 use Rattle.cluster_records.proofs.Filtering.{all-more, in_no, later_kept, passing-more_out}
 use Rattle.seq_run.specs.Orders.{IsValidFrom, all_tasks}
@@ -73,11 +73,11 @@ adds_none st c Stop may other none = (refl, refl)
 up_one : (low high : ℕ) → suc low ≤ high → low ≤ high
 up_one low high is = omega arith
 
-numbered_low : (low high : ℕ) (snapshots : List Snapshot) → AreNumbered low snapshots high → low ≤ high
+numbered_low : (low high : ℕ) (snapshots : List Snapshot) → GoOnByNumber low snapshots high → low ≤ high
 numbered_low low high [] numbered = subst (λ (n : ℕ). low ≤ n) (sym numbered) (le_refl low)
 numbered_low low high (snapshot ∷ snapshots) numbered = up_one low high (numbered_low (suc low) high snapshots numbered.1)
 
-numbered_push : (low high : ℕ) (snapshots : List Snapshot) (last : Snapshot) → AreNumbered low snapshots high → last.number ≡ suc high → AreNumbered low (snapshots ++ last ∷ []) (suc high)
+numbered_push : (low high : ℕ) (snapshots : List Snapshot) (last : Snapshot) → GoOnByNumber low snapshots high → last.number ≡ suc high → GoOnByNumber low (snapshots ++ last ∷ []) (suc high)
 numbered_push low high [] last numbered number = (number ∙ ap (λ (n : ℕ). suc n) numbered, ap (λ (n : ℕ). suc n) numbered)
 numbered_push low high (snapshot ∷ snapshots) last numbered number = (numbered.0, numbered_push (suc low) high snapshots last numbered.1 number)
 
@@ -102,7 +102,7 @@ one_good : (st : Setting) (logged : List Logged) (l : Logged) (snapshot : Snapsh
 one_good st logged l snapshot above good =
     let same : entries_to snapshot.number (logged ++ l ∷ []) ≡ entries_to snapshot.number logged = later_kept snapshot.number logged (l ∷ []) (above, tt) in
     record {
-      updates = λ a fits. good.updates a fits ∙ sym (passing-more_out (is_in a snapshot.number) logged l (in_no a snapshot.number l (other_number l.number snapshot.number above)));
+      updates = λ a fits. good.updates a fits ∙ sym (passing-more_out (is_first_in a snapshot.number) logged l (in_no a snapshot.number l (other_number l.number snapshot.number above)));
       valid = subst (IsValidFrom st.graph st.program st.start (all_tasks st.graph)) (sym same) good.valid;
       first = λ v. subst (λ (es : List Entry). Begins (updates_at v es) (updates_at v (all_entries (logged ++ l ∷ [])))) (sym same)
           (subst (λ (es : List Entry). Begins (updates_at v (entries_to snapshot.number logged)) es)
@@ -111,7 +111,7 @@ one_good st logged l snapshot above good =
       numbers = subst (λ (es : List Entry). HaveSameNumbers st.graph (snapshot_numbers st snapshot) (replay_of st es)) (sym same) good.numbers;
     }
 
-still_good : (st : Setting) (logged : List Logged) (l : Logged) (low high : ℕ) (snapshots : List Snapshot) → AreNumbered low snapshots high → high < l.number → AllByRecursion (IsGoodSnapshot st logged) snapshots → AllByRecursion (IsGoodSnapshot st (logged ++ l ∷ [])) snapshots
+still_good : (st : Setting) (logged : List Logged) (l : Logged) (low high : ℕ) (snapshots : List Snapshot) → GoOnByNumber low snapshots high → high < l.number → AllByRecursion (IsGoodSnapshot st logged) snapshots → AllByRecursion (IsGoodSnapshot st (logged ++ l ∷ [])) snapshots
 still_good st logged l low high [] numbered above good = tt
 still_good st logged l low high (snapshot ∷ snapshots) numbered above good = (
   one_good st logged l snapshot (lt_of_le_of_lt (subst (λ (n : ℕ). n ≤ high) (sym numbered.0) (numbered_low (suc low) high snapshots numbered.1)) above) good.0,
@@ -123,7 +123,7 @@ all_new st logged [] good = tt
 all_new st logged (snapshot ∷ snapshots) good = (good.0.updates, all_new st logged snapshots good.1)
 
 -- the numbers of the newest snapshot, or of the base where there is none
-pub newest_numbers : (st : Setting) (logged : List Logged) (low high : ℕ) (snapshots : List Snapshot) (numbers : GraphState) → AreNumbered low snapshots high → AllByRecursion (IsGoodSnapshot st logged) snapshots →
+pub newest_numbers : (st : Setting) (logged : List Logged) (low high : ℕ) (snapshots : List Snapshot) (numbers : GraphState) → GoOnByNumber low snapshots high → AllByRecursion (IsGoodSnapshot st logged) snapshots →
     HaveSameNumbers st.graph numbers (replay_of st (entries_to low logged)) → HaveSameNumbers st.graph (newest_of st snapshots numbers) (replay_of st (entries_to high logged))
 newest_numbers st logged low high [] numbers numbered good same = subst (λ (n : ℕ). HaveSameNumbers st.graph numbers (replay_of st (entries_to n logged))) (sym numbered) same
 newest_numbers st logged low high (snapshot ∷ snapshots) numbers numbered good same =
@@ -212,15 +212,15 @@ module _ (st : Setting) (is : IsSetting st) (c : Cluster) (whole : IsWhole st c)
             ap (λ (a : ℕ). or_zero ((sections a).section.edges e)) first.3 ∙ number_of_some ((sections first.0).section.edges e) value.0 value.1 ∙ sym right;
       }
 
-  module _ (logged : List Logged) (records : AreRecorded st c logged) where
-    pub still_recorded : (new : Cluster) → HasSame c new → AreRecorded st new logged
+  module _ (logged : List Logged) (records : AreGoodSnapshots st c logged) where
+    pub still_recorded : (new : Cluster) → HasSame c new → AreGoodSnapshots st new logged
     still_recorded new same =
         record {
-          numbered = subst (λ (high : ℕ). AreNumbered st.base new.coordinator.snapshots high) (sym same.1) (subst (λ (ss : List Snapshot). AreNumbered st.base ss c.coordinator.acknowledged) (sym same.0) records.numbered);
+          numbered = subst (λ (high : ℕ). GoOnByNumber st.base new.coordinator.snapshots high) (sym same.1) (subst (λ (ss : List Snapshot). GoOnByNumber st.base ss c.coordinator.acknowledged) (sym same.0) records.numbered);
           good = subst (AllByRecursion (IsGoodSnapshot st logged)) (sym same.0) records.good;
         }
 
-    pub more_recorded : (l : Logged) → c.coordinator.acknowledged < l.number → AreRecorded st c (logged ++ l ∷ [])
+    pub more_recorded : (l : Logged) → c.coordinator.acknowledged < l.number → AreGoodSnapshots st c (logged ++ l ∷ [])
     more_recorded l above =
         record {
           numbered = records.numbered;
@@ -247,11 +247,11 @@ module _ (st : Setting) (is : IsSetting st) (c : Cluster) (whole : IsWhole st c)
           numbers = subst (λ (es : List Entry). HaveSameNumbers st.graph (snapshot_numbers st (snapshot_due c.coordinator)) (replay_of st es)) cut (due_numbers due);
         }
 
-    pub one_recorded : IsLogged st w whole.consistent logged → AreComing st c logged → RecordIsDue st c.coordinator → AreRecorded st (after_event st c Record) logged
+    pub one_recorded : IsLogged st w whole.consistent logged → AreComing st c logged → RecordIsDue st c.coordinator → AreGoodSnapshots st (after_event st c Record) logged
     one_recorded order coming due =
         let last : Snapshot = snapshot_due c.coordinator in
         let next : c.coordinator.begun ≡ suc c.coordinator.acknowledged = next_number due in
         record {
-          numbered = subst (λ (high : ℕ). AreNumbered st.base (c.coordinator.snapshots ++ last ∷ []) high) (sym next) (numbered_push st.base c.coordinator.acknowledged c.coordinator.snapshots last records.numbered next);
+          numbered = subst (λ (high : ℕ). GoOnByNumber st.base (c.coordinator.snapshots ++ last ∷ []) high) (sym next) (numbered_push st.base c.coordinator.acknowledged c.coordinator.snapshots last records.numbered next);
           good = each-append (IsGoodSnapshot st logged) c.coordinator.snapshots (last ∷ []) records.good (due_good order coming due, tt);
         }

@@ -3,9 +3,8 @@ use Rattle.std.specs.Prelude.{List, ℕ, ◌++◌, ◌≡◌}
 use Rattle.cluster_core.specs.Settings.{Setting}
 use Rattle.cluster_model.specs.ByTicket.{StandByTicket}
 use Rattle.cluster_model.specs.Clusters.{BaseView, Cluster}
-use Rattle.cluster_records.specs.Listed.{Logged}
 use Rattle.cluster_records.specs.Recorded.{HaveSameNumbers}
-use Rattle.cluster_whole.specs.Logged.{all_entries}
+use Rattle.cluster_whole.specs.Logged.{Logged, all_entries}
 use Rattle.seq_run.specs.Orders.{replay}
 
 -- The order of the base stands by ticket, and the base's numbers are its replay from the start state of the program on.

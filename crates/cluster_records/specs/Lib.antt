@@ -1,3 +1,5 @@
 pub mod Listed
 pub mod Recorded
 pub mod Bases
+pub mod Wanting
+pub mod Few

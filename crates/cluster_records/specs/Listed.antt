@@ -8,15 +8,15 @@ use Rattle.cluster_model.specs.Calls.{Count, Report, Saved, Want}
 use Rattle.cluster_model.specs.Clusters.{Cluster, report_way}
 use Rattle.cluster_model.specs.Leading.{Come}
 use Rattle.cluster_model.specs.Machines.{Machine}
-pub use Rattle.cluster_whole.specs.Logged.{Logged, entries_to, entry_of}
+use Rattle.cluster_whole.specs.Logged.{Logged, entry_of}
 
 -- an update of machine a that snapshot k is the first to have
-abbrev pub is_in : ℕ → ℕ → Logged → Bool
-is_in a k l = is_of a l.entry && l.number == k
+abbrev pub is_first_in : ℕ → ℕ → Logged → Bool
+is_first_in a k l = is_of a l.entry && l.number == k
 
 -- the updates of machine a that snapshot k is the first to have
 abbrev pub entries_at : ℕ → ℕ → List Logged → List Entry
-entries_at a k logged = map entry_of (filter (is_in a k) logged)
+entries_at a k logged = map entry_of (filter (is_first_in a k) logged)
 
 -- an update of machine a is of no later snapshot than the one after k
 abbrev pub IsNextAtMost : ℕ → ℕ → Logged → Type 0

@@ -9,8 +9,8 @@ use Rattle.cluster_core.specs.Settings.{Setting}
 use Rattle.cluster_model.specs.Clusters.{Cluster}
 use Rattle.cluster_model.specs.Events.{snapshot_numbers}
 use Rattle.cluster_model.specs.Leading.{Coordinator, Snapshot, come_or}
-use Rattle.cluster_records.specs.Listed.{AreComing, AreListed, Logged, entries_at, entries_to}
-use Rattle.cluster_whole.specs.Logged.{IsLogged, all_entries}
+use Rattle.cluster_records.specs.Listed.{AreComing, AreListed, entries_at}
+use Rattle.cluster_whole.specs.Logged.{IsLogged, Logged, all_entries, entries_to}
 use Rattle.cluster_whole.specs.Views.{world_of}
 use Rattle.cluster_whole.specs.Whole.{IsWhole}
 use Rattle.graph_core.specs.DataGraph.{DataGraph, size}
@@ -31,9 +31,9 @@ abbrev pub HasNewUpdates : Setting → List Logged → Snapshot → Type 0
 HasNewUpdates st logged snapshot = (a : ℕ) → a < st.machines → (snapshot.sections a).entries ≡ entries_at a snapshot.number logged
 
 -- the snapshots have the numbers behind `low`, one after another, up to `high`
-abbrev pub AreNumbered : ℕ → List Snapshot → ℕ → Type 0
-AreNumbered low [] high = high ≡ low
-AreNumbered low (snapshot ∷ snapshots) high = (snapshot.number ≡ suc low) × AreNumbered (suc low) snapshots high
+abbrev pub GoOnByNumber : ℕ → List Snapshot → ℕ → Type 0
+GoOnByNumber low [] high = high ≡ low
+GoOnByNumber low (snapshot ∷ snapshots) high = (snapshot.number ≡ suc low) × GoOnByNumber (suc low) snapshots high
 
 -- the same numbers of each vertex and each edge of the graph
 pub record HaveSameNumbers (g : DataGraph) (one other : GraphState) : Type 0 where
@@ -49,8 +49,8 @@ pub record IsGoodSnapshot (st : Setting) (logged : List Logged) (snapshot : Snap
   pub numbers : HaveSameNumbers st.graph (snapshot_numbers st snapshot) (replay_of st (entries_to snapshot.number logged))
 
 -- The snapshots of this attempt are good, and have the numbers behind the base's, one after another.
-pub record AreRecorded (st : Setting) (c : Cluster) (logged : List Logged) : Type 0 where
-  pub numbered : AreNumbered st.base c.coordinator.snapshots c.coordinator.acknowledged
+pub record AreGoodSnapshots (st : Setting) (c : Cluster) (logged : List Logged) : Type 0 where
+  pub numbered : GoOnByNumber st.base c.coordinator.snapshots c.coordinator.acknowledged
   pub good : AllByRecursion (IsGoodSnapshot st logged) c.coordinator.snapshots
 
 -- Each update of the order is logged with the first snapshot that has it, and is listed, told and recorded for that one.
@@ -59,7 +59,7 @@ pub record IsAccounted (st : Setting) (c : Cluster) (whole : IsWhole st c) (logg
   pub since : AllByRecursion (IsSinceBase st) logged
   pub lists : AreListed st c logged
   pub sections : AreComing st c logged
-  pub records : AreRecorded st c logged
+  pub records : AreGoodSnapshots st c logged
 
 -- the snapshot under way, as it is recorded
 abbrev pub snapshot_due : Coordinator → Snapshot

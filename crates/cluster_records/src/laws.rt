@@ -10,8 +10,9 @@ ghost use Rattle.cluster_model.specs.Clusters.{BaseView, Cluster};
 ghost use Rattle.cluster_model.specs.Events.{Event, GoesBackTo, IsCourse, MayDo, Section, after_event, entries_in_all, failures_in, recovers};
 ghost use Rattle.cluster_model.specs.Leading.{Come, RecordIsDue, acknowledges};
 ghost use Rattle.cluster_records.specs.Bases.{IsBase, IsBased};
-ghost use Rattle.cluster_records.specs.Listed.{Logged, entries_at, entries_to};
+ghost use Rattle.cluster_records.specs.Listed.{entries_at};
 ghost use Rattle.cluster_records.specs.Recorded.{IsAccounted, IsGoodSnapshot, snapshot_due};
+ghost use Rattle.cluster_whole.specs.Logged.{Logged, entries_to};
 ghost use Rattle.cluster_whole.specs.Whole.{AreColoured, IsNoRecovery, IsWhole, setting_behind};
 
 /// Each event but a recovery goes on with the updates that are logged for snapshots, and each of them stands where it belongs. A machine's
