@@ -12,3 +12,4 @@ pub mod Based
 pub mod Courses
 pub mod Outside
 pub mod Sizing
+pub mod Asking
