@@ -13,3 +13,4 @@ pub mod Courses
 pub mod Outside
 pub mod Sizing
 pub mod Asking
+pub mod Fewness

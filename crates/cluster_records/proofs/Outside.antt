@@ -14,7 +14,7 @@ use Rattle.cluster_records.proofs.Filtering.{in_no, in_other, in_yes, passing-co
 pub out_yes : (a k : ℕ) (l : Logged) → is_of a l.entry ≡ true → k < l.number → is_outside a k l ≡ true
 out_yes a k l own high = and_from (is_of a l.entry) (nat_lt k l.number) own (lt-ltb k l.number high)
 
-out_no : (a k : ℕ) (l : Logged) → l.number ≤ k → is_outside a k l ≡ false
+pub out_no : (a k : ℕ) (l : Logged) → l.number ≤ k → is_outside a k l ≡ false
 out_no a k l low = and_right (is_of a l.entry) (nat_lt k l.number) (le-ltb k l.number low)
 
 out_other : (a k : ℕ) (l : Logged) → is_of a l.entry ≡ false → is_outside a k l ≡ false
