@@ -1,9 +1,8 @@
 -- Each event but a recovery keeps who has asked for a snapshot, and that who asks has half of its window outside the newest one.
-use Rattle.std.proofs.Common.{◌≡◌, ◌≢◌, ◌⊎◌, ℕ, zero, suc, ◌+◌, ◌<◌, ◌≤◌, ◌==◌, ◌&&◌, ◌||◌, is_some, nat_le, nat_lt, not, Bool, true, false, if◌then◌else◌, Option, List, [], ◌∷◌, ◌++◌, length, sum_by, inl, inr, refl, sym, ◌∙◌, ap, subst, ⊎_elim, append_assoc, le_trans, le_refl, le-leb, leb-true, length-append, arith}
+use Rattle.std.proofs.Common.{◌≡◌, ◌⊎◌, ℕ, suc, ◌+◌, ◌<◌, ◌≤◌, ◌==◌, ◌&&◌, ◌||◌, is_some, nat_le, nat_lt, not, Bool, true, false, if◌then◌else◌, Option, List, [], ◌∷◌, ◌++◌, length, sum_by, inl, inr, refl, sym, ◌∙◌, ap, subst, ⊎_elim, append_assoc, le_trans, le-leb, leb-true, length-append, arith}
 use Rattle.std.specs.List.{AllByRecursion, list_any}
-use Rattle.std.proofs.lemmas.Bool.{and_from, and_parts, both_ways, cases_Bool, cases_lt, cond_both, eq-eqb, eqb-true, or_cases, or_left, or_right}
+use Rattle.std.proofs.lemmas.Bool.{and_from, and_parts, both_ways, cases_Bool, eq-eqb, eqb-true, or_cases, or_left, or_right}
 use Rattle.std.proofs.lemmas.List.Sums.{sum_by_push}
-use Rattle.gl_base.specs.declared.entries.Entry.{Entry}
 use Rattle.gl_base.specs.declared.scopes.ScopeId.{ScopeId}
 use Rattle.graph_core.proofs.HalvesLaws.{each-append}
 use Rattle.graph_core.specs.DataGraph.{size}
@@ -11,10 +10,10 @@ use Rattle.cluster_core.specs.Messages.{Message}
 use Rattle.cluster_core.specs.Ranges.{set_at}
 use Rattle.cluster_core.specs.Settings.{IsSetting, Setting}
 use Rattle.cluster_core.specs.Worlds.{World}
-use Rattle.cluster_core.proofs.Basics.{set_at-holds, set_at-other, set_at-same}
+use Rattle.cluster_core.proofs.Basics.{set_at-holds, set_at-same}
 use Rattle.cluster_numbers.proofs.Passing.{any-either, any-left, any-right, any_one}
 use Rattle.cluster_model.specs.Calls.{Begin, Call, Committed, Count, Report, Saved, Step, Want, Wave}
-use Rattle.cluster_model.specs.Clusters.{BaseView, Cluster, call_way, report_way}
+use Rattle.cluster_model.specs.Clusters.{Cluster, call_way, report_way}
 use Rattle.cluster_model.specs.Events.{Event, Admit, DeliverCall, DeliverReport, Deliver, Fail, Grant, Mark, MayDo, PutBegin, PutStep, PutWave, Record, Recover, Section, Send, SendCall, SendReport, Stop, Update, after_event, delivers_call, delivers_message, delivers_report, makes, saves, sends_call, sends_message, sends_report}
 use Rattle.cluster_model.specs.Leading.{RecordIsDue}
 use Rattle.cluster_model.specs.Machines.{Machine, count_of, outside}
@@ -231,24 +230,24 @@ module _ (st : Setting) (is : IsSetting st) (c : Cluster) (whole : IsWhole st c)
   heard_want a k behind fits first =
       let was : IsAsking st a (c.machine a) now known (Want k ∷ (behind ++ (c.machine a).out)) logged = subst (λ (rs : List Report). IsAsking st a (c.machine a) now known (rs ++ (c.machine a).out) logged) first (asking.asking a fits) in (
         λ b.
-        set_at-holds (λ (b : ℕ) (rs : List Report). b < st.machines → IsAsking st b (c.machine b) now (known || k == now) (rs ++ (c.machine b).out) logged) c.reports a behind b
-        (λ low. record {
-          asked = was.asked;
-          told = λ asked_it newest. ⊎_elim
-              (λ (on : want_told (c.machine a).acknowledged (Want k ∷ (behind ++ (c.machine a).out)) ≡ true). ⊎_elim
-              (λ (here : list_any (is_want (c.machine a).acknowledged) (Want k ∷ []) ≡ true).
-              inr (or_right known (k == now) (eq-eqb k now (eqb-true k (c.machine a).acknowledged (sym (any_one (is_want (c.machine a).acknowledged) (Want k)) ∙ here) ∙ newest))))
-              (λ (later : list_any (is_want (c.machine a).acknowledged) (behind ++ (c.machine a).out) ≡ true). inl later)
-              (any-either (is_want (c.machine a).acknowledged) (Want k ∷ []) (behind ++ (c.machine a).out) on))
-              (λ (yes_known : known ≡ true). inr (or_left known (k == now) yes_known))
-              (was.told asked_it newest);
-          truly = was.truly.1;
-        })
-        (λ off low. knows_more b (c.machine b) (report_way c b) (k == now) (asking.asking b low)),
+            set_at-holds (λ (b : ℕ) (rs : List Report). b < st.machines → IsAsking st b (c.machine b) now (known || k == now) (rs ++ (c.machine b).out) logged) c.reports a behind b
+            (λ low. record {
+              asked = was.asked;
+              told = λ asked_it newest. ⊎_elim
+                  (λ (on : want_told (c.machine a).acknowledged (Want k ∷ (behind ++ (c.machine a).out)) ≡ true). ⊎_elim
+                  (λ (here : list_any (is_want (c.machine a).acknowledged) (Want k ∷ []) ≡ true).
+                  inr (or_right known (k == now) (eq-eqb k now (eqb-true k (c.machine a).acknowledged (sym (any_one (is_want (c.machine a).acknowledged) (Want k)) ∙ here) ∙ newest))))
+                  (λ (later : list_any (is_want (c.machine a).acknowledged) (behind ++ (c.machine a).out) ≡ true). inl later)
+                  (any-either (is_want (c.machine a).acknowledged) (Want k ∷ []) (behind ++ (c.machine a).out) on))
+                  (λ (yes_known : known ≡ true). inr (or_left known (k == now) yes_known))
+                  (was.told asked_it newest);
+              truly = was.truly.1;
+            })
+            (λ off low. knows_more b (c.machine b) (report_way c b) (k == now) (asking.asking b low)),
         λ either. ⊎_elim
-        (λ (before : known ≡ true). asking.wanted before)
-        (λ (now_wanted : (k == now) ≡ true). (a, fits, subst (λ (n : ℕ). half_window st ≤ many_outside a n logged) (eqb-true k now now_wanted) was.truly.0))
-        (or_cases known (k == now) either),
+            (λ (before : known ≡ true). asking.wanted before)
+            (λ (now_wanted : (k == now) ≡ true). (a, fits, subst (λ (n : ℕ). half_window st ≤ many_outside a n logged) (eqb-true k now now_wanted) was.truly.0))
+            (or_cases known (k == now) either),
       )
 
   report_heard : (a : ℕ) (report : Report) (behind : List Report) → a < st.machines → c.reports a ≡ report ∷ behind → AreAskingSoon (delivers_report c a (report ∷ behind))
@@ -258,9 +257,8 @@ module _ (st : Setting) (is : IsSetting st) (c : Cluster) (whole : IsWhole st c)
 
   -- a snapshot is acknowledged, and no machine knows that yet
   recorded : RecordIsDue st c.coordinator → AreAskingSoon (after_event st c Record)
-  recorded due =
-      (
-        λ a low.
+  recorded due = (
+    λ a low.
         let was = asking.asking a low in
         let counting = asking.counting a low in
         record {
@@ -268,8 +266,8 @@ module _ (st : Setting) (is : IsSetting st) (c : Cluster) (whole : IsWhole st c)
           told = λ asked_it newest. absurd (not_newest now c.coordinator.begun (c.machine a).acknowledged counting.late counting.newest (next_number st is c whole due) newest);
           truly = was.truly;
         },
-        λ wanted. absurd (false_true wanted),
-      )
+    λ wanted. absurd (false_true wanted),
+  )
 
   pub events_soon : (event : Event) → MayDo st c event → IsNoRecovery event → IsNoUpdate event → AreAskingSoon (after_event st c event)
   events_soon (Admit a v) may other none = (answered a (admits st a v (c.machine a)) (quiet a (admits st a v (c.machine a)) (refl, refl, refl) refl), asking.wanted)
@@ -281,16 +279,15 @@ module _ (st : Setting) (is : IsSetting st) (c : Cluster) (whole : IsWhole st c)
       subst (λ (calls : List Call). AreAskingSoon (sends_call c a calls)) (sym may.1.first) (asking.asking, asking.wanted)
   events_soon (SendReport a) may other none =
       let less : Machine = hands_report may.1.behind (c.machine a) in
-      subst (λ (reports : List Report). AreAskingSoon (sends_report c a reports)) (sym may.1.first)
-      (
+      subst (λ (reports : List Report). AreAskingSoon (sends_report c a reports)) (sym may.1.first) (
         λ b low.
-        let way : set_at c.reports a (c.reports a ++ may.1.message ∷ []) b ++ (set_at c.machine a less b).out ≡ report_way c b =
-        ap (λ (xs : List Report). set_at c.reports a (c.reports a ++ may.1.message ∷ []) b ++ xs) (read_at (λ (x : Machine). x.out) c.machine a less b)
-        ∙ passed c.reports (λ b. (c.machine b).out) a may.1.message may.1.behind may.1.first b in
-        subst (λ (rs : List Report). IsAsking st b (set_at c.machine a less b) now known rs logged) (sym way)
-        (same_asking st b now known logged (c.machine b) (set_at c.machine a less b) (report_way c b) (report_way c b)
-        (set_at-holds (λ (b : ℕ) (m : Machine). AsksSame (c.machine b) m) c.machine a less b (refl, refl, refl) (λ off. (refl, refl, refl)))
-        (λ k on. on) (λ all. all) (asking.asking b low)),
+            let way : set_at c.reports a (c.reports a ++ may.1.message ∷ []) b ++ (set_at c.machine a less b).out ≡ report_way c b =
+            ap (λ (xs : List Report). set_at c.reports a (c.reports a ++ may.1.message ∷ []) b ++ xs) (read_at (λ (x : Machine). x.out) c.machine a less b)
+            ∙ passed c.reports (λ b. (c.machine b).out) a may.1.message may.1.behind may.1.first b in
+            subst (λ (rs : List Report). IsAsking st b (set_at c.machine a less b) now known rs logged) (sym way)
+            (same_asking st b now known logged (c.machine b) (set_at c.machine a less b) (report_way c b) (report_way c b)
+            (set_at-holds (λ (b : ℕ) (m : Machine). AsksSame (c.machine b) m) c.machine a less b (refl, refl, refl) (λ off. (refl, refl, refl)))
+            (λ k on. on) (λ all. all) (asking.asking b low)),
         asking.wanted,
       )
   events_soon (Deliver p q) may other none =
@@ -308,10 +305,9 @@ module _ (st : Setting) (is : IsSetting st) (c : Cluster) (whole : IsWhole st c)
       subst (λ (flight : Option ℕ). AreAskingSoon (saves st c s flight)) (sym may.1.flight)
       (answered a (makes_mark st a s may.1.vertex (c.machine a)) (quiet a (makes_mark st a s may.1.vertex (c.machine a)) (refl, refl, refl) refl), asking.wanted)
   events_soon (Section a) may other none =
-      let m : Machine = c.machine a in
-      (
+      let m : Machine = c.machine a in (
         answered a (sections m)
-        (λ low. told_asking st a now known logged m (sections m) (c.reports a) true (Saved m.part.known m.part.saved m.before) tt (refl, refl, section_outside m) refl (asking.asking a low)),
+            (λ low. told_asking st a now known logged m (sections m) (c.reports a) true (Saved m.part.known m.part.saved m.before) tt (refl, refl, section_outside m) refl (asking.asking a low)),
         asking.wanted,
       )
   events_soon Record may other none = recorded may.0

@@ -1,6 +1,5 @@
 -- Each snapshot that a machine asked for has at least half a window of updates more than the one before.
-use Rattle.std.proofs.Common.{◌≡◌, ◌⊎◌, ℕ, zero, suc, pred, ◌+◌, ◌*◌, ◌/◌, ◌-◌, ◌<◌, ◌≤◌, nat_lt, Bool, true, false, if◌then◌else◌, Option, List, [], ◌∷◌, ◌++◌, length, refl, sym, ◌∙◌, ap, subst, ⊎_elim, append-nil, length-append, le_refl, zero-add, mul-add, mul-one, mul-zero, mul_comm, le-div_iff_mul-le, arith}
-use Rattle.std.specs.List.{AllByRecursion}
+use Rattle.std.proofs.Common.{◌≡◌, ◌⊎◌, ℕ, zero, suc, pred, ◌+◌, ◌*◌, ◌/◌, ◌-◌, ◌<◌, ◌≤◌, nat_lt, Bool, true, false, if◌then◌else◌, Option, List, [], ◌∷◌, ◌++◌, length, inl, inr, refl, sym, ◌∙◌, ap, subst, ⊎_elim, append-nil, length-append, le_refl, zero-add, mul-add, mul-one, mul-zero, mul_comm, le-div_iff_mul-le, arith}
 use Rattle.std.proofs.lemmas.Bool.{cases_Bool, cases_lt, cond-false, cond-true, le-ltb, lt-ltb}
 use Rattle.std.proofs.lemmas.List.{length-map}
 use Rattle.gl_base.specs.declared.entries.Entry.{Entry}
@@ -9,18 +8,19 @@ use Rattle.cluster_core.specs.Messages.{Message}
 use Rattle.cluster_core.specs.Recovering.{going_on}
 use Rattle.cluster_core.specs.Settings.{IsSetting, Setting}
 use Rattle.cluster_model.specs.Calls.{Call, Count, Report, Saved, Want}
-use Rattle.cluster_model.specs.Clusters.{BaseView, Cluster}
+use Rattle.cluster_model.specs.Clusters.{BaseView, Cluster, call_way, report_way}
 use Rattle.cluster_model.specs.Events.{Event, Admit, DeliverCall, DeliverReport, Deliver, Fail, Grant, IsCourse, Mark, MayDo, PutBegin, PutStep, PutWave, Record, Recover, Section, Send, SendCall, SendReport, Stop, Update, after_event, delivers_call, delivers_message, delivers_report, makes, recovers, saves, sends_call, sends_message, sends_report, setting_after}
+use Rattle.cluster_model.specs.Machines.{outside}
 use Rattle.cluster_model.specs.Working.{half_window}
-use Rattle.cluster_whole.specs.Logged.{Logged, all_entries, entries_to, is_up_to}
+use Rattle.cluster_whole.specs.Logged.{Logged, entries_to, is_up_to}
 use Rattle.cluster_whole.specs.Whole.{AreColoured, IsNoRecovery, IsWhole}
 use Rattle.cluster_records.specs.Few.{stored_at, stored_in, unasked_at, unasked_in}
 use Rattle.cluster_records.specs.Recorded.{IsAccounted}
-use Rattle.cluster_records.specs.Wanting.{AreAsking, entries_outside, is_outside}
+use Rattle.cluster_records.specs.Wanting.{AreAsking, commits_in, is_outside, numbers_from, want_told}
 use Rattle.cluster_records.proofs.Accounts.{begun_accounts, quiet_kept, update_kept}
 use Rattle.cluster_records.proofs.Asking.{events_asking, update_asking}
 use Rattle.cluster_records.proofs.Courses.{are_coloured}
-use Rattle.cluster_records.proofs.Entering.{IsNoUpdate, draws_none, own_logged, update_logged}
+use Rattle.cluster_records.proofs.Entering.{IsNoUpdate, own_logged, update_logged}
 use Rattle.cluster_records.proofs.Filtering.{all_up_to, passing-append, passing-cons_in, passing-cons_out, up_to_no, up_to_yes}
 use Rattle.cluster_records.proofs.Outside.{many_outside, out_no}
 
@@ -78,7 +78,7 @@ parts_few a k (l ∷ ls) =
 part_few : (n m k : ℕ) → n + m ≤ k → n ≤ k
 part_few n m k is = omega arith
 
-held_few : (k : ℕ) (ls : List Logged) → length (entries_to k ls) ≤ length ls
+pub held_few : (k : ℕ) (ls : List Logged) → length (entries_to k ls) ≤ length ls
 held_few k ls = part_few (length (entries_to k ls)) (many_outside 0 k ls) (length ls) (parts_few 0 k ls)
 
 held_more : (k : ℕ) (ls more : List Logged) → length (entries_to k ls) ≤ length (entries_to k (ls ++ more))
@@ -370,3 +370,50 @@ by_half half stored unasked budget some few =
     let rest : half * more ≤ budget = rest_times (half * stored) (half * unasked) (half * more) budget (ap (λ (n : ℕ). half * n) (over stored unasked high) ∙ split_times half unasked more) few in
     in_all stored unasked (budget / half) ((le-div_iff_mul-le some).1 (subst (λ (n : ℕ). n ≤ budget) (mul_comm half more) rest)))
     (cases_lt stored unasked)
+
+-- ---- who asks, event by event
+
+pub in_time : (st : Setting) (c : Cluster) (logged : List Logged) → AreAsking st c logged → (a : ℕ) → a < st.machines → 0 < half_window st → st.stored ≡ true → half_window st ≤ outside (c.machine a) →
+    ((rest : List ℕ) × (commits_in (call_way c a) ≡ suc (c.machine a).acknowledged ∷ rest)) ⊎ ((want_told (c.machine a).acknowledged (report_way c a) ≡ true) ⊎ (c.coordinator.wanted ≡ true))
+in_time st c logged asking a low some stored half =
+    let counting = asking.counting a low in
+    let its = asking.asking a low in
+    by_late counting.late counting.newest counting.commits (its.told (its.asked some stored half))
+  where
+    by_late : (late : ℕ) → c.coordinator.acknowledged ≡ (c.machine a).acknowledged + late → commits_in (call_way c a) ≡ numbers_from (suc (c.machine a).acknowledged) late →
+        ((c.machine a).acknowledged ≡ c.coordinator.acknowledged → (want_told (c.machine a).acknowledged (report_way c a) ≡ true) ⊎ (c.coordinator.wanted ≡ true)) →
+        ((rest : List ℕ) × (commits_in (call_way c a) ≡ suc (c.machine a).acknowledged ∷ rest)) ⊎ ((want_told (c.machine a).acknowledged (report_way c a) ≡ true) ⊎ (c.coordinator.wanted ≡ true))
+    by_late zero newest commits told = inr (told (plus_zero (c.machine a).acknowledged ∙ sym newest))
+    by_late (suc late) newest commits told = inl (numbers_from (suc (suc (c.machine a).acknowledged)) late, commits)
+
+module _ (st : Setting) (is : IsSetting st) (c : Cluster) (whole : IsWhole st c) (logged : List Logged) (account : IsAccounted st c whole logged) (asking : AreAsking st c logged) where
+  abbrev AsksOn : Event → Type 0
+  AsksOn event = (next : IsWhole st (after_event st c event)) × (more : List Logged) × IsAccounted st (after_event st c event) next (logged ++ more) × AreAsking st (after_event st c event) (logged ++ more)
+
+  still_asking : (event : Event) → MayDo st c event → IsNoRecovery event → IsNoUpdate event → AsksOn event
+  still_asking event may other none =
+      let kept = quiet_kept st is c whole logged account event may other none in
+      (kept.0, [], kept.1, subst (AreAsking st (after_event st c event)) (sym (append-nil logged)) (events_asking st is c whole logged account.lists asking event may other none))
+
+  pub asking_kept : (event : Event) → MayDo st c event → IsNoRecovery event → AsksOn event
+  asking_kept (Admit a v) may other = still_asking (Admit a v) may other (λ s same. cc)
+  asking_kept (Grant a x) may other = still_asking (Grant a x) may other (λ s same. cc)
+  asking_kept (Send p q) may other = still_asking (Send p q) may other (λ s same. cc)
+  asking_kept (SendCall a) may other = still_asking (SendCall a) may other (λ s same. cc)
+  asking_kept (SendReport a) may other = still_asking (SendReport a) may other (λ s same. cc)
+  asking_kept (Deliver p q) may other = still_asking (Deliver p q) may other (λ s same. cc)
+  asking_kept (DeliverCall a) may other = still_asking (DeliverCall a) may other (λ s same. cc)
+  asking_kept (DeliverReport a) may other = still_asking (DeliverReport a) may other (λ s same. cc)
+  asking_kept (Update s) may other =
+      let own = own_logged st is c whole logged account.order s may other in
+      let kept = update_kept st is c whole logged account s may other in
+      (kept.0, update_logged st c s may.1.vertex ∷ [], kept.1, update_asking st is c whole logged account.lists asking s may own.0 own.1)
+  asking_kept (Mark s) may other = still_asking (Mark s) may other (λ s same. cc)
+  asking_kept (Section a) may other = still_asking (Section a) may other (λ s same. cc)
+  asking_kept Record may other = still_asking Record may other (λ s same. cc)
+  asking_kept PutBegin may other = still_asking PutBegin may other (λ s same. cc)
+  asking_kept PutStep may other = still_asking PutStep may other (λ s same. cc)
+  asking_kept PutWave may other = still_asking PutWave may other (λ s same. cc)
+  asking_kept (Fail a) may other = still_asking (Fail a) may other (λ s same. cc)
+  asking_kept (Recover base) may other = absurd (other base refl)
+  asking_kept Stop may other = still_asking Stop may other (λ s same. cc)

@@ -20,7 +20,7 @@ gathered zero k logged = []
 gathered (suc a) k logged = gathered a k logged ++ entries_at a k logged
 
 -- one of the first so many machines made it
-abbrev IsMadeBelow : ℕ → Logged → Type 0
+abbrev pub IsMadeBelow : ℕ → Logged → Type 0
 IsMadeBelow n l = (a : ℕ) × (a < n) × (is_of a l.entry ≡ true) × ((b : ℕ) → b ≢ a → is_of b l.entry ≡ false)
 
 from : {xs ys us vs : List Entry} → xs ≡ us → ys ≡ vs → IsPermutation us vs → IsPermutation xs ys
@@ -134,7 +134,7 @@ module _ (st : Setting) (is : IsSetting st) where
   )
   made_below l (Restart ticket) same own = absurd own
 
-  all_made : (logged : List Logged) → AllByRecursion (IsSinceBase st) logged → AllByRecursion (IsMadeBelow st.machines) logged
+  pub all_made : (logged : List Logged) → AllByRecursion (IsSinceBase st) logged → AllByRecursion (IsMadeBelow st.machines) logged
   all_made [] all = tt
   all_made (l ∷ logged) all = (made_below l l.entry refl all.0.1, all_made logged all.1)
 

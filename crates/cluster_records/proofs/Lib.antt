@@ -14,3 +14,5 @@ pub mod Outside
 pub mod Sizing
 pub mod Asking
 pub mod Fewness
+pub mod Stopping
+pub mod Fronts

@@ -1,15 +1,15 @@
 -- What a machine counts as outside is its updates that the newest snapshot which it knows to be acknowledged doesn't have.
-use Rattle.std.proofs.Common.{◌≡◌, ◌≢◌, ◌⊎◌, ℕ, zero, suc, ◌+◌, ◌<◌, ◌≤◌, ◌==◌, ◌&&◌, nat_lt, Bool, true, false, if◌then◌else◌, List, [], ◌∷◌, ◌++◌, length, sum_by, refl, sym, ◌∙◌, ap, ap₂, subst, ⊎_elim, le_refl, length-append, zero-add, arith}
+use Rattle.std.proofs.Common.{◌≡◌, ◌≢◌, ◌⊎◌, ℕ, zero, suc, ◌+◌, ◌<◌, ◌≤◌, nat_lt, true, false, List, [], ◌∷◌, ◌++◌, length, sum_by, refl, sym, ◌∙◌, ap, ap₂, subst, ⊎_elim, le_refl, length-append, zero-add, arith}
 use Rattle.std.specs.List.{AllByRecursion}
-use Rattle.std.proofs.lemmas.Bool.{and_from, and_left, and_parts, and_right, cases_Bool, cases_eq, cases_lt, cases_order, cond-false, cond-true, eq-eqb, false_from_ne_true, le-ltb, lt-ltb, ltb-true, ne_eqb}
+use Rattle.std.proofs.lemmas.Bool.{and_from, and_left, and_parts, and_right, cases_Bool, cases_lt, cases_order, cond-false, cond-true, false_from_ne_true, le-ltb, lt-ltb, ltb-true}
 use Rattle.std.proofs.lemmas.List.Sums.{sum_by-cons}
 use Rattle.gl_base.specs.declared.entries.Entry.{Entry}
 use Rattle.cluster_core.specs.Replays.{is_of}
 use Rattle.cluster_model.specs.Machines.{Machine, outside}
-use Rattle.cluster_whole.specs.Logged.{Logged, all_entries, entries_to, is_up_to}
+use Rattle.cluster_whole.specs.Logged.{Logged}
 use Rattle.cluster_records.specs.Listed.{IsListed, IsNextAtMost, entries_at, is_first_in}
 use Rattle.cluster_records.specs.Wanting.{entries_outside, is_outside, sizes_from}
-use Rattle.cluster_records.proofs.Filtering.{in_no, in_other, in_yes, passing-cons_in, passing-cons_out, passing-more_in, passing-more_out, passing-none, up_to_no, up_to_yes}
+use Rattle.cluster_records.proofs.Filtering.{in_no, in_other, in_yes, passing-cons_in, passing-cons_out, passing-more_in, passing-more_out, passing-none}
 
 pub out_yes : (a k : ℕ) (l : Logged) → is_of a l.entry ≡ true → k < l.number → is_outside a k l ≡ true
 out_yes a k l own high = and_from (is_of a l.entry) (nat_lt k l.number) own (lt-ltb k l.number high)
@@ -118,11 +118,10 @@ not_out n k low high = omega arith
 
 none_out : (a k : ℕ) (ls : List Logged) → AllByRecursion (IsNextAtMost a k) ls → AllByRecursion (λ l. is_outside a (suc k) l ≡ false) ls
 none_out a k [] all = tt
-none_out a k (l ∷ ls) all =
-    (
-      false_from_ne_true (is_outside a (suc k) l) (λ is. let both = and_parts (is_of a l.entry) (nat_lt (suc k) l.number) is in not_out l.number k (all.0 both.0) (ltb-true (suc k) l.number both.1)),
-      none_out a k ls all.1,
-    )
+none_out a k (l ∷ ls) all = (
+  false_from_ne_true (is_outside a (suc k) l) (λ is. let both = and_parts (is_of a l.entry) (nat_lt (suc k) l.number) is in not_out l.number k (all.0 both.0) (ltb-true (suc k) l.number both.1)),
+  none_out a k ls all.1,
+)
 
 plus_none : (n m : ℕ) → m ≡ 0 → n + m ≡ n
 plus_none n m none = omega arith

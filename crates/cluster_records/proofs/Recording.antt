@@ -88,7 +88,7 @@ other_number number k above is = omega arith
 begins_more : (front whole more : List Entry) → Begins front whole → Begins front (whole ++ more)
 begins_more front whole more begins = (begins.0 ++ more, ap (λ (es : List Entry). es ++ more) begins.1 ∙ append_assoc front begins.0 more)
 
-updates_at-append : (v : ℕ) (xs ys : List Entry) → updates_at v (xs ++ ys) ≡ updates_at v xs ++ updates_at v ys
+pub updates_at-append : (v : ℕ) (xs ys : List Entry) → updates_at v (xs ++ ys) ≡ updates_at v xs ++ updates_at v ys
 updates_at-append v [] ys = refl
 updates_at-append v (Restart ticket ∷ xs) ys = updates_at-append v xs ys
 updates_at-append v (Go machine vertex ticket ∷ xs) ys = if_append (vertex.0 == v) (Go machine vertex ticket) (updates_at v xs) (updates_at v (xs ++ ys)) (updates_at v ys) (updates_at-append v xs ys)

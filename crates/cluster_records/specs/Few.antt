@@ -1,5 +1,5 @@
 -- How many snapshots a list of events stores.
-use Rattle.std.specs.Prelude.{List, [], if◌then◌else◌, suc, ℕ, ◌+◌, ◌∷◌}
+use Rattle.std.specs.Prelude.{List, [], if◌then◌else◌, ℕ, ◌+◌, ◌∷◌}
 use Rattle.cluster_core.specs.Settings.{Setting}
 use Rattle.cluster_model.specs.Clusters.{Cluster}
 use Rattle.cluster_model.specs.Events.{Event, PutBegin, Record, after_event, setting_after}

@@ -1,9 +1,10 @@
-//! Which updates the snapshots of a cluster have, what a recovery goes back to, and how many snapshots are stored.
+//! Which updates the snapshots of a cluster have, what a recovery goes back to, when machines ask for a snapshot, and how many are stored.
 #![tactic(auto)]
 
 mod laws;
 
 pub use laws::{
-    courses_keep_accounts, events_keep_accounts, records_have_their_entries, records_make_cuts,
-    recoveries_go_back, sections_have_their_entries,
+    courses_keep_accounts, events_keep_accounts, failed_machines_stop, full_snapshots_hold_all,
+    machines_ask_in_time, records_have_their_entries, records_make_cuts, recoveries_go_back,
+    sections_have_their_entries, snapshots_are_few, snapshots_stay,
 };

@@ -3,6 +3,7 @@ use Rattle.std.proofs.Common.{sym, subst, lt_of_le_of_lt, List, IsPermutation}
 use Rattle.gl_base.specs.declared.entries.Entry.{Entry}
 use Rattle.cluster_model.specs.Events.{entries_in_all}
 use Rattle.cluster_model.specs.Leading.{acknowledges}
+use Rattle.cluster_records.proofs.Fronts.{later_begins}
 use Rattle.cluster_records.proofs.Gathering.{all_gathered}
 use Rattle.cluster_records.proofs.Recording.{all_new, due_good, next_number, one_recorded}
 use Rattle.cluster_records.proofs.laws.records_make_cuts.Goals as goal
@@ -22,3 +23,6 @@ returns-clause-record c = λ st cluster whole logged is account due.
           (sym (account.order.cut (lt_of_le_of_lt whole.consistent.marks.base due.under)))
           (all_gathered st is logged account.since longer.acknowledged longer.snapshots records.numbered (all_new st logged longer.snapshots records.good)),
     )
+
+pub returns-clause-begins : goal.returns-clause-begins
+returns-clause-begins c = λ st cluster whole logged one other v account good better low. later_begins v one.number other.number logged low (good.first v) (better.first v)
