@@ -16,3 +16,4 @@ pub mod Asking
 pub mod Fewness
 pub mod Stopping
 pub mod Fronts
+pub mod FirstStep

@@ -3,3 +3,4 @@ pub mod Recorded
 pub mod Bases
 pub mod Wanting
 pub mod Few
+pub mod LineOfFour
