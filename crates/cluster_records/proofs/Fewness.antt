@@ -373,9 +373,9 @@ by_half half stored unasked budget some few =
 
 -- ---- who asks, event by event
 
-pub in_time : (st : Setting) (c : Cluster) (logged : List Logged) → AreAsking st c logged → (a : ℕ) → a < st.machines → 0 < half_window st → st.stored ≡ true → half_window st ≤ outside (c.machine a) →
+pub in_time : (st : Setting) (c : Cluster) (updates : List Logged) → AreAsking st c updates → (a : ℕ) → a < st.machines → 0 < half_window st → st.stored ≡ true → half_window st ≤ outside (c.machine a) →
     ((rest : List ℕ) × (commits_in (call_way c a) ≡ suc (c.machine a).acknowledged ∷ rest)) ⊎ ((want_told (c.machine a).acknowledged (report_way c a) ≡ true) ⊎ (c.coordinator.wanted ≡ true))
-in_time st c logged asking a low some stored half =
+in_time st c updates asking a low some stored half =
     let counting = asking.counting a low in
     let its = asking.asking a low in
     by_late counting.late counting.newest counting.commits (its.told (its.asked some stored half))

@@ -130,6 +130,13 @@ newest_numbers st logged low high (snapshot ∷ snapshots) numbers numbered good
     newest_numbers st logged (suc low) high snapshots (snapshot_numbers st snapshot) numbered.1 good.1
     (subst (λ (n : ℕ). HaveSameNumbers st.graph (snapshot_numbers st snapshot) (replay_of st (entries_to n logged))) numbered.0 good.0.numbers)
 
+-- the newest cut is valid, or nothing is recorded
+pub newest_valid : (st : Setting) (logged : List Logged) (low high : ℕ) (snapshots : List Snapshot) → GoOnByNumber low snapshots high → AllByRecursion (IsGoodSnapshot st logged) snapshots →
+    IsValidFrom st.graph st.program st.start (all_tasks st.graph) (entries_to low logged) → IsValidFrom st.graph st.program st.start (all_tasks st.graph) (entries_to high logged)
+newest_valid st logged low high [] numbered good valid = subst (λ (n : ℕ). IsValidFrom st.graph st.program st.start (all_tasks st.graph) (entries_to n logged)) (sym numbered) valid
+newest_valid st logged low high (snapshot ∷ snapshots) numbered good valid =
+    newest_valid st logged (suc low) high snapshots numbered.1 good.1 (subst (λ (n : ℕ). IsValidFrom st.graph st.program st.start (all_tasks st.graph) (entries_to n logged)) numbered.0 good.0.valid)
+
 -- ---- what a record has
 
 come_section : (come : Option Come) (section : core.Section) → section_of come ≡ Some section → (come_or come).section ≡ section

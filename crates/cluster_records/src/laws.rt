@@ -1,11 +1,15 @@
 //! Laws of the entries of snapshots. Each is the contract of a function that does nothing.
 ghost use Rattle.std.specs.List.Sorted.{IsPermutation};
-ghost use Rattle.std.specs.Prelude.{◌≡◌, ◌⊎◌, ℕ, suc, ◌+◌, ◌/◌, ◌<◌, ◌≤◌, true, List, [], ◌∷◌, ◌++◌, length, Some};
+ghost use Rattle.std.specs.Prelude.{◌≡◌, ◌↔◌, ◌⊎◌, ℕ, suc, ◌+◌, ◌/◌, ◌<◌, ◌≤◌, true, List, [], ◌∷◌, ◌++◌, length, Some};
 ghost use Rattle.std.specs.List.{AllByRecursion};
 ghost use Rattle.cluster_core.specs.Cuts.{Begins, cut_of, updates_at};
 ghost use Rattle.cluster_core.specs.Recovering.{going_on};
+ghost use Rattle.graph_core.specs.DataGraph.{size};
+ghost use Rattle.seq_run.specs.Orders.{IsValidOrder, replay, tasks_after};
+ghost use Rattle.seq_run.specs.States.{start_state};
+ghost use Rattle.cluster_core.specs.Replays.{IsTask};
 ghost use Rattle.cluster_core.specs.Settings.{IsSetting, Setting};
-ghost use Rattle.cluster_model.specs.ByTicket.{restarts};
+ghost use Rattle.cluster_model.specs.ByTicket.{StandByTicket, restarts};
 ghost use Rattle.cluster_model.specs.Clusters.{BaseView, Cluster, call_way, report_way};
 ghost use Rattle.cluster_model.specs.Events.{Event, GoesBackTo, IsCourse, MayDo, Section, after_event, entries_in_all, failures_in, recovers};
 ghost use Rattle.cluster_model.specs.Leading.{Come, RecordIsDue, Snapshot, acknowledges, entries_in};
@@ -18,6 +22,7 @@ ghost use Rattle.cluster_records.specs.Listed.{entries_at};
 ghost use Rattle.cluster_records.specs.Recorded.{IsAccounted, IsGoodSnapshot, snapshot_due};
 ghost use Rattle.cluster_records.specs.Wanting.{AreAsking, commits_in, entries_outside, want_told};
 ghost use Rattle.cluster_whole.specs.Logged.{Logged, entries_to};
+ghost use Rattle.cluster_whole.specs.Views.{world_of};
 ghost use Rattle.cluster_whole.specs.Whole.{AreColoured, IsNoRecovery, IsWhole, setting_behind};
 
 /// Each event but a recovery goes on with the updates that are logged for snapshots, and each of them stands where it belongs. A machine's
@@ -99,9 +104,24 @@ pub fn recoveries_go_back()
         × IsBase st base c.next }
 {}
 
+/// The base's order and the updates of the attempt are one valid order from the start state of the program on, and it stands by ticket.
+/// Its replay on the undivided graph gives the numbers that the owners of the vertices have, and its tasks are theirs and those that
+/// are on the way.
+pub fn calls_have_one_order()
+    ensures { (st : Setting) (c : Cluster) (whole : IsWhole st c) (logged : List Logged) →
+        IsSetting st → IsAccounted st c whole logged → IsBased st c logged →
+        IsValidOrder st.graph st.program (c.base.order ++ whole.consistent.order)
+        × StandByTicket 0 (c.base.order ++ whole.consistent.order) c.next
+        × ((v : ℕ) → v < size st.graph →
+        ((c.machine (st.owner v)).part.datum v).value ≡ (replay st.graph st.program (c.base.order ++ whole.consistent.order)).vertex v)
+        × ((u : ℕ) → u < size st.graph →
+        (tasks_after st.graph st.program (c.base.order ++ whole.consistent.order) u ≡ true) ↔ IsTask st (world_of c) u) }
+{}
+
 /// After every list of events, with failures and recoveries among them, the updates of the newest attempt are accounted for, and it
-/// goes on from its base.
+/// goes on from its base. The first base of a call may be no order with the start state.
 pub fn courses_keep_accounts()
+    ensures first { (st : Setting) (next : ℕ) → IsBase st (record { number = 0; order = []; numbers = start_state st.graph st.program }) next }
     ensures begins { (st : Setting) (base : BaseView) (c : Cluster) → IsSetting st → AreColoured st st.engine → IsBase st base c.next →
         (whole : IsWhole (going_on st base.numbers base.number) (recovers st base c))
         × IsAccounted (going_on st base.numbers base.number) (recovers st base c) whole []
