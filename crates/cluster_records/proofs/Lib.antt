@@ -17,3 +17,4 @@ pub mod Fewness
 pub mod Stopping
 pub mod Fronts
 pub mod FirstStep
+pub mod PairSaved

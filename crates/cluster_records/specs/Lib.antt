@@ -4,3 +4,4 @@ pub mod Bases
 pub mod Wanting
 pub mod Few
 pub mod LineOfFour
+pub mod LonePair
