@@ -13,11 +13,12 @@ use Rattle.cluster_core.specs.Settings.{IsSetting, Setting}
 use Rattle.cluster_model.specs.ByTicket.{StandByTicket, restarts}
 use Rattle.cluster_model.specs.Calls.{Call, Report}
 use Rattle.cluster_model.specs.Clusters.{BaseView, Cluster}
-use Rattle.cluster_model.specs.Events.{Event, Admit, DeliverCall, DeliverReport, Deliver, Fail, GoesBackTo, Grant, Mark, MayDo, PutBegin, PutStep, PutWave, Record, Recover, Section, Send, SendCall, SendReport, Stop, Update, after_event, delivers_call, delivers_message, delivers_report, entries_in_all, failures_in, makes, newest_of, recovers, saves, sends_call, sends_message, sends_report}
+use Rattle.cluster_model.specs.Events.{Event, Admit, DeliverCall, DeliverReport, Deliver, Fail, GoesBackTo, Grant, Mark, MayDo, PutBegin, PutStep, PutWave, Record, Recover, Section, Send, SendCall, SendReport, Stop, Update, after_event, delivers_call, delivers_message, delivers_report, entries_in_all, failures_in, makes, newest_of, recovers, saves, sends_call, sends_message, sends_report, snapshot_numbers}
+use Rattle.cluster_model.specs.Leading.{Snapshot}
 use Rattle.cluster_whole.specs.Logged.{Logged, all_entries, entries_to, is_up_to}
 use Rattle.cluster_whole.specs.Whole.{IsNoRecovery, IsWhole}
 use Rattle.cluster_records.specs.Bases.{IsBase, IsBased, IsOpening}
-use Rattle.cluster_records.specs.Recorded.{HaveSameNumbers, IsAccounted, IsOwnUpdate}
+use Rattle.cluster_records.specs.Recorded.{HaveSameNumbers, IsAccounted, IsGoodSnapshot, IsOwnUpdate}
 use Rattle.cluster_records.proofs.Entering.{IsNoUpdate, draws_none, update_logged}
 use Rattle.cluster_records.proofs.Filtering.{all-more, nothing_up_to}
 use Rattle.cluster_records.proofs.Gathering.{all_gathered, all_since}
@@ -130,6 +131,21 @@ module _ (st : Setting) (is : IsSetting st) (c : Cluster) (whole : IsWhole st c)
   call_tasks u low =
       left_same st is st.start before (all_tasks st.graph) (tasks_after st.graph st.program c.base.order) order order_own (begins_same st c logged based) (first_tasks st c logged based) u low
       ∙ sym (λ i. tasks-append st.graph st.program (start_state st.graph st.program) (all_tasks st.graph) c.base.order order i u)
+
+  -- and that of each good snapshot
+  pub snapshot_valid : (snapshot : Snapshot) → IsGoodSnapshot st logged snapshot → IsValidOrder st.graph st.program (c.base.order ++ entries_to snapshot.number logged)
+  snapshot_valid snapshot good =
+      let cut : List Entry = entries_to snapshot.number logged in
+      valid-append st.graph st.program (start_state st.graph st.program) (all_tasks st.graph) c.base.order cut based.front.valid
+      (valid_same st is st.start before (all_tasks st.graph) (tasks_after st.graph st.program c.base.order) cut
+      (passing_own st is (is_up_to snapshot.number) logged account.since) (begins_same st c logged based) (first_tasks st c logged based) good.valid)
+
+  pub snapshot_replayed : (snapshot : Snapshot) → IsGoodSnapshot st logged snapshot → HaveSameNumbers st.graph (snapshot_numbers st snapshot) (replay st.graph st.program (c.base.order ++ entries_to snapshot.number logged))
+  snapshot_replayed snapshot good =
+      let cut : List Entry = entries_to snapshot.number logged in
+      subst (HaveSameNumbers st.graph (snapshot_numbers st snapshot)) (sym (replay-append st.graph st.program (start_state st.graph st.program) c.base.order cut))
+      (same_then st.graph (snapshot_numbers st snapshot) (replay_of st cut) (replay_from st.graph st.program before cut) good.numbers
+      (replayed_same st is st.start before (is_up_to snapshot.number) logged account.since (begins_same st c logged based)))
 
 -- ---- where a recovery goes back to
 

@@ -11,7 +11,7 @@ ghost use Rattle.cluster_core.specs.Replays.{IsTask};
 ghost use Rattle.cluster_core.specs.Settings.{IsSetting, Setting};
 ghost use Rattle.cluster_model.specs.ByTicket.{StandByTicket, restarts};
 ghost use Rattle.cluster_model.specs.Clusters.{BaseView, Cluster, call_way, report_way};
-ghost use Rattle.cluster_model.specs.Events.{Event, GoesBackTo, IsCourse, MayDo, Section, after_event, entries_in_all, failures_in, recovers};
+ghost use Rattle.cluster_model.specs.Events.{Event, GoesBackTo, IsCourse, MayDo, Section, after_event, entries_in_all, failures_in, recovers, snapshot_numbers};
 ghost use Rattle.cluster_model.specs.Leading.{Come, RecordIsDue, Snapshot, acknowledges, entries_in};
 ghost use Rattle.cluster_model.specs.Machines.{outside};
 ghost use Rattle.cluster_model.specs.Totals.{total};
@@ -19,7 +19,7 @@ ghost use Rattle.cluster_model.specs.Working.{half_window};
 ghost use Rattle.cluster_records.specs.Bases.{IsBase, IsBased};
 ghost use Rattle.cluster_records.specs.Few.{stored_in, unasked_in};
 ghost use Rattle.cluster_records.specs.Listed.{entries_at};
-ghost use Rattle.cluster_records.specs.Recorded.{IsAccounted, IsGoodSnapshot, snapshot_due};
+ghost use Rattle.cluster_records.specs.Recorded.{HaveSameNumbers, IsAccounted, IsGoodSnapshot, snapshot_due};
 ghost use Rattle.cluster_records.specs.Wanting.{AreAsking, commits_in, entries_outside, want_told};
 ghost use Rattle.cluster_whole.specs.Logged.{Logged, entries_to};
 ghost use Rattle.cluster_whole.specs.Views.{world_of};
@@ -106,9 +106,9 @@ pub fn recoveries_go_back()
 
 /// The base's order and the updates of the attempt are one valid order from the start state of the program on, and it stands by ticket.
 /// Its replay on the undivided graph gives the numbers that the owners of the vertices have, and its tasks are theirs and those that
-/// are on the way.
+/// are on the way. So is the order of each good snapshot, behind the base's, and its numbers are the replay of that.
 pub fn calls_have_one_order()
-    ensures { (st : Setting) (c : Cluster) (whole : IsWhole st c) (logged : List Logged) →
+    ensures order { (st : Setting) (c : Cluster) (whole : IsWhole st c) (logged : List Logged) →
         IsSetting st → IsAccounted st c whole logged → IsBased st c logged →
         IsValidOrder st.graph st.program (c.base.order ++ whole.consistent.order)
         × StandByTicket 0 (c.base.order ++ whole.consistent.order) c.next
@@ -116,6 +116,10 @@ pub fn calls_have_one_order()
         ((c.machine (st.owner v)).part.datum v).value ≡ (replay st.graph st.program (c.base.order ++ whole.consistent.order)).vertex v)
         × ((u : ℕ) → u < size st.graph →
         (tasks_after st.graph st.program (c.base.order ++ whole.consistent.order) u ≡ true) ↔ IsTask st (world_of c) u) }
+    ensures snapshots { (st : Setting) (c : Cluster) (whole : IsWhole st c) (logged : List Logged) (snapshot : Snapshot) →
+        IsSetting st → IsAccounted st c whole logged → IsBased st c logged → IsGoodSnapshot st logged snapshot →
+        IsValidOrder st.graph st.program (c.base.order ++ entries_to snapshot.number logged)
+        × HaveSameNumbers st.graph (snapshot_numbers st snapshot) (replay st.graph st.program (c.base.order ++ entries_to snapshot.number logged)) }
 {}
 
 /// After every list of events, with failures and recoveries among them, the updates of the newest attempt are accounted for, and it
