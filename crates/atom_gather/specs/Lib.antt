@@ -1,2 +1,4 @@
 pub mod IndexForm
 pub mod Files
+pub mod Owners
+pub mod Gathered
