@@ -1,3 +1,6 @@
 pub mod MetaLemmas
 pub mod FileLemmas
 pub mod CompareLemmas
+pub mod HoldLemmas
+pub mod VertexLemmas
+pub mod GatherLemmas

@@ -2,3 +2,4 @@ pub mod IndexForm
 pub mod Files
 pub mod Owners
 pub mod Gathered
+pub mod Inner

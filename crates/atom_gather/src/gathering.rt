@@ -1,13 +1,14 @@
 //! Atoms gathered from their index and their files.
-ghost use Rattle.std.specs.Prelude.{◌≡◌, ℕ, ◌+◌, ◌<◌, ◌≤◌, List, Some, None, Err, IfOk, OnOk};
+ghost use Rattle.std.specs.Prelude.{◌≡◌, ℕ, ◌+◌, ◌<◌, ◌≤◌, List, length, slice_index_or, All, Some, None, Err, IfOk, OnOk};
 ghost use Rattle.gl_base.specs.declared.atoms.AtomsFault.{AtomsFault};
 ghost use Rattle.gl_base.specs.declared.memory.OrNoMemory.{OrNoMemory};
-ghost use Rattle.graph_core.specs.DataGraph.{size};
+ghost use Rattle.gl_base.specs.declared.atoms.Lines.{Lines};
+ghost use Rattle.graph_core.specs.DataGraph.{DataGraph, IsDataGraph, size};
 ghost use Rattle.atom_file.specs.Atoms.{IsAtom, atom_of, atom_bytes};
 ghost use Rattle.atom_cut.specs.Atoms.{AreAtoms};
 ghost use Rattle.atom_cut.specs.Cuts.{atom_numbers};
 ghost use Rattle.atom_gather.specs.IndexForm.{atoms_in};
-ghost use Rattle.atom_gather.specs.Files.{atom_file_at, forms_fault, differs_fault, AreFiles};
+ghost use Rattle.atom_gather.specs.Files.{atom_file_at, forms_fault, files_fault, cut_fault, differs_fault, AreFiles};
 ghost use Rattle.atom_gather.specs.Owners.{added_by, AreHeld};
 ghost use Rattle.atom_gather.specs.Gathered.{IsAssignment, told_owners, gather_fault};
 
@@ -52,10 +53,31 @@ pub fn gathered(
     };
     let owners = owners_in(alloc, graph.n(), files, atoms)?;
     let of = owners.of(alloc)?;
+    gathered_under(alloc, graph, of, atoms, index, files)
+}
+
+/// Compares index and files with those of the graph, where `of` says in which of so many atoms each vertex is.
+fn gathered_under(
+    alloc: Global,
+    graph: &Graph,
+    of: Vec<AtomNo>,
+    atoms: u16,
+    index: &[u8],
+    files: &[Vec<u8>],
+) -> Result<Atoms, AtomsReading>
+    requires few { atoms ≤ MAX_ATOMS }
+    requires graph { IsDataGraph graph.now }
+    requires each { length of.items ≡ size graph.now }
+    requires below { All (λ a. a.0 < atoms) of.items }
+    ensures of { IfOk result (λ made. made.of.items ≡ of.items) }
+    ensures lines { IfOk result (λ made. AreAtoms graph.now (atom_numbers of.items) atoms made.lines.items) }
+    ensures index { IfOk result (λ made. made.index.items ≡ index.now) }
+    ensures none { OnOk result (cut_fault graph.now (atom_numbers of.items) atoms index.now (atom_file_at files.now) ≡ None) }
+    ensures fault { (fault : AtomsFault) → result ≡ Err (OrNoMemory.Fault fault)
+        → cut_fault graph.now (atom_numbers of.items) atoms index.now (atom_file_at files.now) ≡ Some fault }
+{
     let lines = lines_of(alloc, graph, &of, atoms)?;
-    for a in 0..atoms {
-        check_atom(alloc, AtomNo(a), &lines[a as usize], file_of(files, a))?;
-    }
+    check_files(alloc, &lines, atoms, files)?;
     let wanted = index_under(alloc, graph, &of, &lines, atoms)?;
     match check_same(0, index, &wanted) {
         Ok(()) => Ok(Atoms {
@@ -65,6 +87,26 @@ pub fn gathered(
         }),
         Err(fault) => Err(AtomsReading::Fault(fault)),
     }
+}
+
+/// Compares the file of each atom with the one that its lines have.
+fn check_files(
+    alloc: Global,
+    lines: &[Lines],
+    atoms: u16,
+    files: &[Vec<u8>],
+) -> Result<(), AtomsReading>
+    requires few { atoms ≤ MAX_ATOMS }
+    requires each { length lines.now ≡ atoms }
+    requires atoms { (a : ℕ) (d : Lines) → a < atoms → IsAtom (atom_of a (slice_index_or lines.now a d)) }
+    ensures none { OnOk result ((g : DataGraph) (of : List ℕ) → AreAtoms g of atoms lines.now → files_fault g of (atom_file_at files.now) atoms 0 ≡ None) }
+    ensures fault { (fault : AtomsFault) (g : DataGraph) (of : List ℕ) → result ≡ Err (OrNoMemory.Fault fault) → AreAtoms g of atoms lines.now
+        → files_fault g of (atom_file_at files.now) atoms 0 ≡ Some fault }
+{
+    for a in 0..atoms {
+        check_atom(alloc, AtomNo(a), &lines[a as usize], file_of(files, a))?;
+    }
+    Ok(())
 }
 
 /// Compares the file of an atom with the one that these lines have.

@@ -1,16 +1,17 @@
 //! The atom of each vertex, as the files of atoms say.
-ghost use Rattle.std.specs.Prelude.{◌≡◌, ℕ, ◌+◌, ◌<◌, ◌≤◌, ◌++◌, ◌∷◌, [], List, Some, None, Err, IfOk, IfErr, OnOk, OnErr};
+ghost use Rattle.std.specs.Prelude.{◌≡◌, ℕ, ◌+◌, ◌<◌, ◌≤◌, ◌++◌, ◌∷◌, [], List, map, Some, None, Err, IfOk, IfErr, OnOk, OnErr};
 ghost use Rattle.gl_base.specs.declared.atoms.AtomsFault.{AtomsFault};
 ghost use Rattle.gl_base.specs.declared.memory.OrNoMemory.{OrNoMemory};
 ghost use Rattle.atom_file.specs.Faults.{atom_fault};
 ghost use Rattle.atom_cut.specs.Cuts.{atom_numbers};
 ghost use Rattle.atom_gather.specs.Files.{form_of};
-ghost use Rattle.atom_gather.specs.Owners.{vertices_added, with_atom, owner_fault, owners_of, AreHeld};
+ghost use Rattle.atom_gather.specs.Owners.{vertices_added, with_atom, owner_at, owner_fault, owners_of, AreHeld};
+ghost use Rattle.atom_gather.specs.Inner.Holding.{held_more, AreAllHeld, IsFirstUnheld};
 
 use crate::AtomsReading;
 use crate::forms::fault_in;
 use atom_file::AtomView;
-use gl_base::{AtomNo, AtomsFault, AtomsKind, MAX_ATOMS, NoMemory};
+use gl_base::{AtomNo, AtomsFault, AtomsKind, MAX_ATOMS, NoMemory, Vertex};
 use std::alloc::Global;
 
 /// What is kept of the atoms that add a vertex: nobody adds it, or one atom, or more.
@@ -33,12 +34,8 @@ impl Owners {
     pub fn new(alloc: Global, vertices: u32) -> Result<Owners, NoMemory>
         ensures { IfOk result (AreHeld vertices []) }
     {
-        let mut held = Vec::with_capacity(alloc, vertices as usize)?;
-        for _ in 0..vertices {
-            held.push(Held::Nobody)?;
-        }
         Ok(Owners {
-            held,
+            held: vec![in alloc; Held::Nobody; vertices as usize]?,
             beyond: false,
         })
     }
@@ -75,24 +72,42 @@ impl Owners {
     }
 
     /// Adds the vertices of an atom.
-    fn hold_all(&mut self, atom: AtomNo, view: &AtomView<'_>) {
+    fn hold_all(&mut self, atom: AtomNo, view: &AtomView<'_>)
+        ensures { (n : ℕ) (added : List (ℕ × ℕ)) → AreHeld n added self.old → AreHeld n (added ++ with_atom atom.0 (map (λ l. l.vertex.0) view.now.vertices)) self.new }
+    {
         for i in 0..view.vertices() {
-            self.hold(atom, view.vertex_line(i).vertex.0 as usize);
+            self.hold(atom, view.vertex_line(i).vertex);
         }
     }
 
     /// Adds a vertex of an atom.
-    fn hold(&mut self, atom: AtomNo, vertex: usize) {
-        if vertex < self.held.len() {
-            self.held[vertex] = more(self.held[vertex], atom);
+    fn hold(&mut self, atom: AtomNo, vertex: Vertex)
+        ensures { (n : ℕ) (added : List (ℕ × ℕ)) → AreHeld n added self.old → AreHeld n (added ++ (vertex.0, atom.0) ∷ []) self.new }
+    {
+        let place = vertex.0 as usize;
+        if place < self.held.len() {
+            self.held[place] = more(self.held[place], atom);
         } else {
             self.beyond = true;
         }
     }
 }
 
+/// What is kept when one more atom adds the vertex.
+fn more(held: Held, atom: AtomNo) -> Held
+    ensures { result ≡ held_more held atom.0 }
+{
+    match held {
+        Held::Nobody => Held::By(atom),
+        Held::By(_) | Held::Many => Held::Many,
+    }
+}
+
 /// The one atom that adds each vertex.
-fn holders(alloc: Global, held: &[Held]) -> Result<Vec<AtomNo>, AtomsReading> {
+fn holders(alloc: Global, held: &[Held]) -> Result<Vec<AtomNo>, AtomsReading>
+    ensures all { IfOk result (λ of. AreAllHeld held.now (atom_numbers of.items)) }
+    ensures first { (fault : AtomsFault) → result ≡ Err (OrNoMemory.Fault fault) → IsFirstUnheld held.now fault }
+{
     let mut of = room_for(alloc, held.len())?;
     for v in 0..held.len() {
         match held[v] {
@@ -117,16 +132,10 @@ fn push(of: &mut Vec<AtomNo>, atom: AtomNo) -> Result<(), NoMemory>
     Ok(of.push(atom)?)
 }
 
-/// What is kept when one more atom adds the vertex.
-fn more(held: Held, atom: AtomNo) -> Held {
-    match held {
-        Held::Nobody => Held::By(atom),
-        Held::By(_) | Held::Many => Held::Many,
-    }
-}
-
 /// A vertex that is not in exactly one atom.
-fn owner_at(vertex: usize) -> AtomsFault {
+fn owner_at(vertex: usize) -> AtomsFault
+    ensures { result ≡ owner_at vertex }
+{
     AtomsFault {
         file: 0,
         kind: AtomsKind::Owner,
