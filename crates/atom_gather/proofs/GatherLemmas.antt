@@ -28,11 +28,11 @@ pub same_bytes : (n : ℕ) (xs ys : List ℕ) → difference_from n xs ys ≡ No
 same_bytes n [] [] e = refl
 same_bytes n [] (y ∷ ys) e = absurd (none-some n (sym e))
 same_bytes n (x ∷ xs) [] e = absurd (none-some n (sym e))
-same_bytes n (x ∷ xs) (y ∷ ys) e = go (eqb x y) refl e
+same_bytes n (x ∷ xs) (y ∷ ys) e = go (eqb x y) refl (same_bytes (n + 1) xs ys) e
   where
-    go : (b : Bool) → eqb x y ≡ b → cond b (difference_from (n + 1) xs ys) (Some n) ≡ None → x ∷ xs ≡ y ∷ ys
-    go true is none = ap (λ (z : ℕ). z ∷ xs) (eqb-true x y is) ∙ ap (λ (zs : List ℕ). y ∷ zs) (same_bytes (n + 1) xs ys none)
-    go false is none = absurd (none-some n (sym none))
+    go : (b : Bool) → eqb x y ≡ b → (difference_from (n + 1) xs ys ≡ None → xs ≡ ys) → cond b (difference_from (n + 1) xs ys) (Some n) ≡ None → x ∷ xs ≡ y ∷ ys
+    go true is rest none = ap (λ (z : ℕ). z ∷ xs) (eqb-true x y is) ∙ ap (λ (zs : List ℕ). y ∷ zs) (rest none)
+    go false is rest none = absurd (none-some n (sym none))
 
 pub no_difference : (file : ℕ) (xs ys : List ℕ) → differs_fault file xs ys ≡ None → xs ≡ ys
 no_difference file xs ys e = go (difference_from 0 xs ys) refl e
@@ -69,6 +69,15 @@ cut_same g of atoms index file e =
       index_is = no_difference 0 index (index_bytes g of atoms) both.1;
       files_are = λ a h. files_same g of file atoms 0 a both.0 (omega arith) (omega (arith, h));
     }
+
+-- the first of the files and the index that differs
+pub cut_files : (g : DataGraph) (of : List ℕ) (atoms : ℕ) (index : List ℕ) (file : ℕ → List ℕ) (fault : AtomsFault) → files_fault g of file atoms 0 ≡ Some fault → cut_fault g of atoms index file ≡ Some fault
+cut_files g of atoms index file fault e = or_first (files_fault g of file atoms 0) (differs_fault 0 index (index_bytes g of atoms)) fault e
+
+pub cut_index : (g : DataGraph) (of : List ℕ) (atoms : ℕ) (index wanted : List ℕ) (file : ℕ → List ℕ) (answer : Option AtomsFault) → files_fault g of file atoms 0 ≡ None → wanted ≡ index_bytes g of atoms → differs_fault 0 index wanted ≡ answer → cut_fault g of atoms index file ≡ answer
+cut_index g of atoms index wanted file answer none is e =
+    or_second (files_fault g of file atoms 0) (differs_fault 0 index (index_bytes g of atoms)) answer none
+    (ap (differs_fault 0 index) (sym is) ∙ e)
 
 -- the first fault of all, by the step that finds it
 pub gather_index : (g : DataGraph) (index : List ℕ) (file : ℕ → List ℕ) (fault : AtomFault) (told : AtomsFault) → index_fault index ≡ Some fault → form_of 0 (Some fault) ≡ Some told → gather_fault g index file ≡ Some told
