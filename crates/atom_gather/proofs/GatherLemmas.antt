@@ -1,10 +1,11 @@
 -- The first fault of an index and of files, step by step.
-use Rattle.std.proofs.Common.{◌≡◌, ℕ, zero, suc, ◌+◌, ◌<◌, ◌≤◌, ◌⊎◌, inl, inr, Bool, true, false, cond, eqb, List, [], ◌∷◌, ◌++◌, length, map, get_or, slice_index, Option, Some, None, All, subst, refl, sym, ap, ◌∙◌, arith}
+use Rattle.std.proofs.Common.{◌≡◌, ℕ, zero, suc, ◌+◌, ◌<◌, ◌≤◌, ◌⊎◌, inl, inr, Bool, true, false, cond, eqb, List, [], ◌∷◌, ◌++◌, length, map, get_or, slice_index, Option, Some, None, Result, Ok, Err, IfOk, All, subst, refl, sym, ap, ◌∙◌, arith}
 use Rattle.std.specs.List.{filter, flat_map, list_any, range_with_len, AllByRecursion}
 use Rattle.std.specs.Option.{option_or}
 use Rattle.std.proofs.lemmas.Bool.{cases_lt, cases_eq, eqb-true}
 use Rattle.std.proofs.lemmas.List.{get_or-map, append-nil}
 use Rattle.std.proofs.lemmas.List.FromFn.{get_or-map-range_with_len, length-map-range_with_len}
+use Rattle.std.proofs.lemmas.List.Elements.{All-map}
 use Rattle.std.proofs.lemmas.Option.{none-some}
 use Rattle.gl_base.specs.declared.atoms.AtomsFault.{AtomsFault}
 use Rattle.gl_base.specs.declared.atoms.AtomsKind.TheVariants as kinds
@@ -21,7 +22,7 @@ use Rattle.atom_cut.proofs.CountLemmas.{flat_map-range_more}
 use Rattle.atom_gather.specs.IndexForm.{atoms_in, index_fault}
 use Rattle.atom_gather.specs.Files.{form_of, forms_fault, difference_from, differs_of, differs_fault, files_fault, cut_fault, AreFiles}
 use Rattle.atom_gather.specs.Owners.{vertices_added, with_atom, added_by, owner_at, owner_from, owner_fault, owners_of}
-use Rattle.atom_gather.specs.Gathered.{told_owners, gather_fault}
+use Rattle.atom_gather.specs.Gathered.{IsAssignment, told_owners, gather_fault}
 
 -- lists without a difference are the same
 pub same_bytes : (n : ℕ) (xs ys : List ℕ) → difference_from n xs ys ≡ None → xs ≡ ys
@@ -113,19 +114,56 @@ key_below k v (p ∷ ps) some below = go (eqb p.0 v) (key_below k v ps some belo
     go true rest = below.0
     go false rest = rest
 
+-- numbers of atoms are as many as the atoms
+pub length-numbers : (of : List AtomNo) → length (atom_numbers of) ≡ length of
+length-numbers [] = refl
+length-numbers (x ∷ xs) = let rest = length-numbers xs in omega (arith, rest)
+
 -- the owners are among the atoms
 pub owners_below : (n atoms : ℕ) (file : ℕ → List ℕ) (of : List AtomNo) → 1 ≤ atoms → atom_numbers of ≡ owners_of n (added_by file atoms) → All (λ (a : AtomNo). a.0 < atoms) of
 owners_below n atoms file of some is v d inside =
-    let len : length of ≡ n = sym (length-map of) ∙ ap length is ∙ length-map-range_with_len (λ v. slice_index (with_key v (added_by file atoms)) 0) 0 n in
+    let len : length of ≡ n = sym (length-numbers of) ∙ ap length is ∙ length-map-range_with_len (λ v. slice_index (with_key v (added_by file atoms)) 0) 0 n in
     let at : (get_or of v d).0 ≡ slice_index (with_key v (added_by file atoms)) 0 =
     sym (get_or-map (λ (a : AtomNo). a.0) of v d 0 inside) ∙ ap (λ (xs : List ℕ). get_or xs v 0) is
     ∙ get_or-map-range_with_len (λ v. slice_index (with_key v (added_by file atoms)) 0) 0 n v v 0 (omega (arith, inside, len)) (omega arith) in
     omega (arith, at, key_below atoms v (added_by file atoms) (omega (arith, some)) (added_below file atoms atoms 0 (omega arith)))
-  where
-    length-map : (xs : List AtomNo) → length (atom_numbers xs) ≡ length xs
-    length-map [] = refl
-    length-map (x ∷ xs) = let rest = length-map xs in omega (arith, rest)
 
 -- and each vertex has one
 pub owners_each : (n : ℕ) (added : List (ℕ × ℕ)) (of : List ℕ) → of ≡ owners_of n added → length of ≡ n
 owners_each n added of is = ap length is ∙ length-map-range_with_len (λ v. slice_index (with_key v added) 0) 0 n
+
+pub gather_forms : (g : DataGraph) (index : List ℕ) (file : ℕ → List ℕ) (atoms : ℕ) (fault : AtomsFault) → index_fault index ≡ None → atoms ≡ atoms_in index → forms_fault file atoms 0 ≡ Some fault → gather_fault g index file ≡ Some fault
+gather_forms g index file atoms fault none is e =
+    gather_behind g index file atoms (Some fault) none is
+    (or_first (forms_fault file atoms 0) (option_or (owner_fault (size g) (added_by file atoms)) (cut_fault g (owners_of (size g) (added_by file atoms)) atoms index file)) fault e)
+
+pub gather_owner : (g : DataGraph) (index : List ℕ) (file : ℕ → List ℕ) (atoms : ℕ) (fault : AtomsFault) → index_fault index ≡ None → atoms ≡ atoms_in index → forms_fault file atoms 0 ≡ None → owner_fault (size g) (added_by file atoms) ≡ Some fault → gather_fault g index file ≡ Some fault
+gather_owner g index file atoms fault none is forms e =
+    let cut = cut_fault g (owners_of (size g) (added_by file atoms)) atoms index file in
+    gather_behind g index file atoms (Some fault) none is
+    (or_second (forms_fault file atoms 0) (option_or (owner_fault (size g) (added_by file atoms)) cut) (Some fault) forms
+    (or_first (owner_fault (size g) (added_by file atoms)) cut fault e))
+
+pub gather_late : (g : DataGraph) (index : List ℕ) (file : ℕ → List ℕ) (atoms : ℕ) (of : List ℕ) (answer : Option AtomsFault) → index_fault index ≡ None → atoms ≡ atoms_in index → forms_fault file atoms 0 ≡ None → owner_fault (size g) (added_by file atoms) ≡ None
+    → of ≡ owners_of (size g) (added_by file atoms) → cut_fault g of atoms index file ≡ answer → gather_fault g index file ≡ answer
+gather_late g index file atoms of answer none is forms owner of_is e =
+    let cut = cut_fault g (owners_of (size g) (added_by file atoms)) atoms index file in
+    gather_behind g index file atoms answer none is
+    (or_second (forms_fault file atoms 0) (option_or (owner_fault (size g) (added_by file atoms)) cut) answer forms
+    (or_second (owner_fault (size g) (added_by file atoms)) cut answer owner
+    (ap (λ (os : List ℕ). cut_fault g os atoms index file) (sym of_is) ∙ e)))
+
+pub is_assignment : (g : DataGraph) (k atoms : ℕ) (of : List AtomNo) → k ≡ atoms → 1 ≤ k → k ≤ 1024 → length of ≡ size g → All (λ (a : AtomNo). a.0 < k) of → IsAssignment g atoms (atom_numbers of)
+is_assignment g k atoms of is some few each below =
+    subst (λ (n : ℕ). IsAssignment g n (atom_numbers of)) is
+    (record {
+      some = some;
+      few = few;
+      each = length-numbers of ∙ each;
+      below = All-map (λ (a : ℕ). a < k) (λ (a : AtomNo). a.0) of below;
+    })
+
+-- what follows of two facts about what was answered
+pub if_ok_both : {T E : Type 0} (r : Result T E) (P Q R : T → Type 0) → ((x : T) → P x → Q x → R x) → IfOk r P → IfOk r Q → IfOk r R
+if_ok_both (Ok x) P Q R f p q = f x p q
+if_ok_both (Err e) P Q R f p q = tt
