@@ -67,7 +67,7 @@ not_one_held (x ∷ []) none = λ e. none (record { 0 = x }) refl
 not_one_held (x ∷ y ∷ zs) none = λ e. omega (arith, e)
 
 -- vertices that one atom adds are passed
-owner_skip : (added : List (ℕ × ℕ)) (k left v : ℕ) → ((u : ℕ) → v ≤ u → u < v + k → length (with_key u added) ≡ 1) → owner_from added (k + left) v ≡ owner_from added left (v + k)
+pub owner_skip : (added : List (ℕ × ℕ)) (k left v : ℕ) → ((u : ℕ) → v ≤ u → u < v + k → length (with_key u added) ≡ 1) → owner_from added (k + left) v ≡ owner_from added left (v + k)
 owner_skip added zero left v one =
     let none : 0 + left ≡ left = omega arith in
     let here : v ≡ v + 0 = omega arith in

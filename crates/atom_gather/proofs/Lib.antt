@@ -4,3 +4,4 @@ pub mod CompareLemmas
 pub mod HoldLemmas
 pub mod VertexLemmas
 pub mod GatherLemmas
+pub mod TakenLemmas

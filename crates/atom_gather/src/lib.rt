@@ -5,10 +5,12 @@ mod comparing;
 mod forms;
 mod gathering;
 mod index_form;
+mod laws;
 mod owners;
 
 pub use comparing::check_same;
 pub use forms::fault_in;
 pub use gathering::{AtomsReading, check_atom, gathered};
 pub use index_form::check_index;
+pub use laws::files_tell_their_owners;
 pub use owners::Owners;
