@@ -5,3 +5,4 @@ pub mod HoldLemmas
 pub mod VertexLemmas
 pub mod GatherLemmas
 pub mod TakenLemmas
+pub mod IndexLemmas

@@ -1,3 +1,4 @@
+use Rattle.atom_gather.proofs.IndexLemmas.{head_fine, metas_written, among_rise, field_behind}
 use Rattle.graph_core.specs.DataGraph.{size}
 use Rattle.atom_gather.proofs.TakenLemmas.{forms_taken, files_add_own, owners_taken}
 use Rattle.atom_gather.proofs.laws.files_tell_their_owners.Goals as goal
