@@ -1,5 +1,5 @@
 -- The index of a cut has its form.
-use Rattle.std.proofs.Common.{◌≡◌, ℕ, zero, suc, ◌+◌, ◌-◌, ◌*◌, ◌^◌, ◌<◌, ◌≤◌, Bool, true, false, cond, eqb, List, [], ◌∷◌, ◌++◌, length, drop, Option, Some, None, subst, refl, sym, ap, ◌∙◌, arith, append_assoc, length-append, codes}
+use Rattle.std.proofs.Common.{◌≡◌, ℕ, zero, suc, ◌+◌, ◌-◌, ◌*◌, ◌^◌, ◌<◌, ◌≤◌, Bool, true, false, cond, eqb, List, [], ◌∷◌, ◌++◌, length, slice_index, drop, Option, Some, None, subst, refl, sym, ap, ◌∙◌, arith, append_assoc, length-append, codes}
 use Rattle.std.specs.List.{flat_map, range_with_len}
 use Rattle.std.specs.Option.{option_or}
 use Rattle.std.proofs.Math.Seq.{drop-append-add}
@@ -12,6 +12,7 @@ use Rattle.sha2.proofs.Facts256.{length-sha256}
 use Rattle.graph_core.specs.DataGraph.{DataGraph}
 use Rattle.graph_core.specs.Digest.{digest_bytes}
 use Rattle.atom_file.specs.declared.faults.AtomFault.{AtomFault}
+use Rattle.atom_file.specs.Atoms.{Atom}
 use Rattle.atom_file.specs.Fields.{field}
 use Rattle.atom_file.specs.Faults.{torn_fault}
 use Rattle.atom_cut.specs.declared.metas.MetaEdge.{MetaEdge}
@@ -87,3 +88,102 @@ head_fine bytes k within word version low zero_is count some few =
       eq-eqb (field bytes 0 8) 5137553027876406360 word, eq-eqb (field bytes 8 4) 1 version, le-ltb (field bytes 44 1) 0 (omega arith), le-ltb 1 (field bytes 44 1) low, eq-eqb (field bytes 45 1) 0 zero_is,
       le-ltb (field bytes 46 2) 1 (omega (arith, count, some)), le-ltb 1024 (field bytes 46 2) (omega (arith, count, few)), le-ltb (length bytes) (52 + 12 * field bytes 46 2) (omega (arith, within, count)))
     refl
+
+four_bytes : (x y z w a b : ℕ) → x * 256 + (y * 1 + 0) ≡ a → z * 256 + (w * 1 + 0) ≡ b → x * 16777216 + (y * 65536 + (z * 256 + (w * 1 + 0))) ≡ a * 65536 + b
+four_bytes x y z w a b high low = omega (arith, high, low)
+
+-- the pair of a meta-edge is read as it was written
+pair_read : (e : MetaEdge) (rest : List ℕ) → e.a.0 < 65536 → e.b.0 < 65536 → field (meta_bytes e ++ rest) 0 4 ≡ pair_key e
+pair_read e rest few_a few_b =
+    four_bytes (slice_index (big_bytes 2 e.a.0) 0) (slice_index (big_bytes 2 e.a.0) 1) (slice_index (big_bytes 2 e.b.0) 0) (slice_index (big_bytes 2 e.b.0) 1) e.a.0 e.b.0
+    (big_number-reads_back 2 e.a.0 [] few_a) (big_number-reads_back 2 e.b.0 [] few_b)
+
+-- each atom has counts of twelve bytes
+length-counts : (f : ℕ → Atom) (s n : ℕ) → length (flat_map (λ a. count_bytes (f a)) (range_with_len s n)) ≡ 12 * n
+length-counts f s zero = refl
+length-counts f s (suc n) =
+    let size : length (count_bytes (f s)) ≡ 12 = refl in
+    omega (arith, length-append (count_bytes (f s)) (flat_map (λ a. count_bytes (f a)) (range_with_len (s + 1) n)), size, length-counts f (s + 1) n)
+
+-- the direction, the zero, and the number of atoms
+abbrev tail_of : Bool → ℕ → List ℕ
+tail_of directed k = cond directed 1 0 ∷ 0 ∷ big_bytes 2 k
+
+directed_low : (directed : Bool) (k : ℕ) (rest : List ℕ) → field (tail_of directed k ++ rest) 0 1 ≤ 1
+directed_low true k rest = omega arith
+directed_low false k rest = omega arith
+
+module _ (digest : List ℕ) (directed : Bool) (k : ℕ) (counts : List ℕ) (metas : List MetaEdge) (bytes : List ℕ)
+    (len : length digest ≡ 32) (some : 1 ≤ k) (few : k ≤ 1024) (len_counts : length counts ≡ 12 * k) (few_metas : length metas < 2 ^ 32) (rise : PairsRise 0 metas)
+    (is : bytes ≡ head_bytes digest directed k ++ counts ++ metas_bytes metas) where
+  abbrev front : List ℕ
+  front = codes "GLABINDX" ++ big_bytes 4 1 ++ digest
+
+  length-front : length front ≡ 44
+  length-front =
+      let twelve : length (codes "GLABINDX" ++ big_bytes 4 1) ≡ 12 = refl in
+      omega (arith, length-append (codes "GLABINDX" ++ big_bytes 4 1) digest, twelve, len)
+
+  abbrev behind_tail : List ℕ
+  behind_tail = counts ++ metas_bytes metas
+
+  split : bytes ≡ front ++ (tail_of directed k ++ behind_tail)
+  split = is ∙ append_assoc (front ++ tail_of directed k) counts (metas_bytes metas) ∙ append_assoc front (tail_of directed k) behind_tail
+
+  in_tail : (i n at : ℕ) → 44 + i ≡ at → field bytes at n ≡ field (tail_of directed k ++ behind_tail) i n
+  in_tail i n at place =
+      ap (λ (bs : List ℕ). field bs at n) split ∙ field_behind front (tail_of directed k ++ behind_tail) i n at (omega (arith, length-front, place))
+
+  length-bytes : length bytes ≡ 52 + 12 * k + length (flat_map meta_bytes metas)
+  length-bytes =
+      let four : length (tail_of directed k) ≡ 4 = refl in
+      let size : length (big_bytes 4 (length metas)) ≡ 4 = refl in
+      omega (arith, ap length split, length-append front (tail_of directed k ++ behind_tail), length-append (tail_of directed k) behind_tail, length-append counts (metas_bytes metas), length-append (big_bytes 4 (length metas)) (flat_map meta_bytes metas), length-front, four, size, len_counts)
+
+  pub count_of_atoms : atoms_in bytes ≡ k
+  count_of_atoms = in_tail 2 2 46 refl ∙ big_number-reads_back 2 k behind_tail (omega (arith, few))
+
+  head_none : head_fault bytes ≡ None
+  head_none =
+      head_fine bytes k (omega (arith, length-bytes)) (ap (λ (bs : List ℕ). field bs 0 8) split) (ap (λ (bs : List ℕ). field bs 8 4) split)
+      (omega (arith, in_tail 0 1 44 refl, directed_low directed k behind_tail)) (in_tail 1 1 45 refl) count_of_atoms some few
+
+  abbrev front_counts : List ℕ
+  front_counts = head_bytes digest directed k ++ counts
+
+  length-front_counts : length front_counts ≡ 48 + 12 * k
+  length-front_counts =
+      let four : length (tail_of directed k) ≡ 4 = refl in
+      omega (arith, length-append (head_bytes digest directed k) counts, length-append front (tail_of directed k), length-front, four, len_counts)
+
+  count_of_metas : field bytes (48 + 12 * atoms_in bytes) 4 ≡ length metas
+  count_of_metas =
+      let none : length front_counts + 0 ≡ 48 + 12 * k = omega (arith, length-front_counts) in
+      ap (λ (n : ℕ). field bytes (48 + 12 * n) 4) count_of_atoms
+      ∙ ap (λ (bs : List ℕ). field bs (48 + 12 * k) 4) is ∙ field_behind front_counts (metas_bytes metas) 0 4 (48 + 12 * k) none
+      ∙ big_number-reads_back 4 (length metas) (flat_map meta_bytes metas) few_metas
+
+  pub index_fine : index_fault bytes ≡ None
+  index_fine =
+      let before = front_counts ++ big_bytes 4 (length metas) in
+      let size : length (big_bytes 4 (length metas)) ≡ 4 = refl in
+      let place : 52 + 12 * k ≡ length before = omega (arith, length-append front_counts (big_bytes 4 (length metas)), length-front_counts, size) in
+      let none = metas_written metas bytes before 0 pair_read rise (is ∙ sym (append_assoc front_counts (big_bytes 4 (length metas)) (flat_map meta_bytes metas))) in
+      ap (λ o. option_or o (metas_fault bytes (field bytes (48 + 12 * atoms_in bytes) 4) 0 (52 + 12 * atoms_in bytes))) head_none
+      ∙ ap (λ (n : ℕ). metas_fault bytes n 0 (52 + 12 * atoms_in bytes)) count_of_metas
+      ∙ ap (λ (n : ℕ). metas_fault bytes (length metas) 0 (52 + 12 * n)) count_of_atoms
+      ∙ ap (metas_fault bytes (length metas) 0) place ∙ none
+
+-- the index of a cut has no fault of form, and tells how many atoms there are
+pub index_taken : (g : DataGraph) (of : List ℕ) (k : ℕ) → 1 ≤ k → k ≤ 1024 → (index_fault (index_bytes g of k) ≡ None) × (atoms_in (index_bytes g of k) ≡ k)
+index_taken g of k some few =
+    let digest = sha256 (digest_bytes g) in
+    let counts = flat_map (λ a. count_bytes (graph_atom g of a)) (range_with_len 0 k) in
+    let metas = meta_edges g of k in
+    let bytes = index_bytes g of k in
+    let len = length-sha256 (digest_bytes g) in
+    let len_counts = length-counts (graph_atom g of) 0 k in
+    let few_metas = metas_few (edges_between g of (length g.edges)) k few in
+    let rise = among_rise (edges_between g of (length g.edges)) k k 0 (omega arith) few in
+    (index_fine digest g.directed k counts metas bytes len some few len_counts few_metas rise refl,
+    count_of_atoms digest g.directed k counts metas bytes len some few len_counts few_metas rise refl)

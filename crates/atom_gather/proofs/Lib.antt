@@ -6,3 +6,4 @@ pub mod VertexLemmas
 pub mod GatherLemmas
 pub mod TakenLemmas
 pub mod IndexLemmas
+pub mod BackLemmas

@@ -12,5 +12,5 @@ pub use comparing::check_same;
 pub use forms::fault_in;
 pub use gathering::{AtomsReading, check_atom, gathered};
 pub use index_form::check_index;
-pub use laws::files_tell_their_owners;
+pub use laws::cuts_are_gathered;
 pub use owners::Owners;
