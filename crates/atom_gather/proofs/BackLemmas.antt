@@ -1,5 +1,5 @@
 -- What a cut makes is taken back.
-use Rattle.std.proofs.Common.{◌≡◌, ℕ, ◌+◌, ◌<◌, List, None, refl, sym, ap, ◌∙◌, arith}
+use Rattle.std.proofs.Common.{◌≡◌, ℕ, List, None, refl, sym, ap, ◌∙◌, arith}
 use Rattle.graph_core.specs.DataGraph.{DataGraph, IsDataGraph, size}
 use Rattle.atom_gather.specs.IndexForm.{atoms_in, index_fault}
 use Rattle.atom_gather.specs.Files.{cut_fault, AreFiles}

@@ -1,27 +1,25 @@
 -- The first fault of an index and of files, step by step.
-use Rattle.std.proofs.Common.{◌≡◌, ℕ, zero, suc, ◌+◌, ◌<◌, ◌≤◌, ◌⊎◌, inl, inr, Bool, true, false, cond, eqb, List, [], ◌∷◌, ◌++◌, length, map, get_or, slice_index, Option, Some, None, Result, Ok, Err, IfOk, All, subst, refl, sym, ap, ◌∙◌, arith}
-use Rattle.std.specs.List.{filter, flat_map, list_any, range_with_len, AllByRecursion}
+use Rattle.std.proofs.Common.{◌≡◌, ℕ, zero, suc, ◌+◌, ◌<◌, ◌≤◌, inl, inr, Bool, true, false, cond, eqb, List, [], ◌∷◌, ◌++◌, length, map, get_or, slice_index, Option, Some, None, Result, Ok, Err, IfOk, All, subst, refl, sym, ap, ◌∙◌, arith}
+use Rattle.std.specs.List.{filter, flat_map, range_with_len, AllByRecursion}
 use Rattle.std.specs.Option.{option_or}
-use Rattle.std.proofs.lemmas.Bool.{cases_lt, cases_eq, eqb-true}
-use Rattle.std.proofs.lemmas.List.{get_or-map, append-nil}
+use Rattle.std.proofs.lemmas.Bool.{cases_eq, eqb-true}
+use Rattle.std.proofs.lemmas.List.{get_or-map}
 use Rattle.std.proofs.lemmas.List.FromFn.{get_or-map-range_with_len, length-map-range_with_len}
 use Rattle.std.proofs.lemmas.List.Elements.{All-map}
 use Rattle.std.proofs.lemmas.Option.{none-some}
 use Rattle.gl_base.specs.declared.atoms.AtomsFault.{AtomsFault}
 use Rattle.gl_base.specs.declared.atoms.AtomsKind.TheVariants as kinds
-use Rattle.gl_base.specs.declared.atoms.Lines.{Lines}
 use Rattle.gl_base.specs.declared.numbers.AtomNo.{AtomNo}
 use Rattle.graph_core.specs.Rows.{with_key}
 use Rattle.graph_core.specs.DataGraph.{DataGraph, size}
 use Rattle.atom_file.specs.declared.faults.AtomFault.{AtomFault}
-use Rattle.atom_file.specs.Atoms.{atom_of, atom_bytes}
-use Rattle.atom_cut.specs.Atoms.{graph_atom, AreAtoms}
+use Rattle.atom_file.specs.Atoms.{atom_bytes}
+use Rattle.atom_cut.specs.Atoms.{graph_atom}
 use Rattle.atom_cut.specs.Cuts.{atom_numbers}
 use Rattle.atom_cut.specs.Index.{index_bytes}
-use Rattle.atom_cut.proofs.CountLemmas.{flat_map-range_more}
 use Rattle.atom_gather.specs.IndexForm.{atoms_in, index_fault}
 use Rattle.atom_gather.specs.Files.{form_of, forms_fault, difference_from, differs_of, differs_fault, files_fault, cut_fault, AreFiles}
-use Rattle.atom_gather.specs.Owners.{vertices_added, with_atom, added_by, owner_at, owner_from, owner_fault, owners_of}
+use Rattle.atom_gather.specs.Owners.{vertices_added, with_atom, added_by, owner_fault, owners_of}
 use Rattle.atom_gather.specs.Gathered.{IsAssignment, told_owners, gather_fault}
 
 -- lists without a difference are the same

@@ -1,22 +1,20 @@
 -- What is kept of the atoms that add a vertex.
-use Rattle.std.proofs.Common.{◌≡◌, ◌≢◌, ℕ, zero, suc, ◌+◌, ◌-◌, ◌<◌, ◌≤◌, ◌⊎◌, inl, inr, Bool, true, false, cond, eqb, leb, List, [], ◌∷◌, ◌++◌, length, map, get_or, set, take, slice_index, slice_get, take_all, Some, None, subst, refl, sym, ap, ◌∙◌, arith, append_assoc, length-set, get_or-set_same, get_or-set_other}
-use Rattle.std.specs.List.{filter, list_any, range_with_len}
-use Rattle.std.proofs.lemmas.Bool.{cases_eq, cases_lt, eq-eqb, ne_eqb, le-leb, lt-leb}
-use Rattle.std.proofs.lemmas.List.{take_more, append-nil, map-append}
+use Rattle.std.proofs.Common.{◌≡◌, ◌≢◌, ℕ, zero, suc, ◌+◌, ◌-◌, ◌<◌, ◌≤◌, Bool, true, false, cond, eqb, List, [], ◌∷◌, ◌++◌, length, map, get_or, take, slice_index, slice_get, take_all, Some, None, refl, sym, ap, ◌∙◌, arith, append_assoc}
+use Rattle.std.specs.List.{filter}
+use Rattle.std.proofs.lemmas.Bool.{eq-eqb, ne_eqb}
+use Rattle.std.proofs.lemmas.List.{take_more, map-append}
 use Rattle.std.proofs.lemmas.Option.{get_or_from_slice_get, slice_get_within}
 use Rattle.std.proofs.lemmas.List.Elements.{filter-append}
-use Rattle.std.proofs.lemmas.List.Folds.{list_any-append}
 use Rattle.std.proofs.lemmas.List.FromFn.{fill_by_all}
 use Rattle.gl_base.specs.declared.numbers.AtomNo.{AtomNo}
 use Rattle.gl_base.specs.declared.atoms.AtomsFault.{AtomsFault}
 use Rattle.gl_base.specs.declared.atoms.VertexLine.{VertexLine}
 use Rattle.graph_core.specs.Rows.{with_key}
-use Rattle.graph_core.proofs.RowLemmas.{with_key-here, with_key-past}
 use Rattle.atom_gather.specs.declared.owners.Held.{Held}
 use Rattle.atom_gather.specs.declared.owners.Held.TheVariants.{Nobody, By, Many}
 use Rattle.atom_gather.specs.declared.owners.Owners.{Owners}
 use Rattle.atom_gather.specs.Owners.{with_atom, owner_at, owner_from, owner_fault, owners_of, held_of, AreHeld}
-use Rattle.atom_gather.specs.Inner.Holding.{held_more, AreAllHeld, IsFirstUnheld}
+use Rattle.atom_gather.specs.Inner.Holding.{AreAllHeld, IsFirstUnheld}
 
 -- the items with a key in two lists, one behind the other
 pub with_key_append : {T : Type 0} (k : ℕ) (ps qs : List (ℕ × T)) → with_key k (ps ++ qs) ≡ with_key k ps ++ with_key k qs
@@ -32,9 +30,9 @@ with_atom_more a added vs i l found =
     take_more vs i l (slice_get_within vs i l found) ∙ ap (λ (x : VertexLine). take i vs ++ x ∷ []) (get_or_from_slice_get vs i l l found) in
     append_assoc added (with_atom a (map number (take i vs))) ((l.vertex.0, a) ∷ [])
     ∙ ap (λ (ps : List (ℕ × ℕ)). added ++ ps) (sym (
-      ap (λ (ls : List VertexLine). with_atom a (map number ls)) one
-      ∙ ap (with_atom a) (map-append number (take i vs) (l ∷ []))
-      ∙ map-append (λ (v : ℕ). (v, a)) (map number (take i vs)) (number l ∷ [])))
+    ap (λ (ls : List VertexLine). with_atom a (map number ls)) one
+    ∙ ap (with_atom a) (map-append number (take i vs) (l ∷ []))
+    ∙ map-append (λ (v : ℕ). (v, a)) (map number (take i vs)) (number l ∷ [])))
 
 -- all vertices of an atom
 pub with_atom_all : (a : ℕ) (added : List (ℕ × ℕ)) (vs : List VertexLine) (i : ℕ) → length vs ≤ i → added ++ with_atom a (map (λ (l : VertexLine). l.vertex.0) (take i vs)) ≡ added ++ with_atom a (map (λ (l : VertexLine). l.vertex.0) vs)

@@ -1,5 +1,5 @@
 -- The index of a cut has its form.
-use Rattle.std.proofs.Common.{◌≡◌, ℕ, zero, suc, ◌+◌, ◌-◌, ◌*◌, ◌^◌, ◌<◌, ◌≤◌, Bool, true, false, cond, eqb, List, [], ◌∷◌, ◌++◌, length, slice_index, drop, Option, Some, None, subst, refl, sym, ap, ◌∙◌, arith, append_assoc, length-append, codes}
+use Rattle.std.proofs.Common.{◌≡◌, ℕ, zero, suc, ◌+◌, ◌-◌, ◌*◌, ◌^◌, ◌<◌, ◌≤◌, Bool, true, false, cond, eqb, List, [], ◌∷◌, ◌++◌, length, slice_index, None, subst, refl, sym, ap, ◌∙◌, arith, append_assoc, length-append, codes}
 use Rattle.std.specs.List.{flat_map, range_with_len}
 use Rattle.std.specs.Option.{option_or}
 use Rattle.std.proofs.Math.Seq.{drop-append-add}
@@ -11,13 +11,11 @@ use Rattle.sha2.specs.Sha256.{sha256}
 use Rattle.sha2.proofs.Facts256.{length-sha256}
 use Rattle.graph_core.specs.DataGraph.{DataGraph}
 use Rattle.graph_core.specs.Digest.{digest_bytes}
-use Rattle.atom_file.specs.declared.faults.AtomFault.{AtomFault}
 use Rattle.atom_file.specs.Atoms.{Atom}
 use Rattle.atom_file.specs.Fields.{field}
-use Rattle.atom_file.specs.Faults.{torn_fault}
 use Rattle.atom_cut.specs.declared.metas.MetaEdge.{MetaEdge}
 use Rattle.atom_cut.specs.Atoms.{graph_atom}
-use Rattle.atom_cut.specs.MetaEdges.{meta_edge, metas_behind, metas_among, meta_edges, edges_between}
+use Rattle.atom_cut.specs.MetaEdges.{meta_edge, metas_behind, meta_edges, edges_between}
 use Rattle.atom_cut.specs.Index.{head_bytes, count_bytes, meta_bytes, metas_bytes, index_bytes}
 use Rattle.atom_cut.proofs.IndexLemmas.{metas_few}
 use Rattle.atom_gather.specs.IndexForm.{atoms_in, head_fault, metas_fault, index_fault}
@@ -44,9 +42,12 @@ behind_rise count a (suc n) b rest few_a few h =
     go : (none : Bool) → PairsRise (a * 65536 + (b + 1)) (flat_map (meta_edge count a) (range_with_len (b + 1) n) ++ rest)
         → PairsRise (a * 65536 + b) (cond none [] (record { a = record { 0 = a }; b = record { 0 = b }; count = count a b } ∷ []) ++ (flat_map (meta_edge count a) (range_with_len (b + 1) n) ++ rest))
     go true more = rise_from_less (a * 65536 + b) (a * 65536 + (b + 1)) (flat_map (meta_edge count a) (range_with_len (b + 1) n) ++ rest) (omega arith) more
-    go false more =
-        (few_a, omega (arith, few), omega arith,
-        rise_from_less (a * 65536 + b + 1) (a * 65536 + (b + 1)) (flat_map (meta_edge count a) (range_with_len (b + 1) n) ++ rest) (omega arith) more)
+    go false more = (
+      few_a,
+      omega (arith, few),
+      omega arith,
+      rise_from_less (a * 65536 + b + 1) (a * 65536 + (b + 1)) (flat_map (meta_edge count a) (range_with_len (b + 1) n) ++ rest) (omega arith) more,
+    )
 
 pub among_rise : (count : ℕ → ℕ → ℕ) (atoms n s : ℕ) → s + n ≤ atoms → atoms ≤ 1024 → PairsRise (s * 65536) (flat_map (λ a. metas_behind count a (atoms - (a + 1))) (range_with_len s n))
 among_rise count atoms zero s within few = tt
@@ -84,9 +85,21 @@ metas_written (e ∷ es) bytes front least key rises is =
 -- the head of an index has no fault where its fields have their values
 pub head_fine : (bytes : List ℕ) (k : ℕ) → 52 + 12 * k ≤ length bytes → field bytes 0 8 ≡ 5137553027876406360 → field bytes 8 4 ≡ 1 → field bytes 44 1 ≤ 1 → field bytes 45 1 ≡ 0 → field bytes 46 2 ≡ k → 1 ≤ k → k ≤ 1024 → head_fault bytes ≡ None
 head_fine bytes k within word version low zero_is count some few =
-    rw (le-ltb (length bytes) 8 (omega (arith, within)), le-ltb (length bytes) 12 (omega (arith, within)), le-ltb (length bytes) 45 (omega (arith, within)), le-ltb (length bytes) 46 (omega (arith, within)), le-ltb (length bytes) 48 (omega (arith, within)),
-      eq-eqb (field bytes 0 8) 5137553027876406360 word, eq-eqb (field bytes 8 4) 1 version, le-ltb (field bytes 44 1) 0 (omega arith), le-ltb 1 (field bytes 44 1) low, eq-eqb (field bytes 45 1) 0 zero_is,
-      le-ltb (field bytes 46 2) 1 (omega (arith, count, some)), le-ltb 1024 (field bytes 46 2) (omega (arith, count, few)), le-ltb (length bytes) (52 + 12 * field bytes 46 2) (omega (arith, within, count)))
+    rw (
+      le-ltb (length bytes) 8 (omega (arith, within)),
+      le-ltb (length bytes) 12 (omega (arith, within)),
+      le-ltb (length bytes) 45 (omega (arith, within)),
+      le-ltb (length bytes) 46 (omega (arith, within)),
+      le-ltb (length bytes) 48 (omega (arith, within)),
+      eq-eqb (field bytes 0 8) 5137553027876406360 word,
+      eq-eqb (field bytes 8 4) 1 version,
+      le-ltb (field bytes 44 1) 0 (omega arith),
+      le-ltb 1 (field bytes 44 1) low,
+      eq-eqb (field bytes 45 1) 0 zero_is,
+      le-ltb (field bytes 46 2) 1 (omega (arith, count, some)),
+      le-ltb 1024 (field bytes 46 2) (omega (arith, count, few)),
+      le-ltb (length bytes) (52 + 12 * field bytes 46 2) (omega (arith, within, count)),
+    )
     refl
 
 four_bytes : (x y z w a b : ℕ) → x * 256 + (y * 1 + 0) ≡ a → z * 256 + (w * 1 + 0) ≡ b → x * 16777216 + (y * 65536 + (z * 256 + (w * 1 + 0))) ≡ a * 65536 + b
@@ -184,6 +197,7 @@ index_taken g of k some few =
     let len = length-sha256 (digest_bytes g) in
     let len_counts = length-counts (graph_atom g of) 0 k in
     let few_metas = metas_few (edges_between g of (length g.edges)) k few in
-    let rise = among_rise (edges_between g of (length g.edges)) k k 0 (omega arith) few in
-    (index_fine digest g.directed k counts metas bytes len some few len_counts few_metas rise refl,
-    count_of_atoms digest g.directed k counts metas bytes len some few len_counts few_metas rise refl)
+    let rise = among_rise (edges_between g of (length g.edges)) k k 0 (omega arith) few in (
+      index_fine digest g.directed k counts metas bytes len some few len_counts few_metas rise refl,
+      count_of_atoms digest g.directed k counts metas bytes len some few len_counts few_metas rise refl,
+    )

@@ -1,13 +1,12 @@
 -- The files of a graph's atoms have the owners that they were cut by.
-use Rattle.std.proofs.Common.{◌≡◌, ◌≢◌, ℕ, zero, suc, ◌+◌, ◌^◌, ◌<◌, ◌≤◌, inl, inr, Bool, true, false, cond, eqb, leb, List, [], ◌∷◌, ◌++◌, length, map, get_or, slice_index, Option, Some, None, All, subst, refl, sym, ap, ◌∙◌, arith, append_assoc}
-use Rattle.std.specs.List.{filter, flat_map, list_any, range_with_len, AllByRecursion}
+use Rattle.std.proofs.Common.{◌≡◌, ◌≢◌, ℕ, zero, suc, ◌+◌, ◌<◌, ◌≤◌, inl, inr, Bool, true, false, cond, eqb, leb, List, [], ◌∷◌, ◌++◌, length, map, slice_index, Some, None, All, subst, refl, sym, ap, ◌∙◌, arith}
+use Rattle.std.specs.List.{filter, flat_map, range_with_len, AllByRecursion}
 use Rattle.std.specs.Option.{option_or}
 use Rattle.std.proofs.lemmas.Bool.{cases_eq, cases_lt, eq-eqb, ne_eqb, lt-leb}
 use Rattle.std.proofs.lemmas.List.{append-nil}
 use Rattle.std.proofs.lemmas.List.Elements.{All-from_recursion}
 use Rattle.std.proofs.lemmas.List.Folds.{list_any_none}
 use Rattle.std.proofs.lemmas.List.FromFn.{fill_by_all}
-use Rattle.gl_base.specs.declared.atoms.AtomsFault.{AtomsFault}
 use Rattle.gl_base.specs.declared.atoms.VertexLine.{VertexLine}
 use Rattle.graph_core.specs.Rows.{with_key}
 use Rattle.graph_core.specs.DataGraph.{DataGraph, IsDataGraph, size}
@@ -56,6 +55,7 @@ one_keyed of a v s (suc n) low high = elim (cases_eq s v) [
     at : (b : Bool) → with_key s (with_atom a (filter (is_in of a) (range_with_len (s + 1) n))) ≡ [] → with_key s (with_atom a (cond b (s ∷ filter (is_in of a) (range_with_len (s + 1) n)) (filter (is_in of a) (range_with_len (s + 1) n)))) ≡ cond b (a ∷ []) []
     at true rest = with_key-here s (s, a) (with_atom a (filter (is_in of a) (range_with_len (s + 1) n))) refl ∙ ap (λ (ks : List ℕ). a ∷ ks) rest
     at false rest = rest
+
     past : s ≢ v → (b : Bool) → with_key v (with_atom a (filter (is_in of a) (range_with_len (s + 1) n))) ≡ cond (is_in of a v) (a ∷ []) []
         → with_key v (with_atom a (cond b (s ∷ filter (is_in of a) (range_with_len (s + 1) n)) (filter (is_in of a) (range_with_len (s + 1) n)))) ≡ cond (is_in of a v) (a ∷ []) []
     past apart true rest = with_key-past v (s, a) (with_atom a (filter (is_in of a) (range_with_len (s + 1) n))) apart ∙ rest
@@ -121,12 +121,13 @@ owners_taken file of n k own each below =
     let one = λ (v : ℕ) (h : v < n). owned file of n v k own h (below v 0 (omega (arith, h, each))) in
     let whole : n ≡ n + 0 = omega arith in
     let end : 0 + n ≡ n = omega arith in
-    let low = list_any_none (λ (q : ℕ × ℕ). leb n q.0) added (All-from_recursion (λ (q : ℕ × ℕ). leb n q.0 ≡ false) added (all_within file of n k 0 k own (omega arith))) in
-    (ap (λ (j : ℕ). owner_from added j 0) whole
-    ∙ owner_skip added n 0 0 (λ u _ high. ap length (one u (omega (arith, high))))
-    ∙ ap (owner_from added 0) end
-    ∙ ap (λ (b : Bool). cond b (Some (owner_at n)) None) low,
-    sym (fill_by_all (λ v. slice_index (with_key v added) 0) of n 0 each (λ v h. sym (ap (λ (xs : List ℕ). slice_index xs 0) (one v h)))))
+    let low = list_any_none (λ (q : ℕ × ℕ). leb n q.0) added (All-from_recursion (λ (q : ℕ × ℕ). leb n q.0 ≡ false) added (all_within file of n k 0 k own (omega arith))) in (
+      ap (λ (j : ℕ). owner_from added j 0) whole
+          ∙ owner_skip added n 0 0 (λ u _ high. ap length (one u (omega (arith, high))))
+          ∙ ap (owner_from added 0) end
+          ∙ ap (λ (b : Bool). cond b (Some (owner_at n)) None) low,
+      sym (fill_by_all (λ v. slice_index (with_key v added) 0) of n 0 each (λ v h. sym (ap (λ (xs : List ℕ). slice_index xs 0) (one v h)))),
+    )
 
 -- the files of a graph's atoms have no fault
 file_fine : (g : DataGraph) (of : List ℕ) (a : ℕ) → IsDataGraph g → All (λ b. b < 1024) of → length of ≡ size g → a < 1024 → atom_fault (atom_bytes (graph_atom g of a)) ≡ None
@@ -138,7 +139,7 @@ pub files_add_own : (g : DataGraph) (k : ℕ) (of index : List ℕ) (file : ℕ 
 files_add_own g k of index file is under are a h =
     ap vertices_added (are.files_are a h)
     ∙ vertices_of_file (graph_atom g of a) (graph_atom-is g of a is)
-      (graph_atom-fits g of a is (λ v d low. omega (arith, under.below v d low, under.few)) under.each (omega (arith, h, under.few)))
+    (graph_atom-fits g of a is (λ v d low. omega (arith, under.below v d low, under.few)) under.each (omega (arith, h, under.few)))
     ∙ own_numbers (is_in of a) g (range_with_len 0 (size g))
 
 forms_none : (file : ℕ → List ℕ) (n a : ℕ) → ((b : ℕ) → a ≤ b → b < a + n → atom_fault (file b) ≡ None) → forms_fault file n a ≡ None

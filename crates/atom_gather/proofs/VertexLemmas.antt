@@ -1,5 +1,5 @@
 -- The vertices that a file adds are those of its atom.
-use Rattle.std.proofs.Common.{◌≡◌, ◌≢◌, ℕ, zero, suc, ◌+◌, Bool, cond, List, [], ◌∷◌, ◌++◌, length, map, slice_index, refl, sym, ap, ◌∙◌, arith, append_assoc, length-append}
+use Rattle.std.proofs.Common.{◌≡◌, ◌≢◌, ℕ, zero, suc, ◌+◌, List, [], ◌∷◌, ◌++◌, length, map, slice_index, refl, sym, ap, ◌∙◌, arith, append_assoc, length-append}
 use Rattle.std.specs.List.{flat_map, AllByRecursion}
 use Rattle.std.proofs.Math.Seq.{drop-append-add}
 use Rattle.std.proofs.lemmas.Bool.{eq-eqb, ne_eqb}
@@ -71,4 +71,4 @@ vertices_of_file a is fits =
     ∙ omega arith in
     ap (λ (k : ℕ). vertices_from bytes k 20) count_is
     ∙ vertices_written a.vertices bytes (header_bytes a) (behind_vertices a) (length a.ghosts + length a.edges) (recursion_from_All VertexLineFits a.vertices fits.vertices)
-      (first_tag ghost_form a.ghosts (flat_map edge_record a.edges) 1 (λ e. omega (arith, e)) (no_vertex a.edges)) (regrouped a)
+    (first_tag ghost_form a.ghosts (flat_map edge_record a.edges) 1 (λ e. omega (arith, e)) (no_vertex a.edges)) (regrouped a)

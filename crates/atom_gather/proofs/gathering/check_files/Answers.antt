@@ -1,4 +1,4 @@
-use Rattle.std.proofs.Common.{◌≡◌, ◌+◌, ◌-◌, Some, None, Err, sym, ap, ◌∙◌, arith}
+use Rattle.std.proofs.Common.{◌≡◌, ◌+◌, ◌-◌, Err, sym, ap, ◌∙◌, arith}
 use Rattle.std.proofs.lemmas.Result.{err_from_is_err_and}
 use Rattle.gl_base.specs.declared.memory.OrNoMemory.{OrNoMemory}
 use Rattle.atom_gather.specs.Files.{atom_file_at}
@@ -15,8 +15,8 @@ returns-in_err-check_atom-clause-fault c = λ fault g of is are.
     let a = c.loop-a.a in
     sym (c.loop-a.invariant g of are)
     ∙ files_here g of file (c.args.atoms - (a + 1)) (c.args.atoms - a) a fault (omega arith)
-      (lines_fault g of c.args.atoms a c.args.lines.now c.index-lines-a.result c.file_of.result.now (file a) are c.loop-a-test.true c.index-lines-a.is c.file_of.ensures
-      ∙ c.in_err-check_atom.ensures.fault fault (ap Err same))
+    (lines_fault g of c.args.atoms a c.args.lines.now c.index-lines-a.result c.file_of.result.now (file a) are c.loop-a-test.true c.index-lines-a.is c.file_of.ensures
+    ∙ c.in_err-check_atom.ensures.fault fault (ap Err same))
 
 pub loop-a-preserved : goal.loop-a-preserved
 loop-a-preserved c = λ g of are.

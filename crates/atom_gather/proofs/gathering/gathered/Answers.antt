@@ -1,4 +1,4 @@
-use Rattle.std.proofs.Common.{◌≡◌, ℕ, ◌<◌, List, length, Some, None, Err, All, sym, ap, ◌∙◌, subst}
+use Rattle.std.proofs.Common.{◌≡◌, ℕ, List, Some, None, Err, sym, ap, ◌∙◌, subst}
 use Rattle.std.proofs.lemmas.Result.{err_from_is_err_and, IfOk-weaker, on_ok_weaker}
 use Rattle.gl_base.specs.declared.memory.OrNoMemory.{OrNoMemory}
 use Rattle.gl_base.specs.declared.atoms.AtomsFault.{AtomsFault}
@@ -8,9 +8,10 @@ use Rattle.atom_cut.specs.Atoms.{AreAtoms}
 use Rattle.atom_cut.specs.Cuts.{atom_numbers}
 use Rattle.atom_gather.specs.IndexForm.{atoms_in}
 use Rattle.atom_gather.specs.Files.{atom_file_at, AreFiles}
-use Rattle.atom_gather.specs.Owners.{added_by, owner_fault, owners_of, AreHeld}
+use Rattle.atom_gather.specs.Owners.{added_by, owners_of, AreHeld}
 use Rattle.atom_gather.specs.Gathered.{IsAssignment}
 use Rattle.atom_gather.proofs.GatherLemmas.{gather_index, gather_forms, gather_owner, gather_late, cut_same, owners_below, owners_each, length-numbers, is_assignment, if_ok_both}
+use Rattle.atom_gather.proofs.BackLemmas.{owners_told}
 use Rattle.atom_gather.proofs.gathering.gathered.Goals as goal
 
 pub returns-in-Err-clause-fault : goal.returns-in-Err-clause-fault
@@ -76,7 +77,7 @@ returns-clause-files c =
     let k = c.in-Ok.atoms in
     if_ok_both c.gathered_under.result _ _ _
     (λ made same none. subst (λ (os : List AtomNo). AreFiles g (atoms_in index) (atom_numbers os) index file) (sym same)
-      (subst (λ (n : ℕ). AreFiles g n (atom_numbers c.in_ok-of.of.items) index file) c.in-Ok.ensures.atoms (cut_same g (atom_numbers c.in_ok-of.of.items) k index file none)))
+    (subst (λ (n : ℕ). AreFiles g n (atom_numbers c.in_ok-of.of.items) index file) c.in-Ok.ensures.atoms (cut_same g (atom_numbers c.in_ok-of.of.items) k index file none)))
     c.gathered_under.ensures.of c.gathered_under.ensures.none
 
 pub returns-clause-lines : goal.returns-clause-lines
@@ -85,14 +86,21 @@ returns-clause-lines c =
     let index = c.args.index.now in
     if_ok_both c.gathered_under.result _ _ _
     (λ made same lines. subst (λ (os : List AtomNo). AreAtoms g (atom_numbers os) (atoms_in index) made.lines.items) (sym same)
-      (subst (λ (n : ℕ). AreAtoms g (atom_numbers c.in_ok-of.of.items) n made.lines.items) c.in-Ok.ensures.atoms lines))
+    (subst (λ (n : ℕ). AreAtoms g (atom_numbers c.in_ok-of.of.items) n made.lines.items) c.in-Ok.ensures.atoms lines))
     c.gathered_under.ensures.of c.gathered_under.ensures.lines
 
 pub returns-clause-index : goal.returns-clause-index
 returns-clause-index c = c.gathered_under.ensures.index
 
 pub returns-clause-only : goal.returns-clause-only
-returns-clause-only c = ?
+returns-clause-only c = λ atoms of under are.
+    let g = c.args.graph.now in
+    let file = atom_file_at c.args.files.now in
+    let k = c.in-Ok.atoms in
+    let held = subst (λ (n : ℕ). AreHeld n (added_by file k) c.in_ok-owners.owners) c.n.ensures.count c.in_ok-owners.ensures.held in
+    let of_is = c.in_ok-of.ensures.of (size g) (added_by file k) held in
+    let told = of_is ∙ ap (λ (n : ℕ). owners_of (size g) (added_by file n)) c.in-Ok.ensures.atoms ∙ owners_told g atoms of c.args.index.now file c.n.ensures.graph under are in
+    IfOk-weaker c.gathered_under.result _ _ (λ made same. ap atom_numbers same ∙ told) c.gathered_under.ensures.of
 
 pub returns-clause-none : goal.returns-clause-none
 returns-clause-none c =

@@ -1,4 +1,4 @@
-use Rattle.std.proofs.Common.{◌≡◌, ◌+◌, ◌-◌, ◌++◌, ℕ, List, Some, None, sym, ap, ◌∙◌, subst, arith}
+use Rattle.std.proofs.Common.{◌≡◌, ◌+◌, ◌-◌, ◌++◌, ℕ, List, Some, sym, ap, ◌∙◌, subst, arith}
 use Rattle.gl_base.specs.declared.atoms.AtomsFault.{AtomsFault}
 use Rattle.atom_file.specs.Faults.{atom_fault}
 use Rattle.atom_gather.specs.Files.{atom_file_at, form_of}
@@ -13,7 +13,7 @@ returns-in-Err-clause-fault c = λ fault is.
     let a = c.loop-a.a in
     sym c.loop-a.invariant.rest
     ∙ forms_here file (c.args.atoms - (a + 1)) (c.args.atoms - a) a fault (omega arith)
-      (ap (λ (bs : List ℕ). form_of (a + 1) (atom_fault bs)) (sym c.file_of.ensures) ∙ c.in-Err.ensures.fault ∙ ap (λ (f : AtomsFault). Some f) same)
+    (ap (λ (bs : List ℕ). form_of (a + 1) (atom_fault bs)) (sym c.file_of.ensures) ∙ c.in-Err.ensures.fault ∙ ap (λ (f : AtomsFault). Some f) same)
 
 pub loop-a-preserved : goal.loop-a-preserved
 loop-a-preserved c =
