@@ -13,7 +13,7 @@ use Rattle.graph_core.specs.Rows.{with_key}
 use Rattle.atom_gather.specs.declared.owners.Held.{Held}
 use Rattle.atom_gather.specs.declared.owners.Held.TheVariants.{Nobody, By, Many}
 use Rattle.atom_gather.specs.declared.owners.Owners.{Owners}
-use Rattle.atom_gather.specs.Owners.{with_atom, owner_at, owner_from, owner_fault, owners_of, held_of, AreHeld}
+use Rattle.atom_gather.specs.Owners.{with_atom, owner_at, owner_from, owner_fault, owners_of, held_from, AreHeld}
 use Rattle.atom_gather.specs.Inner.Holding.{AreAllHeld, IsFirstUnheld}
 
 -- the items with a key in two lists, one behind the other
@@ -54,12 +54,12 @@ nobody_apart a e = not_one (ap (λ (h : Held). length (list_of h)) e)
 pub many_apart : (a : AtomNo) → Many ≢ By a
 many_apart a e = not_one (ap (λ (h : Held). length (list_of h)) e)
 
-pub one_held : (xs : List ℕ) (a : AtomNo) → held_of xs ≡ By a → xs ≡ a.0 ∷ []
+pub one_held : (xs : List ℕ) (a : AtomNo) → held_from xs ≡ By a → xs ≡ a.0 ∷ []
 one_held [] a h = ap list_of h
 one_held (x ∷ []) a h = ap list_of h
 one_held (x ∷ y ∷ zs) a h = absurd (not_one (ap length (ap list_of h)))
 
-pub not_one_held : (xs : List ℕ) → ((a : AtomNo) → held_of xs ≢ By a) → length xs ≢ 1
+pub not_one_held : (xs : List ℕ) → ((a : AtomNo) → held_from xs ≢ By a) → length xs ≢ 1
 not_one_held [] none = λ e. omega (arith, e)
 not_one_held (x ∷ []) none = λ e. none (record { 0 = x }) refl
 not_one_held (x ∷ y ∷ zs) none = λ e. omega (arith, e)

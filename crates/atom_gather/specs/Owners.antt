@@ -46,13 +46,13 @@ abbrev pub owners_of : ℕ → List (ℕ × ℕ) → List ℕ
 owners_of n added = map (λ v. slice_index (with_key v added) 0) (range_with_len 0 n)
 
 -- what is kept of the atoms that add a vertex
-abbrev pub held_of : List ℕ → Held
-held_of [] = Nobody
-held_of (a ∷ []) = By (record { 0 = a })
-held_of (a ∷ b ∷ rest) = Many
+abbrev pub held_from : List ℕ → Held
+held_from [] = Nobody
+held_from (a ∷ []) = By (record { 0 = a })
+held_from (a ∷ b ∷ rest) = Many
 
 -- what is kept of what was added, where there are n vertices
 pub record AreHeld (n : ℕ) (added : List (ℕ × ℕ)) (owners : Owners) : Type 0 where
   pub each : length owners.held.items ≡ n
-  pub held : (v : ℕ) → v < n → slice_index_or owners.held.items v Nobody ≡ held_of (with_key v added)
+  pub held : (v : ℕ) → v < n → slice_index_or owners.held.items v Nobody ≡ held_from (with_key v added)
   pub beyond : owners.beyond ≡ list_any (λ p. nat_le n p.0) added
