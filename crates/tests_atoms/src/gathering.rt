@@ -1,15 +1,9 @@
 //! Worked rows of gathering: files with a byte changed, and which fault is told.
-ghost use Rattle.std.specs.Prelude.{ℕ, ◌<◌, ◌≤◌, length, slice_index_or};
-ghost use Rattle.gl_base.specs.declared.atoms.Lines.{Lines};
-ghost use Rattle.atom_file.specs.Atoms.{IsAtom, atom_of};
-
 use crate::files::{FIRST, INDEX, SECOND, WHOLE};
 use crate::graphs::graph_of;
-use crate::tests::CUTS;
 use atom_cut::cut;
-use atom_file::write_atom;
 use atom_gather::{AtomsReading, check_same, gathered};
-use gl_base::{AtomNo, AtomsFault, AtomsKind, Lines, MAX_ATOMS, NoMemory};
+use gl_base::{AtomNo, AtomsFault, AtomsKind, NoMemory};
 use graph_core::Graph;
 use std::alloc::{AllocError, Global};
 use std::test::Fail;
@@ -23,7 +17,7 @@ fn changed(alloc: Global, bytes: &[u8], place: usize, byte: u8) -> Result<Vec<u8
     Ok(copy)
 }
 
-/// Three files.
+/// Two files.
 fn files_of(alloc: Global, first: &[u8], second: &[u8]) -> Result<Vec<Vec<u8>>, NoMemory> {
     let mut files = Vec::new(alloc);
     files.push(Vec::from_slice(alloc, first)?)?;
@@ -162,31 +156,13 @@ fn a_number_of_no_vertex_is_told(rt: HostRuntime) -> Result<(), Fail> {
     Ok(())
 }
 
-/// The files of atoms with these lines.
-fn files_with(alloc: Global, lines: &[Lines]) -> Result<Vec<Vec<u8>>, NoMemory>
-    requires few { length lines.now ≤ MAX_ATOMS }
-    requires atoms { (a : ℕ) (d : Lines) → a < length lines.now → IsAtom (atom_of a (slice_index_or lines.now a d)) }
-{
-    let mut files = Vec::new(alloc);
-    for a in 0..lines.len() {
-        let file = write_atom(alloc, AtomNo(a as u16), &lines[a])?;
-        files.push(file)?;
-    }
-    Ok(files)
-}
-
 #[test]
-fn what_was_cut_is_gathered(rt: HostRuntime) -> Result<(), Fail> {
-    for row in &CUTS {
-        let graph = graph_of(&rt, rt.alloc(), 0, row.count, row.edges, row.directed)?;
-        assert!(rt; 1 <= row.atoms && row.atoms <= MAX_ATOMS);
-        let made = cut(rt.alloc(), &graph, row.atoms)?;
-        assert!(rt; graph.n() as u64 == row.count);
-        let files = files_with(rt.alloc(), &made.lines)?;
-        let found = gathered(rt.alloc(), &graph, &made.index, &files)?;
-        assert!(rt; found.of.iter().map(|a| a.0).eq(row.of.iter().copied()));
-        assert_eq!(rt; found.index.as_slice(), made.index.as_slice());
-        assert!(rt; found.lines.len() == made.lines.len());
-    }
+fn good_files_tell_their_atoms(rt: HostRuntime) -> Result<(), Fail> {
+    let graph = graph_of(&rt, rt.alloc(), 1, 5, &[(1, 2), (2, 3)], false)?;
+    let files = files_of(rt.alloc(), &FIRST, &SECOND)?;
+    let found = gathered(rt.alloc(), &graph, &INDEX, &files)?;
+    assert_eq!(rt; found.of.as_slice(), [0, 0, 1, 1].map(AtomNo).as_slice());
+    assert_eq!(rt; found.index.as_slice(), INDEX.as_slice());
+    assert!(rt; found.lines.len() == 2);
     Ok(())
 }

@@ -130,17 +130,17 @@ fn atoms_are_placed_heaviest_first(rt: HostRuntime) -> Result<(), Fail> {
 }
 
 /// A graph, where its growth begins, its growth order, a number of atoms, and the atom of each vertex.
-pub struct Cut<'a> {
-    pub count: u64,
-    pub edges: &'a [(u64, u64)],
-    pub directed: bool,
-    pub first: u32,
-    pub order: &'a [u32],
-    pub atoms: u16,
-    pub of: &'a [u16],
+struct Cut<'a> {
+    count: u64,
+    edges: &'a [(u64, u64)],
+    directed: bool,
+    first: u32,
+    order: &'a [u32],
+    atoms: u16,
+    of: &'a [u16],
 }
 
-pub const CUTS: [Cut<'static>; 5] = [
+const CUTS: [Cut<'static>; 5] = [
     Cut {
         count: 5,
         edges: &[(2, 0), (0, 3), (1, 4)],
