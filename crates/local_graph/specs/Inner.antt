@@ -1,0 +1,3 @@
+-- What the type and the clauses of private functions cite.
+pub mod Kept
+pub mod Views
