@@ -1,5 +1,5 @@
 -- The edges of lines, at their ends.
-use Rattle.std.specs.Prelude.{ℕ, suc, ◌==◌, Bool, true, false, not, if◌then◌else◌, List, [], ◌∷◌}
+use Rattle.std.specs.Prelude.{ℕ, suc, ◌==◌, Bool, true, false, not, if◌then◌else◌, List, [], ◌∷◌, ◌++◌}
 use Rattle.std.specs.List.{flat_map}
 use Rattle.gl_base.specs.declared.atoms.EdgeLine.{EdgeLine}
 use Rattle.graph_core.specs.declared.halves.Half.{Half}
@@ -15,10 +15,9 @@ line_out directed e = record { edge = e.edge; other = e.to; weight = e.weight; o
 abbrev pub line_into : Bool → EdgeLine → Half
 line_into directed e = record { edge = e.edge; other = e.from; weight = e.weight; out = not directed; into = true }
 
--- the edge of a line, where it is one at v
+-- the edge of a line, at v where that is one of its ends
 abbrev pub half_of_line : Bool → ℕ → EdgeLine → List Half
-half_of_line directed v e =
-    if e.from.0 == v then line_out directed e ∷ [] else (if e.to.0 == v then line_into directed e ∷ [] else [])
+half_of_line directed v e = (if e.from.0 == v then line_out directed e ∷ [] else []) ++ (if e.to.0 == v then line_into directed e ∷ [] else [])
 
 -- the edges of lines at v, in their order
 abbrev pub halves_of_lines : Bool → List EdgeLine → ℕ → List Half

@@ -1,11 +1,12 @@
 -- What a machine holds once the lines of its part were played.
-pub use Rattle.graph_core.specs.Growth.{numbers_of, is_listed}
-use Rattle.std.specs.Prelude.{◌≡◌, ℕ, ◌-◌, ◌==◌, ◌||◌, Bool, true, nat_lt, Option, Some, None, is_some, if◌then◌else◌, List, ◌++◌, length, map, replicate, slice_get}
+pub use Rattle.graph_core.specs.Growth.{numbers_of}
+pub use Rattle.std.specs.List.Sorted.{IsPermutation}
+use Rattle.std.specs.Prelude.{◌≡◌, ℕ, ◌-◌, ◌==◌, ◌||◌, min, Bool, true, nat_lt, Option, Some, None, is_some, if◌then◌else◌, List, ◌++◌, length, map, replicate, slice_get}
 use Rattle.std.specs.List.{All, filter, list_any, range_with_len}
 use Rattle.gl_base.specs.declared.atoms.GhostLine.{GhostLine}
 use Rattle.gl_base.specs.declared.atoms.Lines.{Lines}
 use Rattle.gl_base.specs.declared.numbers.MachineNo.{MachineNo}
-use Rattle.gl_base.specs.declared.numbers.Vertex.{Vertex}
+use Rattle.gl_base.specs.declared.atoms.VertexLine.{VertexLine}
 use Rattle.gl_base.specs.declared.scopes.Datum.{Datum}
 use Rattle.graph_core.specs.declared.halves.Half.{Half}
 use Rattle.local_graph.specs.declared.outlines.Outline.{Outline}
@@ -22,15 +23,15 @@ machine_of me (Some g) = record { 0 = g.atom.0 }
 abbrev pub owner_at : MachineNo → ℕ → List GhostLine → ℕ → MachineNo
 owner_at me many ghosts place = if nat_lt place many then me else machine_of me (slice_get ghosts (place - many))
 
--- the place, and a number that is none where there is none
-abbrev pub place_or_none : Option ℕ → ℕ
-place_or_none None = 4294967295
-place_or_none (Some k) = k
+-- the place where it is below `none`, and else `none`
+abbrev pub place_or : ℕ → Option ℕ → ℕ
+place_or none None = none
+place_or none (Some k) = min k none
 
 -- a half-edge as a side
 abbrev pub side_of : MachineNo → ℕ → List GhostLine → List (Option ℕ) → Half → Side
 side_of me many ghosts places h =
-    let place = place_or_none (place_of_vertex places h.other.0) in
+    let place = place_or 4294967295 (place_of_vertex places h.other.0) in
     record { edge = h.edge; other = h.other; place = place; owner = owner_at me many ghosts place }
 
 -- machine a owns the vertex with these sides or one that a side leads to
@@ -50,12 +51,12 @@ pub record IsPlayedFrom (me : MachineNo) (lines : Lines) (outline : Outline) (l 
   pub machine : l.me ≡ me
   pub owned : l.owned ≡ map (λ v. v.vertex) lines.vertices.items
   pub ghosts : l.ghosts ≡ lines.ghosts.items
-  -- the places are those of the own vertices, each once, in some order, and of the ghosts behind them
-  pub order : List Vertex
-  pub same : (x : ℕ) → is_listed (numbers_of order) x ≡ is_listed (numbers_of l.owned) x
-  pub places : AreTheirPlaces l.places (order ++ map (λ g. g.vertex) lines.ghosts.items)
+  -- the places are those of the own vertices in some order, and of the ghosts behind them
+  pub order : List VertexLine
+  pub same : IsPermutation lines.vertices.items order
+  pub places : AreTheirPlaces l.places (map (λ v. v.vertex) order ++ map (λ g. g.vertex) lines.ghosts.items)
+  pub ids : l.ids ≡ map (λ v. v.id) order
   pub kept : l.kept ≡ replicate (length order) no_datum
-  pub ids : All (λ v. id_at l v.vertex.0 ≡ v.id) lines.vertices.items
   -- the edges at each vertex are those that the lines have there, in their order
   pub sides : (v : ℕ) → is_known l v ≡ true →
       sides_at l v ≡ map (side_of me (length order) lines.ghosts.items l.places) (halves_of_lines outline.directed lines.edges.items v)

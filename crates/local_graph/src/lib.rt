@@ -2,11 +2,17 @@
 //! the works that are made of them.
 #![tactic(auto)]
 
+mod ends;
 mod graphs;
+mod grouping;
+mod linking;
+mod machines;
 mod numbers;
+mod order;
 mod outlines;
 mod playing;
 mod rows;
+mod scopes;
 mod sides;
 mod works;
 

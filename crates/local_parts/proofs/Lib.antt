@@ -1,0 +1,6 @@
+pub mod RangeLemmas
+pub mod HalfLemmas
+pub mod FoundLemmas
+pub mod NearLemmas
+pub mod SharedLemmas
+pub mod MineLemmas

@@ -8,6 +8,7 @@ pub use Rattle.local_graph.specs.Works.{IsRow}
 use Rattle.std.specs.Prelude.{◌≡◌, ℕ, ◌+◌, ◌^◌, ◌<◌, ◌≤◌, ◌==◌, ◌&&◌, ◌||◌, Bool, true, false, not, Option, Some, is_some, nat_lt, List, [], ◌∷◌, length, map, slice_index, slice_index_or}
 use Rattle.std.specs.List.{All, AllByRecursion, list_any, range_with_len}
 use Rattle.gl_base.specs.declared.atoms.Lines.{Lines}
+use Rattle.gl_base.specs.declared.limits.TheConstants.{MAX_VERTICES}
 use Rattle.graph_core.specs.DataGraph.{DataGraph, size}
 use Rattle.graph_core.specs.Neighbours.{neighbours_of}
 use Rattle.graph_core.specs.Halves.{DataHalf, halves_of}
@@ -29,7 +30,7 @@ owners_of st = map st.owner (range_with_len 0 (size st.graph))
 -- is the graph's.
 pub record AreLinesOf (st : Setting) (me : ℕ) (lines : Lines) (outline : Outline) : Type 0 where
   pub machine : me < st.machines
-  pub lines : atom_of me lines ≡ graph_atom st.graph (owners_of st) me
+  pub atom : atom_of me lines ≡ graph_atom st.graph (owners_of st) me
   pub machines : outline.machines ≡ st.machines
   pub vertices : outline.vertices ≡ size st.graph
   pub edges : outline.edges ≡ length st.graph.edges
@@ -110,3 +111,4 @@ pub record CanBePlayed (lines : Lines) (outline : Outline) : Type 0 where
   pub few : length lines.vertices.items + length lines.ghosts.items ≤ outline.vertices
   pub edges : All (λ e. e.edge.0 < outline.edges) lines.edges.items
   pub few_edges : length lines.edges.items < 2 ^ 31
+  pub limit : outline.vertices ≤ MAX_VERTICES
