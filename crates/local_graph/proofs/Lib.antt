@@ -6,3 +6,4 @@ pub mod ListLemmas
 pub mod ScopeLemmas
 pub mod LowLemmas
 pub mod PlayLemmas
+pub mod MadeLemmas

@@ -1,6 +1,10 @@
 -- Keys and vertices are below the count.
-use Rattle.std.proofs.Common.{◌≡◌, ℕ, zero, suc, ◌+◌, ◌<◌, ◌≤◌, ◌==◌, ◌++◌, Bool, true, false, min, if◌then◌else◌, Option, Some, List, [], ◌∷◌, length, get_or, map, refl, subst, All, arith}
+use Rattle.std.proofs.Common.{◌≡◌, ℕ, zero, suc, ◌+◌, ◌<◌, ◌≤◌, ◌==◌, ◌++◌, Bool, true, false, min, if◌then◌else◌, Option, Some, List, [], ◌∷◌, length, get_or, map, refl, ap, ◌∙◌, subst, All, arith}
 use Rattle.std.specs.List.{filter, flat_map, list_any, range_with_len}
+use Rattle.std.specs.List.Sorted.{IsPermutation}
+use Rattle.std.proofs.lemmas.List.{length-append, length-map}
+use Rattle.std.proofs.lemmas.List.Sorted.{All-permutation}
+use Rattle.graph_core.specs.Rows.{with_key}
 use Rattle.std.proofs.lemmas.List.Elements.{All-nil, All-cons, All-append, All-map, All-push}
 use Rattle.gl_base.specs.declared.atoms.VertexLine.{VertexLine}
 use Rattle.gl_base.specs.declared.atoms.GhostLine.{GhostLine}
@@ -57,3 +61,28 @@ scopes_low sides places none own =
     let k = place_or none (place_of_vertex places x.0) in
     let first = All-cons (λ (u : ℕ). u < none + 1) k [] (place_or-le none (place_of_vertex places x.0)) (All-nil (λ (u : ℕ). u < none + 1)) in
     behind_low (none + 1) x (once (k ∷ []) (map (λ s. place_or none (Some s.place)) (get_or sides k []))) (once_low (none + 1) (k ∷ []) (map (λ s. place_or none (Some s.place)) (get_or sides k [])) first (near_low none (get_or sides k []))))
+
+-- ---- an order of lines
+
+pub ordered_low : (n : ℕ) (lines order : List VertexLine) (ghosts : List GhostLine) → IsPermutation lines order → All (λ v. v.vertex.0 < n) lines → All (λ g. g.vertex.0 < n) ghosts
+    → All (λ (v : Vertex). v.0 < n) (map (λ v. v.vertex) order ++ map (λ g. g.vertex) ghosts)
+ordered_low n lines order ghosts same own_low ghosts_low = known_low n order ghosts (All-permutation (λ (v : VertexLine). v.vertex.0 < n) lines order same own_low) ghosts_low
+
+pub length-known : (own : List VertexLine) (ghosts : List GhostLine) → length (map (λ v. v.vertex) own ++ map (λ g. g.vertex) ghosts) ≡ length own + length ghosts
+length-known own ghosts =
+    length-append (map (λ (v : VertexLine). v.vertex) own) (map (λ (g : GhostLine). g.vertex) ghosts)
+    ∙ ap (λ (n : ℕ). n + length (map (λ (g : GhostLine). g.vertex) ghosts)) (length-map own (λ (v : VertexLine). v.vertex))
+    ∙ ap (λ (n : ℕ). length own + n) (length-map ghosts (λ (g : GhostLine). g.vertex))
+
+few_passing : {X : Type 0} (p : X → Bool) (xs : List X) → length (filter p xs) ≤ length xs
+few_passing p [] = omega arith
+few_passing p (x ∷ xs) = count (p x) (few_passing p xs)
+  where
+    count : (b : Bool) → length (filter p xs) ≤ length xs → length (if b then x ∷ filter p xs else filter p xs) ≤ suc (length xs)
+    count true rest = omega arith
+    count false rest = omega arith
+
+pub few_keyed : {X : Type 0} (k : ℕ) (pairs : List (ℕ × X)) → length (with_key k pairs) ≤ length pairs
+few_keyed {X} k pairs =
+    let few = few_passing (λ (p : ℕ × X). p.0 == k) pairs in
+    omega (arith, length-map (filter (λ (p : ℕ × X). p.0 == k) pairs) (λ (p : ℕ × X). p.1))

@@ -24,6 +24,7 @@ use Rattle.local_graph.specs.declared.sides.Side.{Side}
 use Rattle.local_graph.specs.Lines.{halves_of_lines, line_out, line_into, links_from}
 use Rattle.local_graph.specs.Locals.{LocalView, AreTheirPlaces, at_place, got_at, place_of_vertex, is_known, is_own, own_datum, id_at, links_at, sides_at, parts_at, part_at, machine_numbers}
 use Rattle.local_graph.specs.Played.{IsPlayedFrom, leads_to, meets, no_datum, place_or, side_of}
+use Rattle.local_graph.specs.Inner.ByPlace.{known_vertices, pairs_of}
 use Rattle.local_graph.specs.Inner.Ends.{end_pairs, side_pair}
 use Rattle.local_graph.specs.Inner.Kept.{HasAsMany, IsSound}
 use Rattle.local_graph.specs.Inner.Pairs.{parts_in, scope_in}
@@ -31,14 +32,6 @@ use Rattle.local_graph.proofs.EndLemmas.{ends_at, key-map, key_is, one_key, key-
 use Rattle.local_graph.proofs.ListLemmas.{length-links, range_key}
 use Rattle.local_graph.proofs.RowLemmas.{own_place}
 use Rattle.local_graph.proofs.ScopeLemmas.{has, places_near, scopes_key}
-
--- the own vertices in an order, and behind them the ghosts
-abbrev pub known_vertices : List VertexLine → List GhostLine → List Vertex
-known_vertices order ghosts = map (λ v. v.vertex) order ++ map (λ g. g.vertex) ghosts
-
--- the half-edges of lines by place
-abbrev pub pairs_of : Lines → Outline → LocalView → ℕ → List (ℕ × Half)
-pairs_of lines outline l none = end_pairs outline.directed l.places none lines.edges.items
 
 -- the lists as they were made by place
 pub record IsMade (me : MachineNo) (lines : Lines) (outline : Outline) (order : List VertexLine) (none : ℕ) (l : LocalView) : Type 0 where
@@ -52,9 +45,9 @@ pub record IsMade (me : MachineNo) (lines : Lines) (outline : Outline) (order : 
   pub ids : l.ids ≡ map (λ v. v.id) order
   pub kept : l.kept ≡ replicate (length order) no_datum
   pub many_rows : length l.rows ≡ length order
-  pub rows : (k : ℕ) → k < length order → get_or l.rows k None ≡ Some (links_from 0 (with_key k (pairs_of lines outline l none)))
+  pub rows : (k : ℕ) → k < length order → get_or l.rows k None ≡ Some (links_from 0 (with_key k (pairs_of lines outline l.places none)))
   pub many_sides : length l.sides ≡ none + 1
-  pub sides : (k : ℕ) → k < none + 1 → get_or l.sides k [] ≡ with_key k (map (side_pair me (length order) lines.ghosts.items l.places) (pairs_of lines outline l none))
+  pub sides : (k : ℕ) → k < none + 1 → get_or l.sides k [] ≡ with_key k (map (side_pair me (length order) lines.ghosts.items l.places) (pairs_of lines outline l.places none))
   pub many_parts : length l.parts ≡ length order
   pub parts : (k : ℕ) → k < length order → get_or l.parts k [] ≡ with_key k (flat_map (parts_in l.sides me outline.machines) (range_with_len 0 (length order)))
   pub many_part : length l.part ≡ none + 1
@@ -108,7 +101,7 @@ ends_listed directed places none m (e ∷ edges) all =
 
 module _ (me : MachineNo) (lines : Lines) (outline : Outline) (order : List VertexLine) (none : ℕ) (l : LocalView) (made : IsMade me lines outline order none l) where
   abbrev pairs : List (ℕ × Half)
-  pairs = pairs_of lines outline l none
+  pairs = pairs_of lines outline l.places none
 
   abbrev as_side : Half → Side
   as_side = side_of me (length order) lines.ghosts.items l.places

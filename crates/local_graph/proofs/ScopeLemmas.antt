@@ -169,11 +169,12 @@ scopes_key sides places none k (x ∷ own) =
     let passes = (j == k) || has (places_near none (get_or sides j [])) k in
     key-append k (scope_in sides places none x) (flat_map (scope_in sides places none) own)
     ∙ ap (λ (vs : List Vertex). vs ++ with_key k (flat_map (scope_in sides places none) own)) (scope_key x k j (places_near none (get_or sides j [])))
-    ∙ ap (λ (vs : List Vertex). (if passes then x ∷ [] else []) ++ vs) (scopes_key sides places none k own) ∙ joined passes
+    ∙ ap (λ (vs : List Vertex). (if passes then x ∷ [] else []) ++ vs) (scopes_key sides places none k own)
+    ∙ joined (filter (λ y. let j = place_or none (place_of_vertex places y.0) in (j == k) || has (places_near none (get_or sides j [])) k) own) passes
   where
-    joined : {vs : List Vertex} (b : Bool) → (if b then x ∷ [] else []) ++ vs ≡ (if b then x ∷ vs else vs)
-    joined true = refl
-    joined false = refl
+    joined : (vs : List Vertex) (b : Bool) → (if b then x ∷ [] else []) ++ vs ≡ (if b then x ∷ vs else vs)
+    joined vs true = refl
+    joined vs false = refl
 
 -- the first i vertices stand behind the places of their scopes, and no stamp is newer
 pub record AreListed (sides : List (List Side)) (places : List (Option ℕ)) (none : ℕ) (own : List Vertex) (pairs : List (ℕ × Vertex)) (last : List ℕ) (i : ℕ) : Type 0 where

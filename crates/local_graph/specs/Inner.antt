@@ -3,3 +3,4 @@ pub mod Kept
 pub mod Views
 pub mod Ends
 pub mod Pairs
+pub mod ByPlace

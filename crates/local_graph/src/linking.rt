@@ -26,7 +26,8 @@ pub fn rows_by_place(
     ensures each { IfOk result (λ rows. (k : ℕ) → k < many → slice_index_or (map links_of rows.items) k None ≡ Some (links_from 0 (with_key k (end_pairs ends.now.directed ends.now.places.now ends.now.none ends.now.edges.now)))) }
 {
     let halves = halves_by_place(alloc, ends)?;
-    list_rows(alloc, many, &halves)
+    let rows = list_rows(alloc, many, &halves)?;
+    Ok(rows)
 }
 
 /// The rows at the first so many places of half-edges.

@@ -4,3 +4,5 @@ pub mod FoundLemmas
 pub mod NearLemmas
 pub mod SharedLemmas
 pub mod MineLemmas
+pub mod LocalLemmas
+pub mod ScopeLemmas
