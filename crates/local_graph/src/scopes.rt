@@ -39,18 +39,18 @@ fn push_scope(
     last: &mut [u32],
     stamp: u32,
     v: Vertex,
-    key: u32,
+    home: u32,
     sides: &[Side],
     none: u32,
 ) -> Result<(), NoMemory>
     requires room { length last.old ≡ none + 1 }
-    requires key { key < length last.old }
+    requires home { home < length last.old }
     requires older { (t : ℕ) → slice_index last.old t < stamp }
-    ensures pairs { OnOk result (pairs.new.items ≡ pairs.old.items ++ map (λ t. (t, v)) (once (key ∷ []) (map (λ s. place_or none (Some s.place)) sides.now))) }
+    ensures pairs { OnOk result (pairs.new.items ≡ pairs.old.items ++ map (λ t. (t, v)) (once (home ∷ []) (map (λ s. place_or none (Some s.place)) sides.now))) }
     ensures older { OnOk result ((t : ℕ) → slice_index last.new t ≤ stamp) }
 {
-    pairs.push((key, v))?;
-    last[key as usize] = stamp;
+    pairs.push((home, v))?;
+    last[home as usize] = stamp;
     for side in sides {
         push_new(pairs, last, stamp, v, side.place.min(none))?;
     }
