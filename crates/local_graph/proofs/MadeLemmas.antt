@@ -17,7 +17,7 @@ use Rattle.local_graph.specs.declared.playing.ByPlace.{ByPlace}
 use Rattle.local_graph.specs.Locals.{LocalView, AreTheirPlaces}
 use Rattle.local_graph.specs.Played.{IsPlayedFrom, no_datum}
 use Rattle.local_graph.specs.Inner.ByPlace.{AreByPlace, known_vertices}
-use Rattle.local_graph.specs.Inner.Kept.{IsSound, links_of}
+use Rattle.local_graph.specs.Inner.Kept.{IsWellKept, links_of}
 use Rattle.local_graph.proofs.LowLemmas.{length-known}
 use Rattle.local_graph.proofs.PlayLemmas.{IsMade, made_played, made_sound}
 
@@ -81,6 +81,6 @@ joined_played me lines outline order owned places b ghosts ids kept numbers part
     made_played me lines outline order (length order + length lines.ghosts.items) (joined me owned ghosts places ids kept b numbers) (is_made me lines outline order owned places b ghosts ids kept numbers parts)
 
 pub joined_sound : (me : MachineNo) (lines : Lines) (outline : Outline) (order : List VertexLine) (owned : List Vertex) (places : List (Option ℕ)) (b : ByPlace) (ghosts : List GhostLine) (ids : List ℕ) (kept : List Datum) (numbers : List ℕ)
-    → AreParts me lines outline order owned places b ghosts ids kept numbers → All (λ (e : EdgeLine). e.edge.0 < outline.edges) lines.edges.items → IsSound (joined me owned ghosts places ids kept b numbers)
+    → AreParts me lines outline order owned places b ghosts ids kept numbers → All (λ (e : EdgeLine). e.edge.0 < outline.edges) lines.edges.items → IsWellKept (joined me owned ghosts places ids kept b numbers)
 joined_sound me lines outline order owned places b ghosts ids kept numbers parts low =
     made_sound me lines outline order (length order + length lines.ghosts.items) (joined me owned ghosts places ids kept b numbers) (is_made me lines outline order owned places b ghosts ids kept numbers parts) low

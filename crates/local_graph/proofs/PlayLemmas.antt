@@ -22,11 +22,11 @@ use Rattle.update_api.specs.declared.links.Link.{Link}
 use Rattle.local_graph.specs.declared.outlines.Outline.{Outline}
 use Rattle.local_graph.specs.declared.sides.Side.{Side}
 use Rattle.local_graph.specs.Lines.{halves_of_lines, line_out, line_into, links_from}
-use Rattle.local_graph.specs.Locals.{LocalView, AreTheirPlaces, at_place, got_at, place_of_vertex, is_known, is_own, own_datum, id_at, links_at, sides_at, parts_at, part_at, machine_numbers}
+use Rattle.local_graph.specs.Locals.{LocalView, AreTheirPlaces, at_place, got_at, place_of_vertex, is_placed, is_own, own_datum, id_at, links_at, sides_at, parts_at, part_at, machine_numbers}
 use Rattle.local_graph.specs.Played.{IsPlayedFrom, leads_to, meets, no_datum, place_or, side_of}
 use Rattle.local_graph.specs.Inner.ByPlace.{known_vertices, pairs_of}
 use Rattle.local_graph.specs.Inner.Ends.{end_pairs, side_pair}
-use Rattle.local_graph.specs.Inner.Kept.{HasAsMany, IsSound}
+use Rattle.local_graph.specs.Inner.Kept.{HasAsMany, IsWellKept}
 use Rattle.local_graph.specs.Inner.Pairs.{parts_in, scope_in}
 use Rattle.local_graph.proofs.EndLemmas.{ends_at, key-map, key_is, one_key, key-append}
 use Rattle.local_graph.proofs.ListLemmas.{length-links, range_key}
@@ -223,7 +223,7 @@ module _ (me : MachineNo) (lines : Lines) (outline : Outline) (order : List Vert
       own_known : (v : ℕ) → is_own l v ≡ true → is_some (place_of_vertex l.places v) ≡ true
       own_known v own = own_some (place_of_vertex l.places v) own
 
-  pub made_sound : All (λ (e : EdgeLine). e.edge.0 < outline.edges) lines.edges.items → IsSound l
+  pub made_sound : All (λ (e : EdgeLine). e.edge.0 < outline.edges) lines.edges.items → IsWellKept l
   made_sound below =
       record {
         inside = λ x k at. let low = inside x k at in omega (arith, made.many_sides);

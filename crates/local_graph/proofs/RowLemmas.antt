@@ -10,12 +10,12 @@ use Rattle.std.specs.declared.alloc.Global.{Global}
 use Rattle.update_api.specs.declared.links.Link.{Link}
 use Rattle.local_graph.specs.declared.sides.Side.{Side}
 use Rattle.local_graph.specs.Locals.{LocalView, at_place, got_at, place_of_vertex, links_at}
-use Rattle.local_graph.specs.Inner.Kept.{HasAsMany, IsSound, links_of}
+use Rattle.local_graph.specs.Inner.Kept.{HasAsMany, IsWellKept, links_of}
 use Rattle.local_graph.proofs.PlaceLemmas.{at_written}
 
 -- one row is written, and all numbers
-pub sound_after : (l : LocalView) (k : ℕ) (row : Option (List Link)) (numbers : List ℕ) → IsSound l → HasAsMany (length (get_or l.sides k [])) row → length numbers ≡ length l.numbers
-    → IsSound (record l { rows = set l.rows k row; numbers = numbers })
+pub sound_after : (l : LocalView) (k : ℕ) (row : Option (List Link)) (numbers : List ℕ) → IsWellKept l → HasAsMany (length (get_or l.sides k [])) row → length numbers ≡ length l.numbers
+    → IsWellKept (record l { rows = set l.rows k row; numbers = numbers })
 sound_after l k row numbers sound fits same =
     record {
       inside = sound.inside;

@@ -41,8 +41,8 @@ abbrev pub place_at : LocalView → ℕ → Option ℕ
 place_at l v = place_of_vertex l.places v
 
 -- the machine has it: as its own or as a ghost
-abbrev pub is_known : LocalView → ℕ → Bool
-is_known l v = is_some (place_at l v)
+abbrev pub is_placed : LocalView → ℕ → Bool
+is_placed l v = is_some (place_at l v)
 
 -- its datum, where it is an own vertex
 abbrev pub own_datum : LocalView → ℕ → Option Datum
@@ -73,8 +73,8 @@ part_at l v = at_place l.part (place_at l v) []
 
 -- ---- of edge e
 
-abbrev pub number_at : LocalView → ℕ → ℕ
-number_at l e = slice_index l.numbers e
+abbrev pub edge_number_at : LocalView → ℕ → ℕ
+edge_number_at l e = slice_index l.numbers e
 
 -- there is such an edge
 abbrev pub HasEdge : LocalView → ℕ → Type 0

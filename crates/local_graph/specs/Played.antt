@@ -12,7 +12,7 @@ use Rattle.graph_core.specs.declared.halves.Half.{Half}
 use Rattle.local_graph.specs.declared.outlines.Outline.{Outline}
 use Rattle.local_graph.specs.declared.sides.Side.{Side}
 use Rattle.local_graph.specs.Lines.{halves_of_lines, links_from}
-use Rattle.local_graph.specs.Locals.{LocalView, AreTheirPlaces, place_of_vertex, is_known, is_own, own_datum, id_at, links_at, sides_at, parts_at, part_at, machine_numbers}
+use Rattle.local_graph.specs.Locals.{LocalView, AreTheirPlaces, place_of_vertex, is_placed, is_own, own_datum, id_at, links_at, sides_at, parts_at, part_at, machine_numbers}
 
 -- the machine that has the atom of a ghost, where each machine has the atom of its own number
 abbrev pub machine_of : MachineNo → Option GhostLine → MachineNo
@@ -58,10 +58,10 @@ pub record IsPlayedFrom (me : MachineNo) (lines : Lines) (outline : Outline) (l 
   pub ids : l.ids ≡ map (λ v. v.id) order
   pub kept : l.kept ≡ replicate (length order) no_datum
   -- the edges at each vertex are those that the lines have there, in their order
-  pub sides : (v : ℕ) → is_known l v ≡ true →
+  pub sides : (v : ℕ) → is_placed l v ≡ true →
       sides_at l v ≡ map (side_of me (length order) lines.ghosts.items l.places) (halves_of_lines outline.directed lines.edges.items v)
   pub rows : (v : ℕ) → is_own l v ≡ true → links_at l v ≡ Some (links_from 0 (halves_of_lines outline.directed lines.edges.items v))
   -- the machines of a scope, and the own vertices of a scope, ascending
   pub parts : (v : ℕ) → is_own l v ≡ true → machine_numbers (parts_at l v) ≡ filter (meets me (sides_at l v)) (range_with_len 0 outline.machines)
-  pub part : (v : ℕ) → is_known l v ≡ true → numbers_of (part_at l v) ≡ filter (leads_to l v) (numbers_of l.owned)
+  pub part : (v : ℕ) → is_placed l v ≡ true → numbers_of (part_at l v) ≡ filter (leads_to l v) (numbers_of l.owned)
   pub numbers : l.numbers ≡ replicate outline.edges 0

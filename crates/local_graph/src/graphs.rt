@@ -1,6 +1,6 @@
 //! The part of the graph that a machine owns.
 ghost use Rattle.std.specs.Prelude.{◌≡◌, ℕ, ◌<◌, ◌≤◌, ◌==◌, true, None, Some, is_some, length, if◌then◌else◌, vec_capacity};
-ghost use Rattle.local_graph.specs.Locals.{is_known, is_own, own_datum, id_at, links_at, sides_at, parts_at, part_at, number_at, HasEdge, numbers_along, written};
+ghost use Rattle.local_graph.specs.Locals.{is_placed, is_own, own_datum, id_at, links_at, sides_at, parts_at, part_at, edge_number_at, HasEdge, numbers_along, written};
 
 use crate::numbers::{fill_numbers, write_numbers};
 use crate::{Row, Side};
@@ -33,12 +33,12 @@ impl Model for LocalGraph {
 
     ghost Value = { LocalView };
 
-    ghost use Rattle.local_graph.specs.Inner.Views.{view_of};
-    ghost use Rattle.local_graph.specs.Inner.Kept.{IsSound};
+    ghost use Rattle.local_graph.specs.Inner.Views.{local_view_of};
+    ghost use Rattle.local_graph.specs.Inner.Kept.{IsWellKept};
 
-    ghost view = { view_of };
+    ghost view = { local_view_of };
 
-    ghost invariant = { λ g. IsSound (view_of g) };
+    ghost invariant = { λ g. IsWellKept (local_view_of g) };
 }
 
 impl LocalGraph {
@@ -141,7 +141,7 @@ impl LocalGraph {
     /// The number of an edge.
     pub fn number(&self, edge: EdgeNo) -> u64
         requires { HasEdge self.now edge.0 }
-        ensures { result ≡ number_at self.now edge.0 }
+        ensures { result ≡ edge_number_at self.now edge.0 }
     {
         self.numbers[edge.0 as usize]
     }
@@ -149,7 +149,7 @@ impl LocalGraph {
     /// Writes the number of an edge.
     pub fn set_number(&mut self, edge: EdgeNo, number: u64)
         requires { HasEdge self.old edge.0 }
-        ensures number { (e : ℕ) → number_at self.new e ≡ (if e == edge.0 then number else number_at self.old e) }
+        ensures number { (e : ℕ) → edge_number_at self.new e ≡ (if e == edge.0 then number else edge_number_at self.old e) }
         ensures edges { (e : ℕ) → HasEdge self.old e → HasEdge self.new e }
         ensures rest { self.new ≡ record self.old { numbers = self.new.numbers } }
     {
@@ -162,7 +162,7 @@ impl LocalGraph {
         requires room { length (sides_at self.old v.0) ≤ vec_capacity spare }
         ensures links { links_at self.old v.0 ≡ Some result.links.items }
         ensures many { length result.links.items ≡ length (sides_at self.old v.0) }
-        ensures numbers { result.numbers.items ≡ numbers_along (number_at self.old) (sides_at self.old v.0) }
+        ensures numbers { result.numbers.items ≡ numbers_along (edge_number_at self.old) (sides_at self.old v.0) }
         ensures out { (x : ℕ) → links_at self.new x ≡ (if x == v.0 then None else links_at self.old x) }
         ensures rest { self.new ≡ record self.old { rows = self.new.rows } }
     {
@@ -183,7 +183,7 @@ impl LocalGraph {
         requires numbers { length row.numbers.items ≡ length (sides_at self.old v.0) }
         ensures spare { result ≡ row.numbers }
         ensures back { (x : ℕ) → links_at self.new x ≡ (if x == v.0 then Some row.links.items else links_at self.old x) }
-        ensures numbers { (e : ℕ) → number_at self.new e ≡ written (sides_at self.old v.0) row.numbers.items (number_at self.old) e }
+        ensures numbers { (e : ℕ) → edge_number_at self.new e ≡ written (sides_at self.old v.0) row.numbers.items (edge_number_at self.old) e }
         ensures edges { (e : ℕ) → HasEdge self.old e → HasEdge self.new e }
         ensures rest { self.new ≡ record self.old { rows = self.new.rows; numbers = self.new.numbers } }
     {

@@ -22,7 +22,7 @@ use Rattle.atom_cut.specs.Atoms.{is_in, is_ghost}
 use Rattle.cluster_core.specs.Ranges.{all_passing}
 use Rattle.cluster_core.specs.Settings.{Setting, IsSetting}
 use Rattle.local_graph.specs.declared.outlines.Outline.{Outline}
-use Rattle.local_graph.specs.Locals.{LocalView, AreTheirPlaces, at_place, got_at, place_of_vertex, is_known, is_own, id_at}
+use Rattle.local_graph.specs.Locals.{LocalView, AreTheirPlaces, at_place, got_at, place_of_vertex, is_placed, is_own, id_at}
 use Rattle.local_graph.specs.Played.{IsPlayedFrom, no_datum, numbers_of}
 use Rattle.local_parts.specs.Parts.{AreLinesOf, CanBePlayed, owners_of, is_ghost_of}
 use Rattle.local_parts.proofs.RangeLemmas.{filter_passing}
@@ -225,8 +225,8 @@ module _ (st : Setting) (me : MachineNo) (lines : Lines) (outline : Outline) (l 
   or_true true = refl
   or_true false = refl
 
-  pub known_is : (x : ℕ) → is_known l x ≡ (nat_lt x (size st.graph) && (st.owner x == me.0 || is_ghost_of st me.0 x))
-  known_is x = same_truth (is_known l x) (nat_lt x (size st.graph) && (st.owner x == me.0 || is_ghost_of st me.0 x))
+  pub known_is : (x : ℕ) → is_placed l x ≡ (nat_lt x (size st.graph) && (st.owner x == me.0 || is_ghost_of st me.0 x))
+  known_is x = same_truth (is_placed l x) (nat_lt x (size st.graph) && (st.owner x == me.0 || is_ghost_of st me.0 x))
       (λ known_x.
       let p = some_place (place_of_vertex l.places x) known_x in
       elim (cases_lt p.0 many) as (λ _. (nat_lt x (size st.graph) && (st.owner x == me.0 || is_ghost_of st me.0 x)) ≡ true) [
@@ -239,7 +239,7 @@ module _ (st : Setting) (me : MachineNo) (lines : Lines) (outline : Outline) (l 
       ])
       (λ both.
       let low = lt_from x (size st.graph) (and_left (nat_lt x (size st.graph)) (st.owner x == me.0 || is_ghost_of st me.0 x) both) in
-      elim (or_cases (st.owner x == me.0) (is_ghost_of st me.0 x) (and_right (nat_lt x (size st.graph)) (st.owner x == me.0 || is_ghost_of st me.0 x) both)) as (λ _. is_known l x ≡ true) [
+      elim (or_cases (st.owner x == me.0) (is_ghost_of st me.0 x) (and_right (nat_lt x (size st.graph)) (st.owner x == me.0 || is_ghost_of st me.0 x) both)) as (λ _. is_placed l x ≡ true) [
         | inl own ↦ let p = own_placed x low (eqb-true (st.owner x) me.0 own) in ap is_some p.1
         | inr ghost ↦ ghost_placed x low ghost
       ])

@@ -26,7 +26,7 @@ use Rattle.cluster_core.proofs.Basics.{first_passing-some}
 use Rattle.local_graph.specs.declared.outlines.Outline.{Outline}
 use Rattle.local_graph.specs.declared.sides.Side.{Side}
 use Rattle.local_graph.specs.Lines.{halves_of_lines, links_from}
-use Rattle.local_graph.specs.Locals.{LocalView, at_place, place_of_vertex, is_known, is_own, links_at, sides_at, parts_at, part_at, machine_numbers}
+use Rattle.local_graph.specs.Locals.{LocalView, at_place, place_of_vertex, is_placed, is_own, links_at, sides_at, parts_at, part_at, machine_numbers}
 use Rattle.local_graph.specs.Played.{IsPlayedFrom, leads_to, machine_of, meets, numbers_of, owner_at, place_or, side_of}
 use Rattle.local_parts.specs.Parts.{AreIn, AreLinesOf, IsLocalOf, IsRowOf, halves_along, is_ghost_of, own_in_scope, owners_of}
 use Rattle.local_parts.proofs.RangeLemmas.{filter_passing, filter_twice}
@@ -61,7 +61,7 @@ module _ (st : Setting) (me : MachineNo) (lines : Lines) (outline : Outline) (l 
   facts : (v : ℕ) → Owned v → (v < size st.graph) × (st.owner v ≡ me.0)
   facts v own = own_facts st me lines outline l is are played v own
 
-  known_own : (v : ℕ) → Owned v → is_known l v ≡ true
+  known_own : (v : ℕ) → Owned v → is_placed l v ≡ true
   known_own v own = ap is_some (place_of_own st me lines outline l is are played v own).1
 
   data_is : (v : ℕ) → Owned v → map data_half (halves v) ≡ halves_of st.graph v
@@ -80,7 +80,7 @@ module _ (st : Setting) (me : MachineNo) (lines : Lines) (outline : Outline) (l 
     pub owner : s.owner.0 ≡ st.owner s.other.0
     pub place : place_of_vertex l.places s.other.0 ≡ Some s.place
 
-  known_beside : (v x : ℕ) → Owned v → x < size st.graph → list_any (joins v x) st.graph.edges ≡ true → is_known l x ≡ true
+  known_beside : (v x : ℕ) → Owned v → x < size st.graph → list_any (joins v x) st.graph.edges ≡ true → is_placed l x ≡ true
   known_beside v x own low joined =
       let f = facts v own in
       known_is st me lines outline l is are played x ∙ ap (λ b. b && (st.owner x == me.0 || is_ghost_of st me.0 x)) (lt-ltb x (size st.graph) low)
@@ -174,14 +174,14 @@ module _ (st : Setting) (me : MachineNo) (lines : Lines) (outline : Outline) (l 
 
   -- ---- the own vertices of a scope
 
-  part_known : (v : ℕ) → is_known l v ≡ true → numbers_of (part_at l v) ≡ own_in_scope st v me.0
+  part_known : (v : ℕ) → is_placed l v ≡ true → numbers_of (part_at l v) ≡ own_in_scope st v me.0
   part_known v known =
       played.part v known ∙ ap (filter (leads_to l v)) (owned_list st me lines outline l is are played)
       ∙ filter_twice (leads_to l v) (is_in (owners_of st) me.0) (range_with_len 0 (size st.graph))
       ∙ filter_passing (λ x. is_in (owners_of st) me.0 x && leads_to l v x) (λ x. is_in_scope st v x && st.owner x == me.0) 0 (size st.graph) (λ x low high. in_scope v x (omega arith))
 
   -- of a vertex that is not known there are none
-  part_unknown : (v : ℕ) → v < size st.graph → is_known l v ≡ false → numbers_of (part_at l v) ≡ own_in_scope st v me.0
+  part_unknown : (v : ℕ) → v < size st.graph → is_placed l v ≡ false → numbers_of (part_at l v) ≡ own_in_scope st v me.0
   part_unknown v low unknown =
       nothing (place_of_vertex l.places v) unknown
       ∙ sym (passing_none (λ x. is_in_scope st v x && st.owner x == me.0) 0 (size st.graph) (λ x above below. none x (omega arith)))
@@ -195,7 +195,7 @@ module _ (st : Setting) (me : MachineNo) (lines : Lines) (outline : Outline) (l 
           let own = eqb-true (st.owner x) me.0 (right (is_in_scope st v x) (st.owner x == me.0) both) in
           let owned = is_own_from st me lines outline l is are played x low_x own in
           elim (cases_eq x v) as (λ _. ⊥) [
-            | inl same ↦ true≢false (sym (known_own x owned) ∙ ap (is_known l) same ∙ unknown)
+            | inl same ↦ true≢false (sym (known_own x owned) ∙ ap (is_placed l) same ∙ unknown)
             | inr other ↦
                 let near = ap (λ b. b || is_near st v x) (sym (ne_eqb x v other)) ∙ left (is_in_scope st v x) (st.owner x == me.0) both in
                 true≢false (sym (known_beside x v owned low (any_turned x v st.graph.edges ∙ near)) ∙ unknown)
@@ -216,7 +216,7 @@ module _ (st : Setting) (me : MachineNo) (lines : Lines) (outline : Outline) (l 
       ]
 
   pub part_is : (v : ℕ) → v < size st.graph → numbers_of (part_at l v) ≡ own_in_scope st v me.0
-  part_is v low = elim (cases_Bool (is_known l v)) [
+  part_is v low = elim (cases_Bool (is_placed l v)) [
     | inl known ↦ part_known v known
     | inr unknown ↦ part_unknown v low unknown
   ]

@@ -2,7 +2,7 @@
 pub use Rattle.cluster_core.specs.Settings.{Setting, IsSetting, is_in_scope, nth_edge}
 pub use Rattle.cluster_core.specs.Scopes.{machines_from}
 pub use Rattle.cluster_core.specs.Effects.{is_shared}
-pub use Rattle.local_graph.specs.Locals.{LocalView, place_at, is_known, is_own, id_at, links_at, sides_at, parts_at, part_at, machine_numbers}
+pub use Rattle.local_graph.specs.Locals.{LocalView, place_at, is_placed, is_own, id_at, links_at, sides_at, parts_at, part_at, machine_numbers}
 pub use Rattle.local_graph.specs.Played.{IsPlayedFrom, numbers_of}
 pub use Rattle.local_graph.specs.Works.{IsRow}
 use Rattle.std.specs.Prelude.{◌≡◌, ℕ, ◌+◌, ◌^◌, ◌<◌, ◌≤◌, ◌==◌, ◌&&◌, ◌||◌, Bool, true, false, not, Option, Some, is_some, nat_lt, List, [], ◌∷◌, length, map, slice_index, slice_index_or}
@@ -69,7 +69,7 @@ pub record IsLocalOf (st : Setting) (l : LocalView) : Type 0 where
   pub owned : numbers_of l.owned ≡ all_passing (λ x. st.owner x == l.me.0) 0 (size st.graph)
   pub own : (x : ℕ) → is_own l x ≡ (nat_lt x (size st.graph) && st.owner x == l.me.0)
   pub ghosts : map (λ g. g.vertex.0) l.ghosts ≡ all_passing (is_ghost_of st l.me.0) 0 (size st.graph)
-  pub known : (x : ℕ) → is_known l x ≡ (nat_lt x (size st.graph) && (st.owner x == l.me.0 || is_ghost_of st l.me.0 x))
+  pub known : (x : ℕ) → is_placed l x ≡ (nat_lt x (size st.graph) && (st.owner x == l.me.0 || is_ghost_of st l.me.0 x))
   pub ids : (x : ℕ) → is_own l x ≡ true → id_at l x ≡ slice_index st.graph.ids x
   pub edges : length l.numbers ≡ length st.graph.edges
   -- the row of each own vertex, where it is not out

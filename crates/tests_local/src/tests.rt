@@ -10,6 +10,7 @@ use std::test::Fail;
 
 /// What a machine tells of a vertex: its edges there, each with its other end and the owner of that, the machines of its
 /// scope, where it is an own one, and the own vertices of its scope.
+#[derive(Drop)]
 struct Seen {
     machine: u16,
     vertex: u32,

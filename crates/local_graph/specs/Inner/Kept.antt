@@ -17,7 +17,7 @@ HasAsMany many None = Unit {0}
 HasAsMany many (Some links) = length links ≡ many
 
 -- Each place is one of the lists and has one vertex, rows have one link for each side, and each side has an edge.
-pub record IsSound (l : LocalView) : Type 0 where
+pub record IsWellKept (l : LocalView) : Type 0 where
   pub inside : (x k : ℕ) → place_of_vertex l.places x ≡ Some k → k < length l.sides
   pub apart : (x y k : ℕ) → place_of_vertex l.places x ≡ Some k → place_of_vertex l.places y ≡ Some k → x ≡ y
   pub own : length l.kept ≤ length l.sides

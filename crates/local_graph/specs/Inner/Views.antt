@@ -4,8 +4,8 @@ use Rattle.local_graph.specs.declared.graphs.LocalGraph.TheInside.{Inside}
 use Rattle.local_graph.specs.Locals.{LocalView}
 use Rattle.local_graph.specs.Inner.Kept.{links_of}
 
-abbrev pub view_of : Inside → LocalView
-view_of g =
+abbrev pub local_view_of : Inside → LocalView
+local_view_of g =
     record {
       me = g.me;
       owned = g.owned.items;

@@ -7,8 +7,8 @@ use Rattle.std.specs.Vec.{with_items}
 use Rattle.update_api.specs.declared.links.Link.{Link}
 use Rattle.local_graph.specs.declared.sides.Side.{Side}
 use Rattle.local_graph.specs.Locals.{LocalView, links_at, sides_at, is_own, at_place, place_of_vertex}
-use Rattle.local_graph.specs.Inner.Kept.{IsSound, HasAsMany, links_of}
-use Rattle.local_graph.specs.Inner.Views.{view_of}
+use Rattle.local_graph.specs.Inner.Kept.{IsWellKept, HasAsMany, links_of}
+use Rattle.local_graph.specs.Inner.Views.{local_view_of}
 use Rattle.local_graph.proofs.RowLemmas.{sound_after, own_place, links_written}
 use Rattle.local_graph.proofs.graphs.LocalGraph.put_row.Goals as goal
 
@@ -19,13 +19,13 @@ invariant_of-self c =
     let k = c.in-Some.place in
     let row : Option (Vec Link Global) = Some c.args.row.links in
     let at : place_of_vertex g.places v ≡ Some k = sym c.place.ensures ∙ c.in-Some.is in
-    let as_many : length c.args.row.links.items ≡ length (sides_at (view_of g) v) = subst (λ (l : LocalView). length c.args.row.links.items ≡ length (sides_at l v)) (sym c.self.view_is) c.requires.links in
+    let as_many : length c.args.row.links.items ≡ length (sides_at (local_view_of g) v) = subst (λ (l : LocalView). length c.args.row.links.items ≡ length (sides_at l v)) (sym c.self.view_is) c.requires.links in
     let fits : length c.args.row.links.items ≡ length (get_or g.sides k []) = as_many ∙ ap (λ o. length (at_place g.sides o [])) at in
-    let sound : IsSound (view_of g) = c.self.invariant in
-    let after = sound_after (view_of g) k (links_of row) c.write_numbers.new.numbers sound fits (omega arith) in
+    let sound : IsWellKept (local_view_of g) = c.self.invariant in
+    let after = sound_after (local_view_of g) k (links_of row) c.write_numbers.new.numbers sound fits (omega arith) in
     let is : (with_items g.numbers c.write_numbers.new.numbers).items ≡ c.write_numbers.new.numbers = with_items_is g.numbers c.write_numbers.new.numbers (omega arith) in
-    let whole = subst (λ (rows : List (Option (List Link))). IsSound (record (view_of g) { rows = rows; numbers = c.write_numbers.new.numbers })) (sym (map-set links_of g.rows.items k row)) after in
-    subst (λ (xs : List ℕ). IsSound (record (view_of g) { rows = map links_of (set g.rows.items k row); numbers = xs })) (sym is) whole
+    let whole = subst (λ (rows : List (Option (List Link))). IsWellKept (record (local_view_of g) { rows = rows; numbers = c.write_numbers.new.numbers })) (sym (map-set links_of g.rows.items k row)) after in
+    subst (λ (xs : List ℕ). IsWellKept (record (local_view_of g) { rows = map links_of (set g.rows.items k row); numbers = xs })) (sym is) whole
 
 pub returns-clause-back : goal.returns-clause-back
 returns-clause-back c =

@@ -5,8 +5,8 @@ use Rattle.std.specs.Prelude.{Option, List}
 use Rattle.std.proofs.lemmas.List.{length-map, map-set}
 use Rattle.update_api.specs.declared.links.Link.{Link}
 use Rattle.local_graph.specs.Locals.{LocalView, links_at, at_place, place_of_vertex}
-use Rattle.local_graph.specs.Inner.Kept.{IsSound, HasAsMany, links_of}
-use Rattle.local_graph.specs.Inner.Views.{view_of}
+use Rattle.local_graph.specs.Inner.Kept.{IsWellKept, HasAsMany, links_of}
+use Rattle.local_graph.specs.Inner.Views.{local_view_of}
 use Rattle.local_graph.proofs.RowLemmas.{sound_after, row_place, links_written}
 use Rattle.local_graph.proofs.graphs.LocalGraph.take_row.Goals as goal
 
@@ -15,9 +15,9 @@ invariant_of-self c =
     let g = c.self.inside in
     let k = c.in-Some.place in
     let no : Option (Vec Link Global) = None in
-    let sound : IsSound (view_of g) = c.self.invariant in
-    let after = sound_after (view_of g) k None g.numbers.items sound tt refl in
-    subst (λ (rows : List (Option (List Link))). IsSound (record (view_of g) { rows = rows })) (sym (map-set links_of g.rows.items k no) ∙ ap (λ (o : Option (Vec Link Global)). map links_of (set g.rows.items k o)) (sym c.take.ensures.after)) after
+    let sound : IsWellKept (local_view_of g) = c.self.invariant in
+    let after = sound_after (local_view_of g) k None g.numbers.items sound tt refl in
+    subst (λ (rows : List (Option (List Link))). IsWellKept (record (local_view_of g) { rows = rows })) (sym (map-set links_of g.rows.items k no) ∙ ap (λ (o : Option (Vec Link Global)). map links_of (set g.rows.items k o)) (sym c.take.ensures.after)) after
 
 pub returns-clause-out : goal.returns-clause-out
 returns-clause-out c =
