@@ -8,7 +8,6 @@ use Rattle.std.proofs.lemmas.Option.{slice_get-get_or, slice_get_within, get_or_
 use Rattle.gl_base.specs.declared.atoms.EdgeLine.{EdgeLine}
 use Rattle.graph_core.specs.declared.halves.Half.{Half}
 use Rattle.graph_core.specs.Rows.{with_key}
-
 use Rattle.local_graph.specs.Lines.{line_out, line_into, half_of_line, halves_of_lines}
 use Rattle.local_graph.specs.Locals.{place_of_vertex}
 use Rattle.local_graph.specs.Played.{place_or}

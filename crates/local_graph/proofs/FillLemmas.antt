@@ -43,8 +43,8 @@ written_more old now sides xs i s x inside same is_s is_x low are =
       inside = omega arith;
       each = λ e.
           let unfolds : written (drop i sides) (drop i xs) (slice_index old) e ≡ (if e == s.edge.0 then x else written (drop (i + 1) sides) (drop (i + 1) xs) (slice_index old) e) =
-              ap (λ (ss : List Side). written ss (drop i xs) (slice_index old) e) (drop_more sides i s inside ∙ ap (λ (t : Side). t ∷ drop (i + 1) sides) (sym is_s))
-              ∙ ap (λ (ys : List ℕ). written (s ∷ drop (i + 1) sides) ys (slice_index old) e) (drop_more xs i 0 there ∙ ap (λ (y : ℕ). y ∷ drop (i + 1) xs) (sym is_x)) in
+          ap (λ (ss : List Side). written ss (drop i xs) (slice_index old) e) (drop_more sides i s inside ∙ ap (λ (t : Side). t ∷ drop (i + 1) sides) (sym is_s))
+          ∙ ap (λ (ys : List ℕ). written (s ∷ drop (i + 1) sides) ys (slice_index old) e) (drop_more xs i 0 there ∙ ap (λ (y : ℕ). y ∷ drop (i + 1) xs) (sym is_x)) in
           elim (cases_eq e s.edge.0) [
             | inl same_edge ↦
                 ap (λ (k : ℕ). get_or (set now s.edge.0 x) k 0) same_edge ∙ get_or-set_same now s.edge.0 x 0 within

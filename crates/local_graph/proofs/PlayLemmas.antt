@@ -169,8 +169,8 @@ module _ (me : MachineNo) (lines : Lines) (outline : Outline) (order : List Vert
       let is : place_or none (place_of_vertex l.places x) ≡ j = ap (place_or none) there ∙ omega arith in
       let sides = sides_here j (omega arith) in
       let near : has (places_near none (get_or l.sides j [])) k ≡ list_any (λ (s : Side). s.other.0 == v) (sides_at l x) =
-          ap (λ (ss : List Side). has (places_near none ss) k) sides ∙ near_all v k at (with_key j pairs)
-          ∙ ap (list_any (λ (s : Side). s.other.0 == v)) (sym sides ∙ ap (λ o. at_place l.sides o []) (sym there)) in
+      ap (λ (ss : List Side). has (places_near none ss) k) sides ∙ near_all v k at (with_key j pairs)
+      ∙ ap (list_any (λ (s : Side). s.other.0 == v)) (sym sides ∙ ap (λ o. at_place l.sides o []) (sym there)) in
       ap (λ b. b || has (places_near none (get_or l.sides (place_or none (place_of_vertex l.places x)) [])) k) (key_is l.places none v k x (inside v k at) apart at)
       ∙ ap (λ (n : ℕ). (x == v) || has (places_near none (get_or l.sides n [])) k) is ∙ ap (λ b. (x == v) || b) near
 
@@ -237,7 +237,7 @@ module _ (me : MachineNo) (lines : Lines) (outline : Outline) (order : List Vert
             let own_low : k < length order = omega (arith, made.many_rows) in
             let side_low : k < none + 1 = omega (arith, long) in
             let many : length (links_from 0 (with_key k pairs)) ≡ length (get_or l.sides k []) =
-                length-links 0 (with_key k pairs) ∙ sym (ap length (sides_here k side_low) ∙ length-map (with_key k pairs) as_side) in
+            length-links 0 (with_key k pairs) ∙ sym (ap length (sides_here k side_low) ∙ length-map (with_key k pairs) as_side) in
             subst (HasAsMany (length (get_or l.sides k []))) (sym (made.rows k own_low)) many;
         edges = λ k. elim (cases_lt k (none + 1)) [
           | inl low ↦

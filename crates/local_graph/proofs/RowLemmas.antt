@@ -31,7 +31,7 @@ sound_after l k row numbers sound fits same =
             | inl same_place ↦
                 let k_inside : k < length l.rows = omega arith in
                 let is : row ≡ get_or (set l.rows k row) j None =
-                    sym (ap (λ (n : ℕ). get_or (set l.rows k row) n None) same_place ∙ get_or-set_same l.rows k row None k_inside) in
+                sym (ap (λ (n : ℕ). get_or (set l.rows k row) n None) same_place ∙ get_or-set_same l.rows k row None k_inside) in
                 subst (λ (o : Option (List Link)). HasAsMany (length (get_or l.sides j [])) o) is
                 (subst (λ (n : ℕ). HasAsMany (length (get_or l.sides n [])) row) (sym same_place) fits)
             | inr other ↦

@@ -35,9 +35,15 @@ impl Keyed for EndsOf<'_> {
     fn at(&self, place: usize) -> (u32, Half) {
         let line = self.edges[place / 2];
         if place % 2 == 0 {
-            (key_at(self.places, line.from, self.none), half_out(line, self.directed))
+            (
+                key_at(self.places, line.from, self.none),
+                half_out(line, self.directed),
+            )
         } else {
-            (key_at(self.places, line.to, self.none), half_into(line, self.directed))
+            (
+                key_at(self.places, line.to, self.none),
+                half_into(line, self.directed),
+            )
         }
     }
 }
@@ -103,7 +109,10 @@ impl Keyed for SidesOf<'_> {
     #[inline]
     fn at(&self, place: usize) -> (u32, Side) {
         let (key, half) = self.ends.at(place);
-        (key, side_at(half, self.ends.places, self.me, self.many, self.ghosts))
+        (
+            key,
+            side_at(half, self.ends.places, self.me, self.many, self.ghosts),
+        )
     }
 }
 

@@ -28,7 +28,15 @@ pub fn list_scopes(
     let last = stamps.as_mut_slice();
     for (place, v) in own.iter().enumerate() {
         let key = key_at(places, *v, none);
-        push_scope(&mut pairs, last, place as u32 + 1, *v, key, sides.row(key as usize), none)?;
+        push_scope(
+            &mut pairs,
+            last,
+            place as u32 + 1,
+            *v,
+            key,
+            sides.row(key as usize),
+            none,
+        )?;
     }
     Ok(pairs)
 }

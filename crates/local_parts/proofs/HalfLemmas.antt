@@ -68,8 +68,8 @@ graph_halves g of a v k [] own are apart = refl
 graph_halves g of a v k (e ∷ rest) own are apart =
     let more = map (line_of_edge g) (range_with_len (k + 1) (length rest)) in
     let next : map data_half (halves_of_lines g.directed (filter (touches of a) more) v) ≡ halves_from g.directed v (suc k) rest =
-        graph_halves g of a v (k + 1) rest own (λ i low. let n : k + 1 + i ≡ k + suc i = omega arith in ap (edge_of g) n ∙ are (suc i) (omega arith)) (All-tail (λ (e : DataEdge). e.from ≡ e.to → ⊥) e rest apart)
-        ∙ ap (λ (j : ℕ). halves_from g.directed v j rest) (let n : k + 1 ≡ suc k = omega arith in n) in
+    graph_halves g of a v (k + 1) rest own (λ i low. let n : k + 1 + i ≡ k + suc i = omega arith in ap (edge_of g) n ∙ are (suc i) (omega arith)) (All-tail (λ (e : DataEdge). e.from ≡ e.to → ⊥) e rest apart)
+    ∙ ap (λ (j : ℕ). halves_from g.directed v j rest) (let n : k + 1 ≡ suc k = omega arith in n) in
     let n : k + 0 ≡ k = omega arith in
     let is : line_of_edge g k ≡ as_line k e = ap (as_line k) (ap (edge_of g) (sym n) ∙ are 0 (omega arith)) in
     let here = one_half g.directed v k e (All-head (λ (e : DataEdge). e.from ≡ e.to → ⊥) e rest apart) in
@@ -107,10 +107,10 @@ row_halves f edge other k [] lead = refl
 row_halves f edge other k (h ∷ hs) lead =
     let here : Leads h = All-head Leads h hs lead in
     let first : half_along (f h) (link_of k h) ≡ data_half h =
-        ap (λ (e : ℕ). let d : DataHalf = record { edge = e; other = (f h).other.0; weight = h.weight; out = leads_out (direction_of h.out h.into); into = leads_into (direction_of h.out h.into) } in d) (ap (λ (e : EdgeNo). e.0) (edge h))
-        ∙ ap (λ (o : ℕ). let d : DataHalf = record { edge = h.edge.0; other = o; weight = h.weight; out = leads_out (direction_of h.out h.into); into = leads_into (direction_of h.out h.into) } in d) (ap (λ (o : Vertex). o.0) (other h))
-        ∙ ap (λ b. let d : DataHalf = record { edge = h.edge.0; other = h.other.0; weight = h.weight; out = b; into = leads_into (direction_of h.out h.into) } in d) (out_is h.out h.into here)
-        ∙ ap (λ b. let d : DataHalf = record { edge = h.edge.0; other = h.other.0; weight = h.weight; out = h.out; into = b } in d) (into_is h.out h.into here) in
+    ap (λ (e : ℕ). let d : DataHalf = record { edge = e; other = (f h).other.0; weight = h.weight; out = leads_out (direction_of h.out h.into); into = leads_into (direction_of h.out h.into) } in d) (ap (λ (e : EdgeNo). e.0) (edge h))
+    ∙ ap (λ (o : ℕ). let d : DataHalf = record { edge = h.edge.0; other = o; weight = h.weight; out = leads_out (direction_of h.out h.into); into = leads_into (direction_of h.out h.into) } in d) (ap (λ (o : Vertex). o.0) (other h))
+    ∙ ap (λ b. let d : DataHalf = record { edge = h.edge.0; other = h.other.0; weight = h.weight; out = b; into = leads_into (direction_of h.out h.into) } in d) (out_is h.out h.into here)
+    ∙ ap (λ b. let d : DataHalf = record { edge = h.edge.0; other = h.other.0; weight = h.weight; out = h.out; into = b } in d) (into_is h.out h.into here) in
     ap (λ (d : DataHalf). d ∷ halves_along (map f hs) (links_from (suc k) hs)) first
     ∙ ap (λ (ds : List DataHalf). data_half h ∷ ds) (row_halves f edge other (suc k) hs (All-tail Leads h hs lead))
 

@@ -151,7 +151,7 @@ module _ (st : Setting) (me : MachineNo) (lines : Lines) (outline : Outline) (l 
       let found = found_with (is_in (owners_of st) me.0) (λ y. y == x) 0 (size st.graph) x (omega arith) (omega arith) passes (eq-eqb x x refl) in
       let numbers = own_numbers st me.0 lines outline is are in
       let listed : list_any (λ (v : VertexLine). v.vertex.0 == x) lines.vertices.items ≡ true =
-          sym (any_mapped (λ (y : ℕ). y == x) (λ (v : VertexLine). v.vertex.0) lines.vertices.items) ∙ ap (list_any (λ (y : ℕ). y == x)) numbers ∙ found in
+      sym (any_mapped (λ (y : ℕ). y == x) (λ (v : VertexLine). v.vertex.0) lines.vertices.items) ∙ ap (list_any (λ (y : ℕ). y == x)) numbers ∙ found in
       let ordered : list_any (λ (v : VertexLine). v.vertex.0 == x) order ≡ true = sym (list_any-IsPermutation (λ (v : VertexLine). v.vertex.0 == x) lines.vertices.items order played.same) ∙ listed in
       let any = Any-from_list_any (λ (v : VertexLine). v.vertex.0 == x) order ordered in
       let j = any.0 in
@@ -174,7 +174,7 @@ module _ (st : Setting) (me : MachineNo) (lines : Lines) (outline : Outline) (l 
       let found = found_with (is_ghost st.graph (owners_of st) me.0) (λ y. y == x) 0 (size st.graph) x (omega arith) (omega arith) passes (eq-eqb x x refl) in
       let numbers = ghost_numbers st me.0 lines outline is are in
       let listed : list_any (λ (g : GhostLine). g.vertex.0 == x) ghosts ≡ true =
-          sym (any_mapped (λ (y : ℕ). y == x) (λ (g : GhostLine). g.vertex.0) ghosts) ∙ ap (list_any (λ (y : ℕ). y == x)) numbers ∙ found in
+      sym (any_mapped (λ (y : ℕ). y == x) (λ (g : GhostLine). g.vertex.0) ghosts) ∙ ap (list_any (λ (y : ℕ). y == x)) numbers ∙ found in
       let any = Any-from_list_any (λ (g : GhostLine). g.vertex.0 == x) ghosts listed in
       let j = any.0 in
       let line = any.1 in

@@ -16,7 +16,7 @@ unfolding all_passing
 filter_passing p r k zero same = refl
 filter_passing p r k (suc n) same =
     let rest : filter p (range_with_len (k + 1) n) ≡ all_passing r (suc k) n =
-        filter_passing p r (k + 1) n (λ x low high. same x (omega arith) (omega arith)) ∙ ap (λ (j : ℕ). all_passing r j n) (let e : k + 1 ≡ suc k = omega arith in e) in
+    filter_passing p r (k + 1) n (λ x low high. same x (omega arith) (omega arith)) ∙ ap (λ (j : ℕ). all_passing r j n) (let e : k + 1 ≡ suc k = omega arith in e) in
     ap (λ b. if b then k ∷ filter p (range_with_len (k + 1) n) else filter p (range_with_len (k + 1) n)) (same k (omega arith) (omega arith)) ∙ here (r k) rest
   where
     here : (b : Bool) → filter p (range_with_len (k + 1) n) ≡ all_passing r (suc k) n

@@ -21,10 +21,9 @@ struct Seen {
 
 fn are_sides(sides: &[Side], wanted: &[(u32, u32, u16)]) -> bool {
     sides.len() == wanted.len()
-        && sides
-            .iter()
-            .zip(wanted)
-            .all(|(s, w)| s.edge.0 == w.0 && s.other.0 == w.1 && s.owner.0 == w.2)
+        && sides.iter().zip(wanted).all(|(s, w)| s.edge.0 == w.0
+            && s.other.0 == w.1
+            && s.owner.0 == w.2)
 }
 
 fn are_machines(machines: &[MachineNo], wanted: &[u16]) -> bool {
@@ -89,7 +88,12 @@ fn look(
     for each in seen {
         let machine = each.machine as usize;
         assert!(rt; machine < parts.len());
-        assert!(rt; tells(&parts[machine], each), "vertex {} at {}", each.vertex, machine);
+        assert!(rt;
+            tells(&parts[machine], each),
+            "vertex {} at {}",
+            each.vertex,
+            machine
+        );
     }
     Ok(())
 }
@@ -97,29 +101,121 @@ fn look(
 #[test]
 fn edges_within_and_between(rt: HostRuntime) -> Result<(), Fail> {
     let seen = [
-        Seen { machine: 0, vertex: 0, sides: &[(0, 1, 0)], parts: &[0], part: &[0, 1] },
-        Seen { machine: 0, vertex: 1, sides: &[(0, 0, 0), (1, 2, 1)], parts: &[0, 1], part: &[0, 1] },
-        Seen { machine: 0, vertex: 2, sides: &[(1, 1, 0)], parts: &[], part: &[1] },
-        Seen { machine: 0, vertex: 3, sides: &[], parts: &[], part: &[] },
-        Seen { machine: 1, vertex: 1, sides: &[(1, 2, 1)], parts: &[], part: &[2] },
-        Seen { machine: 1, vertex: 2, sides: &[(1, 1, 0)], parts: &[0, 1], part: &[2] },
-        Seen { machine: 1, vertex: 3, sides: &[], parts: &[1], part: &[3] },
-        Seen { machine: 2, vertex: 0, sides: &[], parts: &[], part: &[] },
+        Seen {
+            machine: 0,
+            vertex: 0,
+            sides: &[(0, 1, 0)],
+            parts: &[0],
+            part: &[0, 1],
+        },
+        Seen {
+            machine: 0,
+            vertex: 1,
+            sides: &[(0, 0, 0), (1, 2, 1)],
+            parts: &[0, 1],
+            part: &[0, 1],
+        },
+        Seen {
+            machine: 0,
+            vertex: 2,
+            sides: &[(1, 1, 0)],
+            parts: &[],
+            part: &[1],
+        },
+        Seen {
+            machine: 0,
+            vertex: 3,
+            sides: &[],
+            parts: &[],
+            part: &[],
+        },
+        Seen {
+            machine: 1,
+            vertex: 1,
+            sides: &[(1, 2, 1)],
+            parts: &[],
+            part: &[2],
+        },
+        Seen {
+            machine: 1,
+            vertex: 2,
+            sides: &[(1, 1, 0)],
+            parts: &[0, 1],
+            part: &[2],
+        },
+        Seen {
+            machine: 1,
+            vertex: 3,
+            sides: &[],
+            parts: &[1],
+            part: &[3],
+        },
+        Seen {
+            machine: 2,
+            vertex: 0,
+            sides: &[],
+            parts: &[],
+            part: &[],
+        },
     ];
-    look(&rt, rt.alloc(), &[(1, 2), (2, 3)], false, &[0, 0, 1, 1], &seen)
+    look(
+        &rt,
+        rt.alloc(),
+        &[(1, 2), (2, 3)],
+        false,
+        &[0, 0, 1, 1],
+        &seen,
+    )
 }
 
 #[test]
 fn a_star_and_two_directions(rt: HostRuntime) -> Result<(), Fail> {
     let star = [
-        Seen { machine: 0, vertex: 0, sides: &[(0, 1, 1), (1, 2, 2), (2, 3, 1)], parts: &[0, 1, 2], part: &[0] },
-        Seen { machine: 1, vertex: 0, sides: &[(0, 1, 1), (2, 3, 1)], parts: &[], part: &[1, 3] },
-        Seen { machine: 2, vertex: 2, sides: &[(1, 0, 0)], parts: &[0, 2], part: &[2] },
+        Seen {
+            machine: 0,
+            vertex: 0,
+            sides: &[(0, 1, 1), (1, 2, 2), (2, 3, 1)],
+            parts: &[0, 1, 2],
+            part: &[0],
+        },
+        Seen {
+            machine: 1,
+            vertex: 0,
+            sides: &[(0, 1, 1), (2, 3, 1)],
+            parts: &[],
+            part: &[1, 3],
+        },
+        Seen {
+            machine: 2,
+            vertex: 2,
+            sides: &[(1, 0, 0)],
+            parts: &[0, 2],
+            part: &[2],
+        },
     ];
-    look(&rt, rt.alloc(), &[(1, 2), (1, 3), (1, 4)], false, &[0, 1, 2, 1], &star)?;
+    look(
+        &rt,
+        rt.alloc(),
+        &[(1, 2), (1, 3), (1, 4)],
+        false,
+        &[0, 1, 2, 1],
+        &star,
+    )?;
     let both = [
-        Seen { machine: 0, vertex: 0, sides: &[(0, 1, 0), (1, 1, 0)], parts: &[0], part: &[0, 1] },
-        Seen { machine: 0, vertex: 1, sides: &[(0, 0, 0), (1, 0, 0)], parts: &[0], part: &[0, 1] },
+        Seen {
+            machine: 0,
+            vertex: 0,
+            sides: &[(0, 1, 0), (1, 1, 0)],
+            parts: &[0],
+            part: &[0, 1],
+        },
+        Seen {
+            machine: 0,
+            vertex: 1,
+            sides: &[(0, 0, 0), (1, 0, 0)],
+            parts: &[0],
+            part: &[0, 1],
+        },
     ];
     look(&rt, rt.alloc(), &[(1, 2), (2, 1)], true, &[0, 0], &both)
 }

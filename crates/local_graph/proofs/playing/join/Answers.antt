@@ -11,17 +11,17 @@ invariant_of-result c =
     let kept : c.in_ok-kept.kept.items ≡ replicate (length c.args.order.now) no_datum = c.in_ok-kept.ensures.items_if_clones_equal (λ y clone. clone) in
     let numbers : c.in_ok-numbers.numbers.items ≡ replicate c.args.outline.edges 0 = c.in_ok-numbers.ensures.items_if_clones_equal (λ y clone. clone) in
     let parts : AreParts c.args.me lines c.args.outline c.args.order.now c.args.owned.items c.args.places c.args.lists c.in_ok-ghosts.ghosts.items c.in_ok-ids.ids.items c.in_ok-kept.kept.items c.in_ok-numbers.numbers.items =
-        record {
-          few = c.requires.few;
-          same = c.requires.order;
-          is_owned = c.requires.owned;
-          are_places = c.requires.places;
-          lists = c.requires.lists;
-          are_ghosts = c.in_ok-ghosts.ensures.items ∙ c.deref.ensures.value;
-          are_ids = ids;
-          is_kept = kept;
-          are_numbers = numbers;
-        } in
+    record {
+      few = c.requires.few;
+      same = c.requires.order;
+      is_owned = c.requires.owned;
+      are_places = c.requires.places;
+      lists = c.requires.lists;
+      are_ghosts = c.in_ok-ghosts.ensures.items ∙ c.deref.ensures.value;
+      are_ids = ids;
+      is_kept = kept;
+      are_numbers = numbers;
+    } in
     joined_sound c.args.me lines c.args.outline c.args.order.now c.args.owned.items c.args.places c.args.lists c.in_ok-ghosts.ghosts.items c.in_ok-ids.ids.items c.in_ok-kept.kept.items c.in_ok-numbers.numbers.items parts c.requires.edges
 
 pub returns : goal.returns
@@ -31,15 +31,15 @@ returns c =
     let kept : c.in_ok-kept.kept.items ≡ replicate (length c.args.order.now) no_datum = c.in_ok-kept.ensures.items_if_clones_equal (λ y clone. clone) in
     let numbers : c.in_ok-numbers.numbers.items ≡ replicate c.args.outline.edges 0 = c.in_ok-numbers.ensures.items_if_clones_equal (λ y clone. clone) in
     let parts : AreParts c.args.me lines c.args.outline c.args.order.now c.args.owned.items c.args.places c.args.lists c.in_ok-ghosts.ghosts.items c.in_ok-ids.ids.items c.in_ok-kept.kept.items c.in_ok-numbers.numbers.items =
-        record {
-          few = c.requires.few;
-          same = c.requires.order;
-          is_owned = c.requires.owned;
-          are_places = c.requires.places;
-          lists = c.requires.lists;
-          are_ghosts = c.in_ok-ghosts.ensures.items ∙ c.deref.ensures.value;
-          are_ids = ids;
-          is_kept = kept;
-          are_numbers = numbers;
-        } in
+    record {
+      few = c.requires.few;
+      same = c.requires.order;
+      is_owned = c.requires.owned;
+      are_places = c.requires.places;
+      lists = c.requires.lists;
+      are_ghosts = c.in_ok-ghosts.ensures.items ∙ c.deref.ensures.value;
+      are_ids = ids;
+      is_kept = kept;
+      are_numbers = numbers;
+    } in
     joined_played c.args.me lines c.args.outline c.args.order.now c.args.owned.items c.args.places c.args.lists c.in_ok-ghosts.ghosts.items c.in_ok-ids.ids.items c.in_ok-kept.kept.items c.in_ok-numbers.numbers.items parts

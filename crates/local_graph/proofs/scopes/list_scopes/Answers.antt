@@ -21,8 +21,8 @@ loop-place-preserved c =
     let none = c.args.none in
     let key : c.key_at-key.result ≡ place_or none (place_of_vertex c.args.places.now v.0) = c.key_at-key.ensures ∙ ap (λ (x : Vertex). place_or none (place_of_vertex c.args.places.now x.0)) (get_or_default own i _ d inside) in
     let scope : behind (once (c.key_at-key.result ∷ []) (map (λ (s : Side). place_or none (Some s.place)) c.row.result.now)) ≡ f v =
-        ap (λ (ss : List Side). behind (once (c.key_at-key.result ∷ []) (map (λ (s : Side). place_or none (Some s.place)) ss))) c.row.ensures
-        ∙ ap (λ (k : ℕ). behind (once (k ∷ []) (map (λ (s : Side). place_or none (Some s.place)) (get_or c.args.sides.now k [])))) key in
+    ap (λ (ss : List Side). behind (once (c.key_at-key.result ∷ []) (map (λ (s : Side). place_or none (Some s.place)) ss))) c.row.ensures
+    ∙ ap (λ (k : ℕ). behind (once (k ∷ []) (map (λ (s : Side). place_or none (Some s.place)) (get_or c.args.sides.now k [])))) key in
     record {
       many = let a = c.loop-place.invariant.many in omega arith;
       older = λ t. let a = c.in_ok-push_scope.ensures.older t in omega arith;

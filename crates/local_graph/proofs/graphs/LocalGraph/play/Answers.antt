@@ -10,8 +10,8 @@ pub new-requires-clause-below : goal.new-requires-clause-below
 new-requires-clause-below c =
     let low = ordered_low c.args.outline.vertices c.args.lines.now.vertices.items c.in_ok-order.order.items c.args.lines.now.ghosts.items c.in_ok-order.ensures c.requires.vertices c.requires.ghosts in
     let is = c.deref-3.ensures.value ∙ c.in_ok-known.ensures
-        ∙ ap (λ (vs : List VertexLine). map (λ v. v.vertex) vs ++ map (λ g. g.vertex) c.deref-2.result.now) c.deref.ensures.value
-        ∙ ap (λ (gs : List GhostLine). map (λ v. v.vertex) c.in_ok-order.order.items ++ map (λ g. g.vertex) gs) c.deref-2.ensures.value in
+    ∙ ap (λ (vs : List VertexLine). map (λ v. v.vertex) vs ++ map (λ g. g.vertex) c.deref-2.result.now) c.deref.ensures.value
+    ∙ ap (λ (gs : List GhostLine). map (λ v. v.vertex) c.in_ok-order.order.items ++ map (λ g. g.vertex) gs) c.deref-2.ensures.value in
     subst (λ (vs : List Vertex). All (λ (v : Vertex). v.0 < c.args.outline.vertices) vs) (sym is) low
 
 pub new-requires-clause-few : goal.new-requires-clause-few
