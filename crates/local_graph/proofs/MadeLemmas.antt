@@ -1,9 +1,7 @@
 -- What was made by place, put together.
-use Rattle.std.proofs.Common.{◌≡◌, ℕ, ◌+◌, ◌<◌, ◌≤◌, ◌++◌, Option, Some, None, List, [], length, get_or, map, replicate, refl, sym, ap, ◌∙◌, subst, All, arith}
+use Rattle.std.proofs.Common.{◌≡◌, ℕ, ◌+◌, ◌<◌, ◌≤◌, Option, List, length, map, replicate, refl, sym, ◌∙◌, All, arith}
 use Rattle.std.specs.List.Sorted.{IsPermutation}
-use Rattle.std.specs.declared.vec.Vec.{Vec}
-use Rattle.std.specs.declared.alloc.Global.{Global}
-use Rattle.std.proofs.lemmas.List.{length-append, length-map}
+use Rattle.std.proofs.lemmas.List.{length-map}
 use Rattle.gl_base.specs.declared.atoms.EdgeLine.{EdgeLine}
 use Rattle.gl_base.specs.declared.atoms.GhostLine.{GhostLine}
 use Rattle.gl_base.specs.declared.atoms.Lines.{Lines}
@@ -11,7 +9,6 @@ use Rattle.gl_base.specs.declared.atoms.VertexLine.{VertexLine}
 use Rattle.gl_base.specs.declared.numbers.MachineNo.{MachineNo}
 use Rattle.gl_base.specs.declared.numbers.Vertex.{Vertex}
 use Rattle.gl_base.specs.declared.scopes.Datum.{Datum}
-use Rattle.update_api.specs.declared.links.Link.{Link}
 use Rattle.local_graph.specs.declared.outlines.Outline.{Outline}
 use Rattle.local_graph.specs.declared.playing.ByPlace.{ByPlace}
 use Rattle.local_graph.specs.Locals.{LocalView, AreTheirPlaces}

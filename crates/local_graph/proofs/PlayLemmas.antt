@@ -1,34 +1,30 @@
 -- What was made by place is what `play` promises by vertex.
-use Rattle.std.proofs.Common.{◌≡◌, ℕ, zero, suc, ◌+◌, ◌<◌, ◌≤◌, ◌==◌, ◌||◌, ◌++◌, Bool, true, false, min, if◌then◌else◌, Option, Some, None, is_some, List, [], ◌∷◌, length, get_or, slice_get, map, replicate, refl, sym, ap, ◌∙◌, subst, All, arith, inl, inr}
+use Rattle.std.proofs.Common.{◌≡◌, ℕ, ◌+◌, ◌<◌, ◌==◌, ◌||◌, ◌++◌, Bool, true, false, if◌then◌else◌, Option, Some, None, is_some, List, [], ◌∷◌, length, get_or, map, replicate, refl, sym, ap, ◌∙◌, subst, All, arith, inl, inr}
 use Rattle.std.specs.List.{filter, flat_map, list_any, range_with_len}
 use Rattle.std.specs.List.Sorted.{IsPermutation}
-use Rattle.std.proofs.lemmas.Bool.{cases_eq, cases_lt, true≢false}
-use Rattle.std.proofs.lemmas.Option.{slice_get_past}
+use Rattle.std.proofs.lemmas.Bool.{cases_lt, true≢false}
 use Rattle.std.proofs.lemmas.List.{length-append, length-map, length-replicate, get_or_past, get_or_append_left, get_or-map}
 use Rattle.std.proofs.lemmas.List.Sorted.{All-permutation, IsPermutation-sym}
 use Rattle.std.proofs.lemmas.List.Elements.{All-nil, All-cons, All-map, All-filter, All-head, All-tail}
-use Rattle.std.proofs.lemmas.List.FromFn.{get_or-map-range_with_len}
 use Rattle.gl_base.specs.declared.atoms.EdgeLine.{EdgeLine}
 use Rattle.gl_base.specs.declared.atoms.GhostLine.{GhostLine}
 use Rattle.gl_base.specs.declared.atoms.Lines.{Lines}
 use Rattle.gl_base.specs.declared.atoms.VertexLine.{VertexLine}
 use Rattle.gl_base.specs.declared.numbers.MachineNo.{MachineNo}
 use Rattle.gl_base.specs.declared.numbers.Vertex.{Vertex}
-use Rattle.gl_base.specs.declared.scopes.Datum.{Datum}
 use Rattle.graph_core.specs.declared.halves.Half.{Half}
 use Rattle.graph_core.specs.Growth.{numbers_of}
 use Rattle.graph_core.specs.Rows.{with_key}
-use Rattle.update_api.specs.declared.links.Link.{Link}
 use Rattle.local_graph.specs.declared.outlines.Outline.{Outline}
 use Rattle.local_graph.specs.declared.sides.Side.{Side}
 use Rattle.local_graph.specs.Lines.{halves_of_lines, line_out, line_into, links_from}
-use Rattle.local_graph.specs.Locals.{LocalView, AreTheirPlaces, at_place, got_at, place_of_vertex, is_placed, is_own, own_datum, id_at, links_at, sides_at, parts_at, part_at, machine_numbers}
+use Rattle.local_graph.specs.Locals.{LocalView, AreTheirPlaces, at_place, got_at, place_of_vertex, is_own, links_at, sides_at, parts_at, part_at, machine_numbers}
 use Rattle.local_graph.specs.Played.{IsPlayedFrom, leads_to, meets, no_datum, place_or, side_of}
 use Rattle.local_graph.specs.Inner.ByPlace.{known_vertices, pairs_of}
 use Rattle.local_graph.specs.Inner.Ends.{end_pairs, side_pair}
 use Rattle.local_graph.specs.Inner.Kept.{HasAsMany, IsWellKept}
 use Rattle.local_graph.specs.Inner.Pairs.{parts_in, scope_in}
-use Rattle.local_graph.proofs.EndLemmas.{ends_at, key-map, key_is, one_key, key-append}
+use Rattle.local_graph.proofs.EndLemmas.{ends_at, key-map, key_is}
 use Rattle.local_graph.proofs.ListLemmas.{length-links, range_key}
 use Rattle.local_graph.proofs.RowLemmas.{own_place}
 use Rattle.local_graph.proofs.ScopeLemmas.{has, places_near, scopes_key}

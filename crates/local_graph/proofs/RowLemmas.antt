@@ -1,15 +1,15 @@
 -- What is kept where a row moves out or in, and numbers are written.
-use Rattle.std.proofs.Common.{◌≡◌, ℕ, ◌+◌, ◌<◌, ◌≤◌, ◌==◌, if◌then◌else◌, true, Option, Some, None, is_some, List, [], length, get_or, slice_get, set, map, refl, sym, ap, ◌∙◌, subst, arith, inl, inr}
+use Rattle.std.proofs.Common.{◌≡◌, ℕ, ◌<◌, ◌==◌, if◌then◌else◌, true, Option, Some, None, is_some, List, [], length, get_or, set, map, sym, ap, ◌∙◌, subst, arith, inl, inr}
 use Rattle.std.specs.List.{All}
 use Rattle.std.proofs.lemmas.Bool.{cases_eq, cases_lt, true≢false}
-use Rattle.std.proofs.lemmas.Option.{slice_get_within, slice_get_past}
+use Rattle.std.proofs.lemmas.Option.{slice_get_past}
 use Rattle.std.proofs.lemmas.List.{get_or-set_same, get_or-set_other, length-set, length-map, map-set, get_or_past}
 use Rattle.gl_base.specs.declared.scopes.Datum.{Datum}
 use Rattle.std.specs.declared.vec.Vec.{Vec}
 use Rattle.std.specs.declared.alloc.Global.{Global}
 use Rattle.update_api.specs.declared.links.Link.{Link}
 use Rattle.local_graph.specs.declared.sides.Side.{Side}
-use Rattle.local_graph.specs.Locals.{LocalView, at_place, got_at, place_of_vertex, links_at}
+use Rattle.local_graph.specs.Locals.{LocalView, at_place, got_at, place_of_vertex}
 use Rattle.local_graph.specs.Inner.Kept.{HasAsMany, IsWellKept, links_of}
 use Rattle.local_graph.proofs.PlaceLemmas.{at_written}
 

@@ -1,15 +1,15 @@
 -- The own vertices behind the places of their scopes, each once.
-use Rattle.std.proofs.Common.{◌≡◌, ℕ, zero, suc, ◌+◌, ◌<◌, ◌≤◌, ◌==◌, ◌||◌, ◌++◌, Bool, true, false, min, if◌then◌else◌, Option, Some, List, [], ◌∷◌, length, get_or, set, map, take, refl, sym, ap, ◌∙◌, subst, arith, inl, inr}
+use Rattle.std.proofs.Common.{◌≡◌, ℕ, ◌+◌, ◌<◌, ◌≤◌, ◌==◌, ◌||◌, ◌++◌, Bool, true, false, min, if◌then◌else◌, Option, Some, List, [], ◌∷◌, length, get_or, set, map, take, refl, sym, ap, ◌∙◌, arith, inl, inr}
 use Rattle.std.specs.List.{filter, flat_map, list_any}
-use Rattle.std.proofs.lemmas.Bool.{cases_eq, cases_Bool, eq-eqb, ne_eqb, eqb-true, true≢false}
-use Rattle.std.proofs.lemmas.List.{append-nil, append_assoc, map-append, map_more, get_or-set_same, get_or-set_other, get_or_default, length-set}
+use Rattle.std.proofs.lemmas.Bool.{cases_eq, eq-eqb, ne_eqb}
+use Rattle.std.proofs.lemmas.List.{append-nil, append_assoc, map-append, map_more, get_or-set_same, get_or-set_other, length-set}
 use Rattle.std.proofs.lemmas.List.Folds.{list_any-append}
 use Rattle.gl_base.specs.declared.numbers.Vertex.{Vertex}
 use Rattle.graph_core.specs.Rows.{with_key}
 use Rattle.local_graph.specs.declared.sides.Side.{Side}
 use Rattle.local_graph.specs.Locals.{place_of_vertex}
 use Rattle.local_graph.specs.Played.{place_or}
-use Rattle.local_graph.specs.Inner.Pairs.{once, with_new, scope_in, scope_places}
+use Rattle.local_graph.specs.Inner.Pairs.{once, with_new, scope_in}
 use Rattle.local_graph.proofs.EndLemmas.{one_key, key-append}
 
 once-append : (seen ts : List ℕ) (t : ℕ) → once seen (ts ++ t ∷ []) ≡ with_new (once seen ts) t

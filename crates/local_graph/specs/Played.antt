@@ -1,8 +1,8 @@
 -- What a machine holds once the lines of its part were played.
 pub use Rattle.graph_core.specs.Growth.{numbers_of}
 pub use Rattle.std.specs.List.Sorted.{IsPermutation}
-use Rattle.std.specs.Prelude.{◌≡◌, ℕ, ◌-◌, ◌==◌, ◌||◌, min, Bool, true, nat_lt, Option, Some, None, is_some, if◌then◌else◌, List, ◌++◌, length, map, replicate, slice_get}
-use Rattle.std.specs.List.{All, filter, list_any, range_with_len}
+use Rattle.std.specs.Prelude.{◌≡◌, ℕ, ◌-◌, ◌==◌, ◌||◌, min, Bool, true, nat_lt, Option, Some, None, if◌then◌else◌, List, ◌++◌, length, map, replicate, slice_get}
+use Rattle.std.specs.List.{filter, list_any, range_with_len}
 use Rattle.gl_base.specs.declared.atoms.GhostLine.{GhostLine}
 use Rattle.gl_base.specs.declared.atoms.Lines.{Lines}
 use Rattle.gl_base.specs.declared.numbers.MachineNo.{MachineNo}
@@ -12,7 +12,7 @@ use Rattle.graph_core.specs.declared.halves.Half.{Half}
 use Rattle.local_graph.specs.declared.outlines.Outline.{Outline}
 use Rattle.local_graph.specs.declared.sides.Side.{Side}
 use Rattle.local_graph.specs.Lines.{halves_of_lines, links_from}
-use Rattle.local_graph.specs.Locals.{LocalView, AreTheirPlaces, place_of_vertex, is_placed, is_own, own_datum, id_at, links_at, sides_at, parts_at, part_at, machine_numbers}
+use Rattle.local_graph.specs.Locals.{LocalView, AreTheirPlaces, place_of_vertex, is_placed, is_own, links_at, sides_at, parts_at, part_at, machine_numbers}
 
 -- the machine that has the atom of a ghost, where each machine has the atom of its own number
 abbrev pub machine_of : MachineNo → Option GhostLine → MachineNo

@@ -1,5 +1,5 @@
 -- Both ends of each edge of lines, by the places of these.
-use Rattle.std.specs.Prelude.{ℕ, Bool, Option, List, [], ◌∷◌, map}
+use Rattle.std.specs.Prelude.{ℕ, Bool, Option, List, [], ◌∷◌}
 use Rattle.gl_base.specs.declared.atoms.EdgeLine.{EdgeLine}
 use Rattle.gl_base.specs.declared.atoms.GhostLine.{GhostLine}
 use Rattle.gl_base.specs.declared.numbers.MachineNo.{MachineNo}

@@ -1,8 +1,3 @@
-use Rattle.std.proofs.Common.{◌≡◌, ◌<◌, ℕ, All, sym, subst}
-use Rattle.std.specs.List.{flat_map, range_with_len}
-use Rattle.gl_base.specs.declared.numbers.MachineNo.{MachineNo}
-use Rattle.std.specs.Prelude.{List}
-use Rattle.local_graph.specs.Inner.Pairs.{parts_in}
 use Rattle.local_graph.proofs.LowLemmas.{parts_low}
 use Rattle.local_graph.proofs.grouping.parts_by_place.Goals as goal
 

@@ -1,7 +1,6 @@
 use Rattle.std.proofs.Common.{ℕ, ◌+◌, ◌<◌, arith}
 use Rattle.std.proofs.lemmas.List.{length-map}
 use Rattle.std.proofs.lemmas.List.Elements.{All-map}
-use Rattle.graph_core.specs.declared.halves.Half.{Half}
 use Rattle.local_graph.specs.declared.sides.Side.{Side}
 use Rattle.local_graph.specs.Inner.Ends.{end_pairs, side_pair}
 use Rattle.local_graph.proofs.EndLemmas.{length-end_pairs, end_keys}

@@ -1,6 +1,5 @@
 use Rattle.std.proofs.Common.{◌≡◌, ◌++◌, map}
 use Rattle.std.specs.List.{filter, range_with_len}
-use Rattle.gl_base.specs.declared.numbers.MachineNo.{MachineNo}
 use Rattle.local_graph.specs.Played.{meets}
 use Rattle.local_graph.proofs.machines.push_parts.Given as goal
 

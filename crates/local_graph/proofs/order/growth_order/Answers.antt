@@ -1,4 +1,4 @@
-use Rattle.std.proofs.Common.{◌<◌, ◌++◌, List, All, map, sym, ap, ◌∙◌, subst}
+use Rattle.std.proofs.Common.{◌<◌, List, All, sym, ◌∙◌, subst}
 use Rattle.gl_base.specs.declared.atoms.VertexLine.{VertexLine}
 use Rattle.gl_base.specs.declared.atoms.GhostLine.{GhostLine}
 use Rattle.gl_base.specs.declared.numbers.Vertex.{Vertex}

@@ -1,6 +1,3 @@
-use Rattle.std.proofs.Common.{◌≡◌, ℕ, ◌+◌, ◌≤◌, length, take, slice_index}
-use Rattle.std.specs.List.{flat_map}
-use Rattle.local_graph.specs.Inner.Pairs.{scope_in}
 use Rattle.local_graph.proofs.ScopeLemmas.{AreListed}
 use Rattle.local_graph.proofs.scopes.list_scopes.Given as goal
 

@@ -1,7 +1,5 @@
-use Rattle.std.proofs.Common.{◌≡◌, ℕ, Some, ap, ◌∙◌}
-use Rattle.graph_core.specs.declared.halves.Half.{Half}
+use Rattle.std.proofs.Common.{◌∙◌}
 use Rattle.local_graph.specs.Inner.Ends.{end_pairs, side_pair}
-use Rattle.local_graph.specs.declared.sides.Side.{Side}
 use Rattle.local_graph.proofs.EndLemmas.{got_mapped}
 use Rattle.local_graph.proofs.ends.SidesOfKeyed.at.Goals as goal
 

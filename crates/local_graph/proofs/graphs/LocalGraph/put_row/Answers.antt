@@ -1,13 +1,12 @@
-use Rattle.std.proofs.Common.{◌≡◌, ℕ, ◌<◌, ◌==◌, true, None, Some, is_some, if◌then◌else◌, length, set, map, get_or, refl, ap, sym, ◌∙◌, subst, arith}
+use Rattle.std.proofs.Common.{◌≡◌, ℕ, ◌<◌, ◌==◌, true, None, Some, if◌then◌else◌, length, set, map, get_or, ap, sym, ◌∙◌, subst, arith}
 use Rattle.std.specs.declared.vec.Vec.{Vec}
 use Rattle.std.specs.declared.alloc.Global.{Global}
 use Rattle.std.specs.Prelude.{Option, List, []}
 use Rattle.std.proofs.lemmas.List.{length-map, map-set, with_items_is}
 use Rattle.std.specs.Vec.{with_items}
 use Rattle.update_api.specs.declared.links.Link.{Link}
-use Rattle.local_graph.specs.declared.sides.Side.{Side}
 use Rattle.local_graph.specs.Locals.{LocalView, links_at, sides_at, is_own, at_place, place_of_vertex}
-use Rattle.local_graph.specs.Inner.Kept.{IsWellKept, HasAsMany, links_of}
+use Rattle.local_graph.specs.Inner.Kept.{IsWellKept, links_of}
 use Rattle.local_graph.specs.Inner.Views.{local_view_of}
 use Rattle.local_graph.proofs.RowLemmas.{sound_after, own_place, links_written}
 use Rattle.local_graph.proofs.graphs.LocalGraph.put_row.Goals as goal

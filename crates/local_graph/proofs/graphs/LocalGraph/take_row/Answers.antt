@@ -1,11 +1,11 @@
-use Rattle.std.proofs.Common.{◌≡◌, ◌<◌, ◌==◌, true, None, Some, is_some, if◌then◌else◌, length, set, map, get_or, refl, ap, sym, ◌∙◌, subst, arith}
+use Rattle.std.proofs.Common.{◌≡◌, ◌<◌, ◌==◌, true, None, Some, is_some, if◌then◌else◌, length, set, map, refl, ap, sym, ◌∙◌, subst, arith}
 use Rattle.std.specs.declared.vec.Vec.{Vec}
 use Rattle.std.specs.declared.alloc.Global.{Global}
 use Rattle.std.specs.Prelude.{Option, List}
 use Rattle.std.proofs.lemmas.List.{length-map, map-set}
 use Rattle.update_api.specs.declared.links.Link.{Link}
 use Rattle.local_graph.specs.Locals.{LocalView, links_at, at_place, place_of_vertex}
-use Rattle.local_graph.specs.Inner.Kept.{IsWellKept, HasAsMany, links_of}
+use Rattle.local_graph.specs.Inner.Kept.{IsWellKept, links_of}
 use Rattle.local_graph.specs.Inner.Views.{local_view_of}
 use Rattle.local_graph.proofs.RowLemmas.{sound_after, row_place, links_written}
 use Rattle.local_graph.proofs.graphs.LocalGraph.take_row.Goals as goal
