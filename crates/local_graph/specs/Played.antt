@@ -20,8 +20,8 @@ machine_of me None = me
 machine_of me (Some g) = record { 0 = g.atom.0 }
 
 -- who owns what stands at a place, where the own vertices have the first so many places
-abbrev pub owner_at : MachineNo → ℕ → List GhostLine → ℕ → MachineNo
-owner_at me many ghosts place = if nat_lt place many then me else machine_of me (slice_get ghosts (place - many))
+abbrev pub place_owner : MachineNo → ℕ → List GhostLine → ℕ → MachineNo
+place_owner me many ghosts place = if nat_lt place many then me else machine_of me (slice_get ghosts (place - many))
 
 -- the place where it is below `none`, and else `none`
 abbrev pub place_or : ℕ → Option ℕ → ℕ
@@ -32,7 +32,7 @@ place_or none (Some k) = min k none
 abbrev pub side_of : MachineNo → ℕ → List GhostLine → List (Option ℕ) → Half → Side
 side_of me many ghosts places h =
     let place = place_or 4294967295 (place_of_vertex places h.other.0) in
-    record { edge = h.edge; other = h.other; place = place; owner = owner_at me many ghosts place }
+    record { edge = h.edge; other = h.other; place = place; owner = place_owner me many ghosts place }
 
 -- machine a owns the vertex with these sides or one that a side leads to
 abbrev pub meets : MachineNo → List Side → ℕ → Bool

@@ -2,7 +2,7 @@
 ghost use Rattle.std.specs.Prelude.{◌≡◌, ◌<◌, ◌^◌, length};
 ghost use Rattle.local_graph.specs.Lines.{line_out, line_into};
 ghost use Rattle.local_graph.specs.Locals.{place_of_vertex};
-ghost use Rattle.local_graph.specs.Played.{owner_at, place_or, side_of};
+ghost use Rattle.local_graph.specs.Played.{place_owner, place_or, side_of};
 
 use crate::Side;
 use gl_base::{EdgeLine, GhostLine, MachineNo, Vertex};
@@ -131,7 +131,7 @@ fn side_at(half: Half, places: &Places, me: MachineNo, many: usize, ghosts: &[Gh
 
 /// The owner of the vertex at a place.
 fn owner_of(place: usize, me: MachineNo, many: usize, ghosts: &[GhostLine]) -> MachineNo
-    ensures { result ≡ owner_at me many ghosts.now place }
+    ensures { result ≡ place_owner me many ghosts.now place }
 {
     if place < many {
         return me;

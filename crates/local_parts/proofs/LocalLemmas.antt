@@ -24,7 +24,7 @@ use Rattle.cluster_core.specs.Settings.{Setting, IsSetting}
 use Rattle.local_graph.specs.declared.outlines.Outline.{Outline}
 use Rattle.local_graph.specs.Locals.{LocalView, AreTheirPlaces, at_place, got_at, place_of_vertex, is_placed, is_own, id_at}
 use Rattle.local_graph.specs.Played.{IsPlayedFrom, no_datum, numbers_of}
-use Rattle.local_parts.specs.Parts.{AreLinesOf, CanBePlayed, owners_of, is_ghost_of}
+use Rattle.local_parts.specs.Parts.{AreLinesOf, CanBePlayed, owner_numbers, is_ghost_of}
 use Rattle.local_parts.proofs.RangeLemmas.{filter_passing}
 use Rattle.local_parts.proofs.FoundLemmas.{found_with, any_mapped}
 use Rattle.local_parts.proofs.MineLemmas.{IsOwnLine, IsGhostLine, in_is, ghost_is, own_lines, ghost_lines_are, own_numbers, ghost_numbers, vertices_are, ghosts_are, can_be_played}
@@ -147,8 +147,8 @@ module _ (st : Setting) (me : MachineNo) (lines : Lines) (outline : Outline) (l 
 
   pub own_placed : (x : ℕ) → x < size st.graph → st.owner x ≡ me.0 → owned_there x
   own_placed x low own =
-      let passes : is_in (owners_of st) me.0 x ≡ true = in_is st me.0 lines outline is are x low ∙ eq-eqb (st.owner x) me.0 own in
-      let found = found_with (is_in (owners_of st) me.0) (λ y. y == x) 0 (size st.graph) x (omega arith) (omega arith) passes (eq-eqb x x refl) in
+      let passes : is_in (owner_numbers st) me.0 x ≡ true = in_is st me.0 lines outline is are x low ∙ eq-eqb (st.owner x) me.0 own in
+      let found = found_with (is_in (owner_numbers st) me.0) (λ y. y == x) 0 (size st.graph) x (omega arith) (omega arith) passes (eq-eqb x x refl) in
       let numbers = own_numbers st me.0 lines outline is are in
       let listed : list_any (λ (v : VertexLine). v.vertex.0 == x) lines.vertices.items ≡ true =
       sym (any_mapped (λ (y : ℕ). y == x) (λ (v : VertexLine). v.vertex.0) lines.vertices.items) ∙ ap (list_any (λ (y : ℕ). y == x)) numbers ∙ found in
@@ -170,8 +170,8 @@ module _ (st : Setting) (me : MachineNo) (lines : Lines) (outline : Outline) (l 
   -- and so has a ghost
   pub ghost_placed : (x : ℕ) → x < size st.graph → is_ghost_of st me.0 x ≡ true → is_some (place_of_vertex l.places x) ≡ true
   ghost_placed x low ghost =
-      let passes : is_ghost st.graph (owners_of st) me.0 x ≡ true = ghost_is st me.0 lines outline is are x low ∙ ghost in
-      let found = found_with (is_ghost st.graph (owners_of st) me.0) (λ y. y == x) 0 (size st.graph) x (omega arith) (omega arith) passes (eq-eqb x x refl) in
+      let passes : is_ghost st.graph (owner_numbers st) me.0 x ≡ true = ghost_is st me.0 lines outline is are x low ∙ ghost in
+      let found = found_with (is_ghost st.graph (owner_numbers st) me.0) (λ y. y == x) 0 (size st.graph) x (omega arith) (omega arith) passes (eq-eqb x x refl) in
       let numbers = ghost_numbers st me.0 lines outline is are in
       let listed : list_any (λ (g : GhostLine). g.vertex.0 == x) ghosts ≡ true =
       sym (any_mapped (λ (y : ℕ). y == x) (λ (g : GhostLine). g.vertex.0) ghosts) ∙ ap (list_any (λ (y : ℕ). y == x)) numbers ∙ found in
@@ -255,13 +255,13 @@ module _ (st : Setting) (me : MachineNo) (lines : Lines) (outline : Outline) (l 
   numbers_of_lines [] = refl
   numbers_of_lines (v ∷ vs) = ap (λ (ys : List ℕ). v.vertex.0 ∷ ys) (numbers_of_lines vs)
 
-  pub owned_list : numbers_of l.owned ≡ filter (is_in (owners_of st) me.0) (range_with_len 0 (size st.graph))
+  pub owned_list : numbers_of l.owned ≡ filter (is_in (owner_numbers st) me.0) (range_with_len 0 (size st.graph))
   owned_list = ap numbers_of played.owned ∙ numbers_of_lines lines.vertices.items ∙ own_numbers st me.0 lines outline is are
 
   pub owned_is : numbers_of l.owned ≡ all_passing (λ x. st.owner x == me.0) 0 (size st.graph)
-  owned_is = owned_list ∙ filter_passing (is_in (owners_of st) me.0) (λ x. st.owner x == me.0) 0 (size st.graph) (λ x low high. in_is st me.0 lines outline is are x (omega arith))
+  owned_is = owned_list ∙ filter_passing (is_in (owner_numbers st) me.0) (λ x. st.owner x == me.0) 0 (size st.graph) (λ x low high. in_is st me.0 lines outline is are x (omega arith))
 
   pub ghosts_is : map (λ (g : GhostLine). g.vertex.0) l.ghosts ≡ all_passing (is_ghost_of st me.0) 0 (size st.graph)
   ghosts_is =
       ap (map (λ (g : GhostLine). g.vertex.0)) played.ghosts ∙ ghost_numbers st me.0 lines outline is are
-      ∙ filter_passing (is_ghost st.graph (owners_of st) me.0) (is_ghost_of st me.0) 0 (size st.graph) (λ x low high. ghost_is st me.0 lines outline is are x (omega arith))
+      ∙ filter_passing (is_ghost st.graph (owner_numbers st) me.0) (is_ghost_of st me.0) 0 (size st.graph) (λ x low high. ghost_is st me.0 lines outline is are x (omega arith))

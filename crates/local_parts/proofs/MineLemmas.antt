@@ -20,7 +20,7 @@ use Rattle.atom_file.specs.Atoms.{Atom, atom_of}
 use Rattle.atom_cut.specs.Atoms.{edge_of, own_line, ghost_line, line_of_edge, is_in, is_ghost, touches, graph_atom, vertex_lines, ghost_lines, edge_lines}
 use Rattle.local_graph.specs.declared.outlines.Outline.{Outline}
 use Rattle.local_graph.specs.Lines.{halves_of_lines}
-use Rattle.local_parts.specs.Parts.{Setting, IsSetting, AreLinesOf, CanBePlayed, owners_of, is_ghost_of}
+use Rattle.local_parts.specs.Parts.{Setting, IsSetting, AreLinesOf, CanBePlayed, owner_numbers, is_ghost_of}
 use Rattle.local_parts.proofs.RangeLemmas.{filter_mapped}
 use Rattle.local_parts.proofs.FoundLemmas.{Passes, passing_all, any_same, few_both, few_passing}
 use Rattle.local_parts.proofs.HalfLemmas.{graph_halves}
@@ -47,7 +47,7 @@ ghosts_same g of (x ∷ xs) = ap (λ (ys : List ℕ). x ∷ ys) (ghosts_same g o
 
 module _ (st : Setting) (me : ℕ) (lines : Lines) (outline : Outline) (is : IsSetting st) (are : AreLinesOf st me lines outline) where
   abbrev owners : List ℕ
-  owners = owners_of st
+  owners = owner_numbers st
 
   owner_is : (x : ℕ) → x < size st.graph → slice_index owners x ≡ st.owner x
   owner_is x low = get_or-map-range_with_len st.owner 0 (size st.graph) x x 0 low (omega arith)

@@ -27,8 +27,8 @@ use Rattle.local_graph.specs.declared.outlines.Outline.{Outline}
 use Rattle.local_graph.specs.declared.sides.Side.{Side}
 use Rattle.local_graph.specs.Lines.{halves_of_lines, links_from}
 use Rattle.local_graph.specs.Locals.{LocalView, at_place, place_of_vertex, is_placed, is_own, links_at, sides_at, parts_at, part_at, machine_numbers}
-use Rattle.local_graph.specs.Played.{IsPlayedFrom, leads_to, machine_of, meets, numbers_of, owner_at, place_or, side_of}
-use Rattle.local_parts.specs.Parts.{AreIn, AreLinesOf, IsLocalOf, IsRowOf, halves_along, is_ghost_of, own_in_scope, owners_of}
+use Rattle.local_graph.specs.Played.{IsPlayedFrom, leads_to, machine_of, meets, numbers_of, place_owner, place_or, side_of}
+use Rattle.local_parts.specs.Parts.{AreIn, AreLinesOf, IsLocalOf, IsRowOf, halves_along, is_ghost_of, own_in_scope, owner_numbers}
 use Rattle.local_parts.proofs.RangeLemmas.{filter_passing, filter_twice}
 use Rattle.local_parts.proofs.FoundLemmas.{any_mapped, any_same, found_first, passing_none}
 use Rattle.local_parts.proofs.HalfLemmas.{Leads, links_row, row_halves}
@@ -101,12 +101,12 @@ module _ (st : Setting) (me : MachineNo) (lines : Lines) (outline : Outline) (l 
       let few = known_few st me lines outline l is are played in
       let place : (as_side h).place ≡ k = ap (place_or 4294967295) at ∙ omega arith in
       record {
-        owner = ap (λ (n : ℕ). (owner_at me many ghosts n).0) place ∙ owner_named h.other.0 k at;
+        owner = ap (λ (n : ℕ). (place_owner me many ghosts n).0) place ∙ owner_named h.other.0 k at;
         place = at ∙ ap (λ (n : ℕ). Some n) (sym place);
       }
     where
-      owner_named : (x k : ℕ) → place_of_vertex l.places x ≡ Some k → (owner_at me many ghosts k).0 ≡ st.owner x
-      owner_named x k at = elim (cases_lt k many) as (λ _. (owner_at me many ghosts k).0 ≡ st.owner x) [
+      owner_named : (x k : ℕ) → place_of_vertex l.places x ≡ Some k → (place_owner me many ghosts k).0 ≡ st.owner x
+      owner_named x k at = elim (cases_lt k many) as (λ _. (place_owner me many ghosts k).0 ≡ st.owner x) [
         | inl low ↦
             ap (λ b. (if b then me else machine_of me (slice_get ghosts (k - many))).0) (lt-ltb k many low) ∙ sym (owner_there st me lines outline l is are played x k at low).1
         | inr high ↦
@@ -152,8 +152,8 @@ module _ (st : Setting) (me : MachineNo) (lines : Lines) (outline : Outline) (l 
   ]
 
   -- x is own and leads to v exactly where it is own and in the scope of v
-  in_scope : (v x : ℕ) → x < size st.graph → (is_in (owners_of st) me.0 x && leads_to l v x) ≡ (is_in_scope st v x && st.owner x == me.0)
-  in_scope v x low = elim (cases_eq (st.owner x) me.0) as (λ _. (is_in (owners_of st) me.0 x && leads_to l v x) ≡ (is_in_scope st v x && st.owner x == me.0)) [
+  in_scope : (v x : ℕ) → x < size st.graph → (is_in (owner_numbers st) me.0 x && leads_to l v x) ≡ (is_in_scope st v x && st.owner x == me.0)
+  in_scope v x low = elim (cases_eq (st.owner x) me.0) as (λ _. (is_in (owner_numbers st) me.0 x && leads_to l v x) ≡ (is_in_scope st v x && st.owner x == me.0)) [
     | inl own ↦
         let mine = eq-eqb (st.owner x) me.0 own in
         ap (λ b. b && leads_to l v x) (in_is st me.0 lines outline is are x low ∙ mine)
@@ -177,8 +177,8 @@ module _ (st : Setting) (me : MachineNo) (lines : Lines) (outline : Outline) (l 
   part_known : (v : ℕ) → is_placed l v ≡ true → numbers_of (part_at l v) ≡ own_in_scope st v me.0
   part_known v known =
       played.part v known ∙ ap (filter (leads_to l v)) (owned_list st me lines outline l is are played)
-      ∙ filter_twice (leads_to l v) (is_in (owners_of st) me.0) (range_with_len 0 (size st.graph))
-      ∙ filter_passing (λ x. is_in (owners_of st) me.0 x && leads_to l v x) (λ x. is_in_scope st v x && st.owner x == me.0) 0 (size st.graph) (λ x low high. in_scope v x (omega arith))
+      ∙ filter_twice (leads_to l v) (is_in (owner_numbers st) me.0) (range_with_len 0 (size st.graph))
+      ∙ filter_passing (λ x. is_in (owner_numbers st) me.0 x && leads_to l v x) (λ x. is_in_scope st v x && st.owner x == me.0) 0 (size st.graph) (λ x low high. in_scope v x (omega arith))
 
   -- of a vertex that is not known there are none
   part_unknown : (v : ℕ) → v < size st.graph → is_placed l v ≡ false → numbers_of (part_at l v) ≡ own_in_scope st v me.0

@@ -23,14 +23,14 @@ use Rattle.local_graph.specs.declared.sides.Side.{Side}
 -- ---- the lines of a machine
 
 -- the owner of each vertex
-abbrev pub owners_of : Setting → List ℕ
-owners_of st = map st.owner (range_with_len 0 (size st.graph))
+abbrev pub owner_numbers : Setting → List ℕ
+owner_numbers st = map st.owner (range_with_len 0 (size st.graph))
 
 -- These are the lines of machine `me`: its atom, where each vertex is in the atom with the number of its owner; and the outline
 -- is the graph's.
 pub record AreLinesOf (st : Setting) (me : ℕ) (lines : Lines) (outline : Outline) : Type 0 where
   pub machine : me < st.machines
-  pub atom : atom_of me lines ≡ graph_atom st.graph (owners_of st) me
+  pub atom : atom_of me lines ≡ graph_atom st.graph (owner_numbers st) me
   pub machines : outline.machines ≡ st.machines
   pub vertices : outline.vertices ≡ size st.graph
   pub edges : outline.edges ≡ length st.graph.edges

@@ -2,7 +2,7 @@
 use Rattle.std.proofs.Common.{◌≡◌, ◌⊎◌, inl, inr, ℕ, zero, suc, ◌<◌, ◌≤◌, List, [], ◌∷◌, get_or, refl, sym, ap, subst, arith}
 use Rattle.std.specs.Prelude.{All}
 use Rattle.gl_outside.specs.Disk.{ByteRange, IsImage, IsOutside, IsTorn, images_now, images_since, state_at}
-use Rattle.tests_outside.specs.History.{synced, written}
+use Rattle.tests_outside.specs.History.{synced, written_over}
 
 abbrev range : ByteRange
 range = record { at = 1; size = 1 }
