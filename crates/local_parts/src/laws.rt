@@ -1,11 +1,19 @@
 //! Laws about what a machine holds that played its lines. Each is the contract of a function that does nothing.
-ghost use Rattle.std.specs.Prelude.{◌≡◌, ℕ, ◌+◌, ◌^◌, ◌<◌, ◌≤◌, length};
-ghost use Rattle.std.specs.List.{All};
+ghost use Rattle.std.specs.Prelude.{◌≡◌, ℕ, ◌<◌, List, length, slice_index_or};
 ghost use Rattle.gl_base.specs.declared.atoms.Lines.{Lines};
 ghost use Rattle.gl_base.specs.declared.numbers.MachineNo.{MachineNo};
+ghost use Rattle.graph_core.specs.DataGraph.{size};
 ghost use Rattle.graph_core.specs.Halves.{halves_of};
+ghost use Rattle.atom_cut.specs.Atoms.{AreAtoms};
 ghost use Rattle.local_graph.specs.declared.outlines.Outline.{Outline};
-ghost use Rattle.local_parts.specs.Parts.{Setting, IsSetting, LocalView, IsPlayedFrom, AreLinesOf, CanBePlayed, IsLocalOf, AreIn, ShareEdges};
+ghost use Rattle.local_parts.specs.Parts.{Setting, IsSetting, LocalView, IsPlayedFrom, AreLinesOf, owners_of, CanBePlayed, IsLocalOf, AreIn, ShareEdges};
+
+/// Where a graph is cut so that each vertex is in the atom with the number of its owner, each machine's atom is its lines.
+pub fn atoms_by_owner_are_lines()
+    ensures { (st : Setting) (all : List Lines) (outline : Outline) → AreAtoms st.graph (owners_of st) st.machines all →
+        outline.machines ≡ st.machines → outline.vertices ≡ size st.graph → outline.edges ≡ length st.graph.edges → outline.directed ≡ st.graph.directed →
+        (a : ℕ) (d : Lines) → a < st.machines → AreLinesOf st a (slice_index_or all a d) outline }
+{}
 
 /// The lines of a machine can be played.
 pub fn lines_can_be_played()

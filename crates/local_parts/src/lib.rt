@@ -3,4 +3,6 @@
 
 mod laws;
 
-pub use laws::{lines_can_be_played, played_parts_are_local, rows_share_their_edges};
+pub use laws::{
+    atoms_by_owner_are_lines, lines_can_be_played, played_parts_are_local, rows_share_their_edges,
+};
