@@ -1,0 +1,11 @@
+//! The bytes of a store: read, checked and written.
+#![tactic(auto)]
+
+mod faults;
+mod fields;
+mod header;
+mod header_check;
+
+pub use faults::StoreFault;
+pub use header::{Digest, Header, ProgramKey};
+pub use header_check::{HEADER, check_header};
