@@ -7,3 +7,4 @@ pub mod Records
 pub mod Stores
 pub mod Encoding
 pub mod Snapshots
+pub mod Inner

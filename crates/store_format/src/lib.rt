@@ -1,10 +1,12 @@
 //! The bytes of a store: read, checked and written.
 #![tactic(auto)]
 
+mod entries_check;
 mod faults;
 mod fields;
 mod header;
 mod header_check;
+mod sections_check;
 
 pub use faults::StoreFault;
 pub use header::{Digest, Header, ProgramKey};
