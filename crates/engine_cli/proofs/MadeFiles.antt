@@ -17,7 +17,7 @@ use Rattle.std.specs.Option.{option_map}
 use Rattle.std.specs.Prelude.{Contains}
 use Rattle.gl_outside.specs.FilesState.{FilesState, Written, sink_of, written_of}
 use Rattle.gl_outside.specs.Frames.{OpensSink, WritesOnly}
-use Rattle.gl_outside.specs.Laws.{name_kept}
+use Rattle.gl_outside.specs.Inner.Laws.{name_kept}
 use Rattle.gl_outside.specs.declared.files.FileNo.{FileNo}
 use Rattle.gl_outside.specs.declared.files.OpenFault.{OpenFault}
 use Rattle.gl_outside.proofs.Opening.{ChangesSinks-trans, opens_sinks, others_stay, sink_opened, writes_sinks}

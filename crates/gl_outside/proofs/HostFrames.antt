@@ -7,7 +7,7 @@ use Rattle.std.proofs.lemmas.List.{length-map, map-append, map-set}
 use Rattle.gl_outside.specs.FilesState.{Opened, Written, is_opened, left_of, sink_of}
 use Rattle.gl_outside.specs.Frames.{OpensSink, ReadsOnly, WritesOnly, without_name}
 use Rattle.gl_outside.specs.Host.{ChangesAt, HostState, files_of_host}
-use Rattle.gl_outside.specs.Laws.{constant}
+use Rattle.gl_outside.specs.Inner.Laws.{constant}
 use Rattle.gl_outside.proofs.StoredFiles.{same_files, same_opened}
 
 abbrev untold : Written

@@ -3,3 +3,4 @@ pub mod Sinks
 pub mod HostFrames
 pub mod Opening
 pub mod Fronts
+pub mod Disks

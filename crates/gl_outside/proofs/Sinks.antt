@@ -12,8 +12,8 @@ use Rattle.std.proofs.lemmas.List.Elements.{All-head, All-tail, All-get_or, All-
 use Rattle.gl_outside.specs.FilesState.{Written, is_opened, sink_of}
 use Rattle.gl_outside.specs.Frames.{OpensSink, WritesOnly, unless, without_name}
 use Rattle.gl_outside.specs.Store.{NamedBytes, StoreState, bytes_at, name_at_place, bytes_of, newer, newest_name, sink_at, files_of_store}
-use Rattle.gl_outside.specs.Laws.{decide, found, newer-other, newest-none}
-use Rattle.gl_outside.specs.OpenFiles.{left_in, IsOpenInside, appended, AreSinks}
+use Rattle.gl_outside.specs.Inner.Laws.{decide, found, newer-other, newest-none}
+use Rattle.gl_outside.specs.Inner.OpenFiles.{left_in, IsOpenInside, appended, AreSinks}
 use Rattle.gl_outside.specs.declared.files.OpenFault.{OpenFault}
 use Rattle.gl_outside.specs.declared.mem_files.OpenFile.{OpenFile}
 use Rattle.gl_outside.proofs.StoredFiles.{bytes_at-append, bytes_of-push, bytes_of_other, IsOpenInside-append, same_contents, same_files, same_opened, same_sources}

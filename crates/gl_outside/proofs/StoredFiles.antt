@@ -14,7 +14,7 @@ use Rattle.std.proofs.lemmas.List.Elements.{All-head, All-tail}
 use Rattle.std.proofs.lemmas.List.Sums.{fold-append}
 use Rattle.std.proofs.lemmas.Slice.Eq.{bytes_eq-Decides}
 use Rattle.gl_outside.specs.Store.{NamedBytes, StoreState, bytes_at, bytes_of, files_of_store, newer, sink_at}
-use Rattle.gl_outside.specs.OpenFiles.{left_in, IsOpenInside}
+use Rattle.gl_outside.specs.Inner.OpenFiles.{left_in, IsOpenInside}
 use Rattle.gl_outside.specs.declared.mem_files.OpenFile.{OpenFile}
 
 -- what an index reads

@@ -5,7 +5,8 @@ pub mod Frames
 pub mod Calls
 pub mod InMemory
 pub mod Store
-pub mod OpenFiles
 pub mod Host
 pub mod Fronts
-pub mod Laws
+pub mod Disk
+pub mod MemDisk
+pub mod Inner

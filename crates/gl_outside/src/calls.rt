@@ -2,6 +2,7 @@
 ghost use Rattle.std.specs.Prelude.{◌≡◌, ◌↔◌, ◌≤◌, IsTrue};
 ghost use Rattle.gl_outside.specs.Faults.{Rose};
 ghost use Rattle.gl_outside.specs.Calls.{no_calls, NextFails, called, faulted};
+ghost use Rattle.gl_outside.specs.MemDisk.{NextStops};
 
 use crate::Failed;
 use crate::fault_count::FaultCount;
@@ -42,6 +43,15 @@ impl Calls {
     {
         self.count = self.count.saturating_add(1);
         self.failing.contains(&self.count)
+    }
+
+    /// Counts a call, and tells whether it is one of those that fail, or past the first `stop` calls.
+    pub(crate) fn count_until(&mut self, stop: u64) -> bool
+        ensures told { IsTrue result ↔ NextStops self.old stop }
+        ensures counted { self.new ≡ called self.old }
+    {
+        let listed = self.count();
+        listed || self.count > stop
     }
 
     /// Counts a fault.

@@ -6,7 +6,7 @@ ghost use Rattle.gl_outside.specs.FilesState.{is_opened, left_of, written_of};
 ghost use Rattle.gl_outside.specs.Frames.{OpensSource, OpensSink, ReadsOnly, WritesOnly};
 ghost use Rattle.gl_outside.specs.Names.{NotesName};
 ghost use Rattle.gl_outside.specs.Host.{files_of_host, faults_after, faults_after_open, ChangesAt, TakesFront, OpensOne};
-ghost use Rattle.gl_outside.specs.Laws.{nothing_filled};
+ghost use Rattle.gl_outside.specs.Inner.Laws.{nothing_filled};
 
 use crate::fault_count::FaultCount;
 use crate::writer_sink::write_through;

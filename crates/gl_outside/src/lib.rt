@@ -5,10 +5,13 @@
 #![tactic(auto)]
 
 mod calls;
+mod disk;
+mod disk_bytes;
 mod fault_count;
 mod files;
 mod gate;
 mod host_files;
+mod mem_disk;
 mod mem_files;
 mod mem_sink;
 mod mem_source;
@@ -19,9 +22,11 @@ mod source;
 mod source_of;
 mod writer_sink;
 
+pub use disk::Disk;
 pub use files::{FileNo, Files, OpenFault};
 pub use gate::{Gate, OpenGate};
 pub use host_files::HostFiles;
+pub use mem_disk::MemDisk;
 pub use mem_files::MemFiles;
 pub use mem_sink::MemSink;
 pub use mem_source::{MemSource, PlainSource};

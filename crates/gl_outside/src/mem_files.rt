@@ -8,8 +8,8 @@ ghost use Rattle.gl_outside.specs.Frames.{OpensSource, OpensSink, ReadsOnly, Wri
 ghost use Rattle.gl_outside.specs.Names.{NotesName};
 ghost use Rattle.gl_outside.specs.Calls.{no_calls, NextFails, after_call};
 ghost use Rattle.gl_outside.specs.Store.{bytes_of, bytes_at, after_open, files_of_store, IsMissing, HasNoNumber, HasNoSinkNumber, ready_at, ready_in, WantsMemoryAt, WantsMemoryIn};
-ghost use Rattle.gl_outside.specs.OpenFiles.{left_in, IsOpenInside, appended};
-ghost use Rattle.gl_outside.specs.Laws.{name_filled};
+ghost use Rattle.gl_outside.specs.Inner.OpenFiles.{left_in, IsOpenInside, appended};
+ghost use Rattle.gl_outside.specs.Inner.Laws.{name_filled};
 
 use crate::calls::Calls;
 use crate::mem_source::copy_front;
@@ -63,7 +63,7 @@ impl Model for MemFiles {
 
     ghost Value = { StoreState };
 
-    ghost use Rattle.gl_outside.specs.OpenFiles.{left_in, IsOpenInside, AreSinks};
+    ghost use Rattle.gl_outside.specs.Inner.OpenFiles.{left_in, IsOpenInside, AreSinks};
 
     ghost view = { λ s. record { files = s.files.items; source_names = s.source_names.items; opened = map (left_in s.files.items) s.opened.items; reads = s.reads; sink_names = s.sink_names.items; sinks = s.sinks.items; writes = s.writes } };
 

@@ -3,7 +3,7 @@ ghost use Rattle.std.specs.Prelude.{◌≡◌, IsTrue, refl};
 ghost use Rattle.std.proofs.Common.{◌∙◌};
 ghost use Rattle.gl_outside.specs.FilesState.{is_opened, written_of};
 ghost use Rattle.gl_outside.specs.Frames.{WritesOnly};
-ghost use Rattle.gl_outside.specs.Laws.{WritesOnly-refl, WritesOnly-trans};
+ghost use Rattle.gl_outside.specs.Inner.Laws.{WritesOnly-refl, WritesOnly-trans};
 
 use crate::{Failed, FileNo, Files, Sink};
 

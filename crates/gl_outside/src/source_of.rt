@@ -3,7 +3,7 @@ ghost use Rattle.std.specs.Prelude.{◌≡◌, IsTrue, refl};
 ghost use Rattle.std.proofs.Common.{◌∙◌};
 ghost use Rattle.gl_outside.specs.FilesState.{is_opened, left_of};
 ghost use Rattle.gl_outside.specs.Frames.{ReadsOnly};
-ghost use Rattle.gl_outside.specs.Laws.{ReadsOnly-refl, ReadsOnly-trans};
+ghost use Rattle.gl_outside.specs.Inner.Laws.{ReadsOnly-refl, ReadsOnly-trans};
 
 use crate::{Failed, FileNo, Files, Source};
 

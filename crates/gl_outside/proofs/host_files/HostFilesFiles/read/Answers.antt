@@ -1,5 +1,5 @@
 use Rattle.std.proofs.Common.{◌<◌, ℕ, List, Option, None, length, rules}
-use Rattle.gl_outside.specs.Laws.{constant}
+use Rattle.gl_outside.specs.Inner.Laws.{constant}
 use Rattle.gl_outside.proofs.HostFrames.{changes_at, consumes_untold, number_inside, reads_host}
 use Rattle.gl_outside.proofs.host_files.HostFilesFiles.read.Goals as goal
 

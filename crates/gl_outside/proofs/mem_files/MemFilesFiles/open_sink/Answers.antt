@@ -1,7 +1,7 @@
 use Rattle.std.proofs.Common.{◌≡◌, ℕ, [], ◌∷◌, ◌++◌, List, length, map, Some, ap, ◌∙◌, subst, rules}
 use Rattle.gl_outside.specs.Store.{NamedBytes, StoreState}
 use Rattle.std.specs.Prelude.{vec_capacity}
-use Rattle.gl_outside.specs.OpenFiles.{left_in, AreSinks}
+use Rattle.gl_outside.specs.Inner.OpenFiles.{left_in, AreSinks}
 use Rattle.gl_outside.proofs.StoredFiles.{bytes_of_put, map-left_in-append}
 use Rattle.gl_outside.proofs.Sinks.{all_inside-append, sinks_pushed, opens_sink}
 use Rattle.gl_outside.proofs.mem_files.MemFilesFiles.open_sink.Goals as goal

@@ -1,7 +1,7 @@
 use Rattle.std.proofs.Common.{◌≡◌, ℕ, ◌<◌, Some, sym, [], ◌∷◌, ◌++◌, length, map, ap, ◌∙◌, rules}
 use Rattle.std.proofs.lemmas.List.{map-append, length-map}
 use Rattle.gl_outside.specs.Store.{NamedBytes, StoreState, bytes_at, bytes_of}
-use Rattle.gl_outside.specs.OpenFiles.{left_in}
+use Rattle.gl_outside.specs.Inner.OpenFiles.{left_in}
 use Rattle.gl_outside.specs.declared.mem_files.OpenFile.{OpenFile}
 use Rattle.gl_outside.proofs.StoredFiles.{opens_source, left_in-new, bytes_at-read}
 use Rattle.gl_outside.proofs.mem_files.MemFilesFiles.open_source.Goals as goal

@@ -1,6 +1,6 @@
 use Rattle.std.proofs.Common.{◌≡◌, Some, slice_get, slice_set, ap, sym, ◌∙◌, rules}
 use Rattle.gl_outside.specs.Store.{StoreState}
-use Rattle.gl_outside.specs.OpenFiles.{left_in}
+use Rattle.gl_outside.specs.Inner.OpenFiles.{left_in}
 use Rattle.gl_outside.proofs.StoredFiles.{left-seen, slice_get-map_read, slice_get-map_set, reads_next, reads_only, map-slice_set, number_inside, open_inside}
 use Rattle.gl_outside.proofs.mem_files.MemFilesFiles.read.Goals as goal
 

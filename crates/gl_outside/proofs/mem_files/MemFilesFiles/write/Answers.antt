@@ -1,7 +1,7 @@
 use Rattle.std.proofs.Common.{◌<◌, length, map, ap, ◌∙◌, subst, refl, arith}
 use Rattle.std.specs.Prelude.{List}
 use Rattle.gl_outside.specs.Store.{NamedBytes, StoreState, ready_at}
-use Rattle.gl_outside.specs.OpenFiles.{left_in, appended, AreSinks}
+use Rattle.gl_outside.specs.Inner.OpenFiles.{left_in, appended, AreSinks}
 use Rattle.gl_outside.proofs.Sinks.{place_of, writes_only, writes_next, map-left_in-appended}
 use Rattle.gl_outside.proofs.mem_files.MemFilesFiles.write.Goals as goal
 
