@@ -1,6 +1,7 @@
 //! The bytes of a store: read, checked and written.
 #![tactic(auto)]
 
+mod body_check;
 mod entries_check;
 mod faults;
 mod fields;

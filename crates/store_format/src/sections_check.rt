@@ -109,7 +109,7 @@ pub fn check_sections(
 {
     let mut at = start;
     for i in 0..header.machines {
-        let more = header.machines - 1 - i;
+        let more = header.machines - (i + 1);
         at = check_row(vertices, more, body, at)?;
         at = check_row(edges, more, body, at)?;
     }

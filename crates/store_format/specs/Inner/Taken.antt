@@ -1,7 +1,6 @@
 -- Which keys stand in earlier rows.
-use Rattle.std.specs.Prelude.{◌≡◌, ℕ, ◌+◌, ◌<◌, Bool, false, nat_eq, List, length}
+use Rattle.std.specs.Prelude.{◌≡◌, ℕ, ◌+◌, ◌<◌, Bool, false, nat_eq, List, length, slice_index_or}
 use Rattle.std.specs.List.{list_any}
-use Rattle.std.specs.Slice.{slice_index_or}
 
 -- a mark is set exactly for each of these keys
 abbrev pub AreTaken : List Bool → List ℕ → Type 0
