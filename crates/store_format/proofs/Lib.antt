@@ -1,3 +1,4 @@
 pub mod EntryLemmas
 pub mod ReadLemmas
 pub mod KeyLemmas
+pub mod StoreLemmas

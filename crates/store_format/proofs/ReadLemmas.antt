@@ -1,6 +1,6 @@
 -- How the records of a store are read: what stands behind the last gate makes no difference to those before it.
 use Rattle.std.proofs.Common.{◌≡◌, ◌≢◌, ◌⊎◌, inl, inr, ℕ, zero, suc, ◌+◌, ◌-◌, ◌<◌, ◌≤◌, ◌==◌, if◌then◌else◌, Bool, true, false, List, [], ◌∷◌, ◌++◌, length, take, drop, Option, None, Some, Result, Ok, Err, refl, sym, ap, ◌∙◌, subst, arith, length-append, length-take, length-drop}
-use Rattle.std.specs.Prelude.{nat_lt, sum_by}
+use Rattle.std.specs.Prelude.{nat_lt}
 use Rattle.std.proofs.lemmas.Bool.{cases_eq, ne_eqb, eq-eqb, le-ltb, ltb-false, eqb-true}
 use Rattle.std.proofs.lemmas.List.{append_assoc, append-nil, take_all, take-append-le, take-append-drop, drop-append-le, drop-drop}
 use Rattle.std.proofs.Math.Seq.{drop-append-add}
@@ -218,6 +218,12 @@ first_none header number at gate behind e = λ opened.
     none : (rest : List (List ℕ)) (body : List ℕ) → [] ≡ body ∷ rest → ⊥
     none rest body h = cc
 
+size_more : (front rest body : List ℕ) (bodies : List (List ℕ)) → 16 ≤ length front → body ≡ drop 8 front → length rest ≡ records_size bodies → length (1 ∷ (front ++ rest)) ≡ records_size (body ∷ bodies)
+size_more front rest body bodies long is size =
+    let more : records_size (body ∷ bodies) ≡ 9 + length body + records_size bodies = refl in
+    let len : length body ≡ length front - 8 = ap (length {A = ℕ}) is ∙ length-drop 8 front in
+    omega (arith, length-append front rest)
+
 -- bytes that are read as bodies begin with their records, and a gate follows that isn't open
 pub read_to : (header : Header) (number at : ℕ) (bytes : List ℕ) (bodies : List (List ℕ)) → bodies_from header number at 0 bytes ≡ Ok bodies → IsReadTo header number at bytes bodies
 read_to header number at [] bodies e = absurd (cc)
@@ -247,7 +253,7 @@ read_to header number at (gate ∷ behind) (body ∷ bodies) e =
       more = tail.more;
       is = ap (λ (g : ℕ). g ∷ behind) first.gate_is ∙ ap (λ (l : List ℕ). 1 ∷ l) (split.is ∙ ap (λ (l : List ℕ). split.front ++ l) tail.is ∙ sym (append_assoc split.front tail.front (tail.gate ∷ tail.more)));
       closed = tail.closed;
-      size = omega (arith, here, tail.size, ap (length {A = ℕ}) first.body_is, length-drop 8 split.front, long);
+      size = size_more split.front tail.front body bodies long first.body_is tail.size;
       any = λ next rest.
           let n : number + 1 + length bodies ≡ number + suc (length bodies) = omega arith in
           let a : at + (1 + length split.front) + length tail.front ≡ at + length front = omega (arith, here) in

@@ -1,5 +1,5 @@
 -- Which snapshots the bytes of a store stand for.
-use Rattle.std.specs.Prelude.{◌≡◌, ◌⊎◌, ℕ, ◌+◌, List, [], ◌∷◌, ◌++◌, length, take, drop, sum_by, Option, Some, None, Result, Ok, Err}
+use Rattle.std.specs.Prelude.{◌≡◌, ◌⊎◌, ℕ, ◌+◌, List, [], ◌∷◌, ◌++◌, length, take, drop, Option, Some, None, Result, Ok, Err}
 use Rattle.std.specs.Result.{result_unwrap_or}
 use Rattle.store_format.specs.declared.header.Header.{Header}
 use Rattle.store_format.specs.declared.faults.StoreFault.{StoreFault}
@@ -26,7 +26,8 @@ stored_in header bytes = result_unwrap_or (read_store header bytes) []
 
 -- how many bytes records take, with their gates and lengths
 abbrev pub records_size : List (List ℕ) → ℕ
-records_size bodies = sum_by (λ body. 9 + length body) bodies
+records_size [] = 0
+records_size (body ∷ bodies) = 9 + length body + records_size bodies
 
 -- the bytes stand for these snapshots, or for these and one more
 abbrev pub IsBeforeOrAfter : Header → List (List ℕ) → List ℕ → List ℕ → Type 0

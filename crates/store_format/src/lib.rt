@@ -2,13 +2,17 @@
 #![tactic(auto)]
 
 mod body_check;
+mod encoding;
 mod entries_check;
 mod faults;
 mod fields;
 mod header;
 mod header_check;
+mod made;
 mod sections_check;
 
+pub use encoding::stored_bytes;
 pub use faults::StoreFault;
 pub use header::{Digest, Header, ProgramKey};
 pub use header_check::{HEADER, check_header};
+pub use made::new_store;
