@@ -1,8 +1,9 @@
 -- The four calls on the disk that add a record, one after another.
-use Rattle.std.proofs.Common.{◌≡◌, ◌≢◌, ◌⊎◌, inl, inr, ⊎_elim, ℕ, zero, suc, ◌+◌, ◌^◌, ◌<◌, ◌≤◌, List, [], ◌∷◌, ◌++◌, length, drop, refl, sym, ap, ◌∙◌, subst, arith, length-append}
-use Rattle.std.specs.Prelude.{IsTrue, is_ok}
+use Rattle.std.proofs.Common.{◌≡◌, ◌≢◌, ◌⊎◌, inl, inr, ⊎_elim, ℕ, zero, suc, ◌+◌, ◌-◌, ◌^◌, ◌<◌, ◌≤◌, List, [], ◌∷◌, ◌++◌, length, take, drop, refl, sym, ap, ◌∙◌, subst, arith, length-append}
+use Rattle.std.specs.Prelude.{IsTrue, is_ok, true, false}
+use Rattle.gl_outside.specs.Faults.{Rose}
 use Rattle.std.proofs.lemmas.Bool.{cases_eq}
-use Rattle.std.proofs.lemmas.List.{append_assoc}
+use Rattle.std.proofs.lemmas.List.{append_assoc, append-nil, take-append-le, take_all}
 use Rattle.gl_outside.specs.Disk.{ByteRange, DiskPast, DiskState, FailsToWrite, IsImage, IsTorn, LeavesOnly, after_sync, after_write, followed_by, with_piece}
 use Rattle.gl_outside.proofs.Disks.{started, goes_on, stands_still}
 use Rattle.store_format.specs.declared.header.Header.{Header}
@@ -11,14 +12,9 @@ use Rattle.store_format.specs.Records.{stored_bytes}
 use Rattle.store_format.specs.Stores.{read_store, StandsFor, stored_in, records_size, IsBeforeOrAfter}
 use Rattle.store_format.proofs.ReadLemmas.{IsStored}
 use Rattle.store_format.proofs.StoreLemmas.{IsBase, based, stands_closed, stands_open, stands_of, stored_are, ok_from, with_length, stored_bytes-split, length-stored_bytes, stored_body}
-use Rattle.snap_journal.specs.Inner.Settled.{IsSettled, FollowsOn, body_between}
+use Rattle.snap_journal.specs.Inner.Found.{IsFound}
+use Rattle.snap_journal.specs.Inner.Settled.{IsAtRest, IsSettled, FollowsOn, body_between}
 use Rattle.snap_journal.proofs.ImageLemmas.{torn_behind, torn_gate, written_behind, written_gate}
-
--- all of what a read gives is on the disk, and these are the bytes
-pub record IsAtRest (now : DiskState) (bytes : List ℕ) : Type 0 where
-  pub seen : now.seen ≡ bytes
-  pub synced : now.synced ≡ bytes
-  pub quiet : length now.written ≡ 0
 
 none_written : (ranges : List ByteRange) → length ranges ≡ 0 → ranges ≡ []
 none_written [] none = refl
@@ -79,8 +75,8 @@ setup header count place start body piece settled follows body_is fits =
       size = size;
     }
 
-zero_closed : 0 ≢ 1
-zero_closed e = omega arith
+not_open : (gate : ℕ) → gate ≡ 0 → gate ≢ 1
+not_open gate is one = omega arith
 
 module _ (header : Header) (count place : ℕ) (start : DiskPast) (body piece : List ℕ) (is : Setup header count place start body piece) where
   abbrev bodies : List (List ℕ)
@@ -103,7 +99,7 @@ module _ (header : Header) (count place : ℕ) (start : DiskPast) (body piece : 
 
   stands_after : (more : List ℕ) → StandsFor header (bodies ++ body ∷ []) (is.base ++ 1 ∷ (piece ++ more))
   stands_after more =
-      let open_one = stands_open header bodies is.base (with_length body) 0 more is.is_base is.whole zero_closed in
+      let open_one = stands_open header bodies is.base (with_length body) 0 more is.is_base is.whole (not_open 0 refl) in
       let same : with_length body ++ 0 ∷ more ≡ piece ++ more = sym (append_assoc (with_length body) (0 ∷ []) more) ∙ ap (λ (l : List ℕ). l ++ more) (sym is.piece_is) in
       subst (λ (l : List ℕ). StandsFor header (bodies ++ body ∷ []) (is.base ++ 1 ∷ l)) same open_one
 
@@ -237,3 +233,62 @@ pub settled_leaves : (header : Header) (count place : ℕ) (start : DiskPast) �
 settled_leaves header count place start settled image left =
     let rests : IsAtRest start.now start.now.seen = record { seen = refl; synced = settled.synced; quiet = settled.quiet } in
     subst (StandsFor header (stored_in header start.now.seen)) (sym (rest_leaves start.now start.now.seen image rests left)) (stands_of header start.now.seen settled.reads)
+
+-- a count that rose later rose
+pub rose_after : (before mid now : ℕ) → before ≤ mid → Rose mid now → Rose before now
+rose_after before mid now le rose = λ small. let h = rose small in omega (arith, le, h)
+
+-- what does not hold of a journal that has failed need not be known
+pub not_well : {P : Type 0} → true ≡ false → P
+not_well e = absurd (cc)
+
+-- the body in the bytes of a record
+pub body_again : (piece body : List ℕ) → piece ≡ stored_bytes body → body_between piece ≡ body
+body_again piece body is =
+    let size : length piece - 9 ≡ length body = omega (arith, ap (length {A = ℕ}) is, length-stored_bytes body) in
+    let behind : drop 8 piece ≡ body ++ 0 ∷ [] = ap (drop 8) is in
+    ap (λ (n : ℕ). take n (drop 8 piece)) size ∙ ap (take (length body)) behind
+    ∙ take-append-le (length body) body (0 ∷ []) (omega arith) ∙ take_all (length body) body (omega arith)
+
+pub follows_on : (header : Header) (count : ℕ) (piece body : List ℕ) → piece ≡ stored_bytes body → IsBody header (1 + count) body → FollowsOn header count piece
+follows_on header count piece body is form =
+    let same = body_again piece body is in
+    record { bytes = is ∙ ap stored_bytes (sym same); form = subst (IsBody header (1 + count)) (sym same) form }
+
+-- a piece that is written where nothing stands
+pub fresh_piece : (seen piece : List ℕ) → length seen ≡ 0 → with_piece seen 0 piece ≡ piece
+fresh_piece [] piece none = nothing_behind piece (0 + length piece)
+  where
+    nothing_behind : (piece : List ℕ) (n : ℕ) → piece ++ drop n [] ≡ piece
+    nothing_behind piece zero = append-nil piece
+    nothing_behind piece (suc n) = append-nil piece
+fresh_piece (byte ∷ seen) piece none = absurd (omega arith)
+
+-- a sync leaves what a read gave, which is what a crash might have left before
+pub synced_once : (old mid new : DiskPast) → mid ≡ followed_by old (after_sync old.now) → new ≡ mid → IsImage old.now old.now.seen → LeavesOnly old new (IsImage old.now)
+synced_once old mid new is same image =
+    let rests = after_sync_rests old.now old.now.seen refl in
+    let run = goes_on old old mid (after_sync old.now) (IsImage old.now) (started old (IsImage old.now) (λ i left. left)) is
+        (λ i left. subst (IsImage old.now) (sym (rest_leaves (after_sync old.now) old.now.seen i rests left)) image) in
+    stands_still old mid new (IsImage old.now) run same
+
+pub not_synced : (old new : DiskPast) → new ≡ old → LeavesOnly old new (IsImage old.now)
+not_synced old new same = stands_still old old new (IsImage old.now) (started old (IsImage old.now) (λ i left. left)) same
+
+pub synced_rests : (old mid new : DiskPast) → mid ≡ followed_by old (after_sync old.now) → new ≡ mid → IsAtRest new.now old.now.seen
+synced_rests old mid new is same =
+    let rests = after_sync_rests old.now old.now.seen refl in
+    subst (λ (p : DiskPast). IsAtRest p.now old.now.seen) (sym (same ∙ is)) rests
+
+pub synced_seen : (old mid new : DiskPast) → mid ≡ followed_by old (after_sync old.now) → new ≡ mid → new.now.seen ≡ old.now.seen
+synced_seen old mid new is same = ap (λ (p : DiskPast). p.now.seen) (same ∙ is)
+
+-- what was found of a disk at rest is what a journal knows
+pub found_settled : (header : Header) (count gate : ℕ) (now : DiskPast) (seen : List ℕ) → IsFound header now.now.seen count gate → IsAtRest now.now seen → IsSettled header count gate now
+found_settled header count gate now seen found rests = record {
+  reads = found.reads;
+  counts = found.counts;
+  place = found.place;
+  synced = rests.synced ∙ sym rests.seen;
+  quiet = rests.quiet;
+}

@@ -27,7 +27,9 @@ pub enum JournalFault {
 }
 
 impl From<DiskFailed> for JournalFault {
-    ghost from_gives = { λ _ fault. fault ≡ JournalFault.DiskFault };
+    ghost use Rattle.snap_journal.specs.declared.faults.JournalFault.TheVariants.{DiskFault};
+
+    ghost from_gives = { λ _ fault. fault ≡ DiskFault };
 
     fn from(_: DiskFailed) -> Self {
         JournalFault::DiskFault
@@ -35,7 +37,9 @@ impl From<DiskFailed> for JournalFault {
 }
 
 impl From<AllocError> for JournalFault {
-    ghost from_gives = { λ _ fault. fault ≡ JournalFault.NoMemory };
+    ghost use Rattle.snap_journal.specs.declared.faults.JournalFault.TheVariants.{NoMemory};
+
+    ghost from_gives = { λ _ fault. fault ≡ NoMemory };
 
     fn from(_: AllocError) -> Self {
         JournalFault::NoMemory
@@ -43,7 +47,9 @@ impl From<AllocError> for JournalFault {
 }
 
 impl From<gl_base::NoMemory> for JournalFault {
-    ghost from_gives = { λ _ fault. fault ≡ JournalFault.NoMemory };
+    ghost use Rattle.snap_journal.specs.declared.faults.JournalFault.TheVariants.{NoMemory};
+
+    ghost from_gives = { λ _ fault. fault ≡ NoMemory };
 
     fn from(_: gl_base::NoMemory) -> Self {
         JournalFault::NoMemory
@@ -51,7 +57,9 @@ impl From<gl_base::NoMemory> for JournalFault {
 }
 
 impl From<StoreFault> for JournalFault {
-    ghost from_gives = { λ error fault. fault ≡ JournalFault.BadStore error };
+    ghost use Rattle.snap_journal.specs.declared.faults.JournalFault.TheVariants.{BadStore};
+
+    ghost from_gives = { λ error fault. fault ≡ BadStore error };
 
     fn from(fault: StoreFault) -> Self {
         JournalFault::BadStore(fault)

@@ -46,6 +46,13 @@ impl<D: Disk> Journal<D> {
         self.count
     }
 
+    /// Hands the disk back.
+    pub fn into_disk(self) -> D
+        ensures { result ≡ self.disk }
+    {
+        self.disk
+    }
+
     /// Adds the record of a snapshot, whose number is one above those that are stored, in the form of a store for this header.
     /// At `Ok` it is acknowledged: whatever a crash leaves from then on has it. A crash during the call leaves the snapshots
     /// from before it, or these and the new one. It takes its memory before it writes. `Full` comes where 4096 snapshots are stored,
@@ -68,39 +75,39 @@ impl<D: Disk> Journal<D> {
         ensures well { OnOk result ((self.old.failed ≡ false) × (self.new.failed ≡ false)) }
         ensures refused { IfErr result (IsWhyNotAdded (self.new ≡ self.old) self.old.failed self.new.failed (D.faults self.old.disk)
             (D.faults self.new.disk) self.old.count self.old.length (9 + length (body_bytes next.now))) }
-        ensures failed { self.old.failed ≡ true → (result ≡ Err JournalFault.Failed) ⊎ (result ≡ Err JournalFault.NoMemory) }
+        ensures failed { self.old.failed ≡ true → result ≡ Err JournalFault.Failed }
         ensures full { self.old.failed ≡ false → IsFullFor self.old.count self.old.length (9 + length (body_bytes next.now))
             → (result ≡ Err (JournalFault.Full self.old.count self.old.length)) ⊎ (result ≡ Err JournalFault.NoMemory) }
-        ensures same { D.same self.old.disk self.new.disk }
-        ensures later { D.faults self.old.disk ≤ D.faults self.new.disk }
-    {
-        let piece = stored_bytes(alloc, next)?;
-        self.put(&piece)
-    }
-
-    /// Adds a record, by its bytes behind the gate: writes them with a closed gate behind them, syncs, opens the gate, and syncs.
-    fn put(&mut self, piece: &[u8]) -> Result<(), JournalFault>
-        requires { FollowsOn self.old.header self.old.count piece.now }
-
-        ensures acknowledged { IsTrue D.told → OnOk result (snapshots_in D.past self.new ≡ snapshots_in D.past self.old ++ body_between piece.now ∷ []) }
-        ensures durable { IsTrue D.told → OnOk result (AllStandFor self.new.header (snapshots_in D.past self.old ++ body_between piece.now ∷ []) (D.past self.new.disk)) }
-        ensures any_moment { IsTrue D.told → self.old.failed ≡ false → LeavesOnly (D.past self.old.disk) (D.past self.new.disk)
-            (IsBeforeOrAfter self.old.header (snapshots_in D.past self.old) (body_between piece.now)) }
-        ensures header { self.new.header ≡ self.old.header }
-        ensures counted { OnOk result (self.new.count ≡ self.old.count + 1) }
-        ensures grown { OnOk result (self.new.length ≡ self.old.length + length piece.now) }
-        ensures well { OnOk result ((self.old.failed ≡ false) × (self.new.failed ≡ false)) }
-        ensures refused { IfErr result (IsWhyNotAdded (self.new ≡ self.old) self.old.failed self.new.failed (D.faults self.old.disk)
-            (D.faults self.new.disk) self.old.count self.old.length (length piece.now)) }
-        ensures failed { self.old.failed ≡ true → result ≡ Err JournalFault.Failed }
-        ensures full { self.old.failed ≡ false → IsFullFor self.old.count self.old.length (length piece.now)
-            → result ≡ Err (JournalFault.Full self.old.count self.old.length) }
         ensures same { D.same self.old.disk self.new.disk }
         ensures later { D.faults self.old.disk ≤ D.faults self.new.disk }
     {
         if self.failed {
             return Err(JournalFault::Failed);
         }
+        let piece = stored_bytes(alloc, next)?;
+        self.put(&piece)
+    }
+
+    /// Adds a record, by its bytes behind the gate: writes them with a closed gate behind them, syncs, opens the gate, and syncs.
+    fn put(&mut self, piece: &[u8]) -> Result<(), JournalFault>
+        requires follows { FollowsOn self.old.header self.old.count piece.now }
+        requires well { self.old.failed ≡ false }
+
+        ensures acknowledged { IsTrue D.told → OnOk result (snapshots_in D.past self.new ≡ snapshots_in D.past self.old ++ body_between piece.now ∷ []) }
+        ensures durable { IsTrue D.told → OnOk result (AllStandFor self.new.header (snapshots_in D.past self.old ++ body_between piece.now ∷ []) (D.past self.new.disk)) }
+        ensures any_moment { IsTrue D.told → LeavesOnly (D.past self.old.disk) (D.past self.new.disk)
+            (IsBeforeOrAfter self.old.header (snapshots_in D.past self.old) (body_between piece.now)) }
+        ensures header { self.new.header ≡ self.old.header }
+        ensures counted { OnOk result (self.new.count ≡ self.old.count + 1) }
+        ensures grown { OnOk result (self.new.length ≡ self.old.length + length piece.now) }
+        ensures well { OnOk result (self.new.failed ≡ false) }
+        ensures refused { IfErr result (IsWhyNotAdded (self.new ≡ self.old) self.old.failed self.new.failed (D.faults self.old.disk)
+            (D.faults self.new.disk) self.old.count self.old.length (length piece.now)) }
+        ensures full { IsFullFor self.old.count self.old.length (length piece.now)
+            → result ≡ Err (JournalFault.Full self.old.count self.old.length) }
+        ensures same { D.same self.old.disk self.new.disk }
+        ensures later { D.faults self.old.disk ≤ D.faults self.new.disk }
+    {
         if is_full(self.count, self.gate + 1, piece.len()) {
             return Err(JournalFault::Full {
                 stored: self.count,

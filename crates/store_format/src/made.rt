@@ -6,9 +6,9 @@ use crate::Header;
 use byteorder::{BigEndian, ByteOrder};
 
 /// The bytes of a header and of a closed gate.
-pub fn new_store(header: &Header) -> [u8; 65]
-    ensures bytes { result ≡ store_header header.now ++ 0 ∷ [] }
-    ensures fits { HeaderFits header.now }
+pub fn new_store(header: Header) -> [u8; 65]
+    ensures bytes { result ≡ store_header header ++ 0 ∷ [] }
+    ensures fits { HeaderFits header }
 {
     let mut bytes = [0; 65];
     bytes[..8].copy_from_slice(b"GLABSTOR");

@@ -1,9 +1,15 @@
 -- What a journal knows of its disk.
 use Rattle.std.specs.Prelude.{◌≡◌, ℕ, ◌+◌, ◌-◌, ◌^◌, ◌<◌, Bool, false, List, length, take, drop, is_ok, IsTrue}
 use Rattle.store_format.specs.declared.header.Header.{Header}
-use Rattle.snap_journal.specs.Disks.{DiskPast}
+use Rattle.snap_journal.specs.Disks.{DiskPast, DiskState}
 use Rattle.snap_journal.specs.Formats.{read_store, stored_in, records_size, IsBody}
 use Rattle.store_format.specs.Records.{stored_bytes}
+
+-- all of what a read gives is on the disk, and these are the bytes
+pub record IsAtRest (now : DiskState) (bytes : List ℕ) : Type 0 where
+  pub seen : now.seen ≡ bytes
+  pub synced : now.synced ≡ bytes
+  pub quiet : length now.written ≡ 0
 
 -- The bytes that a disk reads stand for so many snapshots, the gate behind them stands at this place, and a crash leaves just
 -- what a read gives.
