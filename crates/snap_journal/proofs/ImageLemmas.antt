@@ -39,15 +39,17 @@ torn_gate base gate rest image torn =
     let back = drop (n + 1) image in
     let enough : length rest ≤ length back = omega (arith, length-drop (n + 1) image) in
     let same : take (length rest) back ≡ rest = ext_get_or 0 (take (length rest) back) rest (omega (arith, length-take (length rest) back)) (λ i lt.
-        let inside : i < length rest = omega (arith, lt, length-take (length rest) back) in
-        let stays = torn.stays (n + 1 + i) (omega (arith, inside)) (All-one (IsOutside (n + 1 + i)) range (inr (omega arith))) in
-        get_or-take (length rest) back i 0 inside ∙ get_or-drop (n + 1) image i 0 ∙ stays
-        ∙ sym (get_or-drop (n + 1) old i 0) ∙ ap (λ (l : List ℕ). get_or l i 0) (drop_front base gate rest)) in
+    let inside : i < length rest = omega (arith, lt, length-take (length rest) back) in
+    let stays = torn.stays (n + 1 + i) (omega (arith, inside)) (All-one (IsOutside (n + 1 + i)) range (inr (omega arith))) in
+    get_or-take (length rest) back i 0 inside ∙ get_or-drop (n + 1) image i 0 ∙ stays
+    ∙ sym (get_or-drop (n + 1) old i 0) ∙ ap (λ (l : List ℕ). get_or l i 0) (drop_front base gate rest)) in
     let parts = head_of (drop n image) (omega (arith, length-drop n image)) in
-    let behind : parts.1 ≡ back = ap (drop 1) (sym parts.2) ∙ drops n image in
-    (parts.0, drop (length rest) back,
-    sym (take-append-drop n image) ∙ ap (λ (l : List ℕ). l ++ drop n image) front ∙ ap (λ (l : List ℕ). base ++ l) parts.2
-    ∙ ap (λ (l : List ℕ). base ++ parts.0 ∷ l) (behind ∙ sym (take-append-drop (length rest) back) ∙ ap (λ (l : List ℕ). l ++ drop (length rest) back) same))
+    let behind : parts.1 ≡ back = ap (drop 1) (sym parts.2) ∙ drops n image in (
+      parts.0,
+      drop (length rest) back,
+      sym (take-append-drop n image) ∙ ap (λ (l : List ℕ). l ++ drop n image) front ∙ ap (λ (l : List ℕ). base ++ l) parts.2
+          ∙ ap (λ (l : List ℕ). base ++ parts.0 ∷ l) (behind ∙ sym (take-append-drop (length rest) back) ∙ ap (λ (l : List ℕ). l ++ drop (length rest) back) same),
+    )
   where
     head_of : (xs : List ℕ) → 1 ≤ length xs → (x : ℕ) × (more : List ℕ) × (xs ≡ x ∷ more)
     head_of [] some = absurd (omega arith)

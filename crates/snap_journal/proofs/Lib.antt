@@ -1,5 +1,2 @@
 pub mod ImageLemmas
 pub mod AppendLemmas
-pub mod GateLemmas
-pub mod SurveyLemmas
-pub mod HeadLemmas

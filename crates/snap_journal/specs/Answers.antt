@@ -20,14 +20,6 @@ IsWhyNotMade told length before now (Full stored bytes) = ⊥
 IsWhyNotMade told length before now Failed = ⊥
 IsWhyNotMade told length before now NoMemory = ⊤
 
--- why a store was not opened: it has this first fault, or there was a fault of the disk or want of memory
-abbrev pub IsWhyNotOpened : Type 0 → Header → List ℕ → ℕ → ℕ → JournalFault → Type 0
-IsWhyNotOpened told header seen before now DiskFault = Rose before now
-IsWhyNotOpened told header seen before now (BadStore fault) = told → read_store header seen ≡ Err fault
-IsWhyNotOpened told header seen before now (Full stored bytes) = ⊥
-IsWhyNotOpened told header seen before now Failed = ⊥
-IsWhyNotOpened told header seen before now NoMemory = ⊤
-
 -- Why a record of so many bytes was not added to a store of so many snapshots and bytes. `old` and `new` tell whether an earlier
 -- call had found a fault of the disk, and whether one has now; `same` says that nothing changed.
 abbrev pub IsWhyNotAdded : Type 0 → Bool → Bool → ℕ → ℕ → ℕ → ℕ → ℕ → JournalFault → Type 0

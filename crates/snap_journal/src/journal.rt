@@ -132,5 +132,7 @@ fn is_full(count: u32, length: u64, size: usize) -> bool
     ensures room { result ≡ false → count < 4096 }
     ensures small { result ≡ false → length + size ≤ 2 ^ 30 }
 {
-    count >= MAX_SNAPSHOTS || size as u64 > MAX_STORE_BYTES || length > MAX_STORE_BYTES - size as u64
+    count >= MAX_SNAPSHOTS
+        || size as u64 > MAX_STORE_BYTES
+        || length > MAX_STORE_BYTES - size as u64
 }

@@ -1,7 +1,6 @@
 //! The journal of snapshots: a store on a disk, which loses nothing that was acknowledged.
 #![tactic(auto)]
 
-mod disk_reads;
 mod faults;
 mod journal;
 mod making;

@@ -6,5 +6,4 @@ pub mod Bodies
 pub mod Records
 pub mod Stores
 pub mod Encoding
-pub mod Snapshots
 pub mod Inner

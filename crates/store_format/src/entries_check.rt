@@ -24,11 +24,21 @@ fn rank(kind: u8, ticket: u64) -> u64
     requires { ticket < 2 ^ 60 }
     ensures { result ≡ rank kind ticket }
 {
-    if kind == GO { 2 * ticket + 1 } else { 2 * ticket }
+    if kind == GO {
+        2 * ticket + 1
+    } else {
+        2 * ticket
+    }
 }
 
 /// Looks at the entry at a place, whose rank may not be below `least`, and tells its rank.
-fn check_entry(header: &Header, number: u32, least: u64, body: &[u8], at: usize) -> Result<u64, usize>
+fn check_entry(
+    header: &Header,
+    number: u32,
+    least: u64,
+    body: &[u8],
+    at: usize,
+) -> Result<u64, usize>
     requires inside { at + 16 ≤ length body.now }
     ensures none { IfOk result (λ _. entry_fault header.now number least body.now at ≡ None) }
     ensures rank { IfOk result (λ found. found ≡ rank_at body.now at) }

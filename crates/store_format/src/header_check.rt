@@ -16,7 +16,13 @@ const WORD: u64 = 0x474c_4142_5354_4f52;
 pub const HEADER: usize = 64;
 
 /// Looks whether the field of so many bytes at a place is there, and holds a number from `least` to `most`.
-fn check_field(bytes: &[u8], at: usize, size: usize, least: u64, most: u64) -> Result<(), StoreFault>
+fn check_field(
+    bytes: &[u8],
+    at: usize,
+    size: usize,
+    least: u64,
+    most: u64,
+) -> Result<(), StoreFault>
     requires some { 1 ≤ size }
     requires few { size ≤ 8 }
     requires near { at + size < 2 ^ 32 }

@@ -87,7 +87,12 @@ fn check_count(left: u32, more: u16, count: u32, place: usize) -> Result<(), usi
     ensures place { IfErr result (λ at. at ≡ place) }
 {
     let least = if more == 0 { left } else { 0 };
-    check_within(u64::from(least), u64::from(left) + 1, u64::from(count), place)
+    check_within(
+        u64::from(least),
+        u64::from(left) + 1,
+        u64::from(count),
+        place,
+    )
 }
 
 /// Looks at the sections of a body, which begin at a place and fill the rest of it. No key stands before them.

@@ -139,7 +139,7 @@ invariant_of-self-2 g c =
     record {
       within = omega (arith, c.if-is_full.ensures.small refl);
       settled = λ told never.
-                let is = setup i.header i.count i.gate (past i.disk) body piece (c.self.invariant.settled told well) follows refl fits in
+          let is = setup i.header i.count i.gate (past i.disk) body piece (c.self.invariant.settled told well) follows refl fits in
           let was_written = written i.header i.count i.gate (past i.disk) body piece is (i.gate + 1) (past c.write_at.new.self) refl (c.in_ok-write_at.ensures.past told) in
           let was_synced = synced i.header i.count i.gate (past i.disk) body piece is (past c.write_at.new.self) (past c.sync.new.self) was_written (c.in_ok-sync.ensures.past told) in
           let was_opened = gate_written i.header i.count i.gate (past i.disk) body piece is i.gate (past c.sync.new.self) (past c.write_at-2.new.self) refl was_synced (c.in_ok-write_at-2.ensures.past told) in
