@@ -1,6 +1,6 @@
 -- The four calls on the disk that add a record, one after another.
-use Rattle.std.proofs.Common.{◌≡◌, ◌≢◌, ◌⊎◌, inl, inr, ⊎_elim, ℕ, zero, suc, ◌+◌, ◌-◌, ◌^◌, ◌<◌, ◌≤◌, List, [], ◌∷◌, ◌++◌, length, take, drop, refl, sym, ap, ◌∙◌, subst, arith, length-append}
-use Rattle.std.specs.Prelude.{IsTrue, is_ok, true, false}
+use Rattle.std.proofs.Common.{◌≡◌, ◌≢◌, inl, inr, ℕ, zero, suc, ◌+◌, ◌-◌, ◌^◌, ◌<◌, ◌≤◌, List, [], ◌∷◌, ◌++◌, length, take, drop, refl, sym, ap, ◌∙◌, subst, arith, length-append}
+use Rattle.std.specs.Prelude.{true, false}
 use Rattle.gl_outside.specs.Faults.{Rose}
 use Rattle.std.proofs.lemmas.Bool.{cases_eq}
 use Rattle.std.proofs.lemmas.List.{append_assoc, append-nil, take-append-le, take_all}
@@ -9,7 +9,7 @@ use Rattle.gl_outside.proofs.Disks.{started, goes_on, stands_still}
 use Rattle.store_format.specs.declared.header.Header.{Header}
 use Rattle.store_format.specs.Bodies.{IsBody}
 use Rattle.store_format.specs.Records.{stored_bytes}
-use Rattle.store_format.specs.Stores.{read_store, StandsFor, stored_in, records_size, IsBeforeOrAfter}
+use Rattle.store_format.specs.Stores.{StandsFor, stored_in, records_size, IsBeforeOrAfter}
 use Rattle.store_format.proofs.ReadLemmas.{IsStored}
 use Rattle.store_format.proofs.StoreLemmas.{IsBase, based, stands_closed, stands_open, stands_of, stored_are, ok_from, with_length, stored_bytes-split, length-stored_bytes, stored_body}
 use Rattle.snap_journal.specs.Inner.Settled.{IsAtRest, IsSettled, FollowsOn, body_between}

@@ -1,12 +1,9 @@
 -- Why a call on a store was refused.
-use Rattle.std.specs.Prelude.{◌≡◌, ◌⊎◌, ℕ, ◌+◌, ◌^◌, ◌<◌, ◌≤◌, Bool, true, false, List, Err, ⊤}
-use Rattle.store_format.specs.declared.header.Header.{Header}
-use Rattle.store_format.specs.declared.faults.StoreFault.{StoreFault}
+use Rattle.std.specs.Prelude.{◌≡◌, ◌⊎◌, ℕ, ◌+◌, ◌^◌, ◌<◌, ◌≤◌, Bool, true, false, ⊤}
 use Rattle.store_format.specs.declared.faults.StoreFault.TheVariants.{NotEmpty}
 use Rattle.snap_journal.specs.declared.faults.JournalFault.{JournalFault}
 use Rattle.snap_journal.specs.declared.faults.JournalFault.TheVariants.{DiskFault, BadStore, Full, Failed, NoMemory}
 use Rattle.snap_journal.specs.Disks.{Rose}
-use Rattle.snap_journal.specs.Formats.{read_store}
 
 -- a store of so many snapshots and bytes has no room for a record of so many bytes with its length and its next gate
 abbrev pub IsFullFor : ℕ → ℕ → ℕ → Type 0

@@ -1,5 +1,5 @@
 -- A journal, as its callers see it: a store on a disk.
-use Rattle.std.specs.Prelude.{◌≡◌, ℕ, Bool, List}
+use Rattle.std.specs.Prelude.{ℕ, Bool, List}
 use Rattle.store_format.specs.declared.header.Header.{Header}
 use Rattle.snap_journal.specs.Disks.{DiskPast, IsImage}
 use Rattle.snap_journal.specs.Formats.{StandsFor, stored_in}

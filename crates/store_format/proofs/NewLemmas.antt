@@ -1,9 +1,8 @@
 -- A new store, and fields of the first bytes.
-use Rattle.std.proofs.Common.{◌≡◌, ◌≢◌, ℕ, ◌+◌, ◌-◌, ◌^◌, ◌<◌, ◌≤◌, ◌==◌, ◌&&◌, Bool, true, List, [], ◌∷◌, ◌++◌, length, take, drop, Option, None, Some, Ok, refl, sym, ap, ◌∙◌, arith}
-use Rattle.std.specs.Prelude.{codes}
+use Rattle.std.proofs.Common.{◌≡◌, ℕ, ◌+◌, ◌-◌, ◌≤◌, true, List, [], ◌∷◌, ◌++◌, length, take, drop, Option, None, refl, ap, ◌∙◌, arith}
 use Rattle.std.specs.Option.{option_or}
 use Rattle.std.specs.Str.{bytes_eq}
-use Rattle.std.proofs.lemmas.Bool.{le-ltb, le-leb, eq-eqb, and_from}
+use Rattle.std.proofs.lemmas.Bool.{le-ltb, le-leb, eq-eqb}
 use Rattle.std.proofs.lemmas.List.{drop-drop, drop-take, take_all, take-append-le, drop-append-le, drop_all}
 use Rattle.std.proofs.lemmas.Slice.Eq.{bytes_eq-Decides}
 use Rattle.byteorder.specs.Endian.{big_bytes}
@@ -13,8 +12,7 @@ use Rattle.store_format.specs.declared.faults.StoreFault.{StoreFault}
 use Rattle.store_format.specs.Fields.{field}
 use Rattle.store_format.specs.Headers.{store_word, store_header, field_fault, digest_in, machines_fault, other_graph, other_program, unformed_fault, other_fault, store_header_fault, IsAllowed, HeaderFits}
 use Rattle.store_format.specs.Records.{bodies_from}
-use Rattle.store_format.specs.Stores.{unless_refused, read_store, StandsFor}
-use Rattle.store_format.proofs.ReadLemmas.{bodies_from-closed}
+use Rattle.store_format.specs.Stores.{unless_refused, StandsFor}
 
 -- a field of the first bytes
 pub field-take : (most at n : ℕ) (bytes : List ℕ) → at + n ≤ most → field (take most bytes) at n ≡ field bytes at n

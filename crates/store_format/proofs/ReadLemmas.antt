@@ -1,9 +1,8 @@
 -- How the records of a store are read: what stands behind the last gate makes no difference to those before it.
-use Rattle.std.proofs.Common.{◌≡◌, ◌≢◌, ◌⊎◌, inl, inr, ℕ, zero, suc, ◌+◌, ◌-◌, ◌<◌, ◌≤◌, ◌==◌, if◌then◌else◌, Bool, true, false, List, [], ◌∷◌, ◌++◌, length, take, drop, Option, None, Some, Result, Ok, Err, refl, sym, ap, ◌∙◌, subst, arith, length-append, length-take, length-drop}
+use Rattle.std.proofs.Common.{◌≡◌, ◌≢◌, inl, inr, ℕ, zero, suc, ◌+◌, ◌-◌, ◌≤◌, ◌==◌, if◌then◌else◌, Bool, true, false, List, [], ◌∷◌, ◌++◌, length, take, drop, Option, None, Some, Result, Ok, Err, refl, sym, ap, ◌∙◌, arith, length-append, length-take, length-drop}
 use Rattle.std.specs.Prelude.{nat_lt}
 use Rattle.std.proofs.lemmas.Bool.{cases_eq, ne_eqb, eq-eqb, le-ltb, ltb-false, eqb-true}
-use Rattle.std.proofs.lemmas.List.{append_assoc, append-nil, take_all, take-append-le, take-append-drop, drop-append-le, drop-drop}
-use Rattle.std.proofs.Math.Seq.{drop-append-add}
+use Rattle.std.proofs.lemmas.List.{append_assoc, take_all, take-append-le, take-append-drop, drop-append-le}
 use Rattle.byteorder.specs.Numbers.{big_from-append, big_from-take}
 use Rattle.store_format.specs.declared.header.Header.{Header}
 use Rattle.store_format.specs.declared.faults.StoreFault.{StoreFault}

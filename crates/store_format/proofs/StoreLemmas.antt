@@ -1,5 +1,5 @@
 -- What a store begins with, whatever stands behind it.
-use Rattle.std.proofs.Common.{◌≡◌, ◌≢◌, ℕ, zero, suc, ◌+◌, ◌^◌, ◌<◌, ◌≤◌, List, [], ◌∷◌, ◌++◌, length, take, drop, Option, None, Some, Result, Ok, Err, refl, sym, ap, ◌∙◌, subst, arith, length-append, length-take, length-drop}
+use Rattle.std.proofs.Common.{◌≡◌, ◌≢◌, ℕ, ◌+◌, ◌^◌, ◌<◌, ◌≤◌, List, [], ◌∷◌, ◌++◌, length, take, drop, Option, None, Some, Result, Ok, Err, refl, sym, ap, ◌∙◌, arith, length-append, length-take, length-drop}
 use Rattle.std.proofs.lemmas.List.{append_assoc, append-nil, take-append-drop, take-append-le, take_all, drop-append-le, drop_all}
 use Rattle.std.specs.Result.{is_ok, result_unwrap_or}
 use Rattle.std.specs.Prelude.{IsTrue}
@@ -7,9 +7,8 @@ use Rattle.byteorder.specs.Endian.{big_bytes}
 use Rattle.byteorder.specs.Numbers.{big_number-reads_back, length-bytes_high_first}
 use Rattle.store_format.specs.declared.header.Header.{Header}
 use Rattle.store_format.specs.declared.faults.StoreFault.{StoreFault}
-use Rattle.store_format.specs.Fields.{field}
 use Rattle.store_format.specs.Headers.{store_header_fault}
-use Rattle.store_format.specs.Bodies.{body_size, body_fault, IsBody}
+use Rattle.store_format.specs.Bodies.{IsBody}
 use Rattle.store_format.specs.Records.{length_in, bodies_from, with_body, stored_bytes}
 use Rattle.store_format.specs.Stores.{unless_refused, read_store, StandsFor, stored_in, records_size}
 use Rattle.store_format.proofs.ReadLemmas.{IsStored, bodies_from-record, bodies_from-closed, prepend, prepend-Ok, read_to}

@@ -1,5 +1,5 @@
 -- The entries of a record, and the first of their fields that hasn't a value that it may have.
-use Rattle.std.specs.Prelude.{ℕ, zero, suc, ◌+◌, ◌*◌, ◌==◌, if◌then◌else◌, nat_le, nat_lt, List, slice_index, Option, Some, None}
+use Rattle.std.specs.Prelude.{ℕ, zero, suc, ◌+◌, ◌*◌, ◌==◌, if◌then◌else◌, nat_le, List, slice_index, Option, Some, None}
 use Rattle.std.specs.Option.{option_or}
 use Rattle.store_format.specs.declared.header.Header.{Header}
 use Rattle.store_format.specs.Fields.{field, bad_outside}

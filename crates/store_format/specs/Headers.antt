@@ -3,7 +3,6 @@ use Rattle.std.specs.Prelude.{◌≡◌, ℕ, ◌+◌, ◌^◌, ◌<◌, ◌≤�
 use Rattle.std.specs.Option.{option_or}
 use Rattle.std.specs.Str.{bytes_eq}
 use Rattle.byteorder.specs.Endian.{big_bytes, big_number}
-use Rattle.store_format.specs.declared.header.Digest.{Digest}
 use Rattle.store_format.specs.declared.header.Header.{Header}
 use Rattle.store_format.specs.declared.header.ProgramKey.{ProgramKey}
 use Rattle.store_format.specs.declared.faults.StoreFault.{StoreFault}

@@ -1,5 +1,5 @@
-use Rattle.std.proofs.Common.{◌≡◌, [], ◌∷◌, ◌++◌, length, take, drop, List, ℕ, refl, sym, ap, ◌∙◌, subst, arith}
-use Rattle.gl_outside.specs.Disk.{DiskPast, DiskState, IsImage, after_sync, after_write, followed_by, with_piece}
+use Rattle.std.proofs.Common.{◌≡◌, [], ◌∷◌, ◌++◌, length, sym, ap, ◌∙◌, subst, arith}
+use Rattle.gl_outside.specs.Disk.{DiskPast, after_sync}
 use Rattle.store_format.specs.Headers.{store_header}
 use Rattle.store_format.specs.Stores.{StandsFor}
 use Rattle.store_format.proofs.NewLemmas.{new_stands}

@@ -1,4 +1,4 @@
-use Rattle.std.proofs.Common.{◌≡◌, ℕ, List, length}
+use Rattle.std.proofs.Common.{ℕ, List, length}
 use Rattle.store_format.specs.Inner.Taken.{AreTaken}
 use Rattle.store_format.proofs.KeyLemmas.{KeysSoFar}
 use Rattle.store_format.proofs.sections_check.check_keys.Given as goal

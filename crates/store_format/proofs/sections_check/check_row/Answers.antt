@@ -1,6 +1,5 @@
-use Rattle.std.proofs.Common.{◌≡◌, length, ap, sym, subst, ◌∙◌, arith}
-use Rattle.store_format.specs.Inner.Taken.{AreTaken, AreLeftOf}
-use Rattle.store_format.specs.Sections.{keys_taken, row_taken}
+use Rattle.std.proofs.Common.{◌≡◌, length, ap, sym, subst, ◌∙◌}
+use Rattle.store_format.specs.Inner.Taken.{AreTaken}
 use Rattle.store_format.proofs.KeyLemmas.{row_left, lent_back}
 use Rattle.store_format.proofs.sections_check.check_row.Goals as goal
 

@@ -1,4 +1,4 @@
-use Rattle.std.proofs.Common.{◌≡◌, length, sym, ◌∙◌, arith}
+use Rattle.std.proofs.Common.{length, ◌∙◌}
 use Rattle.std.proofs.lemmas.Result.{err_from_is_err_and}
 use Rattle.store_format.proofs.KeyLemmas.{vertices_here, edges_here, sections_next}
 use Rattle.store_format.proofs.sections_check.check_sections.Goals as goal

@@ -1,4 +1,4 @@
-use Rattle.std.proofs.Common.{◌≡◌, inl, refl, sym, ap, ◌∙◌, subst, arith}
+use Rattle.std.proofs.Common.{inl, ◌∙◌}
 use Rattle.gl_outside.proofs.Disks.{started}
 use Rattle.store_format.specs.Encoding.{body_bytes}
 use Rattle.snap_journal.proofs.AppendLemmas.{settled_leaves, body_again, follows_on}

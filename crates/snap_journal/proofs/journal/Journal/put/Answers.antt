@@ -1,9 +1,8 @@
-use Rattle.std.proofs.Common.{◌≡◌, ◌⊎◌, ◌+◌, ◌≤◌, ◌<◌, ◌^◌, inl, inr, length, refl, sym, ap, ◌∙◌, subst, arith, rules}
+use Rattle.std.proofs.Common.{◌+◌, ◌<◌, ◌^◌, inl, inr, length, refl, arith}
 use Rattle.std.proofs.lemmas.Result.{err_from_is_err_and}
-use Rattle.gl_outside.specs.Disk.{DiskPast}
 use Rattle.gl_outside.proofs.Disks.{started}
 use Rattle.snap_journal.specs.Inner.Settled.{body_between}
-use Rattle.snap_journal.proofs.AppendLemmas.{setup, nothing_done, write_failed, written, synced, sync_failed, gate_failed, gate_written, open_failed, added, rose_after, not_well, settled_leaves}
+use Rattle.snap_journal.proofs.AppendLemmas.{setup, write_failed, written, synced, sync_failed, gate_failed, gate_written, open_failed, added, rose_after, not_well, settled_leaves}
 use Rattle.snap_journal.proofs.journal.Journal.put.Goals as goal
 
 pub returns-in_err-write_at-clause-any_moment : goal.returns-in_err-write_at-clause-any_moment
