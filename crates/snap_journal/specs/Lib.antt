@@ -1,0 +1,5 @@
+pub mod Disks
+pub mod Formats
+pub mod Journals
+pub mod Answers
+pub mod Inner

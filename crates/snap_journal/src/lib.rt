@@ -1,0 +1,11 @@
+//! The journal of snapshots: a store on a disk, which loses nothing that was acknowledged.
+#![tactic(auto)]
+
+mod faults;
+mod journal;
+mod making;
+
+pub use faults::JournalFault;
+pub use journal::Journal;
+pub use making::init;
+pub use store_format::{Digest, Header, ProgramKey, StoreFault};

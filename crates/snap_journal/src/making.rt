@@ -1,0 +1,29 @@
+//! How a store is made.
+ghost use Rattle.std.specs.Prelude.{◌≡◌, ◌≤◌, ◌++◌, [], ◌∷◌, length, IsTrue, IfErr, OnOk};
+ghost use Rattle.snap_journal.specs.Formats.{store_header, IsAllowed};
+ghost use Rattle.snap_journal.specs.Journals.{AllStandFor};
+ghost use Rattle.snap_journal.specs.Answers.{IsWhyNotMade};
+
+use crate::JournalFault;
+use gl_outside::Disk;
+use store_format::{Header, StoreFault, new_store};
+
+/// Makes a store without snapshots on a disk that has no bytes: writes its 65 bytes, and syncs. `NotEmpty` tells how many bytes
+/// there are. Of a crash before `Ok` nothing is promised.
+pub fn init<D: Disk>(disk: &mut D, header: &Header) -> Result<(), JournalFault>
+    requires { IsAllowed header.now }
+    ensures bytes { IsTrue D.told → OnOk result ((D.past disk.new).now.seen ≡ store_header header.now ++ 0 ∷ []) }
+    ensures stands { IsTrue D.told → OnOk result (AllStandFor header.now [] (D.past disk.new)) }
+    ensures empty { IsTrue D.told → OnOk result (length (D.past disk.old).now.seen ≡ 0) }
+    ensures fault { IfErr result (IsWhyNotMade (IsTrue D.told) (length (D.past disk.old).now.seen) (D.faults disk.old) (D.faults disk.new)) }
+    ensures same { D.same disk.old disk.new }
+    ensures later { D.faults disk.old ≤ D.faults disk.new }
+{
+    let len = disk.len()?;
+    if len > 0 {
+        return Err(JournalFault::BadStore(StoreFault::NotEmpty(len)));
+    }
+    disk.write_at(0, &new_store(*header))?;
+    disk.sync()?;
+    Ok(())
+}

@@ -1,0 +1,9 @@
+pub mod Fields
+pub mod Headers
+pub mod Entries
+pub mod Sections
+pub mod Bodies
+pub mod Records
+pub mod Stores
+pub mod Encoding
+pub mod Inner

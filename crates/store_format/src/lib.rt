@@ -1,0 +1,21 @@
+//! The bytes of a store: read, checked and written.
+#![tactic(auto)]
+
+mod body_check;
+mod encoding;
+mod entries_check;
+mod faults;
+mod fields;
+mod header;
+mod header_check;
+mod made;
+mod sections_check;
+
+pub use atom_file::u32_at;
+pub use body_check::{body_size, fault_of_body};
+pub use encoding::stored_bytes;
+pub use faults::StoreFault;
+pub use fields::u64_at;
+pub use header::{Digest, Header, ProgramKey};
+pub use header_check::{HEADER, check_header};
+pub use made::new_store;
