@@ -13,7 +13,7 @@ use Rattle.cluster_model.specs.Totals.{total}
 use Rattle.cluster_whole.specs.Steps.{Holds, IsCalled, Tells, Told, Turn, counts_in, under_way}
 use Rattle.cluster_whole.specs.Views.{world_of}
 use Rattle.cluster_whole.proofs.Flows.{below_all, same_flows, total_from-more}
-use Rattle.cluster_ending.specs.Watched.{AreWatched, HasAnswered, HasMoved, HoldsNoTask, HasNoTaskLeft, HasTold, IsAtRest, IsDoneSince, IsNotAbove, IsTurnOf, SomeMoved, Watch, last_counts, shown_by, shown_in, told_behind}
+use Rattle.cluster_ending.specs.Watched.{AreWatched, HasAnswered, HasMoved, HoldsNoTask, HasNoTaskLeft, HasTold, HasSettled, IsDoneSince, IsNotAbove, IsTurnOf, SomeMoved, Watch, last_counts, shown_by, shown_in, told_behind}
 use Rattle.cluster_ending.proofs.Leaving.{StaysDone}
 use Rattle.cluster_ending.proofs.Words.{IsLikeCalls, like_behind}
 
@@ -119,7 +119,7 @@ pub record IsDeed (st : Setting) (c new : Cluster) : Type 0 where
   pub seen : (a : ℕ) → a < st.machines → IsSeen st (begins_in (call_way c a)) (c.machine a) (new.machine a)
   pub balanced : total st.machines (λ a. (c.machine a).sent) ≡ total st.machines (λ a. (c.machine a).received) + under_way st (world_of c) →
       total st.machines (λ a. (new.machine a).sent) ≡ total st.machines (λ a. (new.machine a).received) + under_way st (world_of new)
-  pub rests : ((a : ℕ) → a < st.machines → begins_in (call_way c a) ≡ []) → IsAtRest st c → IsAtRest st new
+  pub rests : ((a : ℕ) → a < st.machines → begins_in (call_way c a) ≡ []) → HasSettled st c → HasSettled st new
   pub done : HasNoTaskLeft st (world_of c) → StaysDone st (world_of c) (world_of new)
 
 some_moved : (st : Setting) (counting : Counting) (c new : Cluster) (watch : Watch) → ((a : ℕ) → a < st.machines → IsNotAbove (count_of st (c.machine a)) (count_of st (new.machine a))) → SomeMoved st counting c watch → SomeMoved st counting new watch
@@ -147,7 +147,7 @@ deed_keeps st counting begun c new watch was deed =
           (λ (some : SomeMoved st counting c watch). inr (some_moved st counting c new watch low some))
           (was.after_idle idle);
       at_rest = λ at idle. ⊎_elim
-          (λ (rest : IsAtRest st c). inl (deed.rests (λ a within. no_length (begins_in (call_way c a)) watch.begun_before begun (was.machines a within).begins at) rest))
+          (λ (rest : HasSettled st c). inl (deed.rests (λ a within. no_length (begins_in (call_way c a)) watch.begun_before begun (was.machines a within).begins at) rest))
           (λ (some : SomeMoved st counting c watch). inr (some_moved st counting c new watch low some))
           (was.at_rest at idle);
     }
@@ -168,7 +168,7 @@ module _ (st : Setting) (c new : Cluster) (alike : IsAlike st c new) where
       (λ i. total st.machines (λ a. (alike.counts a i).sent)) ∙ was
       ∙ λ i. total st.machines (λ a. (sym (alike.counts a) i).received) + sym alike_flows i
 
-  pub alike_rests : IsAtRest st c → IsAtRest st new
+  pub alike_rests : HasSettled st c → HasSettled st new
   alike_rests rest = record { idle = λ a low. ap (λ (x : Counted). x.idle) (alike.counts a) ∙ rest.idle a low; silent = alike_flows ∙ rest.silent }
 
   pub alike_done : HasNoTaskLeft st (world_of c) → StaysDone st (world_of c) (world_of new)
@@ -236,7 +236,7 @@ module _ (st : Setting) (c new : Cluster) (a gain took : ℕ) (low : a < st.mach
       (total_from-more 0 st.machines (λ b. (c.machine b).received) (λ b. (new.machine b).received) a took (zero_low a) (below_all a st.machines low) work.received (λ b off. ap (λ (m : Machine). m.received) (work.others b off)))
       work.flows
 
-  work_rests : ((b : ℕ) → b < st.machines → begins_in (call_way c b) ≡ []) → IsAtRest st c → IsAtRest st new
+  work_rests : ((b : ℕ) → b < st.machines → begins_in (call_way c b) ≡ []) → HasSettled st c → HasSettled st new
   work_rests none rest =
       let nothing : took ≡ 0 = none_took (under_way st (world_of c)) took work.was rest.silent in
       let same : count_of st (new.machine a) ≡ count_of st (c.machine a) = work.seen.rests (none a low) (none_more (c.machine a).received (new.machine a).received took work.received nothing) (rest.idle a low) in

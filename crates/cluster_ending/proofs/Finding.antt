@@ -20,7 +20,7 @@ use Rattle.cluster_whole.proofs.Due.{sums_are}
 use Rattle.cluster_whole.proofs.Flows.{nothing_under_way}
 use Rattle.cluster_whole.proofs.Within.{is_free}
 use Rattle.cluster_ending.specs.Ends.{HasEnded, HasFinishedOrder}
-use Rattle.cluster_ending.specs.Watched.{HasAnswered, HasNoTaskLeft, IsAtRest, IsDoneSince, IsIdleWave, IsNotAbove, IsWatched, SomeMoved, Watch, last_counts, shown_by, shown_in}
+use Rattle.cluster_ending.specs.Watched.{HasAnswered, HasNoTaskLeft, HasSettled, IsDoneSince, IsIdleWave, IsNotAbove, IsWatched, SomeMoved, Watch, last_counts, shown_by, shown_in}
 use Rattle.cluster_ending.proofs.Coming.{last_whole}
 use Rattle.cluster_ending.proofs.Idle.{idle_flying, idle_pending, idle_queues, idle_tasks}
 use Rattle.cluster_ending.proofs.Leaving.{none_woken}
@@ -143,11 +143,11 @@ module _ (st : Setting) (c : Cluster) (watch : Watch) (was : IsWatched st c watc
       (told_low st watch.begun_newest c.coordinator.begun c a (watch.turn a) (was.told end.whole a low) at.told).updates (done.updates a some.0 low slot)
       ∙ ap (λ (x : Counted). x.updates) (some_same (shown_by st c watch a) counts (sym (wave_slot a low) ∙ come))
 
-  pub at_rest : watch.begun_before ≡ c.coordinator.begun → IsAtRest st c
-  at_rest at = ⊎_elim (λ (is : IsAtRest st c). is) (λ (some : SomeMoved st counting c watch). absurd (none_moved some)) (was.at_rest at was_idle)
+  pub at_rest : watch.begun_before ≡ c.coordinator.begun → HasSettled st c
+  at_rest at = ⊎_elim (λ (is : HasSettled st c). is) (λ (some : SomeMoved st counting c watch). absurd (none_moved some)) (was.at_rest at was_idle)
 
 -- nothing is left of a cluster at rest
-pub rest_ends : (st : Setting) (c : Cluster) → IsWhole st c → IsAtRest st c → HasEnded st c
+pub rest_ends : (st : Setting) (c : Cluster) → IsWhole st c → HasSettled st c → HasEnded st c
 rest_ends st c whole rest =
     record {
       tasks = λ a v low within. idle_tasks st (c.machine a).part (rest.idle a low) v within;

@@ -22,7 +22,7 @@ use Rattle.cluster_whole.proofs.Due.{sums_are}
 use Rattle.cluster_whole.proofs.Flows.{nothing_under_way, total_from-none}
 use Rattle.cluster_whole.proofs.Pieces.{begins_pushed}
 use Rattle.cluster_whole.proofs.Telling.{turned_part, turned_whole}
-use Rattle.cluster_ending.specs.Watched.{AreWatched, HasAnswered, HasMoved, HasTold, IsAtRest, IsDoneSince, IsIdleWave, IsNotAbove, IsTurnOf, SomeMoved, Watch, behind_wave, last_counts, told_behind, waves_in}
+use Rattle.cluster_ending.specs.Watched.{AreWatched, HasAnswered, HasMoved, HasTold, HasSettled, IsDoneSince, IsIdleWave, IsNotAbove, IsTurnOf, SomeMoved, Watch, behind_wave, last_counts, told_behind, waves_in}
 use Rattle.cluster_ending.proofs.Coming.{turned_before_long}
 use Rattle.cluster_ending.proofs.Sums.{all_or_some}
 use Rattle.cluster_ending.proofs.Turns.{watch_of}
@@ -226,7 +226,7 @@ module _ (st : Setting) (begun : ℕ) (c : Cluster) (turn : ℕ → Turn) (befor
               updates = λ a told low come. ((has_told a low).untasked (idle_at a low) (same a low).0).1 ∙ ap (λ (x : Counted). x.updates) (some_same (answer a) told (sym (last_slot a low some) ∙ come));
             }
 
-        at_rest : newest ≡ begun → IsAtRest st asked
+        at_rest : newest ≡ begun → HasSettled st asked
         at_rest at =
             record { idle = λ a low. ap (λ (x : Counted). x.idle) ((has_told a low).resting at (idle_at a low) (same a low).0) ∙ idle_at a low; silent = silent }
 
@@ -258,7 +258,7 @@ module _ (st : Setting) (begun : ℕ) (c : Cluster) (turn : ℕ → Turn) (befor
           updates = λ a told low. absurd (not_any a st.machines none low);
         }
 
-    no_machine_rests : st.machines ≡ 0 → IsAtRest st asked
+    no_machine_rests : st.machines ≡ 0 → HasSettled st asked
     no_machine_rests none =
         record {
           idle = λ a low. absurd (not_any a st.machines none low);
@@ -279,8 +279,8 @@ module _ (st : Setting) (begun : ℕ) (c : Cluster) (turn : ℕ → Turn) (befor
           balanced = was.balanced;
           after_idle = by_cases (IsDoneSince st asked (last_counts next) ⊎ SomeMoved st next asked later) (λ none. inl (no_machine_done none))
               (λ any some idle. by_search some any idle (IsDoneSince st asked (last_counts next)) (done_since some any idle));
-          at_rest = λ at. by_cases (IsAtRest st asked ⊎ SomeMoved st next asked later) (λ none. inl (no_machine_rests none))
-              (λ any some idle. by_search some any idle (IsAtRest st asked) (λ same. at_rest some any idle same at));
+          at_rest = λ at. by_cases (HasSettled st asked ⊎ SomeMoved st next asked later) (λ none. inl (no_machine_rests none))
+              (λ any some idle. by_search some any idle (HasSettled st asked) (λ same. at_rest some any idle same at));
         }
 
   -- ---- a snapshot begins

@@ -14,7 +14,7 @@ use Rattle.cluster_model.specs.TwoWaves.{turned}
 use Rattle.cluster_model.specs.Working.{answers_if, is_done, or_zero, prompt, takes_call}
 use Rattle.cluster_whole.specs.Steps.{Holds, IsCalled, Tells, Told, Turn, calls_of, come_of, counts_in, held_of, is_told, reports_of}
 use Rattle.cluster_whole.proofs.Turning.{counts_pushed}
-use Rattle.cluster_ending.specs.Watched.{AreWatched, HasAnswered, HasMoved, HasTold, IsAtRest, IsDoneSince, IsIdleWave, IsNotAbove, IsTurnOf, Watch, behind_wave, last_counts, shown_by, shown_in, told_behind, waves_in}
+use Rattle.cluster_ending.specs.Watched.{AreWatched, HasAnswered, HasMoved, HasTold, HasSettled, IsDoneSince, IsIdleWave, IsNotAbove, IsTurnOf, Watch, behind_wave, last_counts, shown_by, shown_in, told_behind, waves_in}
 use Rattle.cluster_ending.proofs.Deeds.{IsAlike, alike_balanced, alike_deed, alike_done, alike_rests, deed_keeps, low_again, seen_alike, turn_seen}
 use Rattle.cluster_ending.proofs.Idle.{idle_tasks}
 use Rattle.cluster_ending.proofs.Words.{calls_again, calls_same}
@@ -80,9 +80,9 @@ goes_alike st counting next begun c new watch later was alike last shown before 
           inl (record { left = still.left; updates = λ a told within come. still.logs a ∙ done.updates a told within come }))
           (λ (m : moved_in st (last_counts counting) c watch). inr (moved m))
           (was.after_idle idle));
-      at_rest = λ at. subst (λ (counts : List (Option Counted)). IsIdleWave counts → IsAtRest st new ⊎ moved_in st counts new later) (sym last)
+      at_rest = λ at. subst (λ (counts : List (Option Counted)). IsIdleWave counts → HasSettled st new ⊎ moved_in st counts new later) (sym last)
           (λ idle. ⊎_elim
-          (λ (rest : IsAtRest st c). inl (alike_rests st c new alike rest))
+          (λ (rest : HasSettled st c). inl (alike_rests st c new alike rest))
           (λ (m : moved_in st (last_counts counting) c watch). inr (moved m))
           (was.at_rest (sym before ∙ at) idle));
     }

@@ -81,7 +81,7 @@ pub record HasNoTaskLeft (st : Setting) (w : World) : Type 0 where
   pub wakes : (p q u : ℕ) → p < st.machines → q < st.machines → u < size st.graph → vertex_woken u (way w p q) ≡ false
 
 -- Each machine is idle, and no message is on its way between machines.
-pub record IsAtRest (st : Setting) (c : Cluster) : Type 0 where
+pub record HasSettled (st : Setting) (c : Cluster) : Type 0 where
   pub idle : (a : ℕ) → a < st.machines → (count_of st (c.machine a)).idle ≡ true
   pub silent : under_way st (world_of c) ≡ 0
 
@@ -161,7 +161,7 @@ pub record AreWatched (st : Setting) (counting : Counting) (begun : ℕ) (c : Cl
   -- where the wave before was idle, no task is left, or a machine has moved since; and where besides no snapshot was begun since,
   -- all is at rest, or a machine has moved
   pub after_idle : IsIdleWave (last_counts counting) → IsDoneSince st c (last_counts counting) ⊎ SomeMoved st counting c watch
-  pub at_rest : watch.begun_before ≡ begun → IsIdleWave (last_counts counting) → IsAtRest st c ⊎ SomeMoved st counting c watch
+  pub at_rest : watch.begun_before ≡ begun → IsIdleWave (last_counts counting) → HasSettled st c ⊎ SomeMoved st counting c watch
 
 -- the same, of what the coordinator has counted and begun
 abbrev pub IsWatched : Setting → Cluster → Watch → Type 0
