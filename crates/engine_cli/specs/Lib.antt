@@ -1,16 +1,14 @@
-pub mod FilesUsed
+
+
+
 pub mod Answer
-pub mod Printing
 pub mod Says
 pub mod Status
-pub mod Found
+pub mod NamesWritten
+pub mod CutJobs
 pub mod Ended
-pub mod Runs
 pub mod Plays
 pub mod Notes
-pub mod Writes
-pub mod Leaves
 pub mod Made
-pub mod Prepares
-pub mod Causes
 pub mod Verbs
+pub mod Inner
