@@ -19,7 +19,7 @@ use Rattle.whole_files.specs.Leaves.{KeepsOrGives}
 use Rattle.whole_files.proofs.CutNames.{cut-names-apart}
 use Rattle.whole_files.proofs.FilesInTurn.{wrote-fronts, wrote-more, wrote-none, wrote-stops}
 use Rattle.graph_files.specs.Cuts.{cut_text}
-use Rattle.graph_files.specs.Inner.GoingOn.{AreEachAtoms, GoesOn, HaveLines, LeavesAtMostFronts}
+use Rattle.graph_files.specs.Inner.GoingOn.{AreEachAtoms, GoesOnWriting, HaveLines, LeavesAtMostFronts}
 use Rattle.graph_files.specs.Made.{IsFault}
 
 -- the files of a cut have names of their own
@@ -136,7 +136,7 @@ module _ (prefix : List ℕ) (g : DataGraph) (of : List ℕ) (atoms : ℕ) (line
       → WritesFiles (cut_names prefix atoms) old new × LeavesFronts (cut_name prefix) text (atoms + 1) old new
   cut-fronts old mid new w fronts = counted old new (fronts text old (have-lines g of atoms lines are) w)
 
-  pub cut-written : (old mid new : FilesState) → WroteFiles (cut_name prefix) text (length lines + 1) 1 old mid → GoesOn prefix lines (length lines + 1) mid new
+  pub cut-written : (old mid new : FilesState) → WroteFiles (cut_name prefix) text (length lines + 1) 1 old mid → GoesOnWriting prefix lines (length lines + 1) mid new
       → LeavesFiles (cut_name prefix) text (atoms + 1) old new
   cut-written old mid new w goes =
       subst (λ (n : ℕ). LeavesFiles (cut_name prefix) text (n + 1) old new) are.count (goes text old (have-lines g of atoms lines are) w).given

@@ -7,7 +7,7 @@ ghost use Rattle.whole_files.specs.FilesUsed.{WritesFiles};
 ghost use Rattle.whole_files.specs.InTurn.{LeavesFiles, LeavesFronts};
 ghost use Rattle.whole_files.specs.Leaves.{KeepsOrGives};
 ghost use Rattle.graph_files.specs.Cuts.{OfCut};
-ghost use Rattle.graph_files.specs.Inner.GoingOn.{AreEachAtoms, GoesOn, LeavesAtMostFronts};
+ghost use Rattle.graph_files.specs.Inner.GoingOn.{AreEachAtoms, GoesOnWriting, LeavesAtMostFronts};
 ghost use Rattle.graph_files.specs.Made.{IsFault};
 
 use atom_cut::cut;
@@ -55,7 +55,7 @@ fn write_atoms<F: Files>(
     requires count { length lines.now ≡ atoms }
     requires few { atoms ≤ MAX_ATOMS }
     requires atoms { AreEachAtoms lines.now }
-    ensures written { OnOk result (GoesOn prefix.now lines.now (length lines.now + 1) (F.state files.old) (F.state files.new)) }
+    ensures written { OnOk result (GoesOnWriting prefix.now lines.now (length lines.now + 1) (F.state files.old) (F.state files.new)) }
     ensures fronts { LeavesAtMostFronts prefix.now lines.now (F.state files.old) (F.state files.new) }
     ensures fault { IfErr result (λ why. IsFault why (F.state files.old).sinks.faults (F.state files.new).sinks.faults) }
 {

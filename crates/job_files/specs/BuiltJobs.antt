@@ -30,13 +30,13 @@ if_built job None = Ok job
 if_built job (Some key) = Err (NotBuilt key)
 
 -- the job, where it has the key that the verb needs: `cut` needs the name for its files
-abbrev pub with_key : JobVerb → JobSayings → Result JobSayings JobFault
-with_key Run job = Ok job
-with_key Cut job = if is_some job.fields.atoms_at then Ok job else Err (Missing key.AtomsAt)
+abbrev pub with_needed_key : JobVerb → JobSayings → Result JobSayings JobFault
+with_needed_key Run job = Ok job
+with_needed_key Cut job = if is_some job.fields.atoms_at then Ok job else Err (Missing key.AtomsAt)
 
 -- the job, where the verb can do it, or else the first fault
 abbrev pub doable : JobVerb → JobSayings → Result JobSayings JobFault
-doable verb said = and_then (with_key verb said) (λ job. if_built job (not_built job))
+doable verb said = and_then (with_needed_key verb said) (λ job. if_built job (not_built job))
 
 -- the job that the bytes say and that the verb can do, or else the first fault
 abbrev pub job_for : JobVerb → List ℕ → Result JobSayings JobFault

@@ -16,8 +16,8 @@ abbrev pub HaveLines : (ℕ → List ℕ) → List Lines → Type 0
 HaveLines text lines = (a : ℕ) (d : Lines) → a < length lines → text (suc a) ≡ atom_bytes (atom_of a (slice_index_or lines a d))
 
 -- of the index and so many atoms, the first files are written as a call begins, and more as it ends
-abbrev pub GoesOn : List ℕ → List Lines → ℕ → FilesState → FilesState → Type 0
-GoesOn prefix lines count old new =
+abbrev pub GoesOnWriting : List ℕ → List Lines → ℕ → FilesState → FilesState → Type 0
+GoesOnWriting prefix lines count old new =
     (text : ℕ → List ℕ) (start : FilesState) → HaveLines text lines → WroteFiles (cut_name prefix) text (length lines + 1) 1 start old
     → WroteFiles (cut_name prefix) text (length lines + 1) count start new
 

@@ -62,3 +62,76 @@ returns-in_err-read-clause-read g c =
     let count = c.in-Ok.ensures.atoms in
     reads-atoms files mid new c.args.prefix.now c.as_str.result.now index.items c.in-Ok.atoms named (rw c.deref.ensures.value at count)
     (index-formed files mid.sources.faults c.args.prefix.now index taken (rw c.deref.ensures.value at none)) c.in_ok-index.ensures.read c.in_ok-index.ensures.handed c.in_err-read.ensures.read
+
+pub returns-in-Ok-gathered-clause-answer : goal.returns-in-Ok-gathered-clause-answer
+returns-in-Ok-gathered-clause-answer g c =
+    let files = g.F.Files.state c.args.files.now in
+    let mid = g.F.Files.state c.read_file.new.files in
+    let new = g.F.Files.state c.read_atoms.new.files in
+    let named : c.as_str.result.now ≡ index_name c.args.prefix.now = search rules in
+    let index = c.in_ok-index.index in
+    let taken = file-renamed files mid.sources.faults c.as_str.result.now (index_name c.args.prefix.now) 0 (Ok index) named c.in_ok-index.ensures.answer in
+    let formed_none = c.in-Ok.ensures.none in
+    let count = c.in-Ok.ensures.atoms in
+    let formed = index-formed files mid.sources.faults c.args.prefix.now index taken (rw c.deref.ensures.value at formed_none) in
+    let was = c.in_ok-index.ensures in
+    let have = atoms-before files mid new.sources.faults (c.as_str.result.now ∷ []) c.args.prefix.now c.in-Ok.atoms (Ok c.in_ok-read.read.items) was.read.frame was.handed was.read.later c.in_ok-read.ensures.read_all in
+    let found = c.in-Ok-gathered.ensures.none in
+    looks-gathered files c.args.prefix.now c.args.graph.now index.items c.in-Ok.atoms c.in_ok-read.read.items None (rw c.deref.ensures.value at count) formed have
+    (rw (c.deref-2.ensures.value, c.deref-3.ensures.value) at found)
+
+pub returns-in-Err-Fault-clause-answer : goal.returns-in-Err-Fault-clause-answer
+returns-in-Err-Fault-clause-answer g c =
+    let files = g.F.Files.state c.args.files.now in
+    let mid = g.F.Files.state c.read_file.new.files in
+    let new = g.F.Files.state c.read_atoms.new.files in
+    let named : c.as_str.result.now ≡ index_name c.args.prefix.now = search rules in
+    let index = c.in_ok-index.index in
+    let taken = file-renamed files mid.sources.faults c.as_str.result.now (index_name c.args.prefix.now) 0 (Ok index) named c.in_ok-index.ensures.answer in
+    let formed_none = c.in-Ok.ensures.none in
+    let count = c.in-Ok.ensures.atoms in
+    let formed = index-formed files mid.sources.faults c.args.prefix.now index taken (rw c.deref.ensures.value at formed_none) in
+    let was = c.in_ok-index.ensures in
+    let have = atoms-before files mid new.sources.faults (c.as_str.result.now ∷ []) c.args.prefix.now c.in-Ok.atoms (Ok c.in_ok-read.read.items) was.read.frame was.handed was.read.later c.in_ok-read.ensures.read_all in
+    let found = c.in-Err-Fault.ensures.fault c.in-Err-Fault.fault (ap Err c.in-Err-Fault.field-0-is) in
+    looks-gathered files c.args.prefix.now c.args.graph.now index.items c.in-Ok.atoms c.in_ok-read.read.items (Some c.in-Err-Fault.fault) (rw c.deref.ensures.value at count) formed have
+    (rw (c.deref-2.ensures.value, c.deref-3.ensures.value) at found)
+
+pub returns-in-Ok-gathered-clause-read : goal.returns-in-Ok-gathered-clause-read
+returns-in-Ok-gathered-clause-read g c =
+    let files = g.F.Files.state c.args.files.now in
+    let mid = g.F.Files.state c.read_file.new.files in
+    let new = g.F.Files.state c.read_atoms.new.files in
+    let named : c.as_str.result.now ≡ index_name c.args.prefix.now = search rules in
+    let index = c.in_ok-index.index in
+    let taken = file-renamed files mid.sources.faults c.as_str.result.now (index_name c.args.prefix.now) 0 (Ok index) named c.in_ok-index.ensures.answer in
+    let formed_none = c.in-Ok.ensures.none in
+    let count = c.in-Ok.ensures.atoms in
+    let formed = index-formed files mid.sources.faults c.args.prefix.now index taken (rw c.deref.ensures.value at formed_none) in
+    reads-atoms files mid new c.args.prefix.now c.as_str.result.now index.items c.in-Ok.atoms named (rw c.deref.ensures.value at count) formed c.in_ok-index.ensures.read c.in_ok-index.ensures.handed c.in_ok-read.ensures.read
+
+pub returns-in-Err-Fault-clause-read : goal.returns-in-Err-Fault-clause-read
+returns-in-Err-Fault-clause-read g c =
+    let files = g.F.Files.state c.args.files.now in
+    let mid = g.F.Files.state c.read_file.new.files in
+    let new = g.F.Files.state c.read_atoms.new.files in
+    let named : c.as_str.result.now ≡ index_name c.args.prefix.now = search rules in
+    let index = c.in_ok-index.index in
+    let taken = file-renamed files mid.sources.faults c.as_str.result.now (index_name c.args.prefix.now) 0 (Ok index) named c.in_ok-index.ensures.answer in
+    let formed_none = c.in-Ok.ensures.none in
+    let count = c.in-Ok.ensures.atoms in
+    let formed = index-formed files mid.sources.faults c.args.prefix.now index taken (rw c.deref.ensures.value at formed_none) in
+    reads-atoms files mid new c.args.prefix.now c.as_str.result.now index.items c.in-Ok.atoms named (rw c.deref.ensures.value at count) formed c.in_ok-index.ensures.read c.in_ok-index.ensures.handed c.in_ok-read.ensures.read
+
+pub returns-clause-read : goal.returns-clause-read
+returns-clause-read g c =
+    let files = g.F.Files.state c.args.files.now in
+    let mid = g.F.Files.state c.read_file.new.files in
+    let new = g.F.Files.state c.read_atoms.new.files in
+    let named : c.as_str.result.now ≡ index_name c.args.prefix.now = search rules in
+    let index = c.in_ok-index.index in
+    let taken = file-renamed files mid.sources.faults c.as_str.result.now (index_name c.args.prefix.now) 0 (Ok index) named c.in_ok-index.ensures.answer in
+    let formed_none = c.in-Ok.ensures.none in
+    let count = c.in-Ok.ensures.atoms in
+    let formed = index-formed files mid.sources.faults c.args.prefix.now index taken (rw c.deref.ensures.value at formed_none) in
+    reads-atoms files mid new c.args.prefix.now c.as_str.result.now index.items c.in-Ok.atoms named (rw c.deref.ensures.value at count) formed c.in_ok-index.ensures.read c.in_ok-index.ensures.handed c.in_ok-read.ensures.read

@@ -5,7 +5,7 @@ use Rattle.whole_files.specs.FilesUsed.{HandsOver}
 use Rattle.job_files.specs.NamesRead.{names_of}
 use Rattle.job_files.specs.declared.jobs.JobVerb.TheVariants.{Run}
 use Rattle.job_files.proofs.AtomsLooked.{atoms-names-before, named-before}
-use Rattle.job_files.proofs.InputsRead.{hands-for-run, refuses-early, refuses-late, run-read, run-refused, run-unread}
+use Rattle.job_files.proofs.InputsRead.{hands-for-run, refuses-early, run-read, run-refused, run-unread}
 use Rattle.job_files.proofs.inputs.read_run_input.Goals as goal
 
 pub returns-in_err-input-clause-answer : goal.returns-in_err-input-clause-answer
@@ -45,8 +45,8 @@ returns-in-Ok-clause-handed g c =
     hands-for-run files mid new c.args.file.now input was.answer was.handed
     (subst (HandsOver mid.sources.names new.sources.names) (atoms-names-before files mid input.job.atoms_at was.read.frame) c.in-Ok.ensures.read.handed)
 
-pub returns-clause-answer : goal.returns-clause-answer
-returns-clause-answer g c =
+pub returns-in-Err-clause-answer : goal.returns-in-Err-clause-answer
+returns-in-Err-clause-answer g c =
     let files = g.F.Files.state c.args.files.now in
     let mid = g.F.Files.state c.read_input.new.files in
     let now = (g.F.Files.state c.check_named.new.files).sources.faults in
@@ -55,12 +55,8 @@ returns-clause-answer g c =
     run-refused files now c.args.file.now input c.in-Err.why was.answer
     (named-before files mid now (names_of Run files c.args.file.now) input.job.atoms_at input.graph (Err c.in-Err.why) was.read.frame was.handed was.read.later c.in-Err.ensures.answer)
 
-pub returns-clause-frame : goal.returns-clause-frame
-returns-clause-frame g c =
-    ChangesSources-trans (g.F.Files.state c.args.files.now) (g.F.Files.state c.read_input.new.files) (g.F.Files.state c.check_named.new.files) c.in_ok-input.ensures.read.frame c.in-Err.ensures.read.frame
-
-pub returns-clause-handed : goal.returns-clause-handed
-returns-clause-handed g c =
+pub returns-in-Err-clause-handed : goal.returns-in-Err-clause-handed
+returns-in-Err-clause-handed g c =
     let files = g.F.Files.state c.args.files.now in
     let mid = g.F.Files.state c.read_input.new.files in
     let new = g.F.Files.state c.check_named.new.files in
@@ -68,11 +64,3 @@ returns-clause-handed g c =
     let was = c.in_ok-input.ensures in
     hands-for-run files mid new c.args.file.now input was.answer was.handed
     (subst (HandsOver mid.sources.names new.sources.names) (atoms-names-before files mid input.job.atoms_at was.read.frame) c.in-Err.ensures.read.handed)
-
-pub returns-clause-refused : goal.returns-clause-refused
-returns-clause-refused g c =
-    let files = g.F.Files.state c.args.files.now in
-    let mid = g.F.Files.state c.read_input.new.files in
-    let new = g.F.Files.state c.check_named.new.files in
-    let input = c.in_ok-input.input in
-    refuses-late mid files new new.sources.faults c.args.file.now input.graph input.job.atoms_at c.in-Err.why c.in-Err.ensures.answer
