@@ -1,6 +1,3 @@
-
-
-
 pub mod Answer
 pub mod Says
 pub mod Status

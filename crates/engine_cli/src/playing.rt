@@ -53,12 +53,7 @@ fn source_of(job: &Job) -> u64
 }
 
 /// Runs a program until no task is left or the budget is spent.
-fn play<P: Program>(
-    alloc: Global,
-    graph: &Graph,
-    program: P,
-    budget: u64,
-) -> Result<Run, NoMemory>
+fn play<P: Program>(alloc: Global, graph: &Graph, program: P, budget: u64) -> Result<Run, NoMemory>
     ensures { IfOk result (λ run. RunsTo graph.now (P.meaning program) budget run.order.items run.numbers.items run.left) }
 {
     let mut run = SeqRun::new(alloc, graph, program)?;

@@ -1,7 +1,7 @@
 //! How a call ended.
 ghost use Rattle.std.specs.Prelude.{◌≡◌};
 ghost use Rattle.engine_cli.specs.Status.{status_of_no_input, status_of_writing};
-    ghost use Rattle.engine_cli.specs.Status.{exit_number};
+ghost use Rattle.engine_cli.specs.Status.{exit_number};
 
 use gl_base::{AtomsFault, JobFault, TextFault, UsageFault, Vertex};
 use graph_text::Writing;

@@ -113,8 +113,11 @@ atom-formed files now prefix a bytes takes none = go files.sources.names takes.1
 
     go : (names : Option (List (List ℕ))) → IfSome names (λ told. bytes.items ≡ file) → IfSome names (λ told. (bytes.items ≡ file) × (atom_form (atom_files files prefix) a ≡ None))
     go None h = tt
-    go (Some told) h = (h, subst (λ (l : List ℕ). long_or (a + 1) l (form_of (a + 1) (atom_fault l)) ≡ None) h
-        (not-long (a + 1) bytes.items (form_of (a + 1) (atom_fault bytes.items)) takes.0 ∙ ap (form_of (a + 1)) none))
+    go (Some told) h = (
+      h,
+      subst (λ (l : List ℕ). long_or (a + 1) l (form_of (a + 1) (atom_fault l)) ≡ None) h
+          (not-long (a + 1) bytes.items (form_of (a + 1) (atom_fault bytes.items)) takes.0 ∙ ap (form_of (a + 1)) none),
+    )
 
 -- it has not
 pub atom-unformed : (files : FilesState) (now : ℕ) (prefix : List ℕ) (a : ℕ) (bytes : Vec ℕ Global) (fault : AtomFault) → TakesFile files now (atom_name prefix a) (a + 1) (Ok bytes)

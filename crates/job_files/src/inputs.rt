@@ -104,21 +104,14 @@ pub fn read_input<F: Files>(
     let graph = graph_of(alloc, files, &job)?;
     match lacked_source(&graph, &job) {
         None => Ok(Input { job, graph }),
-        Some(source) => Err(NoInput::BadJob(JobFault::OutOfRange(
-            Key::Source,
-            source,
-        ))),
+        Some(source) => Err(NoInput::BadJob(JobFault::OutOfRange(Key::Source, source))),
     }
 }
 
 /// Reads the job in the file of this name and the graph that it names, as `read_input` does, and then, where the job names
 /// a prefix of atoms, the index there and the atoms of its number. They are refused where they are not those of the graph
 /// under any assignment of its vertices.
-pub fn read_run_input<F: Files>(
-    alloc: Global,
-    files: &mut F,
-    file: &str,
-) -> Result<Input, NoInput>
+pub fn read_run_input<F: Files>(alloc: Global, files: &mut F, file: &str) -> Result<Input, NoInput>
     ensures answer { IsRunInput (F.state files.old) (F.state files.new).sources.faults file.now result }
     ensures frame { ChangesSources (F.state files.old) (F.state files.new) }
     ensures handed { HandsForRun (F.state files.old) (F.state files.new) file.now }

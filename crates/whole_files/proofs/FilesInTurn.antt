@@ -126,11 +126,11 @@ module _ (name text : ℕ → List ℕ) (n : ℕ) (apart : (i j : ℕ) → i < n
       fronts : LeavesFronts name text n old new
       fronts i under = ⊎_elim
           (λ low. subst (λ (given : Option (List ℕ)). KeepsOrGives old.sinks.names (old.contents (name i)) given (Front i))
-              (sym (kept mid new k i inside under (λ same. absurd (omega (arith, same, low))) wrote)) (wrote-fronts old mid k w i under))
+          (sym (kept mid new k i inside under (λ same. absurd (omega (arith, same, low))) wrote)) (wrote-fronts old mid k w i under))
           (λ high. ⊎_elim
-              (λ above. subst (λ (given : Option (List ℕ)). KeepsOrGives old.sinks.names (old.contents (name i)) given (Front i))
-                  (sym (kept mid new k i inside under (λ same. absurd (omega (arith, same, above))) wrote)) (wrote-fronts old mid k w i under))
-              (λ not. let same : i ≡ k = omega (arith, high, not) in
-              subst (λ (j : ℕ). KeepsOrGives old.sinks.names (old.contents (name j)) (new.contents (name j)) (Front j)) (sym same) own)
-              (cases_lt k i))
+          (λ above. subst (λ (given : Option (List ℕ)). KeepsOrGives old.sinks.names (old.contents (name i)) given (Front i))
+          (sym (kept mid new k i inside under (λ same. absurd (omega (arith, same, above))) wrote)) (wrote-fronts old mid k w i under))
+          (λ not. let same : i ≡ k = omega (arith, high, not) in
+          subst (λ (j : ℕ). KeepsOrGives old.sinks.names (old.contents (name j)) (new.contents (name j)) (Front j)) (sym same) own)
+          (cases_lt k i))
           (cases_lt i k)

@@ -18,7 +18,6 @@ use Rattle.job_files.specs.NamesRead.{atoms_names}
 abbrev pub OfGiven : FilesState → List ℕ → (List ℕ → Type 0) → Type 0
 OfGiven files name P = IfSome files.sources.names (λ told. P (given_bytes files name))
 
-
 -- a fault of the files, where this holds of it, or one of reading, or want of memory
 abbrev pub FindsFault : FilesState → ℕ → (AtomsFault → Type 0) → NoInput → Type 0
 FindsFault files now P (why.BadJob fault) = ⊥

@@ -16,7 +16,7 @@ returns-in_err-write_file-clause-fronts g c =
       of,
       c.in_ok-made.ensures.cut,
       (cut-index-stops c.args.prefix.now c.args.graph.now of c.args.atoms made.lines.items c.in_ok-made.ensures.lines c.requires.few (g.F.Files.state c.args.files.now) (g.F.Files.state c.write_file.new.files) c.as_str.result.now c.deref.result.now named is
-      c.in_err-write_file.ensures.wrote c.in_err-write_file.ensures.front).1,
+          c.in_err-write_file.ensures.wrote c.in_err-write_file.ensures.front).1,
     )
 
 pub returns-in_err-write_file-clause-wrote : goal.returns-in_err-write_file-clause-wrote
@@ -63,8 +63,8 @@ returns-clause-fronts g c =
       of,
       c.in_ok-made.ensures.cut,
       (cut-fronts c.args.prefix.now c.args.graph.now of c.args.atoms made.lines.items c.in_ok-made.ensures.lines c.requires.few old mid (g.F.Files.state c.write_atoms.new.files)
-      (cut-index-written c.args.prefix.now c.args.graph.now of c.args.atoms made.lines.items c.in_ok-made.ensures.lines c.requires.few old mid c.as_str.result.now c.deref.result.now named is
-      c.in_ok-write_file.ensures.wrote c.in_ok-write_file.ensures.handed c.in_ok-write_file.ensures.written) (rw c.deref-2.ensures.value at c.write_atoms.ensures.fronts)).1,
+          (cut-index-written c.args.prefix.now c.args.graph.now of c.args.atoms made.lines.items c.in_ok-made.ensures.lines c.requires.few old mid c.as_str.result.now c.deref.result.now named is
+          c.in_ok-write_file.ensures.wrote c.in_ok-write_file.ensures.handed c.in_ok-write_file.ensures.written) (rw c.deref-2.ensures.value at c.write_atoms.ensures.fronts)).1,
     )
 
 pub returns-clause-wrote : goal.returns-clause-wrote
