@@ -13,7 +13,8 @@ use Rattle.seq_run.specs.StepBound.{step_bound, updates_from, updates_since_rest
 use Rattle.seq_run.proofs.GoingOn.{updates_from-push, valid_append}
 use Rattle.seq_run.proofs.StepBounds.{levels_bound, components_bound, paths_bound, colours_bound}
 use Rattle.update_api.specs.Updates.{Update, update_of_levels, update_of_paths}
-use Rattle.engine_cli.specs.Plays.{HasStart, update_of}
+use Rattle.job_files.specs.JobTexts.{HasStart}
+use Rattle.engine_cli.specs.Plays.{update_of}
 use Rattle.engine_cli.proofs.Results.{named}
 
 -- the update of a task may come next

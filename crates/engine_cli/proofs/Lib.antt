@@ -1,11 +1,8 @@
 pub mod NamesHanded
-pub mod SortedOnce
 pub mod TextsJoined
-pub mod TextsRead
-pub mod GraphsTold
-pub mod JobsTold
 pub mod OneCommand
-pub mod MadeFiles
+pub mod FilesMade
+pub mod CutMade
 pub mod PlansInRange
 pub mod PlaysTo
 pub mod Results

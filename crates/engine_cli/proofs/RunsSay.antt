@@ -1,5 +1,5 @@
 -- What a run says at each place where it ends.
-use Rattle.std.proofs.Common.{◌≡◌, ◌≤◌, ◌⊎◌, inl, inr, ℕ, Bool, List, [], ◌∷◌, Option, None, Some, IfSome, Ok, Err, take, refl, sym, ap, ◌∙◌, subst, ⊎_elim}
+use Rattle.std.proofs.Common.{◌≡◌, ◌⊎◌, inl, inr, ℕ, Bool, List, [], Option, None, Some, IfSome, Result, Ok, Err, take, refl, sym, ap, ◌∙◌, subst, ⊎_elim}
 use Rattle.std.specs.Prelude.{MatchOption}
 use Rattle.std.specs.declared.alloc.Global.{Global}
 use Rattle.std.specs.declared.vec.Vec.{Vec}
@@ -10,83 +10,53 @@ use Rattle.gl_outside.specs.Faults.{Rose}
 use Rattle.gl_outside.specs.FilesState.{FilesState, Opened, Written}
 use Rattle.gl_outside.specs.Frames.{ChangesSources}
 use Rattle.gl_outside.specs.Fronts.{AppendsFront}
-use Rattle.gl_outside.specs.Names.{AppendsNames}
-use Rattle.gl_outside.proofs.Fronts.{Rose-later}
-use Rattle.graph_core.specs.DataGraph.{DataGraph}
-use Rattle.graph_text.specs.declared.lists.Reading.{Reading}
-use Rattle.graph_text.specs.declared.lists.Reading.TheVariants as reading
 use Rattle.graph_text.specs.declared.making.Writing.TheVariants.{WriteFault as WriteFaultAtOut}
-use Rattle.graph_text.specs.Vertices.{vertices_of}
-use Rattle.job_config.specs.Fields.{JobFields}
 use Rattle.job_config.specs.Jobs.{JobSayings}
 use Rattle.job_config.specs.Views.{job_view}
 use Rattle.seq_run.specs.Orders.{IsFinished}
-use Rattle.engine_cli.specs.declared.jobs.NoJob.{NoJob}
-use Rattle.engine_cli.specs.declared.jobs.NoJob.TheVariants as no_job
-use Rattle.engine_cli.specs.declared.playing.NoRun.{NoRun}
-use Rattle.engine_cli.specs.declared.playing.NoRun.TheVariants as no_run
 use Rattle.engine_cli.specs.declared.running.Prepared.{Prepared}
-use Rattle.engine_cli.specs.declared.running.Unprepared.{Unprepared}
-use Rattle.engine_cli.specs.declared.running.Unprepared.TheVariants as why
+use Rattle.job_files.specs.declared.inputs.NoInput.{NoInput}
+use Rattle.job_files.specs.Inputs.{IsRunInput, RefusesEarly}
+use Rattle.job_files.specs.NamesRead.{HandsForRun}
+use Rattle.engine_cli.specs.Status.{IsRefusedInput, status_of_no_input}
 use Rattle.engine_cli.specs.declared.status.Status.{Status}
-use Rattle.engine_cli.specs.declared.status.Status.TheVariants.{Done, Usage, BadJob, BadGraph, ReadFault, WriteFault, BudgetSpent, NoMemory}
-use Rattle.engine_cli.specs.Answer.{IsAnswer, LacksSource, Printed, RefusesEdges, SpendsBudget, DescribeJobGraph}
-use Rattle.engine_cli.specs.Causes.{unprepared_graph, unprepared_job, unprepared_run}
+use Rattle.engine_cli.specs.declared.status.Status.TheVariants.{Done, Usage, BadJob, BadGraph, BadAtoms, ReadFault, WriteFault, BudgetSpent, NoMemory}
+use Rattle.engine_cli.specs.Answer.{IsAnswer, Printed, SpendsBudget}
+use Rattle.job_files.specs.JobTexts.{DescribeJobGraph, SaysJob}
 use Rattle.engine_cli.specs.Ended.{CountsUpdates}
-use Rattle.engine_cli.specs.FilesUsed.{HandsOver, ReadsFiles, WritesFiles}
-use Rattle.engine_cli.specs.Found.{TakesJob, TakesGraph, FindsRun, edges_after, graph_names, order_names, names_of}
-use Rattle.engine_cli.specs.Leaves.{KeepsOrGives}
+use Rattle.whole_files.specs.FilesUsed.{HandsOver, WritesFiles}
+use Rattle.job_files.specs.NamesRead.{names_of}
+use Rattle.engine_cli.specs.NamesWritten.{order_names}
+use Rattle.whole_files.specs.Leaves.{KeepsOrGives}
 use Rattle.engine_cli.specs.Plays.{IsSpent, update_of}
-use Rattle.engine_cli.specs.Prepares.{IsPreparedFrom, IsPrepared}
-use Rattle.engine_cli.specs.Printing.{Prints, printed_of}
-use Rattle.engine_cli.specs.Says.{FailsAtOrder, FailsAtOut, LeavesOrder, Moment, OfTexts, PrintsAnswer, Says, SaysJob}
-use Rattle.engine_cli.specs.Status.{IsBeforeMaking, IsBeforeWriting, status_of_unprepared}
+use Rattle.engine_cli.specs.Inner.Prepares.{IsPreparedFrom, IsPrepared}
+use Rattle.engine_cli.specs.Inner.Printing.{Prints, printed_of}
+use Rattle.engine_cli.specs.Says.{FailsAtOrder, FailsAtOut, LeavesOrder, Moment, PrintsAnswer, Says}
+use Rattle.engine_cli.specs.Status.{IsBeforeMaking, IsBeforeWriting}
 use Rattle.engine_cli.specs.Verbs.{IsRun}
-use Rattle.engine_cli.proofs.NamesHanded.{contains-named, hands-no-order, hands-order}
+use Rattle.engine_cli.proofs.NamesHanded.{hands-no-name, hands-written-names}
 use Rattle.engine_cli.proofs.OneGraph.{sound_is_done}
 use Rattle.engine_cli.proofs.Results.{results-of}
-use Rattle.engine_cli.proofs.TextsRead.{OfRead-two, text-before, texts-before}
+use Rattle.whole_files.proofs.TextsRead.{OfRead-two}
+use Rattle.job_files.specs.declared.inputs.NoInput.TheVariants as why
+use Rattle.job_files.specs.declared.jobs.JobVerb.TheVariants as verb
 
--- the job's file was not read, or says no job that can be run
-pub job-unprepared : (files : FilesState) (now : ℕ) (file : List ℕ) (job : NoJob) → TakesJob files now file (Err job) → IsPrepared files now file (Err (unprepared_job job))
-job-unprepared files now file (no_job.Refused fault) takes = inl takes
-job-unprepared files now file no_job.ReadFault takes = takes
-job-unprepared files now file no_job.NoMemory takes = tt
+-- what a run says that nothing was read for
+pub input-unprepared : (files : FilesState) (now : ℕ) (file : List ℕ) (cause : NoInput) → IsRunInput files now file (Err cause) → IsPrepared files now file (Err cause)
+input-unprepared files now file (why.BadJob fault) is = is
+input-unprepared files now file (why.BadGraph fault) is = is
+input-unprepared files now file (why.BadAtoms fault) is = is
+input-unprepared files now file why.ReadFault is = is
+input-unprepared files now file why.NoMemory is = tt
 
--- the graph's files were not read, or a text is refused
-pub graph-unprepared : (files mid : FilesState) (now : ℕ) (file : List ℕ) (names : List (List ℕ)) (job : JobSayings) (cause : Reading)
-    → ChangesSources files mid → AppendsNames files.sources.names mid.sources.names names → files.sources.faults ≤ mid.sources.faults → SaysJob files file job
-    → TakesGraph mid now job.fields (Err cause) → IsPrepared files now file (Err (unprepared_graph cause))
-graph-unprepared files mid now file names job (reading.Text fault) frame noted later says takes = (
-  job,
-  says,
-  ⊎_elim (λ first. inl (text-before files mid names job.fields.vertices (λ vertices. vertices_of vertices ≡ Err fault) frame noted first))
-      (λ second. inr (texts-before files mid names job.fields (RefusesEdges job.fields fault) frame noted second)) takes,
-)
-graph-unprepared files mid now file names job reading.ReadFault frame noted later says takes = Rose-later files.sources.faults mid.sources.faults now later takes
-graph-unprepared files mid now file names job reading.NoMemory frame noted later says takes = tt
-
--- the names of the graph's files, as they were before the job's file was read
-pub graph-names-before : (files mid : FilesState) (now : Option (List (List ℕ))) (job : JobFields) → ChangesSources files mid
-    → HandsOver mid.sources.names now (graph_names mid job) → HandsOver mid.sources.names now (graph_names files job)
-graph-names-before files mid now job frame hands =
-    subst (λ (c : List ℕ → Option (List ℕ)). HandsOver mid.sources.names now (job.vertices ∷ edges_after (c job.vertices) job.edges)) (ap (λ (s : FilesState). s.contents) frame) hands
-
--- no run on the graph was made
-pub run-unprepared : (files : FilesState) (now : ℕ) (file : List ℕ) (job : JobSayings) (g : DataGraph) (run : NoRun)
-    → SaysJob files file job → OfTexts files job.fields (λ vertices edges. DescribeJobGraph job.fields vertices edges g)
-    → FindsRun job.fields g (Err run) → IsPrepared files now file (Err (unprepared_run run))
-run-unprepared files now file job g (no_run.NoSource source) says texts lacks = inr (
-  job,
-  says,
-  (
-    source,
-    refl,
-    OfRead-two files.sources.names (files.contents job.fields.vertices) (files.contents job.fields.edges) (λ vertices edges. DescribeJobGraph job.fields vertices edges g)
-        (LacksSource job.fields source) (λ v e t. record { graph = g; described = t; needed = lacks.needed; asked = lacks.asked; lacks = lacks.lacks }) texts,
-  ),
-)
-run-unprepared files now file job g no_run.NoMemory says texts lacks = tt
+-- and of the names of files that were read
+pub retold-early : {A B : Type 0} (file : List ℕ) (old new : FilesState) (cause : NoInput) → RefusesEarly file old new (let r : Result A NoInput = Err cause in r)
+    → RefusesEarly file old new (let r : Result B NoInput = Err cause in r)
+retold-early file old new (why.BadJob fault) early = early
+retold-early file old new (why.BadGraph fault) early = early
+retold-early file old new (why.BadAtoms fault) early = tt
+retold-early file old new why.ReadFault early = tt
+retold-early file old new why.NoMemory early = tt
 
 -- what a run that left no task says of what it prints
 answers : (files : FilesState) (file : List ℕ) (report : Bool) (prepared : Prepared) (holds : Option (List ℕ) → Printed → Type 0)
@@ -105,6 +75,7 @@ answers files file report prepared holds is none kept =
         is.job,
         (
           kept,
+          is.atoms,
           OfRead-two files.sources.names (files.contents job.fields.vertices) (files.contents job.fields.edges) (λ vertices edges. DescribeJobGraph job.fields vertices edges prepared.graph)
               (λ vertices edges. IsAnswer job.fields report vertices edges printed prepared.run.order.items)
               (λ v e t. record {
@@ -199,22 +170,36 @@ spent-says file report before now tells prepared v is some =
     subst (λ (left : Option Vertex). MatchOption left (IsFinished prepared.graph p prepared.run.order.items) (IsSpent prepared.graph p prepared.job.budget prepared.run.order.items)) some is.run.ended in (
       job,
       is.job,
-      OfRead-two files.sources.names (files.contents job.fields.vertices) (files.contents job.fields.edges) (λ vertices edges. DescribeJobGraph job.fields vertices edges prepared.graph)
-          (SpendsBudget job.fields v prepared.run.order.items)
-          (λ w e t. record { graph = prepared.graph; graph_is = t; start = is.start; numbers = prepared.run.numbers.items; play = is.run.play; spent = spent }) is.texts,
+      (
+        is.atoms,
+        OfRead-two files.sources.names (files.contents job.fields.vertices) (files.contents job.fields.edges) (λ vertices edges. DescribeJobGraph job.fields vertices edges prepared.graph)
+            (SpendsBudget job.fields v prepared.run.order.items)
+            (λ w e t. record { graph = prepared.graph; graph_is = t; start = is.start; numbers = prepared.run.numbers.items; play = is.run.play; spent = spent }) is.texts,
+      ),
     )
 
 -- what a run says that was not made, and that no update counts
-pub unprepared-says : (file : List ℕ) (report : Bool) (before now : Moment) (tells : List ℕ → Type 0) (why : Unprepared)
-    → IsPrepared before.files now.files.sources.faults file (Err why) → Says file report before now tells [] (status_of_unprepared why)
+pub unprepared-says : (file : List ℕ) (report : Bool) (before now : Moment) (tells : List ℕ → Type 0) (why : NoInput)
+    → IsPrepared before.files now.files.sources.faults file (Err why) → Says file report before now tells [] (status_of_no_input why)
 unprepared-says file report before now tells (why.BadJob fault) prepared = (refl, prepared)
 unprepared-says file report before now tells (why.BadGraph fault) prepared = (refl, prepared)
+unprepared-says file report before now tells (why.BadAtoms fault) prepared = (refl, prepared)
 unprepared-says file report before now tells why.ReadFault prepared = (refl, prepared)
 unprepared-says file report before now tells why.NoMemory prepared = refl
 
-pub unprepared-counts : (why : Unprepared) → CountsUpdates [] [] (status_of_unprepared why)
+-- the names of files that were read, where it is the job or its graph that is refused
+pub unprepared-names : (file : List ℕ) (old new : FilesState) (why : NoInput) → RefusesEarly file old new (let r : Result Prepared NoInput = Err why in r)
+    → IsRefusedInput (status_of_no_input why) → HandsOver old.sources.names new.sources.names (names_of verb.Run old file)
+unprepared-names file old new (why.BadJob fault) hands refused = hands
+unprepared-names file old new (why.BadGraph fault) hands refused = hands
+unprepared-names file old new (why.BadAtoms fault) hands refused = absurd refused
+unprepared-names file old new why.ReadFault hands refused = absurd refused
+unprepared-names file old new why.NoMemory hands refused = absurd refused
+
+pub unprepared-counts : (why : NoInput) → CountsUpdates [] [] (status_of_no_input why)
 unprepared-counts (why.BadJob fault) = (refl, refl)
 unprepared-counts (why.BadGraph fault) = (refl, refl)
+unprepared-counts (why.BadAtoms fault) = (refl, refl)
 unprepared-counts why.ReadFault = (refl, refl)
 unprepared-counts why.NoMemory = (refl, refl)
 
@@ -223,27 +208,35 @@ pub told-says : (file : List ℕ) (report : Bool) (before now : Moment) (tells r
     → (status ≡ Done → (told : List ℕ) → tells told → retells told)
     → Says file report before now tells order status → Says file report before now retells order status
 told-says file report before now tells retells order Done same says =
-    (says.0, (says.1.0, says.1.1, ((says.1.2.0.0, same refl says.0.report says.1.2.0.1, says.1.2.0.2), says.1.2.1)))
+    (says.0, (says.1.0, says.1.1, ((says.1.2.0.0, same refl says.0.report says.1.2.0.1, says.1.2.0.2), says.1.2.1, says.1.2.2)))
 told-says file report before now tells retells order (Usage fault) same says = says
 told-says file report before now tells retells order (BadJob fault) same says = says
 told-says file report before now tells retells order (BadGraph fault) same says = says
+told-says file report before now tells retells order (BadAtoms fault) same says = says
 told-says file report before now tells retells order ReadFault same says = says
 told-says file report before now tells retells order WriteFault same says = says
 told-says file report before now tells retells order (BudgetSpent left) same says = says
 told-says file report before now tells retells order NoMemory same says = says
 
+-- What was read until now: at most the files of the job, of its graph and of its atoms, in turn.
+pub record HasRead (file : List ℕ) (old new : FilesState) : Type 0 where
+  pub frame : ChangesSources old new
+  pub handed : HandsForRun old new file
+
 -- What a run leaves that ended before it wrote.
 pub ends-early : (file : List ℕ) (report : Bool) (before now : Moment) (tells : List ℕ → Type 0) (order : List Entry) (done : List ℕ) (status : Status)
-    → Says file report before now tells order status → CountsUpdates order done status → ReadsFiles (names_of before.files file) before.files now.files
+    → Says file report before now tells order status → CountsUpdates order done status → HasRead file before.files now.files
+    → (IsRefusedInput status → HandsOver before.files.sources.names now.files.sources.names (names_of verb.Run before.files file))
     → IsRun file report before now tells order done status
-ends-early file report before now tells order done status says counts read =
+ends-early file report before now tells order done status says counts read refused =
     let contents = ap (λ (s : FilesState). s.contents) read.frame in
     record {
       says = says;
       counts = counts;
       complete = λ sound. sound_is_done file report before now tells order status says sound;
       sources = read.handed;
-      sinks = hands-no-order before.files now.files file (ap (λ (s : FilesState). s.sinks.names) read.frame);
+      refused = refused;
+      sinks = hands-no-name verb.Run before.files now.files file (ap (λ (s : FilesState). s.sinks.names) read.frame);
       early = λ early. read.frame;
       kept = λ early. contents;
       others = λ name apart. ap (λ (c : List ℕ → Option (List ℕ)). c name) contents;
@@ -251,24 +244,26 @@ ends-early file report before now tells order done status says counts read =
 
 -- What a run leaves that came to write, after it read.
 pub ends-late : (file : List ℕ) (report : Bool) (before mid now : Moment) (tells : List ℕ → Type 0) (job : JobSayings) (order : List Entry) (done : List ℕ) (status : Status)
-    → Says file report before now tells order status → CountsUpdates order done status → ReadsFiles (names_of before.files file) before.files mid.files
-    → SaysJob before.files file job → WritesFiles (order_names job.fields.order) mid.files now.files
-    → (IsBeforeMaking status → ⊥) → (IsBeforeWriting status → now.files.contents ≡ mid.files.contents)
+    → Says file report before now tells order status → CountsUpdates order done status → HasRead file before.files mid.files
+    → SaysJob verb.Run before.files file job → WritesFiles (order_names job.fields.order) mid.files now.files
+    → (IsBeforeMaking status → ⊥) → (IsRefusedInput status → ⊥) → (IsBeforeWriting status → now.files.contents ≡ mid.files.contents)
     → IsRun file report before now tells order done status
-ends-late file report before mid now tells job order done status says counts read says_job wrote late kept =
+ends-late file report before mid now tells job order done status says counts read says_job wrote late not_refused kept =
     let contents = ap (λ (s : FilesState). s.contents) read.frame in
     let sources : now.files.sources ≡ mid.files.sources = ap (λ (s : FilesState). s.sources) wrote.frame in
     let sinks : mid.files.sinks ≡ before.files.sinks = ap (λ (s : FilesState). s.sinks) read.frame in
+    let Handed : Opened (Option (List ℕ)) → Type 0 = λ s. HandsForRun before.files (record mid.files { sources = s }) file in
     record {
       says = says;
       counts = counts;
       complete = λ sound. sound_is_done file report before now tells order status says sound;
-      sources = subst (λ (s : Opened (Option (List ℕ))). HandsOver before.files.sources.names s.names (names_of before.files file)) (sym sources) read.handed;
-      sinks = hands-order before.files now.files file job says_job
+      sources = subst Handed (sym sources) read.handed;
+      refused = λ refused. absurd (not_refused refused);
+      sinks = hands-written-names verb.Run before.files now.files file job says_job
           (subst (λ (s : Opened Written). HandsOver s.names now.files.sinks.names (order_names job.fields.order)) sinks wrote.handed);
       early = λ early. absurd (late early);
       kept = λ early. kept early ∙ contents;
-      others = λ name apart. wrote.others name (λ in_names. apart (job, says_job, contains-named job.fields.order name in_names)) ∙ ap (λ (c : List ℕ → Option (List ℕ)). c name) contents;
+      others = λ name apart. wrote.others name (λ in_names. apart (job, says_job, in_names)) ∙ ap (λ (c : List ℕ → Option (List ℕ)). c name) contents;
     }
 
 -- what is told of an answer may be said in another way
@@ -281,6 +276,7 @@ run-retold file report before now tells retells order done status same run =
       counts = run.counts;
       complete = run.complete;
       sources = run.sources;
+      refused = run.refused;
       sinks = run.sinks;
       early = run.early;
       kept = run.kept;

@@ -5,7 +5,7 @@ use Rattle.std.proofs.lemmas.List.{length-map, take_more, take-append-drop}
 use Rattle.std.specs.Io.KnownBytes.{Appends}
 use Rattle.std.proofs.KnownBytes.{Appends-trans}
 use Rattle.gl_outside.specs.Fronts.{AppendsFront}
-use Rattle.engine_cli.specs.Writes.{joined}
+use Rattle.engine_cli.specs.Notes.{joined}
 use Rattle.gl_outside.proofs.Fronts.{Printing, Printing-more}
 
 joined-append : (xs ys : List (List ℕ)) → joined (xs ++ ys) ≡ joined xs ++ joined ys

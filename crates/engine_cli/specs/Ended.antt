@@ -3,7 +3,7 @@ use Rattle.std.specs.Prelude.{◌≡◌, ℕ, List, [], ◌∷◌, length}
 use Rattle.gl_base.specs.declared.entries.Entry.{Entry}
 use Rattle.engine_cli.specs.declared.ended.Ended.{Ended}
 use Rattle.engine_cli.specs.declared.status.Status.{Status}
-use Rattle.engine_cli.specs.declared.status.Status.TheVariants.{Done, Usage, BadJob, BadGraph, ReadFault, WriteFault, BudgetSpent, NoMemory}
+use Rattle.engine_cli.specs.declared.status.Status.TheVariants.{Done, Usage, BadJob, BadGraph, BadAtoms, ReadFault, WriteFault, BudgetSpent, NoMemory}
 
 -- how many updates the one machine made
 abbrev pub IsCount : List Entry → List ℕ → Type 0
@@ -19,6 +19,7 @@ CountsUpdates order done Done = IsCount order done
 CountsUpdates order done (Usage fault) = AreNone order done
 CountsUpdates order done (BadJob fault) = AreNone order done
 CountsUpdates order done (BadGraph fault) = AreNone order done
+CountsUpdates order done (BadAtoms fault) = AreNone order done
 CountsUpdates order done ReadFault = AreNone order done
 CountsUpdates order done WriteFault = IsCount order done
 CountsUpdates order done (BudgetSpent left) = IsCount order done

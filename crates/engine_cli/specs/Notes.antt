@@ -1,15 +1,22 @@
 -- What is told of each status on standard error.
-use Rattle.std.specs.Prelude.{◌⊎◌, ℕ, List, [], ◌∷◌, Option, codes, decimal}
+use Rattle.std.specs.Prelude.{◌⊎◌, ◌++◌, ℕ, List, [], ◌∷◌, Option, codes, decimal}
 use Rattle.std.specs.Io.KnownBytes.{Appends}
+use Rattle.gl_base.specs.declared.atoms.AtomsFault.{AtomsFault}
+use Rattle.gl_base.specs.declared.atoms.AtomsKind.{AtomsKind}
 use Rattle.gl_base.specs.declared.job_faults.JobFault.{JobFault}
 use Rattle.gl_base.specs.declared.job_faults.JobFault.TheVariants.{NotJson, TooLong, UnknownKey, Missing, WrongKind, OutOfRange, NotBuilt}
 use Rattle.gl_base.specs.FaultNames.{key_name, text_file_name, text_kind_name}
 use Rattle.gl_base.specs.declared.text_faults.TextFault.{TextFault}
 use Rattle.gl_outside.specs.Faults.{Rose}
 use Rattle.engine_cli.specs.declared.status.Status.{Status}
-use Rattle.engine_cli.specs.declared.status.Status.TheVariants.{Done, Usage, BadJob, BadGraph, ReadFault, WriteFault, BudgetSpent, NoMemory}
+use Rattle.engine_cli.specs.declared.status.Status.TheVariants.{Done, Usage, BadJob, BadGraph, BadAtoms, ReadFault, WriteFault, BudgetSpent, NoMemory}
 use Rattle.gl_outside.specs.Fronts.{AppendsFront}
-use Rattle.engine_cli.specs.Writes.{joined}
+use Rattle.gl_base.specs.declared.atoms.AtomsKind.TheVariants as kind
+
+-- texts one after another
+abbrev pub joined : List (List ℕ) → List ℕ
+joined [] = []
+joined (text ∷ texts) = text ++ joined texts
 
 -- what is told of a job's fault
 abbrev pub job_note : JobFault → List ℕ
@@ -26,6 +33,21 @@ abbrev pub graph_note : TextFault → List ℕ
 graph_note fault =
     joined (codes "graph: " ∷ text_file_name fault.file ∷ codes ":" ∷ decimal fault.line ∷ codes ": " ∷ text_kind_name fault.kind ∷ codes "\n" ∷ [])
 
+-- a fault of the files of a cut, in a word or two
+abbrev pub atoms_kind_name : AtomsKind → List ℕ
+atoms_kind_name kind.Torn = codes "torn"
+atoms_kind_name kind.BadTag = codes "bad tag"
+atoms_kind_name kind.OutOfOrder = codes "out of order"
+atoms_kind_name kind.Trailing = codes "trailing"
+atoms_kind_name kind.Owner = codes "owner"
+atoms_kind_name kind.Differs = codes "differs"
+atoms_kind_name kind.TooLong = codes "too long"
+
+-- what is told of it: the file's number, the kind and the place
+abbrev pub atoms_note : AtomsFault → List ℕ
+atoms_note fault =
+    joined (codes "atoms: " ∷ decimal fault.file ∷ codes ": " ∷ atoms_kind_name fault.kind ∷ codes " at " ∷ decimal fault.at ∷ codes "\n" ∷ [])
+
 -- the verbs and their words
 abbrev pub usage : List ℕ
 usage = codes "usage: glab run|resume|init|cut JOB\nusage: glab make PREFIX --number N --vertices N --edges N [--weight N]\n"
@@ -36,6 +58,7 @@ note_of Done = []
 note_of (Usage fault) = usage
 note_of (BadJob fault) = job_note fault
 note_of (BadGraph fault) = graph_note fault
+note_of (BadAtoms fault) = atoms_note fault
 note_of ReadFault = codes "read fault\n"
 note_of WriteFault = codes "write fault\n"
 note_of (BudgetSpent left) = codes "budget spent\n"

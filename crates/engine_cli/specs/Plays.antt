@@ -13,6 +13,7 @@ use Rattle.graph_core.specs.Levels.{IsDistanceOrInf, IsLevelOrInf}
 use Rattle.seq_run.specs.Orders.{IsFinished, IsValidOrder, replay, tasks_after}
 use Rattle.seq_run.specs.Runs.{AreNumbers, IsUpdates}
 use Rattle.update_api.specs.Updates.{Update, update_of_colours, update_of_components, update_of_levels, update_of_paths}
+use Rattle.job_files.specs.JobTexts.{IsVertexOf}
 
 -- the source's identifier; INF is none
 abbrev pub source_id : Option ℕ → ℕ
@@ -43,22 +44,6 @@ pub record RunsTo (g : DataGraph) (p : Update) (budget : ℕ) (order : List Entr
   pub play : IsPlay g p order numbers
   pub few : length order ≤ budget
   pub ended : MatchOption left (IsFinished g p order) (IsSpent g p budget order)
-
--- v is the vertex with this identifier
-pub record IsVertexOf (g : DataGraph) (v id : ℕ) : Type 0 where
-  pub inside : v < size g
-  pub is : slice_index g.ids v ≡ id
-
--- some vertex has the source's identifier
-abbrev pub IsThere : DataGraph → Option ℕ → Type 0
-IsThere g source = (start : ℕ) × (id : ℕ) × (source ≡ Some id) × IsVertexOf g start id
-
--- the algorithm needs no source, or it is there
-abbrev pub HasStart : Algorithm → Option ℕ → DataGraph → Type 0
-HasStart Levels source g = IsThere g source
-HasStart Components source g = Unit {0}
-HasStart Paths source g = IsThere g source
-HasStart Colours source g = Unit {0}
 
 -- this holds of the vertex that the source names
 abbrev pub FromSource : DataGraph → Option ℕ → (ℕ → Type 0) → Type 0

@@ -1,11 +1,11 @@
 -- The numbers of statuses, and what each says of `out`.
 use Rattle.std.specs.Prelude.{ℕ, ⊤}
 use Rattle.graph_text.specs.declared.making.Writing.{Writing}
-use Rattle.graph_text.specs.declared.making.Writing.TheVariants as out
-use Rattle.engine_cli.specs.declared.running.Unprepared.{Unprepared}
-use Rattle.engine_cli.specs.declared.running.Unprepared.TheVariants as why
+use Rattle.job_files.specs.declared.inputs.NoInput.{NoInput}
 use Rattle.engine_cli.specs.declared.status.Status.{Status}
-use Rattle.engine_cli.specs.declared.status.Status.TheVariants.{Done, Usage, BadJob, BadGraph, ReadFault, WriteFault, BudgetSpent, NoMemory}
+use Rattle.engine_cli.specs.declared.status.Status.TheVariants.{Done, Usage, BadJob, BadGraph, BadAtoms, ReadFault, WriteFault, BudgetSpent, NoMemory}
+use Rattle.graph_text.specs.declared.making.Writing.TheVariants as out
+use Rattle.job_files.specs.declared.inputs.NoInput.TheVariants as why
 
 -- the number that a program ends with
 abbrev pub exit_number : Status → ℕ
@@ -13,6 +13,7 @@ exit_number Done = 0
 exit_number (Usage fault) = 1
 exit_number (BadJob fault) = 2
 exit_number (BadGraph fault) = 3
+exit_number (BadAtoms fault) = 4
 exit_number ReadFault = 5
 exit_number WriteFault = 6
 exit_number (BudgetSpent left) = 9
@@ -24,6 +25,7 @@ IsBeforeWriting Done = ⊥
 IsBeforeWriting (Usage fault) = ⊤
 IsBeforeWriting (BadJob fault) = ⊤
 IsBeforeWriting (BadGraph fault) = ⊤
+IsBeforeWriting (BadAtoms fault) = ⊤
 IsBeforeWriting ReadFault = ⊤
 IsBeforeWriting WriteFault = ⊥
 IsBeforeWriting (BudgetSpent left) = ⊤
@@ -35,10 +37,23 @@ IsBeforeMaking Done = ⊥
 IsBeforeMaking (Usage fault) = ⊤
 IsBeforeMaking (BadJob fault) = ⊤
 IsBeforeMaking (BadGraph fault) = ⊤
+IsBeforeMaking (BadAtoms fault) = ⊤
 IsBeforeMaking ReadFault = ⊤
 IsBeforeMaking WriteFault = ⊥
 IsBeforeMaking (BudgetSpent left) = ⊤
 IsBeforeMaking NoMemory = ⊥
+
+-- the statuses at which the job or its graph was refused, and no atom was read
+abbrev pub IsRefusedInput : Status → Type 0
+IsRefusedInput Done = ⊥
+IsRefusedInput (Usage fault) = ⊥
+IsRefusedInput (BadJob fault) = ⊤
+IsRefusedInput (BadGraph fault) = ⊤
+IsRefusedInput (BadAtoms fault) = ⊥
+IsRefusedInput ReadFault = ⊥
+IsRefusedInput WriteFault = ⊥
+IsRefusedInput (BudgetSpent left) = ⊥
+IsRefusedInput NoMemory = ⊥
 
 -- the statuses that valid words and texts come to where nothing failed
 abbrev pub IsDoneOrNoMemory : Status → Type 0
@@ -46,6 +61,7 @@ IsDoneOrNoMemory Done = ⊤
 IsDoneOrNoMemory (Usage fault) = ⊥
 IsDoneOrNoMemory (BadJob fault) = ⊥
 IsDoneOrNoMemory (BadGraph fault) = ⊥
+IsDoneOrNoMemory (BadAtoms fault) = ⊥
 IsDoneOrNoMemory ReadFault = ⊥
 IsDoneOrNoMemory WriteFault = ⊥
 IsDoneOrNoMemory (BudgetSpent left) = ⊥
@@ -57,17 +73,19 @@ IsRefusal Done = ⊥
 IsRefusal (Usage fault) = ⊤
 IsRefusal (BadJob fault) = ⊤
 IsRefusal (BadGraph fault) = ⊤
+IsRefusal (BadAtoms fault) = ⊤
 IsRefusal ReadFault = ⊤
 IsRefusal WriteFault = ⊤
 IsRefusal (BudgetSpent left) = ⊤
 IsRefusal NoMemory = ⊤
 
--- what a run ends with that was not made
-abbrev pub status_of_unprepared : Unprepared → Status
-status_of_unprepared (why.BadJob fault) = BadJob fault
-status_of_unprepared (why.BadGraph fault) = BadGraph fault
-status_of_unprepared why.ReadFault = ReadFault
-status_of_unprepared why.NoMemory = NoMemory
+-- what a call ends with that read no job or graph
+abbrev pub status_of_no_input : NoInput → Status
+status_of_no_input (why.BadJob fault) = BadJob fault
+status_of_no_input (why.BadGraph fault) = BadGraph fault
+status_of_no_input (why.BadAtoms fault) = BadAtoms fault
+status_of_no_input why.ReadFault = ReadFault
+status_of_no_input why.NoMemory = NoMemory
 
 -- what a call ends with that could not write
 abbrev pub status_of_writing : Writing → Status

@@ -7,28 +7,33 @@ use Rattle.gl_outside.specs.Faults.{Rose}
 use Rattle.gl_outside.specs.FilesState.{FilesState}
 use Rattle.gl_outside.specs.Frames.{ChangesSources}
 use Rattle.job_words.specs.declared.words.Words.{Words}
-use Rattle.job_words.specs.declared.words.Words.TheVariants.{Run, Make}
+use Rattle.job_words.specs.declared.words.Words.TheVariants.{Run, Make, Cut}
 use Rattle.engine_cli.specs.declared.ended.Ended.{Ended}
 use Rattle.engine_cli.specs.declared.status.Status.{Status}
 use Rattle.engine_cli.specs.Ended.{AreNone, CountsUpdates}
-use Rattle.engine_cli.specs.FilesUsed.{HandsOver, WritesFiles}
-use Rattle.engine_cli.specs.Found.{HandsOrder, IsOrderName, names_of}
-use Rattle.engine_cli.specs.Made.{LeavesFront, Makes, edges_name, vertices_name}
-use Rattle.engine_cli.specs.Says.{IsSound, Moment, Says}
-use Rattle.engine_cli.specs.Status.{IsBeforeMaking, IsBeforeWriting, IsDoneOrNoMemory}
+use Rattle.whole_files.specs.FilesUsed.{HandsOver, WritesFiles}
+use Rattle.engine_cli.specs.CutJobs.{Cuts, LeavesCutFronts}
+use Rattle.engine_cli.specs.NamesWritten.{HandsWritten, IsWrittenName}
+use Rattle.job_files.specs.NamesRead.{HandsForRun, names_of}
+use Rattle.graph_files.specs.Made.{LeavesFront, edges_name, vertices_name}
+use Rattle.engine_cli.specs.Made.{Makes}
+use Rattle.engine_cli.specs.Says.{IsReadable, IsSound, Moment, Says}
+use Rattle.engine_cli.specs.Status.{IsBeforeMaking, IsBeforeWriting, IsDoneOrNoMemory, IsRefusedInput}
+use Rattle.job_files.specs.declared.jobs.JobVerb.TheVariants as verb
 
 -- What `run` leaves, where `tells` holds of what is reported. It hands the opens the names of the job's file, of the job's
--- texts and of the order's file at most, in turn. Until it writes it changes nothing but what is read, and no name but the
+-- texts, of its atoms and of the order's file at most, in turn. Until it writes it changes nothing but what is read, and no name but the
 -- order's file ever gives anything else.
 pub record IsRun (file : List ℕ) (report : Bool) (before now : Moment) (tells : List ℕ → Type 0) (order : List Entry) (done : List ℕ) (status : Status) : Type 0 where
   pub says : Says file report before now tells order status
   pub counts : CountsUpdates order done status
   pub complete : IsSound file before now → IsDoneOrNoMemory status
-  pub sources : HandsOver before.files.sources.names now.files.sources.names (names_of before.files file)
-  pub sinks : HandsOrder before.files now.files file
+  pub sources : HandsForRun before.files now.files file
+  pub refused : IsRefusedInput status → HandsOver before.files.sources.names now.files.sources.names (names_of verb.Run before.files file)
+  pub sinks : HandsWritten verb.Run before.files now.files file
   pub early : IsBeforeMaking status → ChangesSources before.files now.files
   pub kept : IsBeforeWriting status → now.files.contents ≡ before.files.contents
-  pub others : (name : List ℕ) → (IsOrderName before.files file name → ⊥) → now.files.contents name ≡ before.files.contents name
+  pub others : (name : List ℕ) → (IsWrittenName verb.Run before.files file name → ⊥) → now.files.contents name ≡ before.files.contents name
 
 -- What `make` leaves: it writes two files and nothing else. Each of them is what it was, or holds a front of its text.
 pub record IsMaking (prefix : List ℕ) (plan : MakePlan) (before now : FilesState) (status : Status) : Type 0 where
@@ -38,12 +43,25 @@ pub record IsMaking (prefix : List ℕ) (plan : MakePlan) (before now : FilesSta
   pub writes : WritesFiles (vertices_name prefix ∷ edges_name prefix ∷ []) before now
   pub complete : (Rose before.sinks.faults now.sinks.faults → ⊥) → IsDoneOrNoMemory status
 
+-- What `cut` leaves: it writes the index and the atoms and nothing else. Each of them is what it was, or holds a front of its
+-- bytes. It hands the opens the names of the job's file and of the job's texts at most, and then those of these files, in turn.
+pub record IsCutting (file : List ℕ) (before now : FilesState) (status : Status) : Type 0 where
+  pub says : Cuts file before now status
+  pub fronts : LeavesCutFronts file before now
+  pub sources : HandsOver before.sources.names now.sources.names (names_of verb.Cut before file)
+  pub sinks : HandsWritten verb.Cut before now file
+  pub early : IsBeforeMaking status → ChangesSources before now
+  pub others : (name : List ℕ) → (IsWrittenName verb.Cut before file name → ⊥) → now.contents name ≡ before.contents name
+  pub complete : IsReadable verb.Cut before file → (Rose before.sources.faults now.sources.faults → ⊥) → (Rose before.sinks.faults now.sinks.faults → ⊥) → IsDoneOrNoMemory status
+
 -- what the words' verb leaves
 abbrev pub IsCall : Words → Moment → Moment → (List ℕ → Type 0) → Ended → Type 0
 IsCall (Run file report) before now tells ended = IsRun file report before now tells ended.order.items ended.done.items ended.status
 IsCall (Make prefix plan) before now tells ended = IsMaking prefix plan before.files now.files ended.status × AreNone ended.order.items ended.done.items
+IsCall (Cut file) before now tells ended = IsCutting file before.files now.files ended.status × AreNone ended.order.items ended.done.items
 
 -- the verbs that tell nothing where they did their work
 abbrev pub IsQuiet : Words → Type 0
 IsQuiet (Run file report) = report ≡ false
 IsQuiet (Make prefix plan) = ⊤
+IsQuiet (Cut file) = ⊤

@@ -2,17 +2,15 @@
 #![tactic(auto)]
 
 mod ended;
-mod jobs;
-mod making;
+mod file_verbs;
 mod notes;
 mod playing;
 mod printing;
-mod reading;
 mod running;
 mod status;
 mod top;
 
 pub use ended::{Ended, SnapLine};
-pub use making::files_only;
+pub use file_verbs::files_only;
 pub use status::Status;
 pub use top::engine;

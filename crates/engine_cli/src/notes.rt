@@ -1,12 +1,12 @@
 //! WritesNote on standard error why a call was refused.
 ghost use Rattle.std.specs.Prelude.{◌≡◌, ◌≤◌, [], ◌∷◌, codes, map};
 ghost use Rattle.gl_base.specs.declared.job_faults.JobFault.TheVariants.{OutOfRange};
-ghost use Rattle.engine_cli.specs.Notes.{WritesNote, graph_note, job_note, note_of};
+ghost use Rattle.engine_cli.specs.Notes.{WritesNote, atoms_kind_name, atoms_note, graph_note, job_note, note_of, joined};
+ghost use Rattle.engine_cli.specs.Inner.Writes.{WritesAll};
 ghost use Rattle.gl_base.specs.FaultNames.{key_name};
-ghost use Rattle.engine_cli.specs.Writes.{WritesAll, joined};
 
 use crate::Status;
-use gl_base::{JobFault, Key, TextFault, TextFile, TextKind};
+use gl_base::{AtomsFault, AtomsKind, JobFault, Key, TextFault, TextFile, TextKind};
 use gl_outside::{Failed, Sink, write_all};
 use itoa::Buffer;
 
@@ -36,6 +36,7 @@ fn tell<N: Sink>(note: &mut N, status: &Status) -> Result<(), Failed>
         Status::Usage(_) => write_text(note, USAGE),
         Status::BadJob(fault) => tell_job(note, fault),
         Status::BadGraph(fault) => tell_graph(note, *fault),
+        Status::BadAtoms(fault) => tell_atoms(note, *fault),
         Status::ReadFault => write_text(note, "read fault\n"),
         Status::WriteFault => write_text(note, "write fault\n"),
         Status::BudgetSpent { .. } => write_text(note, "budget spent\n"),
@@ -93,6 +94,35 @@ fn tell_graph<N: Sink>(note: &mut N, fault: TextFault) -> Result<(), Failed>
         note,
         &["graph: ", fault.file.name(), ":", line, ": ", kind, "\n"],
     )
+}
+
+/// Writes why the files of a cut were refused, and where.
+fn tell_atoms<N: Sink>(note: &mut N, fault: AtomsFault) -> Result<(), Failed>
+    ensures note { WritesAll result (atoms_note fault) (N.held note.old) (N.held note.new) (N.faults note.old) (N.faults note.new) }
+    ensures later { N.faults note.old ≤ N.faults note.new }
+    ensures same { N.same note.old note.new }
+{
+    let mut number = Buffer::new();
+    let mut digits = Buffer::new();
+    let file = number.format(fault.file);
+    let at = digits.format(fault.at);
+    let kind = kind_name(fault.kind);
+    write_texts(note, &["atoms: ", file, ": ", kind, " at ", at, "\n"])
+}
+
+/// A fault of the files of a cut, in a word or two.
+fn kind_name(kind: AtomsKind) -> &'static str
+    ensures { result.now ≡ atoms_kind_name kind }
+{
+    match kind {
+        AtomsKind::Torn => "torn",
+        AtomsKind::BadTag => "bad tag",
+        AtomsKind::OutOfOrder => "out of order",
+        AtomsKind::Trailing => "trailing",
+        AtomsKind::Owner => "owner",
+        AtomsKind::Differs => "differs",
+        AtomsKind::TooLong => "too long",
+    }
 }
 
 /// Writes a text.

@@ -1,12 +1,9 @@
 //! Runs the job's algorithm on its graph.
 ghost use Rattle.std.specs.Prelude.{◌≡◌, IfOk, is_some, true};
-ghost use Rattle.job_config.specs.Fields.{needs_source};
-ghost use Rattle.job_config.specs.Views.{job_view};
-ghost use Rattle.engine_cli.specs.declared.playing.NoRun.TheVariants.{NoMemory};
-ghost use Rattle.engine_cli.specs.Found.{FindsRun, FindsSource, IsReady};
-ghost use Rattle.engine_cli.specs.Plays.{RunsTo};
+ghost use Rattle.job_files.specs.JobTexts.{HasStart};
+ghost use Rattle.engine_cli.specs.Plays.{RunsTo, source_id, update_of};
 
-use gl_base::{Algorithm, Entry, Job, Vertex};
+use gl_base::{Algorithm, Entry, Job, NoMemory, Vertex};
 use graph_core::Graph;
 use prog_colours::Colours;
 use prog_labels::{Components, Levels};
@@ -24,74 +21,46 @@ pub struct Run {
     pub left: Option<Vertex>,
 }
 
-/// Why no run was made.
-#[derive(Clone, Copy, Debug, PartialEq, Eq)]
-pub enum NoRun {
-    /// The algorithm needs a source, and no vertex has this identifier, which is that of the job's source.
-    NoSource(u64),
-    /// There was not enough memory.
-    NoMemory,
-}
-
-impl From<gl_base::NoMemory> for NoRun {
-    ghost from_gives = { λ _ no_run. no_run ≡ NoMemory };
-
-    fn from(_: gl_base::NoMemory) -> Self {
-        NoRun::NoMemory
-    }
-}
-
-/// Runs the job's algorithm until no task is left or the job's budget is spent. It is refused where the algorithm needs
-/// a source and no vertex has its identifier.
-pub fn run_on(alloc: Global, graph: &Graph, job: &Job) -> Result<Run, NoRun>
-    requires { IsReady (job_view job.now) }
-    ensures { FindsRun (job_view job.now).fields graph.now result }
+/// Runs the job's algorithm until no task is left or the job's budget is spent.
+pub fn run_on(alloc: Global, graph: &Graph, job: &Job) -> Result<Run, NoMemory>
+    requires { HasStart job.now.algorithm job.now.source graph.now }
+    ensures { IfOk result (λ run. RunsTo graph.now (update_of job.now.algorithm job.now.source) job.now.budget run.order.items run.numbers.items run.left) }
 {
     let budget = job.budget;
-    let run = match job.algorithm {
+    match job.algorithm {
         Algorithm::Levels => {
-            let source = source_of(graph, job)?;
+            let source = source_of(job);
             play(alloc, graph, Levels { source }, budget)
         }
         Algorithm::Components => play(alloc, graph, Components, budget),
         Algorithm::Paths => {
-            let source = source_of(graph, job)?;
+            let source = source_of(job);
             play(alloc, graph, Paths { source }, budget)
         }
         Algorithm::Colours => play(alloc, graph, Colours, budget),
-    };
-    Ok(run?)
+    }
 }
 
-/// The identifier of the job's source, where it is that of a vertex.
-fn source_of(graph: &Graph, job: &Job) -> Result<u64, NoRun>
-    requires needed { needs_source (job_view job.now).fields.algorithm ≡ true }
-    requires source { is_some (job_view job.now).fields.source ≡ true }
-    ensures { FindsSource (job_view job.now).fields graph.now result }
+/// The identifier of the job's source.
+fn source_of(job: &Job) -> u64
+    requires { is_some job.now.source ≡ true }
+    ensures { result ≡ source_id job.now.source }
 {
     let Some(source) = job.source else {
         unreachable!()
     };
-    match graph.find(source) {
-        Some(_) => Ok(source),
-        None => Err(NoRun::NoSource(source)),
-    }
+    source
 }
 
 /// Runs a program until no task is left or the budget is spent.
-fn play<P: Program>(
-    alloc: Global,
-    graph: &Graph,
-    program: P,
-    budget: u64,
-) -> Result<Run, gl_base::NoMemory>
+fn play<P: Program>(alloc: Global, graph: &Graph, program: P, budget: u64) -> Result<Run, NoMemory>
     ensures { IfOk result (λ run. RunsTo graph.now (P.meaning program) budget run.order.items run.numbers.items run.left) }
 {
     let mut run = SeqRun::new(alloc, graph, program)?;
     let left = match run.run(budget) {
         Ok(()) => None,
         Err(RunFault::Spent) => run.waiting(),
-        Err(RunFault::NoMemory) => return Err(gl_base::NoMemory),
+        Err(RunFault::NoMemory) => return Err(NoMemory),
     };
     let Played { order, values, .. } = run.finish();
     Ok(Run {

@@ -1,22 +1,21 @@
 //! Runs the job in a file.
 ghost use Rattle.std.specs.Prelude.{◌≡◌, ℕ, ◌≤◌, [], false, List};
-ghost use Rattle.engine_cli.specs.Causes.{unprepared_graph, unprepared_job, unprepared_run};
-ghost use Rattle.engine_cli.specs.FilesUsed.{ReadsFiles};
-ghost use Rattle.engine_cli.specs.Found.{names_of};
-ghost use Rattle.engine_cli.specs.Prepares.{IsPrepared};
+ghost use Rattle.gl_outside.specs.Frames.{ChangesSources};
+ghost use Rattle.job_files.specs.Inputs.{RefusesEarly};
+ghost use Rattle.job_files.specs.NamesRead.{HandsForRun};
+ghost use Rattle.engine_cli.specs.Inner.Prepares.{IsPrepared};
 ghost use Rattle.engine_cli.specs.Says.{moment};
 ghost use Rattle.engine_cli.specs.Status.{IsBeforeWriting};
 ghost use Rattle.engine_cli.specs.Verbs.{IsRun};
 
 use crate::Status;
-use crate::jobs::{NoJob, job_of};
-use crate::playing::{NoRun, Run, run_on};
+use crate::playing::{Run, run_on};
 use crate::printing::print_run;
-use crate::reading::graph_of;
-use gl_base::{Entry, Job, JobFault, Key, TextFault};
+use gl_base::{Entry, Job, NoMemory};
 use gl_outside::{Files, Sink};
 use graph_core::Graph;
-use graph_text::{Reading, Writing};
+use graph_text::Writing;
+use job_files::{Input, NoInput, read_run_input};
 use std::alloc::Global;
 
 /// How a run ended: its status, what is to be reported of it, and where it was made the order of its updates and how many
@@ -35,57 +34,6 @@ pub struct Prepared {
     pub job: Job,
     pub graph: Graph,
     pub run: Run,
-}
-
-/// Why no run was made.
-#[derive(Debug, Drop)]
-pub enum Unprepared {
-    /// The job is refused: its bytes are no job, it asks for what is not built, or its source is no vertex of the graph.
-    BadJob(JobFault),
-    /// A graph text is refused.
-    BadGraph(TextFault),
-    /// A file could not be read.
-    ReadFault,
-    /// There was not enough memory.
-    NoMemory,
-}
-
-impl From<NoJob> for Unprepared {
-    ghost from_gives = { λ no_job why. why ≡ unprepared_job no_job };
-
-    fn from(no_job: NoJob) -> Self {
-        match no_job {
-            NoJob::Refused(fault) => Unprepared::BadJob(fault),
-            NoJob::ReadFault => Unprepared::ReadFault,
-            NoJob::NoMemory => Unprepared::NoMemory,
-        }
-    }
-}
-
-impl From<Reading> for Unprepared {
-    ghost from_gives = { λ reading why. why ≡ unprepared_graph reading };
-
-    fn from(reading: Reading) -> Self {
-        match reading {
-            Reading::Text(fault) => Unprepared::BadGraph(fault),
-            Reading::ReadFault => Unprepared::ReadFault,
-            Reading::NoMemory => Unprepared::NoMemory,
-        }
-    }
-}
-
-impl From<NoRun> for Unprepared {
-    ghost from_gives = { λ no_run why. why ≡ unprepared_run no_run };
-
-    fn from(no_run: NoRun) -> Self {
-        match no_run {
-            NoRun::NoSource(source) => Unprepared::BadJob(JobFault::OutOfRange(
-                Key::Source,
-                source,
-            )),
-            NoRun::NoMemory => Unprepared::NoMemory,
-        }
-    }
 }
 
 /// Reads the job and its graph, runs the job's algorithm, and writes the order of its updates and the numbers of the
@@ -130,14 +78,18 @@ pub fn run_job<F: Files, K: Sink>(
 }
 
 /// Reads the job and its graph, and runs the job's algorithm.
-fn prepare<F: Files>(alloc: Global, file: &str, files: &mut F) -> Result<Prepared, Unprepared>
+fn prepare<F: Files>(alloc: Global, file: &str, files: &mut F) -> Result<Prepared, NoInput>
     ensures answer { IsPrepared (F.state files.old) (F.state files.new).sources.faults file.now result }
-    ensures read { ReadsFiles (names_of (F.state files.old) file.now) (F.state files.old) (F.state files.new) }
+    ensures frame { ChangesSources (F.state files.old) (F.state files.new) }
+    ensures handed { HandsForRun (F.state files.old) (F.state files.new) file.now }
+    ensures refused { RefusesEarly file.now (F.state files.old) (F.state files.new) result }
+    ensures later { (F.state files.old).sources.faults ≤ (F.state files.new).sources.faults }
 {
-    let job = job_of(alloc, files, file)?;
-    let graph = graph_of(alloc, files, &job)?;
-    let run = run_on(alloc, &graph, &job)?;
-    Ok(Prepared { job, graph, run })
+    let Input { job, graph } = read_run_input(alloc, files, file)?;
+    match run_on(alloc, &graph, &job) {
+        Ok(run) => Ok(Prepared { job, graph, run }),
+        Err(NoMemory) => Err(NoInput::NoMemory),
+    }
 }
 
 /// The end of a run that was made, with what is to be told of it.

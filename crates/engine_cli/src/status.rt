@@ -1,10 +1,11 @@
 //! How a call ended.
 ghost use Rattle.std.specs.Prelude.{◌≡◌};
-ghost use Rattle.engine_cli.specs.Status.{status_of_unprepared, status_of_writing};
+ghost use Rattle.engine_cli.specs.Status.{status_of_no_input, status_of_writing};
+ghost use Rattle.engine_cli.specs.Status.{exit_number};
 
-use crate::running::Unprepared;
-use gl_base::{JobFault, TextFault, UsageFault, Vertex};
+use gl_base::{AtomsFault, JobFault, TextFault, UsageFault, Vertex};
 use graph_text::Writing;
+use job_files::NoInput;
 
 /// How a call of the engine ended.
 #[derive(Debug, Drop)]
@@ -13,10 +14,13 @@ pub enum Status {
     Done,
     /// The words are not those of a command.
     Usage(UsageFault),
-    /// The job is refused: its bytes are no job, it asks for what is not built, or its source is no vertex of the graph.
+    /// The job is refused: its bytes are no job, it lacks a key that the verb needs, it asks for what is not built, or its
+    /// source is no vertex of the graph.
     BadJob(JobFault),
     /// A graph text is refused.
     BadGraph(TextFault),
+    /// The index or an atom that the job names is not that of the graph.
+    BadAtoms(AtomsFault),
     /// A file could not be read.
     ReadFault,
     /// The answer, or a file, could not be written to its end.
@@ -29,7 +33,6 @@ pub enum Status {
 
 impl Status {
     ghost use Rattle.std.specs.Prelude.{◌≡◌};
-    ghost use Rattle.engine_cli.specs.Status.{exit_number};
 
     /// The number that a program ends with.
     pub fn number(&self) -> u8
@@ -40,6 +43,7 @@ impl Status {
             Status::Usage(_) => 1,
             Status::BadJob(_) => 2,
             Status::BadGraph(_) => 3,
+            Status::BadAtoms(_) => 4,
             Status::ReadFault => 5,
             Status::WriteFault => 6,
             Status::BudgetSpent { .. } => 9,
@@ -48,15 +52,16 @@ impl Status {
     }
 }
 
-impl From<Unprepared> for Status {
-    ghost from_gives = { λ why status. status ≡ status_of_unprepared why };
+impl From<NoInput> for Status {
+    ghost from_gives = { λ why status. status ≡ status_of_no_input why };
 
-    fn from(why: Unprepared) -> Self {
+    fn from(why: NoInput) -> Self {
         match why {
-            Unprepared::BadJob(fault) => Status::BadJob(fault),
-            Unprepared::BadGraph(fault) => Status::BadGraph(fault),
-            Unprepared::ReadFault => Status::ReadFault,
-            Unprepared::NoMemory => Status::NoMemory,
+            NoInput::BadJob(fault) => Status::BadJob(fault),
+            NoInput::BadGraph(fault) => Status::BadGraph(fault),
+            NoInput::BadAtoms(fault) => Status::BadAtoms(fault),
+            NoInput::ReadFault => Status::ReadFault,
+            NoInput::NoMemory => Status::NoMemory,
         }
     }
 }

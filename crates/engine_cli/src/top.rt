@@ -12,7 +12,7 @@ ghost use Rattle.engine_cli.specs.Says.{moment};
 ghost use Rattle.engine_cli.specs.Ended.{AreNone, HasNoLosses};
 ghost use Rattle.engine_cli.specs.Verbs.{IsCall, IsQuiet, IsRun};
 
-use crate::making::files_only;
+use crate::file_verbs::files_only;
 use crate::notes::refuse;
 use crate::running::{RunEnd, run_job};
 use crate::{Ended, Status};
@@ -26,11 +26,12 @@ use std::alloc::Global;
 /// `out`, for each vertex by ascending identifier, its identifier and its number: its level from the job's source, the
 /// least identifier in its component, its distance from the source, or a colour. Where the job names a file for the order
 /// of the updates, that is written before `out`. With `--report` the report goes to `note`. `make PREFIX ..` writes a graph
-/// to the files PREFIX.v and PREFIX.e.
+/// to the files PREFIX.v and PREFIX.e. `cut JOB` cuts the job's graph into atoms and writes the index and the atoms at the job's
+/// prefix for them; where `run`'s job has such a prefix, the files there are looked at before the run.
 ///
-/// The words are refused first, then the job's file, what it says, what it asks for that is not built, the vertex file,
-/// the edge file, a source that is no vertex, and a run whose budget is spent; then the order's file and `out` are written,
-/// and last one line to `note` for every status but `Done`. A fault of `note` is passed over. `gate` is not passed yet.
+/// The words are refused first, then the job's file, what it says, a key that the verb needs, what it asks for that is not
+/// built, the vertex file, the edge file, a source that is no vertex, the index and the atoms, and a run whose budget is spent;
+/// then the order's file and `out` are written, and last one line to `note` for every status but `Done`. A fault of `note` is passed over. `gate` is not passed yet.
 ///
 /// `order` holds the updates of the run and `done` how many there were, where the status is `Done`, `WriteFault` or
 /// `BudgetSpent`; the other lists are empty.
@@ -103,6 +104,7 @@ fn do_command<F: Files, K: Sink, N: Sink>(
     match asked {
         Words::Run { file, report } => run_file(alloc, file.as_str(), *report, files, out, note),
         Words::Make { .. } => no_run(alloc, files_only(alloc, asked, files, out, note)),
+        Words::Cut { .. } => no_run(alloc, files_only(alloc, asked, files, out, note)),
     }
 }
 

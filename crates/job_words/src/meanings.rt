@@ -115,6 +115,12 @@ pub fn read_meaning(alloc: Global, line: &Line) -> Result<Words, WordsReading>
             let prefix = own_name(alloc, line.file)?;
             Ok(Words::Make { prefix, plan })
         }
+        "cut" if line.report || line.has_option() => {
+            Err(WordsReading::Fault(UsageFault::NotHere))
+        }
+        "cut" => Ok(Words::Cut {
+            file: own_name(alloc, line.file)?,
+        }),
         _ => Err(WordsReading::Fault(UsageFault::Verb)),
     }
 }

@@ -17,6 +17,8 @@ pub enum Words {
     Run { file: Name, report: bool },
     /// Make a graph by `plan`, in the files whose names begin with `prefix`.
     Make { prefix: Name, plan: MakePlan },
+    /// Cut the graph of the job in `file` into atoms.
+    Cut { file: Name },
 }
 
 /// Why no command line was read: the first fault of the words, which are none, or want of memory.

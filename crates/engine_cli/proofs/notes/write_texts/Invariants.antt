@@ -1,6 +1,6 @@
 use Rattle.std.proofs.Common.{◌≤◌, map, take}
 use Rattle.std.specs.Io.KnownBytes.{Appends}
-use Rattle.engine_cli.specs.Writes.{joined}
+use Rattle.engine_cli.specs.Notes.{joined}
 use Rattle.engine_cli.proofs.notes.write_texts.Given as goal
 
 abbrev pub invariant-loop-text : goal.invariant-loop-text

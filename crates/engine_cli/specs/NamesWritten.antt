@@ -1,0 +1,40 @@
+-- The names of the files that are written for a verb.
+use Rattle.std.specs.Prelude.{ℕ, List, [], ◌∷◌, Contains, Option, None, Some, Result, Ok, Err, IfSome}
+use Rattle.gl_base.specs.declared.job_faults.JobFault.{JobFault}
+use Rattle.gl_outside.specs.FilesState.{FilesState}
+use Rattle.job_config.specs.Fields.{JobFields}
+use Rattle.job_config.specs.Jobs.{JobSayings}
+use Rattle.whole_files.specs.AtomNames.{cut_names}
+use Rattle.whole_files.specs.FilesUsed.{HandsOver}
+use Rattle.job_files.specs.BuiltJobs.{job_for}
+use Rattle.job_files.specs.JobTexts.{OfJob}
+use Rattle.job_files.specs.declared.jobs.JobVerb.{JobVerb}
+use Rattle.job_files.specs.declared.jobs.JobVerb.TheVariants.{Run, Cut}
+
+-- a name, or none
+abbrev pub order_names : Option (List ℕ) → List (List ℕ)
+order_names None = []
+order_names (Some name) = name ∷ []
+
+-- the files of a cut at a prefix, if there is one
+abbrev pub names_at : Option (List ℕ) → ℕ → List (List ℕ)
+names_at None atoms = []
+names_at (Some prefix) atoms = cut_names prefix atoms
+
+-- the files that a verb writes: `run` that of the order, and `cut` the index and the atoms
+abbrev pub names_for : JobVerb → JobFields → List (List ℕ)
+names_for Run job = order_names job.order
+names_for Cut job = names_at job.atoms_at job.atoms
+
+-- the same of a job that was read
+abbrev pub written_for : JobVerb → Result JobSayings JobFault → List (List ℕ)
+written_for verb (Ok job) = names_for verb job.fields
+written_for verb (Err fault) = []
+
+-- the names that files were created under are at most those that the job gives for the verb, in turn
+abbrev pub HandsWritten : JobVerb → FilesState → FilesState → List ℕ → Type 0
+HandsWritten verb old new file = IfSome (old.contents file) (λ bytes. HandsOver old.sinks.names new.sinks.names (written_for verb (job_for verb bytes)))
+
+-- the job gives this name to a file that the verb writes
+abbrev pub IsWrittenName : JobVerb → FilesState → List ℕ → List ℕ → Type 0
+IsWrittenName verb files file name = OfJob verb files file (λ job. Contains (names_for verb job) name)

@@ -1,0 +1,75 @@
+//! The verbs that do their work on files alone: `make` writes a graph, and `cut` the index and the atoms of one.
+ghost use Rattle.std.specs.Prelude.{◌≡◌, ◌≤◌, List, ℕ};
+ghost use Rattle.gl_base.specs.declared.jobs.MakePlan.{MakePlan};
+ghost use Rattle.job_words.specs.declared.words.Words.TheVariants.{Cut, Make};
+ghost use Rattle.engine_cli.specs.declared.status.Status.TheVariants.{Done};
+ghost use Rattle.engine_cli.specs.Status.{IsRefusal};
+ghost use Rattle.engine_cli.specs.Made.{IsAsked, IsOfFiles};
+ghost use Rattle.engine_cli.specs.Notes.{WritesNote, note_of};
+ghost use Rattle.engine_cli.specs.Verbs.{IsCutting, IsMaking};
+
+use crate::Status;
+use crate::notes::refuse;
+use gl_base::UsageFault;
+use gl_outside::{Files, Sink};
+use graph_files::{make_files, write_cut};
+use job_files::{Input, JobVerb, read_input};
+use job_words::Words;
+use std::alloc::Global;
+
+/// Does what a command line asks whose verb is not `run`, as `engine` does it, and writes nothing to `out`. `make`
+/// writes the vertex text and the edge text of the plan's graph to the files PREFIX.v and PREFIX.e. `cut` reads the job and
+/// the graph that it names, cuts the graph into as many atoms as the job has, and writes the index and each atom to the files
+/// PREFIX.index, PREFIX.0.atom, PREFIX.1.atom, .. at the job's prefix for atoms. Where a verb is refused each of its files is
+/// what it was, or holds a front of its bytes.
+pub fn files_only<F: Files, K: Sink, N: Sink>(
+    alloc: Global,
+    words: &Words,
+    files: &mut F,
+    out: &mut K,
+    note: &mut N,
+) -> Status
+    requires asked { IsAsked words.now }
+    requires verb { IsOfFiles words.now }
+    ensures make { (prefix : List ℕ) (plan : MakePlan) → words.now ≡ Make prefix plan →
+        IsMaking prefix plan (F.state files.old) (F.state files.new) result }
+    ensures cut { (file : List ℕ) → words.now ≡ Cut file → IsCutting file (F.state files.old) (F.state files.new) result }
+    ensures reads { (F.state files.old).sources.faults ≤ (F.state files.new).sources.faults }
+    ensures later { (F.state files.old).sinks.faults ≤ (F.state files.new).sinks.faults }
+    ensures untouched { out.new ≡ out.old }
+    ensures note { IsRefusal result → WritesNote (note_of result) (N.held note.old) (N.held note.new) (N.faults note.old) (N.faults note.new) }
+    ensures done { result ≡ Done → note.new ≡ note.old }
+    ensures notes { N.faults note.old ≤ N.faults note.new }
+    ensures same_note { N.same note.old note.new }
+{
+    match words {
+        Words::Run { .. } => refuse(note, Status::Usage(UsageFault::Verb)),
+        Words::Make { prefix, plan } => match make_files(alloc, files, prefix.as_str(), plan) {
+            Ok(()) => Status::Done,
+            Err(why) => refuse(note, why.into()),
+        },
+        Words::Cut { file } => match cut_job(alloc, files, file.as_str()) {
+            Status::Done => Status::Done,
+            status => refuse(note, status),
+        },
+    }
+}
+
+/// Reads the job and its graph, cuts the graph, and writes the index and the atoms.
+fn cut_job<F: Files>(alloc: Global, files: &mut F, file: &str) -> Status
+    ensures cut { IsCutting file.now (F.state files.old) (F.state files.new) result }
+    ensures reads { (F.state files.old).sources.faults ≤ (F.state files.new).sources.faults }
+    ensures writes { (F.state files.old).sinks.faults ≤ (F.state files.new).sinks.faults }
+{
+    let Input { job, graph } = match read_input(alloc, files, file, JobVerb::Cut) {
+        Ok(input) => input,
+        Err(why) => return why.into(),
+    };
+    let Some(prefix) = &job.atoms_at else {
+        unreachable!()
+    };
+    match write_cut(alloc, files, prefix.as_str(), &graph, job.atoms) {
+        Ok(()) => Status::Done,
+        Err(why) => why.into(),
+    }
+}

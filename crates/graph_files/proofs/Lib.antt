@@ -1,0 +1,2 @@
+pub mod TextsMade
+pub mod CutWritten

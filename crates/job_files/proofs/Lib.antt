@@ -1,0 +1,9 @@
+pub mod SortedOnce
+pub mod GraphTexts
+pub mod GraphsTold
+pub mod JobsTold
+pub mod NamesGraph
+pub mod InputsRead
+pub mod SameFiles
+pub mod AtomsTaken
+pub mod AtomsLooked

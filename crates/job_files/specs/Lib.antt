@@ -1,0 +1,6 @@
+pub mod BuiltJobs
+pub mod JobTexts
+pub mod Atoms
+pub mod NamesRead
+pub mod Inputs
+pub mod Inner

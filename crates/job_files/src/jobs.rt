@@ -1,0 +1,108 @@
+//! The job of a verb.
+ghost use Rattle.std.specs.Prelude.{◌≡◌, [], ◌∷◌, OnOk};
+ghost use Rattle.gl_outside.specs.Names.{AppendsNames};
+ghost use Rattle.job_config.specs.Views.{job_view};
+ghost use Rattle.whole_files.specs.FilesUsed.{ReadsFiles};
+ghost use Rattle.job_files.specs.BuiltJobs.{doable, not_built};
+ghost use Rattle.job_files.specs.Inner.Causes.{no_job_of_bytes, no_job_of_file};
+ghost use Rattle.job_files.specs.Inner.Jobs.{TakesJob, unless_refused};
+
+use gl_base::{EngineKind, Job, JobFault, Key, MAX_JOB_BYTES};
+use gl_outside::Files;
+use job_config::{JobReading, read_job};
+use std::alloc::Global;
+use whole_files::{NotRead, front_of};
+
+/// A verb that reads a job.
+#[derive(Clone, Copy, Debug, PartialEq, Eq)]
+pub enum JobVerb {
+    /// Runs the job's algorithm. It needs no key of its own.
+    Run,
+    /// Cuts the job's graph into atoms. It needs the name for their files.
+    Cut,
+}
+
+/// Why there is no job.
+#[derive(Debug, Drop)]
+pub enum NoJob {
+    /// The bytes are no job, it lacks a key that the verb needs, or it asks for what is not built.
+    Refused(JobFault),
+    /// Its file could not be read.
+    ReadFault,
+    /// There was not enough memory.
+    NoMemory,
+}
+
+impl From<NotRead> for NoJob {
+    ghost from_gives = { λ not_read no_job. no_job ≡ no_job_of_file not_read };
+
+    fn from(not_read: NotRead) -> Self {
+        match not_read {
+            NotRead::ReadFault => NoJob::ReadFault,
+            NotRead::NoMemory => NoJob::NoMemory,
+        }
+    }
+}
+
+impl From<JobReading> for NoJob {
+    ghost from_gives = { λ reading no_job. no_job ≡ no_job_of_bytes reading };
+
+    fn from(reading: JobReading) -> Self {
+        match reading {
+            JobReading::Fault(fault) => NoJob::Refused(fault),
+            JobReading::NoMemory => NoJob::NoMemory,
+        }
+    }
+}
+
+/// The job that the file of this name says. It is refused where its bytes are no job, where it lacks a key that the verb
+/// needs, and where it asks for what is not built.
+pub fn job_of<F: Files>(
+    alloc: Global,
+    files: &mut F,
+    name: &str,
+    verb: JobVerb,
+) -> Result<Job, NoJob>
+    ensures answer { TakesJob verb (F.state files.old) (F.state files.new).sources.faults name.now result }
+    ensures read { ReadsFiles (name.now ∷ []) (F.state files.old) (F.state files.new) }
+    ensures handed { OnOk result (AppendsNames (F.state files.old).sources.names (F.state files.new).sources.names (name.now ∷ [])) }
+{
+    let bytes = front_of(alloc, files, name, MAX_JOB_BYTES)?;
+    let job = read_job(alloc, &bytes)?;
+    match refused(&job, verb) {
+        None => Ok(job),
+        Some(fault) => Err(NoJob::Refused(fault)),
+    }
+}
+
+/// Why the verb can't do the job: it lacks the key that the verb needs, or asks for what is not built.
+fn refused(job: &Job, verb: JobVerb) -> Option<JobFault>
+    ensures { doable verb (job_view job.now) ≡ unless_refused (job_view job.now) result }
+{
+    match verb {
+        JobVerb::Cut if job.atoms_at.is_none() => Some(JobFault::Missing(Key::AtomsAt)),
+        _ => match not_built(job) {
+            None => None,
+            Some(key) => Some(JobFault::NotBuilt(key)),
+        },
+    }
+}
+
+/// The first key of the job whose value asks for what is not built yet.
+fn not_built(job: &Job) -> Option<Key>
+    ensures { result ≡ not_built (job_view job.now) }
+{
+    if job.engine != EngineKind::Locking {
+        return Some(Key::Engine);
+    }
+    if job.machines > 1 {
+        return Some(Key::Machines);
+    }
+    if job.store.is_some() {
+        return Some(Key::Store);
+    }
+    if !job.failures.is_empty() {
+        return Some(Key::Failures);
+    }
+    None
+}

@@ -1,0 +1,5 @@
+pub mod NamesHanded
+pub mod TextsRead
+pub mod FilesCreated
+pub mod CutNames
+pub mod FilesInTurn

@@ -1,0 +1,5 @@
+pub mod FilesUsed
+pub mod FilesRead
+pub mod Leaves
+pub mod AtomNames
+pub mod InTurn
