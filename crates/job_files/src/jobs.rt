@@ -5,7 +5,7 @@ ghost use Rattle.job_config.specs.Views.{job_view};
 ghost use Rattle.whole_files.specs.FilesUsed.{ReadsFiles};
 ghost use Rattle.job_files.specs.BuiltJobs.{doable, not_built};
 ghost use Rattle.job_files.specs.Inner.Causes.{no_job_of_bytes, no_job_of_file};
-ghost use Rattle.job_files.specs.Inner.Jobs.{TakesJob, unless_refused};
+ghost use Rattle.job_files.specs.Inner.Jobs.{TakesJob, said_unless};
 
 use gl_base::{EngineKind, Job, JobFault, Key, MAX_JOB_BYTES};
 use gl_outside::Files;
@@ -77,7 +77,7 @@ pub fn job_of<F: Files>(
 
 /// Why the verb can't do the job: it lacks the key that the verb needs, or asks for what is not built.
 fn refused(job: &Job, verb: JobVerb) -> Option<JobFault>
-    ensures { doable verb (job_view job.now) ≡ unless_refused (job_view job.now) result }
+    ensures { doable verb (job_view job.now) ≡ said_unless (job_view job.now) result }
 {
     match verb {
         JobVerb::Cut if job.atoms_at.is_none() => Some(JobFault::Missing(Key::AtomsAt)),

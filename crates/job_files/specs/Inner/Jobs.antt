@@ -15,9 +15,9 @@ use Rattle.job_files.specs.Inputs.{IsReady}
 use Rattle.job_files.specs.JobTexts.{SaysJob}
 
 -- the job, unless it is refused
-abbrev pub unless_refused : JobSayings → Option JobFault → Result JobSayings JobFault
-unless_refused said None = Ok said
-unless_refused said (Some fault) = Err fault
+abbrev pub said_unless : JobSayings → Option JobFault → Result JobSayings JobFault
+said_unless said None = Ok said
+said_unless said (Some fault) = Err fault
 
 -- what reading the job's file answers
 abbrev pub TakesJob : JobVerb → FilesState → ℕ → List ℕ → Result Job NoJob → Type 0
