@@ -67,7 +67,7 @@ cut-unread old new file cause is read =
 module _ (old mid new : FilesState) (file : List ℕ) (input : Input) (prefix : List ℕ) (is : IsInputFrom verb.Cut old file input)
     (read : ReadsFiles (names_of verb.Cut old file) old mid) (named : input.job.atoms_at ≡ Some prefix)
     (wrote : WritesFiles (cut_names prefix input.job.atoms) mid new) where
-  atoms : ℕ
+  abbrev pub atoms : ℕ
   atoms = input.job.atoms
 
   contents : mid.contents ≡ old.contents

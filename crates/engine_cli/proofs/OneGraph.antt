@@ -126,7 +126,7 @@ no_bad_atoms file before now fault sound says =
     let at = of_job verb.Run files file (RefusesAtoms files fault) input says in
     let found = of_texts verb.Run files file (OfGraph input.job.fields (λ g. FindsInAtoms files at.0 g (Some fault))) input at.2 in
     let none = sound.atoms at.0 found.0 at.1 found.1 in
-    let finds : atoms_fault found.0 (given_bytes files (index_name at.0)) (atom_files files at.0) ≡ Some fault = told files.sources.names none.0 _ found.2.2 in
+    let finds : atoms_fault found.0 (given_bytes files (index_name at.0)) (atom_files files at.0) ≡ Some fault = told files.sources.names none.0 _ found.3 in
     none_is_no_fault (sym none.1 ∙ finds)
   where
     is_no_truth : IsTrue false → ⊥

@@ -15,6 +15,7 @@ use Rattle.job_config.specs.Jobs.{JobSayings}
 use Rattle.job_config.specs.Views.{job_view}
 use Rattle.seq_run.specs.Orders.{IsFinished}
 use Rattle.engine_cli.specs.declared.running.Prepared.{Prepared}
+use Rattle.job_files.specs.declared.inputs.Input.{Input}
 use Rattle.job_files.specs.declared.inputs.NoInput.{NoInput}
 use Rattle.job_files.specs.Inputs.{IsRunInput, RefusesEarly}
 use Rattle.job_files.specs.NamesRead.{HandsForRun}
@@ -50,8 +51,8 @@ input-unprepared files now file why.ReadFault is = is
 input-unprepared files now file why.NoMemory is = tt
 
 -- and of the names of files that were read
-pub retold-early : {A B : Type 0} (file : List ℕ) (old new : FilesState) (cause : NoInput) → RefusesEarly file old new (let r : Result A NoInput = Err cause in r)
-    → RefusesEarly file old new (let r : Result B NoInput = Err cause in r)
+pub retold-early : (file : List ℕ) (old new : FilesState) (cause : NoInput) → RefusesEarly file old new (let r : Result Input NoInput = Err cause in r)
+    → RefusesEarly file old new (let r : Result Prepared NoInput = Err cause in r)
 retold-early file old new (why.BadJob fault) early = early
 retold-early file old new (why.BadGraph fault) early = early
 retold-early file old new (why.BadAtoms fault) early = tt
