@@ -1,0 +1,5 @@
+pub mod Standing
+pub mod Cutting
+pub mod Beginning
+pub mod Opening
+pub mod Accounting
