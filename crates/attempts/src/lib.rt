@@ -4,5 +4,6 @@
 mod laws;
 
 pub use laws::{
-    attempts_go_on, beginnings_go_on, orders_are_in_turn, updates_are_accounted,
+    attempts_go_on, beginnings_go_on, failures_are_followed, losses_are_few, orders_are_in_turn,
+    restarts_are_counted, updates_are_accounted,
 };
