@@ -5,3 +5,5 @@ pub mod Opening
 pub mod Accounting
 pub mod Counting
 pub mod Failing
+pub mod Prefixes
+pub mod Storing

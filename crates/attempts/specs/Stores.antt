@@ -52,4 +52,4 @@ pub record IsWithinWindow (window : ℕ) (snapshot order : List Entry) : Type 0 
 
 -- the store, and the first of the snapshots that the call adds, so many as it may be
 abbrev pub IsImage : List (List Entry) → List (List Entry) → List (List Entry) → Type 0
-IsImage store added image = (front behind : List (List Entry)) × (added ≡ front ++ behind) × (image ≡ store ++ front)
+IsImage store added image = (front : List (List Entry)) × (behind : List (List Entry)) × (added ≡ front ++ behind) × (image ≡ store ++ front)

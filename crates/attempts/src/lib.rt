@@ -4,6 +4,8 @@
 mod laws;
 
 pub use laws::{
-    attempts_go_on, beginnings_go_on, failures_are_followed, losses_are_few, orders_are_in_turn,
-    restarts_are_counted, updates_are_accounted,
+    attempts_begin_at_snapshots, attempts_follow_one_another, attempts_go_on, beginnings_go_on,
+    failures_are_followed, full_snapshots_are_orders, losses_are_few, orders_are_in_turn,
+    recoveries_begin_again, restarts_are_counted, stores_stay_good, updates_are_accounted,
+    windows_are_kept,
 };
