@@ -7,3 +7,4 @@ pub mod Counting
 pub mod Failing
 pub mod Prefixes
 pub mod Storing
+pub mod Worked

@@ -3,3 +3,4 @@ pub mod Beginnings
 pub mod EngineCalls
 pub mod Accounted
 pub mod Stores
+pub mod OneFailure
