@@ -8,3 +8,4 @@ pub mod Failing
 pub mod Prefixes
 pub mod Storing
 pub mod Worked
+pub mod Pieces

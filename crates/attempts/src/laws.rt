@@ -2,7 +2,7 @@
 ghost use Rattle.std.specs.List.{AllByRecursion};
 ghost use Rattle.std.specs.Prelude.{List, [], filter, length, ℕ, ◌*◌, ◌+◌, ◌++◌, ◌∷◌, ◌≡◌, ◌≤◌};
 ghost use Rattle.gl_base.specs.declared.entries.Entry.{Entry};
-ghost use Rattle.attempts.specs.Accounted.{AreAccounted, AreRestarts, IsFollowed};
+ghost use Rattle.attempts.specs.Accounted.{AreAccounted, AreRestarts, AreValidBetween, IsFollowed};
 ghost use Rattle.attempts.specs.Beginnings.{IsBeginning, KeepsWindow, again, held_updates, last_of, nothing, order_after, snapshot_order};
 ghost use Rattle.attempts.specs.EngineCalls.{AreAttempts, EngineCall, HaveFailed, IsEngineCall, IsOrderInTurn, begins_behind, call_order, fired_of, first_ticket, last_beginning, lost_of, made_of, opening};
 ghost use Rattle.attempts.specs.Entries.{Attempt, Beginning, IsAttempt, Shared, cut_of, is_restart, made_by, restarts};
@@ -36,10 +36,13 @@ pub fn orders_are_in_turn()
     ensures { (shared : Shared) (call : EngineCall) → IsEngineCall shared call → IsOrderInTurn shared (call_order call) }
 {}
 
-/// What the order has from the call's first ticket on and what was lost are together the updates of the call, each ticket once.
+/// What the order has from the call's first ticket on and what was lost are together the updates of the call, each ticket once. From each
+/// bound to the next they are valid behind what the order has before.
 pub fn updates_are_accounted()
-    ensures { (shared : Shared) (call : EngineCall) → IsEngineCall shared call →
+    ensures together { (shared : Shared) (call : EngineCall) → IsEngineCall shared call →
         AreAccounted shared (first_ticket call) (call_order call) (lost_of call) (made_of call) }
+    ensures between { (shared : Shared) (call : EngineCall) → IsEngineCall shared call →
+        AreValidBetween shared (first_ticket call) (call_order call) (made_of call) }
 {}
 
 /// Where no more than the window is outside the last snapshot as an attempt fails, no more than that of each machine is lost for each
