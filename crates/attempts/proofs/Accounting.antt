@@ -1,5 +1,5 @@
 -- What is left of an order and what was lost are together all updates that were made.
-use Rattle.std.proofs.Common.{◌≡◌, ◌⊎◌, ◌≤◌, ◌<◌, Bool, true, false, ℕ, zero, suc, ◌+◌, ◌==◌, ◌||◌, nat_le, if◌then◌else◌, List, [], ◌∷◌, ◌++◌, length, filter, IsPermutation, refl, sym, ap, ap₂, ◌∙◌, subst, subst₂, le_refl, le_trans, append_assoc, append-nil, arith}
+use Rattle.std.proofs.Common.{◌≡◌, ◌≤◌, ◌<◌, Bool, true, false, ℕ, zero, suc, ◌+◌, ◌==◌, ◌||◌, nat_le, List, [], ◌∷◌, ◌++◌, length, filter, IsPermutation, refl, sym, ap, ap₂, ◌∙◌, subst, le_refl, append_assoc, append-nil, arith}
 use Rattle.std.specs.List.{AllByRecursion, list_any}
 use Rattle.std.proofs.lemmas.Bool.{cond-false, cond-true, eq-eqb, false_from_ne_true, le-leb, leb-true}
 use Rattle.std.proofs.lemmas.List.{length-append}
@@ -13,10 +13,14 @@ use Rattle.cluster_cuts.proofs.CutsGoOn.{updates_from-append}
 use Rattle.attempts.specs.Accounted.{AreAccounted}
 use Rattle.attempts.specs.Beginnings.{IsBeginning, again, held_updates, last_of, nothing, order_after, unheld_updates}
 use Rattle.attempts.specs.EngineCalls.{AreAttempts, EngineCall, IsEngineCall, begins_behind, call_order, first_ticket, lost_in, lost_of, made_in, made_of, opening}
-use Rattle.attempts.specs.Entries.{AreUpdatesFrom, Attempt, Beginning, IsAttempt, IsByOwner, Shared, StandByTicket, is_restart_at, is_update_from, restarts, ticket_of}
+use Rattle.cluster_cuts.specs.Goings.{AreUpdatesFrom, IsByOwner}
+use Rattle.cluster_runs.specs.Attempts.{Attempt, Beginning, Shared}
+use Rattle.cluster_model.specs.ByTicket.{StandByTicket, restarts}
+use Rattle.attempts.specs.Entries.{is_restart_at, is_update_from}
+use Rattle.cluster_core.specs.Replays.{ticket_of}
 use Rattle.attempts.proofs.Cutting.{all_cut, all_left, cut_and_left, made_below, stand_left}
 use Rattle.attempts.proofs.Opening.{opening_begins}
-use Rattle.attempts.proofs.Standing.{all_weaker, stand_append, stand_made, stand_within, suc_more}
+use Rattle.attempts.proofs.Standing.{all_weaker, stand_append, stand_made, stand_within}
 
 -- ---- which entries are updates from a ticket on
 

@@ -1,16 +1,19 @@
 -- Where an attempt ends by a failure, the next one may begin.
-use Rattle.std.proofs.Common.{◌≡◌, ◌≤◌, Bool, ℕ, zero, suc, ◌+◌, List, [], ◌∷◌, ◌++◌, length, refl, sym, ap, ◌∙◌, subst, arith}
+use Rattle.std.proofs.Common.{◌≡◌, ◌≤◌, Bool, ℕ, zero, suc, ◌+◌, List, ◌++◌, length, refl, sym, ap, ◌∙◌, subst, arith}
 use Rattle.std.specs.List.{AllByRecursion}
 use Rattle.gl_base.specs.declared.entries.Entry.{Entry}
-use Rattle.gl_base.specs.declared.entries.Entry.TheVariants.{Go, Restart}
+use Rattle.gl_base.specs.declared.entries.Entry.TheVariants.{Restart}
 use Rattle.graph_core.proofs.HalvesLaws.{each-append}
 use Rattle.graph_core.specs.DataGraph.{DataGraph}
 use Rattle.update_api.specs.Updates.{Update}
 use Rattle.seq_run.proofs.GoingOn.{replay_from-append, tasks_from-append, valid_append}
 use Rattle.seq_run.specs.Orders.{IsValidFrom, IsValidOrder, all_tasks, replay, replay_from, tasks_after, tasks_after_entry, tasks_from}
 use Rattle.seq_run.specs.States.{GraphState, start_state}
-use Rattle.attempts.specs.Beginnings.{IsBeginning, again, held_updates, last_of, nothing, order_after, snapshot_order}
-use Rattle.attempts.specs.Entries.{Attempt, Beginning, IsAttempt, IsByOwner, Shared, StandByTicket, cut_of, restarts}
+use Rattle.attempts.specs.Beginnings.{IsBeginning, again, held_updates, last_of, nothing}
+use Rattle.cluster_runs.specs.Attempts.{Attempt, Beginning, IsAttempt, Shared}
+use Rattle.cluster_cuts.specs.Goings.{IsByOwner}
+use Rattle.cluster_model.specs.ByTicket.{StandByTicket, restarts}
+use Rattle.cluster_core.specs.Cuts.{cut_of}
 use Rattle.attempts.proofs.Cutting.{all_cut, cut_none, last_holds, stand_cut}
 use Rattle.attempts.proofs.Standing.{stand_append, stand_made, stand_restarts}
 

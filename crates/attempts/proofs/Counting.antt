@@ -1,5 +1,5 @@
 -- Counts of entries, and of failures that were reached.
-use Rattle.std.proofs.Common.{◌≡◌, ◌⊎◌, ◌≤◌, ◌<◌, Bool, true, false, ℕ, zero, suc, ◌+◌, ◌&&◌, nat_le, nat_lt, if◌then◌else◌, List, [], ◌∷◌, ◌++◌, length, filter, count_by, refl, sym, ap, ap₂, ◌∙◌, subst, ⊎_elim, le_trans, le_refl, arith}
+use Rattle.std.proofs.Common.{◌≡◌, ◌≤◌, ◌<◌, Bool, true, false, ℕ, suc, ◌+◌, ◌&&◌, nat_le, nat_lt, if◌then◌else◌, List, [], ◌∷◌, ◌++◌, length, filter, refl, sym, ap, ap₂, ◌∙◌, subst, ⊎_elim, le_trans, le_refl, arith}
 use Rattle.std.specs.List.{AllByRecursion}
 use Rattle.std.proofs.lemmas.Bool.{and_from, and_left, and_right, cases_lt, false_from_ne_true, le-leb, le-ltb, leb-true, lt-ltb}
 use Rattle.std.proofs.lemmas.List.{length-append}
@@ -7,9 +7,10 @@ use Rattle.std.proofs.lemmas.List.Elements.{filter-append}
 use Rattle.std.proofs.lemmas.List.Sums.{length-filter}
 use Rattle.gl_base.specs.declared.entries.Entry.{Entry}
 use Rattle.gl_base.specs.declared.jobs.FailureAt.{FailureAt}
-use Rattle.attempts.specs.Beginnings.{again, nothing, unheld_updates}
-use Rattle.attempts.specs.EngineCalls.{AreAttempts, EngineCall, HaveFailed, IsEngineCall, done_of, fired_of, made_in, opening, struck_in}
-use Rattle.attempts.specs.Entries.{Attempt, Beginning, IsAttempt, Shared, done_with, is_of, is_reached, made_by}
+use Rattle.attempts.specs.Beginnings.{again, nothing}
+use Rattle.attempts.specs.EngineCalls.{AreAttempts, EngineCall, IsEngineCall, done_of, fired_of, made_in, opening, struck_in}
+use Rattle.cluster_runs.specs.Attempts.{Attempt, Beginning, IsAttempt, Shared, done_with, is_reached, made_by}
+use Rattle.cluster_core.specs.Replays.{is_of}
 
 one_of : Bool → ℕ
 one_of true = 1

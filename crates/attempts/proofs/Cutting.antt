@@ -1,13 +1,16 @@
 -- What a cut keeps and leaves out.
-use Rattle.std.proofs.Common.{◌≡◌, ◌≤◌, ◌<◌, ℕ, suc, pred, ◌+◌, ◌==◌, Bool, true, false, if◌then◌else◌, List, [], ◌∷◌, ◌++◌, length, IsPermutation, refl, sym, ap, subst, arith}
+use Rattle.std.proofs.Common.{◌≡◌, ◌<◌, ℕ, suc, pred, ◌+◌, ◌==◌, Bool, true, false, if◌then◌else◌, List, [], ◌∷◌, ◌++◌, length, IsPermutation, refl, subst, arith}
 use Rattle.std.specs.List.{AllByRecursion}
 use Rattle.std.proofs.lemmas.List.Sorted.{IsPermutation-cons, IsPermutation-middle, IsPermutation-refl, IsPermutation-trans}
 use Rattle.gl_base.specs.declared.entries.Entry.{Entry}
 use Rattle.gl_base.specs.declared.entries.Entry.TheVariants.{Go, Restart}
 use Rattle.cluster_core.specs.Ranges.{set_at}
 use Rattle.attempts.specs.Beginnings.{last_of, left_out, nothing}
-use Rattle.attempts.specs.Entries.{AreUpdatesFrom, StandByTicket, cut_of, ticket_of}
-use Rattle.attempts.proofs.Standing.{all_weaker, le_suc_of, stand_lower, suc_more}
+use Rattle.cluster_cuts.specs.Goings.{AreUpdatesFrom}
+use Rattle.cluster_model.specs.ByTicket.{StandByTicket}
+use Rattle.cluster_core.specs.Cuts.{cut_of}
+use Rattle.cluster_core.specs.Replays.{ticket_of}
+use Rattle.attempts.proofs.Standing.{le_suc_of, stand_lower, suc_more}
 
 -- what holds of both holds of either
 pub either : {X : Type 0} (P : X → Type 0) (b : Bool) (x y : X) → P x → P y → P (if b then x else y)

@@ -1,5 +1,5 @@
 -- Failures: how many restarts they add, where these stand, and how many updates are lost.
-use Rattle.std.proofs.Common.{◌≡◌, ◌⊎◌, ◌≤◌, ◌<◌, Bool, true, false, ℕ, zero, suc, ◌+◌, ◌*◌, nat_le, nat_lt, if◌then◌else◌, List, [], ◌∷◌, ◌++◌, length, filter, refl, sym, ap, ap₂, ◌∙◌, subst, ⊎_elim, le_trans, le_refl, append_assoc, append-nil, arith}
+use Rattle.std.proofs.Common.{◌≡◌, ◌≤◌, ◌<◌, Bool, true, false, ℕ, zero, suc, ◌+◌, ◌*◌, nat_le, nat_lt, if◌then◌else◌, List, [], ◌∷◌, ◌++◌, length, filter, refl, sym, ap, ap₂, ◌∙◌, subst, ⊎_elim, le_trans, le_refl, append_assoc, append-nil, arith}
 use Rattle.std.specs.List.{AllByRecursion, list_any}
 use Rattle.std.proofs.Math.Nat.{mul-le-mul_left}
 use Rattle.std.proofs.lemmas.Bool.{and_from, cases_lt, le-leb, lt-ltb}
@@ -9,12 +9,16 @@ use Rattle.std.proofs.lemmas.List.Sums.{length-filter}
 use Rattle.gl_base.specs.declared.entries.Entry.{Entry}
 use Rattle.gl_base.specs.declared.entries.Entry.TheVariants.{Go, Restart}
 use Rattle.gl_base.specs.declared.jobs.FailureAt.{FailureAt}
-use Rattle.attempts.specs.Accounted.{AreRestarts, IsFollowed, IsRestartBetween}
+use Rattle.attempts.specs.Accounted.{AreRestarts, IsFollowedByRestart, IsRestartBetween}
 use Rattle.attempts.specs.Beginnings.{KeepsWindow, again, held_updates, last_of, nothing, order_after, unheld_updates}
 use Rattle.attempts.specs.EngineCalls.{AreAttempts, EngineCall, IsEngineCall, begins_behind, call_order, first_ticket, fired_of, lost_in, lost_of, made_in, made_of, opening, struck_in}
-use Rattle.attempts.specs.Entries.{AreUpdatesFrom, Attempt, Beginning, IsAttempt, Shared, StopsAtFailure, done_with, entries_of, is_of, is_reached, is_restart, is_restart_at, made_by, restarts, ticket_of}
+use Rattle.cluster_cuts.specs.Goings.{AreUpdatesFrom}
+use Rattle.cluster_runs.specs.Attempts.{Attempt, Beginning, Shared, StopsAtFailure, done_with, is_reached, made_by}
+use Rattle.cluster_core.specs.Replays.{entries_of, is_of, ticket_of}
+use Rattle.attempts.specs.Entries.{is_restart, is_restart_at}
+use Rattle.cluster_model.specs.ByTicket.{restarts}
 use Rattle.attempts.proofs.Accounting.{filter_all, filter_none, made_tickets, restart_behind}
-use Rattle.attempts.proofs.Counting.{done_longer, fired_many, made_by-append}
+use Rattle.attempts.proofs.Counting.{fired_many, made_by-append}
 use Rattle.attempts.proofs.Cutting.{all_cut, either, made_below}
 use Rattle.attempts.proofs.Standing.{all_back, all_both, all_weaker}
 
@@ -61,6 +65,7 @@ module _ (shared : Shared) where
     where
       times_one : (w : ℕ) → w * 1 ≡ w
       times_one w = omega arith
+
       once : (w s : ℕ) → 1 ≤ s → w ≤ w * s
       once w s some = subst (λ (n : ℕ). n ≤ w * s) (times_one w) (mul-le-mul_left w some)
 
@@ -95,8 +100,7 @@ module _ (shared : Shared) where
       (filter-append is_restart (held_updates a) own
       ∙ ap₂ (λ (xs ys : List Entry). xs ++ ys)
       (filter_none is_restart (held_updates a) (all_cut (λ entry. is_restart entry ≡ false) (last_of nothing a.kept) a.made (no_restart b.next a.made are.0.tickets)))
-      (filter_all is_restart own (all_restarts a.struck next))) in
-      (
+      (filter_all is_restart own (all_restarts a.struck next))) in (
         own ++ rest.0,
         rest.1 ∙ ap (λ (es : List Entry). es ++ rest.0) front ∙ append_assoc (filter is_restart b.front) own rest.0,
         length-append own rest.0 ∙ ap₂ (λ (n k : ℕ). n + k) (length_restarts a.struck next) rest.2,
@@ -199,9 +203,11 @@ joined_at es fs before x y more same long P Q all_es all_fs =
   where
     suc_is : (n : ℕ) → suc n ≡ 0 → ⊥
     suc_is n is = omega arith
+
     empty : (gs : List Entry) → length gs ≡ 0 → gs ≡ []
     empty [] is = refl
     empty (g ∷ gs) is = absurd (suc_is (length gs) is)
+
     cancel : {w v : ℕ} (n k : ℕ) → w ≡ n + k → v ≡ w → n ≡ v → k ≡ 0
     cancel n k one two three = omega arith
 
@@ -250,9 +256,9 @@ module _ (shared : Shared) where
       (λ failure stops follows. follow_step b a (made_in failed last) order failure are.0.tickets (made_tickets shared (again b a) failed last are.2) (restart_behind b a failed last are.1) stops follows)
       shared.failures are.0.stops (follows_all (again b a) failed last are.2)
 
-  pub call_followed : (call : EngineCall) → IsEngineCall shared call → AllByRecursion (IsFollowed (call_order call) (made_of call)) shared.failures
+  pub call_followed : (call : EngineCall) → IsEngineCall shared call → AllByRecursion (IsFollowedByRestart (call_order call) (made_of call)) shared.failures
   call_followed call is =
-      all_weaker (Follows (opening call) (made_of call) (call_order call)) (IsFollowed (call_order call) (made_of call))
+      all_weaker (Follows (opening call) (made_of call) (call_order call)) (IsFollowedByRestart (call_order call) (made_of call))
       (λ failure follows before x y more same count. follows before x y more same (ap (λ (n : ℕ). n + 1) (no_more (length before)) ∙ count)) shared.failures
       (follows_all (opening call) call.failed call.last is.attempts)
     where

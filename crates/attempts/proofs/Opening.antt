@@ -1,16 +1,17 @@
 -- A call opens with a beginning, and its order is in turn.
-use Rattle.std.proofs.Common.{◌≡◌, ◌⊎◌, ◌≤◌, Bool, true, false, ℕ, suc, ◌+◌, max, if◌then◌else◌, List, [], ◌∷◌, ◌++◌, length, refl, sym, ap, ◌∙◌, subst, ⊎_elim, le_refl, le_trans, arith}
+use Rattle.std.proofs.Common.{◌≡◌, ◌≤◌, Bool, true, false, ℕ, suc, ◌+◌, if◌then◌else◌, List, [], ◌∷◌, ◌++◌, length, refl, sym, subst, ⊎_elim, le_refl, le_trans, arith}
 use Rattle.std.proofs.Math.Nat.{le-max_left, le-max_right}
-use Rattle.std.specs.List.{AllByRecursion}
 use Rattle.gl_base.specs.declared.entries.Entry.{Entry}
 use Rattle.gl_base.specs.declared.entries.Entry.TheVariants.{Go, Restart}
 use Rattle.graph_core.proofs.HalvesLaws.{each-append}
 use Rattle.seq_run.proofs.GoingOn.{tasks_from-append, valid_append}
-use Rattle.seq_run.specs.Orders.{IsValidFrom, all_tasks, replay, tasks_from}
+use Rattle.seq_run.specs.Orders.{all_tasks}
 use Rattle.seq_run.specs.States.{start_state}
 use Rattle.attempts.specs.Beginnings.{IsBeginning, again, nothing, order_after}
-use Rattle.attempts.specs.EngineCalls.{AreAttempts, EngineCall, IsEngineCall, IsOrderInTurn, begins_behind, call_order, first_ticket, opening, ticket_above}
-use Rattle.attempts.specs.Entries.{Attempt, Beginning, IsAttempt, IsByOwner, Shared, StandByTicket, ticket_of}
+use Rattle.attempts.specs.EngineCalls.{AreAttempts, EngineCall, IsEngineCall, IsOrderInTurn, begins_behind, call_order, opening, ticket_above}
+use Rattle.cluster_runs.specs.Attempts.{Attempt, Beginning, IsAttempt, Shared}
+use Rattle.cluster_cuts.specs.Goings.{IsByOwner}
+use Rattle.cluster_model.specs.ByTicket.{StandByTicket}
 use Rattle.attempts.proofs.Beginning.{again_begins, longer_valid}
 use Rattle.attempts.proofs.Standing.{stand_append, stand_made}
 

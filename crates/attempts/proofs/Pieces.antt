@@ -1,7 +1,7 @@
 -- From each bound to the next, what was made is valid behind what the order has before.
-use Rattle.std.proofs.Common.{◌≡◌, ◌⊎◌, ◌≤◌, ◌<◌, Bool, true, false, ℕ, zero, suc, ◌+◌, ◌==◌, ◌&&◌, ◌||◌, nat_le, nat_lt, List, [], ◌∷◌, ◌++◌, length, filter, refl, sym, ap, ap₂, ◌∙◌, subst, inl, inr, ⊎_elim, le_refl, le_trans, append_assoc, append-nil, arith}
+use Rattle.std.proofs.Common.{◌≡◌, ◌⊎◌, ◌≤◌, ◌<◌, Bool, true, false, ℕ, suc, ◌+◌, ◌==◌, nat_le, nat_lt, List, [], ◌∷◌, ◌++◌, length, filter, refl, sym, ap, ap₂, ◌∙◌, subst, inl, inr, ⊎_elim, le_refl, le_trans, append_assoc, append-nil, arith}
 use Rattle.std.specs.List.{AllByRecursion, list_any}
-use Rattle.std.proofs.lemmas.Bool.{and_from, and_left, and_right, cases_eq, cases_lt, cond-false, cond-true, eqb-true, eq-eqb, false_from_ne_true, le-leb, le-ltb, leb-true, lt-ltb, ne_eqb, or_cases}
+use Rattle.std.proofs.lemmas.Bool.{and_from, and_left, and_right, cases_lt, cond-false, cond-true, eqb-true, eq-eqb, false_from_ne_true, le-leb, le-ltb, leb-true, lt-ltb, ne_eqb, or_cases}
 use Rattle.std.proofs.lemmas.List.{length-append}
 use Rattle.std.proofs.lemmas.List.Elements.{filter-append}
 use Rattle.std.proofs.lemmas.List.Folds.{list_any-append}
@@ -12,12 +12,15 @@ use Rattle.seq_run.specs.Orders.{IsValidOrder}
 use Rattle.attempts.specs.Accounted.{AreValidBetween, IsBound, pieces_at}
 use Rattle.attempts.specs.Beginnings.{IsBeginning, again, held_updates, last_of, nothing, order_after}
 use Rattle.attempts.specs.EngineCalls.{AreAttempts, EngineCall, IsEngineCall, begins_behind, call_order, first_ticket, made_in, made_of, opening}
-use Rattle.attempts.specs.Entries.{AreUpdatesFrom, Attempt, Beginning, IsAttempt, Shared, StandByTicket, is_below, is_restart_at, is_update_within, restarts, ticket_of}
+use Rattle.cluster_cuts.specs.Goings.{AreUpdatesFrom}
+use Rattle.cluster_runs.specs.Attempts.{Attempt, Beginning, IsAttempt, Shared}
+use Rattle.cluster_model.specs.ByTicket.{StandByTicket, restarts}
+use Rattle.attempts.specs.Entries.{is_below, is_restart_at, is_update_within}
 use Rattle.attempts.proofs.Accounting.{filter_all, filter_none, made_tickets, restart_behind}
 use Rattle.attempts.proofs.Beginning.{again_begins, longer_valid, stand_held}
 use Rattle.attempts.proofs.Cutting.{all_cut}
 use Rattle.attempts.proofs.Opening.{opening_begins}
-use Rattle.attempts.proofs.Standing.{stand_append, stand_lower, stand_made, stand_restarts, stand_within}
+use Rattle.attempts.proofs.Standing.{stand_append, stand_made, stand_restarts, stand_within}
 
 -- ---- an order by ticket up to r: what is below r, and the restarts at r, are all of it
 
@@ -39,6 +42,7 @@ none_below r low order high stand up = filter_none (is_below r) order (all low o
   where
     step : (r low t : ℕ) → r ≤ low → low ≤ t → r ≤ suc t
     step r low t one other = omega arith
+
     all : (low : ℕ) (order : List Entry) (high : ℕ) → StandByTicket low order high → r ≤ low → AllByRecursion (λ e. is_below r e ≡ false) order
     all low [] high stand up = tt
     all low (Go m v t ∷ order) high stand up = (le-ltb t r (le_trans up stand.0), all (suc t) order high stand.1 (step r low t up stand.0))
@@ -50,8 +54,10 @@ all_at r order stand = filter_all (is_restart_at r) order (all r order stand (le
   where
     past : (r t : ℕ) → r ≤ t → suc t ≤ r → ⊥
     past r t one other = omega arith
+
     same : (r t : ℕ) → r ≤ t → t ≤ r → t ≡ r
     same r t one other = omega arith
+
     all : (low : ℕ) (order : List Entry) → StandByTicket low order r → r ≤ low → AllByRecursion (λ e. is_restart_at r e ≡ true) order
     all low [] stand up = tt
     all low (Go m v t ∷ order) stand up = absurd (past r t (le_trans up stand.0) (stand_within (suc t) order r stand.1))
@@ -111,12 +117,16 @@ within_all r s next made tickets low high = filter_all (is_update_within r s) ma
   where
     from : (r next t : ℕ) → t ≡ next → r ≤ next → r ≤ t
     from r next t same low = omega arith
+
     under : (next t n s : ℕ) → t ≡ next → next + suc n ≤ s → t < s
     under next t n s same high = omega arith
+
     rest : (next n s : ℕ) → next + suc n ≤ s → suc next + n ≤ s
     rest next n s high = omega arith
+
     up : (r next : ℕ) → r ≤ next → r ≤ suc next
     up r next low = omega arith
+
     all : (next : ℕ) (made : List Entry) → AreUpdatesFrom next made → r ≤ next → next + length made ≤ s → AllByRecursion (λ e. is_update_within r s e ≡ true) made
     all next [] tickets low high = tt
     all next (Restart ticket ∷ made) tickets low high = absurd tickets
@@ -130,8 +140,10 @@ within_none r s next made tickets high = filter_none (is_update_within r s) made
   where
     not_from : (next t n r : ℕ) → t ≡ next → next + suc n ≤ r → r ≤ t → ⊥
     not_from next t n r same high low = omega arith
+
     rest : (next n s : ℕ) → next + suc n ≤ s → suc next + n ≤ s
     rest next n s high = omega arith
+
     all : (next : ℕ) (made : List Entry) → AreUpdatesFrom next made → next + length made ≤ r → AllByRecursion (λ e. is_update_within r s e ≡ false) made
     all next [] tickets high = tt
     all next (Restart ticket ∷ made) tickets high = absurd tickets
@@ -145,8 +157,10 @@ within_late r s next made tickets low = filter_none (is_update_within r s) made 
   where
     from : (s next t : ℕ) → t ≡ next → s ≤ next → s ≤ t
     from s next t same low = omega arith
+
     up : (r next : ℕ) → r ≤ next → r ≤ suc next
     up r next low = omega arith
+
     all : (next : ℕ) (made : List Entry) → AreUpdatesFrom next made → s ≤ next → AllByRecursion (λ e. is_update_within r s e ≡ false) made
     all next [] tickets low = tt
     all next (Restart ticket ∷ made) tickets low = absurd tickets
@@ -219,6 +233,7 @@ module _ (shared : Shared) where
     where
       off : (r low t : ℕ) → r < low → low ≤ t → t ≡ r → ⊥
       off r low t one other same = omega arith
+
       up : (r low t : ℕ) → r < low → low ≤ t → r < t
       up r low t one other = omega arith
 
@@ -252,22 +267,22 @@ module _ (shared : Shared) where
       let top : ℕ = b.next + length last.made in
       let early : (q : ℕ) → list_any (is_restart_at q) (b.front ++ last.made) ≡ true → q ≤ b.next =
       λ q has. ⊎_elim (λ (in_front : list_any (is_restart_at q) b.front ≡ true). (none_has q 0 b.front b.next is.by_ticket in_front).1)
-          (λ (in_made : list_any (is_restart_at q) last.made ≡ true). absurd (made_has q b.next last.made attempt.tickets in_made)) (any_cases (is_restart_at q) b.front last.made has) in
+      (λ (in_made : list_any (is_restart_at q) last.made ≡ true). absurd (made_has q b.next last.made attempt.tickets in_made)) (any_cases (is_restart_at q) b.front last.made has) in
       let high : s ≤ top = ⊎_elim (λ (at : s ≡ b.next). subst (λ (n : ℕ). n ≤ top) (sym at) (plus_low b.next (length last.made)))
-          (λ (more : ((b.next ≤ s) × (list_any (is_restart_at s) (b.front ++ last.made) ≡ true)) ⊎ (s ≡ top)). ⊎_elim
-          (λ (has : (b.next ≤ s) × (list_any (is_restart_at s) (b.front ++ last.made) ≡ true)). le_trans (early s has.1) (plus_low b.next (length last.made)))
-          (λ (at : s ≡ top). subst (λ (n : ℕ). s ≤ n) at (le_refl s)) more) bound_s in
+      (λ (more : ((b.next ≤ s) × (list_any (is_restart_at s) (b.front ++ last.made) ≡ true)) ⊎ (s ≡ top)). ⊎_elim
+      (λ (has : (b.next ≤ s) × (list_any (is_restart_at s) (b.front ++ last.made) ≡ true)). le_trans (early s has.1) (plus_low b.next (length last.made)))
+      (λ (at : s ≡ top). subst (λ (n : ℕ). s ≤ n) at (le_refl s)) more) bound_s in
       let first : r ≡ b.next = ⊎_elim (λ (at : r ≡ b.next). at)
-          (λ (more : ((b.next ≤ r) × (list_any (is_restart_at r) (b.front ++ last.made) ≡ true)) ⊎ (r ≡ top)). ⊎_elim
-          (λ (has : (b.next ≤ r) × (list_any (is_restart_at r) (b.front ++ last.made) ≡ true)). equal r b.next (early r has.1) has.0)
-          (λ (at : r ≡ top). absurd (no_both r s top at less high)) more) bound_r in
+      (λ (more : ((b.next ≤ r) × (list_any (is_restart_at r) (b.front ++ last.made) ≡ true)) ⊎ (r ≡ top)). ⊎_elim
+      (λ (has : (b.next ≤ r) × (list_any (is_restart_at r) (b.front ++ last.made) ≡ true)). equal r b.next (early r has.1) has.0)
+      (λ (at : r ≡ top). absurd (no_both r s top at less high)) more) bound_r in
       let end : s ≡ top = ⊎_elim (λ (at : s ≡ b.next). absurd (no_self r s b.next first (subst (λ (n : ℕ). s ≤ n) at (le_refl s)) less))
-          (λ (more : ((b.next ≤ s) × (list_any (is_restart_at s) (b.front ++ last.made) ≡ true)) ⊎ (s ≡ top)). ⊎_elim
-          (λ (has : (b.next ≤ s) × (list_any (is_restart_at s) (b.front ++ last.made) ≡ true)). absurd (no_self r s b.next first (early s has.1) less))
-          (λ (at : s ≡ top). at) more) bound_s in
+      (λ (more : ((b.next ≤ s) × (list_any (is_restart_at s) (b.front ++ last.made) ≡ true)) ⊎ (s ≡ top)). ⊎_elim
+      (λ (has : (b.next ≤ s) × (list_any (is_restart_at s) (b.front ++ last.made) ≡ true)). absurd (no_self r s b.next first (early s has.1) less))
+      (λ (at : s ≡ top). at) more) bound_s in
       let whole : pieces_at b.next top (b.front ++ last.made) (last.made ++ []) ≡ b.front ++ last.made =
       piece b last.made [] last.made top is (none_below b.next b.next last.made top (stand_made b.next last.made attempt.tickets) (le_refl b.next)) (no_restart_at b.next b.next last.made attempt.tickets)
-          (ap (filter (is_update_within b.next top)) (append-nil last.made) ∙ within_all b.next top b.next last.made attempt.tickets (le_refl b.next) (le_refl top)) in
+      (ap (filter (is_update_within b.next top)) (append-nil last.made) ∙ within_all b.next top b.next last.made attempt.tickets (le_refl b.next) (le_refl top)) in
       subst (IsValidOrder shared.graph shared.program)
       (sym (ap₂ (λ (n k : ℕ). pieces_at n k (b.front ++ last.made) last.made) first end
       ∙ ap (λ (es : List Entry). pieces_at b.next top (b.front ++ last.made) es) (sym (append-nil last.made)) ∙ whole))
@@ -291,53 +306,53 @@ module _ (shared : Shared) where
       ap (list_any (is_restart_at next)) (same ∙ sym (order_behind b (a ∷ failed) last)) ∙ restart_behind b a failed last are.1 in
       let parted : (q : ℕ) → IsBound b.next order top q → (q ≡ b.next) ⊎ (next ≤ q) =
       λ q bound. ⊎_elim (λ (at : q ≡ b.next). inl at)
-          (λ (more : ((b.next ≤ q) × (list_any (is_restart_at q) order ≡ true)) ⊎ (q ≡ top)). ⊎_elim
-          (λ (has : (b.next ≤ q) × (list_any (is_restart_at q) order ≡ true)). ⊎_elim
-          (λ (in_front : list_any (is_restart_at q) b.front ≡ true). inl (equal q b.next (none_has q 0 b.front b.next is.by_ticket in_front).1 has.0))
-          (λ (in_behind : list_any (is_restart_at q) ((held_updates a ++ own) ++ later) ≡ true). ⊎_elim
-          (λ (in_own : list_any (is_restart_at q) (held_updates a ++ own) ≡ true). ⊎_elim
-          (λ (in_held : list_any (is_restart_at q) (held_updates a) ≡ true). absurd (none_any (is_restart_at q) (held_updates a) (held_none q a b.next are.0.tickets) in_held))
-          (λ (in_new : list_any (is_restart_at q) own ≡ true). inr (none_has q next own next (stand_restarts a.struck next) in_new).0)
-          (any_cases (is_restart_at q) (held_updates a) own in_own))
-          (λ (in_later : list_any (is_restart_at q) later ≡ true). inr (none_has q next later (next + length rest) later_stands in_later).0)
-          (any_cases (is_restart_at q) (held_updates a ++ own) later in_behind))
-          (any_cases (is_restart_at q) b.front ((held_updates a ++ own) ++ later) (ap (list_any (is_restart_at q)) (sym same) ∙ has.1)))
-          (λ (at : q ≡ top). inr (subst (λ (n : ℕ). next ≤ n) (sym (at ∙ top_again)) (plus_low next (length rest))))
-          more) bound in
+      (λ (more : ((b.next ≤ q) × (list_any (is_restart_at q) order ≡ true)) ⊎ (q ≡ top)). ⊎_elim
+      (λ (has : (b.next ≤ q) × (list_any (is_restart_at q) order ≡ true)). ⊎_elim
+      (λ (in_front : list_any (is_restart_at q) b.front ≡ true). inl (equal q b.next (none_has q 0 b.front b.next is.by_ticket in_front).1 has.0))
+      (λ (in_behind : list_any (is_restart_at q) ((held_updates a ++ own) ++ later) ≡ true). ⊎_elim
+      (λ (in_own : list_any (is_restart_at q) (held_updates a ++ own) ≡ true). ⊎_elim
+      (λ (in_held : list_any (is_restart_at q) (held_updates a) ≡ true). absurd (none_any (is_restart_at q) (held_updates a) (held_none q a b.next are.0.tickets) in_held))
+      (λ (in_new : list_any (is_restart_at q) own ≡ true). inr (none_has q next own next (stand_restarts a.struck next) in_new).0)
+      (any_cases (is_restart_at q) (held_updates a) own in_own))
+      (λ (in_later : list_any (is_restart_at q) later ≡ true). inr (none_has q next later (next + length rest) later_stands in_later).0)
+      (any_cases (is_restart_at q) (held_updates a ++ own) later in_behind))
+      (any_cases (is_restart_at q) b.front ((held_updates a ++ own) ++ later) (ap (list_any (is_restart_at q)) (sym same) ∙ has.1)))
+      (λ (at : q ≡ top). inr (subst (λ (n : ℕ). next ≤ n) (sym (at ∙ top_again)) (plus_low next (length rest))))
+      more) bound in
       let again_bound : (q : ℕ) → IsBound b.next order top q → next ≤ q → IsBound next order top q =
       λ q bound up. ⊎_elim (λ (at : q ≡ b.next). inl (equal q next (subst (λ (n : ℕ). n ≤ next) (sym at) (plus_low b.next (length a.made))) up))
-          (λ (more : ((b.next ≤ q) × (list_any (is_restart_at q) order ≡ true)) ⊎ (q ≡ top)). ⊎_elim
-          (λ (has : (b.next ≤ q) × (list_any (is_restart_at q) order ≡ true)). inr (inl (up, has.1)))
-          (λ (at : q ≡ top). inr (inr at)) more) bound in
+      (λ (more : ((b.next ≤ q) × (list_any (is_restart_at q) order ≡ true)) ⊎ (q ≡ top)). ⊎_elim
+      (λ (has : (b.next ≤ q) × (list_any (is_restart_at q) order ≡ true)). inr (inl (up, has.1)))
+      (λ (at : q ≡ top). inr (inr at)) more) bound in
       let back_bound : (q : ℕ) → IsBound next order top q → IsBound b.next order top q =
       λ q bound. ⊎_elim (λ (at : q ≡ next). inr (inl (subst (λ (n : ℕ). b.next ≤ n) (sym at) (plus_low b.next (length a.made)), subst (λ (n : ℕ). list_any (is_restart_at n) order ≡ true) (sym at) has_next)))
-          (λ (more : ((next ≤ q) × (list_any (is_restart_at q) order ≡ true)) ⊎ (q ≡ top)). ⊎_elim
-          (λ (has : (next ≤ q) × (list_any (is_restart_at q) order ≡ true)). inr (inl (le_trans (plus_low b.next (length a.made)) has.0, has.1)))
-          (λ (at : q ≡ top). inr (inr at)) more) bound in
+      (λ (more : ((next ≤ q) × (list_any (is_restart_at q) order ≡ true)) ⊎ (q ≡ top)). ⊎_elim
+      (λ (has : (next ≤ q) × (list_any (is_restart_at q) order ≡ true)). inr (inl (le_trans (plus_low b.next (length a.made)) has.0, has.1)))
+      (λ (at : q ≡ top). inr (inr at)) more) bound in
       let go_on : next ≤ r → IsValidOrder shared.graph shared.program (pieces_at r s order (a.made ++ rest)) =
       λ up. subst (λ (es : List Entry). IsValidOrder shared.graph shared.program (filter (is_below r) order ++ (filter (is_restart_at r) order ++ es)))
-          (sym (filter-append (is_update_within r s) a.made rest ∙ ap (λ (es : List Entry). es ++ filter (is_update_within r s) rest) (within_none r s b.next a.made are.0.tickets up)))
-          (pieces (again b a) failed last begins are.2 order (same ∙ sym (append_assoc b.front (held_updates a ++ own) later)) top top_again r s
-          (again_bound r bound_r up) (again_bound s bound_s (le_trans up (below r s less))) less (λ q bound high. least q (back_bound q bound) high)) in
+      (sym (filter-append (is_update_within r s) a.made rest ∙ ap (λ (es : List Entry). es ++ filter (is_update_within r s) rest) (within_none r s b.next a.made are.0.tickets up)))
+      (pieces (again b a) failed last begins are.2 order (same ∙ sym (append_assoc b.front (held_updates a ++ own) later)) top top_again r s
+      (again_bound r bound_r up) (again_bound s bound_s (le_trans up (below r s less))) less (λ q bound high. least q (back_bound q bound) high)) in
       let here : r ≡ b.next → b.next < next → IsValidOrder shared.graph shared.program (pieces_at r s order (a.made ++ rest)) =
       λ at some.
-          let end : s ≡ next = ⊎_elim (λ (at_s : s ≡ b.next). absurd (no_self r s b.next at (subst (λ (n : ℕ). s ≤ n) at_s (le_refl s)) less))
-              (λ (up : next ≤ s). equal s next (least next (inr (inl (plus_low b.next (length a.made), has_next))) (subst (λ (n : ℕ). n < next) (sym at) some)) up) (parted s bound_s) in
-          let behind_low : filter (is_below b.next) ((held_updates a ++ own) ++ later) ≡ [] =
-          none_below b.next b.next ((held_updates a ++ own) ++ later) (b.next + length (made_in (a ∷ failed) last)) (behind_stands b (a ∷ failed) last are) (le_refl b.next) in
-          let behind_none : filter (is_restart_at b.next) ((held_updates a ++ own) ++ later) ≡ [] =
-          filter_none (is_restart_at b.next) ((held_updates a ++ own) ++ later)
-              (each-append (λ e. is_restart_at b.next e ≡ false) (held_updates a ++ own) later
-              (each-append (λ e. is_restart_at b.next e ≡ false) (held_updates a) own (held_none b.next a b.next are.0.tickets) (none_at b.next next own next (stand_restarts a.struck next) some))
-              (none_at b.next next later (next + length rest) later_stands some)) in
-          let inside : filter (is_update_within b.next next) (a.made ++ rest) ≡ a.made =
-          filter-append (is_update_within b.next next) a.made rest
-              ∙ ap₂ (λ (xs ys : List Entry). xs ++ ys) (within_all b.next next b.next a.made are.0.tickets (le_refl b.next) (le_refl next)) (within_late b.next next next rest (made_tickets shared (again b a) failed last are.2) (le_refl next))
-              ∙ append-nil a.made in
-          subst (IsValidOrder shared.graph shared.program)
-          (sym (ap₂ (λ (n k : ℕ). pieces_at n k order (a.made ++ rest)) at end ∙ ap (λ (es : List Entry). pieces_at b.next next es (a.made ++ rest)) same
-          ∙ piece b a.made rest ((held_updates a ++ own) ++ later) next is behind_low behind_none inside))
-          (longer_valid shared b is a.made are.0.valid) in
+      let end : s ≡ next = ⊎_elim (λ (at_s : s ≡ b.next). absurd (no_self r s b.next at (subst (λ (n : ℕ). s ≤ n) at_s (le_refl s)) less))
+      (λ (up : next ≤ s). equal s next (least next (inr (inl (plus_low b.next (length a.made), has_next))) (subst (λ (n : ℕ). n < next) (sym at) some)) up) (parted s bound_s) in
+      let behind_low : filter (is_below b.next) ((held_updates a ++ own) ++ later) ≡ [] =
+      none_below b.next b.next ((held_updates a ++ own) ++ later) (b.next + length (made_in (a ∷ failed) last)) (behind_stands b (a ∷ failed) last are) (le_refl b.next) in
+      let behind_none : filter (is_restart_at b.next) ((held_updates a ++ own) ++ later) ≡ [] =
+      filter_none (is_restart_at b.next) ((held_updates a ++ own) ++ later)
+      (each-append (λ e. is_restart_at b.next e ≡ false) (held_updates a ++ own) later
+      (each-append (λ e. is_restart_at b.next e ≡ false) (held_updates a) own (held_none b.next a b.next are.0.tickets) (none_at b.next next own next (stand_restarts a.struck next) some))
+      (none_at b.next next later (next + length rest) later_stands some)) in
+      let inside : filter (is_update_within b.next next) (a.made ++ rest) ≡ a.made =
+      filter-append (is_update_within b.next next) a.made rest
+      ∙ ap₂ (λ (xs ys : List Entry). xs ++ ys) (within_all b.next next b.next a.made are.0.tickets (le_refl b.next) (le_refl next)) (within_late b.next next next rest (made_tickets shared (again b a) failed last are.2) (le_refl next))
+      ∙ append-nil a.made in
+      subst (IsValidOrder shared.graph shared.program)
+      (sym (ap₂ (λ (n k : ℕ). pieces_at n k order (a.made ++ rest)) at end ∙ ap (λ (es : List Entry). pieces_at b.next next es (a.made ++ rest)) same
+      ∙ piece b a.made rest ((held_updates a ++ own) ++ later) next is behind_low behind_none inside))
+      (longer_valid shared b is a.made are.0.valid) in
       ⊎_elim (λ (at : r ≡ b.next). ⊎_elim (λ (some : b.next < next). here at some) (λ (none : next ≤ b.next). go_on (subst (λ (n : ℕ). next ≤ n) (sym at) none)) (cases_lt b.next next))
       (λ (up : next ≤ r). go_on up) (parted r bound_r)
     where

@@ -1,13 +1,16 @@
 -- Orders of which one is earlier than another.
-use Rattle.std.proofs.Common.{◌≡◌, ◌⊎◌, ◌≤◌, Bool, true, false, ℕ, zero, suc, ◌+◌, ◌==◌, if◌then◌else◌, List, [], ◌∷◌, ◌++◌, length, filter, map, take, refl, sym, ap, ap₂, ◌∙◌, subst, subst₂, le_refl, le_trans, append_assoc, append-nil, arith}
+use Rattle.std.proofs.Common.{◌≡◌, ◌≤◌, Bool, true, false, ℕ, zero, suc, ◌==◌, if◌then◌else◌, List, [], ◌∷◌, ◌++◌, filter, map, take, refl, sym, ap, ◌∙◌, subst, subst₂, le_refl, le_trans, append_assoc, append-nil, arith}
 use Rattle.std.specs.List.{AllByRecursion}
 use Rattle.std.proofs.lemmas.List.Elements.{filter-append}
 use Rattle.gl_base.specs.declared.entries.Entry.{Entry}
 use Rattle.gl_base.specs.declared.entries.Entry.TheVariants.{Go, Restart}
 use Rattle.graph_core.proofs.HalvesLaws.{each-append}
 use Rattle.cluster_cuts.proofs.CutLists.{cut_updates}
-use Rattle.attempts.specs.Beginnings.{last_of, nothing}
-use Rattle.attempts.specs.Entries.{AreRising, AreUpdatesFrom, Begins, cut_of, is_restart, updates_at}
+use Rattle.attempts.specs.Beginnings.{last_of}
+use Rattle.cluster_runs.specs.Attempts.{AreRising}
+use Rattle.cluster_cuts.specs.Goings.{AreUpdatesFrom}
+use Rattle.cluster_core.specs.Cuts.{Begins, cut_of, updates_at}
+use Rattle.attempts.specs.Entries.{is_restart}
 use Rattle.attempts.specs.Stores.{AreEarlierFirst, IsEarlier, last_order}
 use Rattle.attempts.proofs.Accounting.{filter_none}
 use Rattle.attempts.proofs.Cutting.{all_cut}
@@ -68,8 +71,8 @@ cut_earlier front count later next made tickets under =
       restarts = (
         [],
         filter-append is_restart front (cut_of later made)
-        ∙ ap (λ (es : List Entry). filter is_restart front ++ es) (cut_alone later next made tickets ∙ sym (cut_alone count next made tickets))
-        ∙ sym (filter-append is_restart front (cut_of count made)) ∙ sym (append-nil (filter is_restart (front ++ cut_of count made))),
+            ∙ ap (λ (es : List Entry). filter is_restart front ++ es) (cut_alone later next made tickets ∙ sym (cut_alone count next made tickets))
+            ∙ sym (filter-append is_restart front (cut_of count made)) ∙ sym (append-nil (filter is_restart (front ++ cut_of count made))),
       );
     }
 
@@ -103,7 +106,7 @@ pub cuts_earlier_first : (front : List Entry) (next : ℕ) (made : List Entry) �
 cuts_earlier_first front next made tickets count [] rising = tt
 cuts_earlier_first front next made tickets count (c ∷ counts) rising = (
   all_map (IsEarlier (front ++ cut_of c made)) (λ (d : ℕ → ℕ). front ++ cut_of d made) counts
-  (all_weaker (IsUnder c) (λ (d : ℕ → ℕ). IsEarlier (front ++ cut_of c made) (front ++ cut_of d made)) (λ d under. cut_earlier front c d next made tickets under) counts (rising_all c counts rising.1)),
+      (all_weaker (IsUnder c) (λ (d : ℕ → ℕ). IsEarlier (front ++ cut_of c made) (front ++ cut_of d made)) (λ d under. cut_earlier front c d next made tickets under) counts (rising_all c counts rising.1)),
   cuts_earlier_first front next made tickets c counts rising.1,
 )
 

@@ -1,9 +1,10 @@
 -- Lists of entries by ticket.
-use Rattle.std.proofs.Common.{◌≡◌, ◌≤◌, ℕ, zero, suc, ◌+◌, List, [], ◌∷◌, ◌++◌, length, refl, sym, subst, le_refl, le_trans, arith}
+use Rattle.std.proofs.Common.{◌≡◌, ◌≤◌, ℕ, zero, suc, ◌+◌, List, [], ◌∷◌, ◌++◌, length, sym, subst, le_refl, le_trans, arith}
 use Rattle.std.specs.List.{AllByRecursion}
 use Rattle.gl_base.specs.declared.entries.Entry.{Entry}
 use Rattle.gl_base.specs.declared.entries.Entry.TheVariants.{Go, Restart}
-use Rattle.attempts.specs.Entries.{AreUpdatesFrom, StandByTicket, restarts}
+use Rattle.cluster_cuts.specs.Goings.{AreUpdatesFrom}
+use Rattle.cluster_model.specs.ByTicket.{StandByTicket, restarts}
 
 pub all_front : {X : Type 0} (P : X → Type 0) (xs ys : List X) → AllByRecursion P (xs ++ ys) → AllByRecursion P xs
 all_front P [] ys all = tt
@@ -56,7 +57,7 @@ stand_made next (Restart ticket ∷ made) tickets = absurd tickets
 stand_made next (Go machine vertex ticket ∷ made) tickets = (
   subst (λ (n : ℕ). next ≤ n) (sym tickets.0) (le_refl next),
   subst (λ (n : ℕ). StandByTicket (suc n) made (next + suc (length made))) (sym tickets.0)
-  (subst (λ (n : ℕ). StandByTicket (suc next) made n) (suc_more next (length made)) (stand_made (suc next) made tickets.1)),
+      (subst (λ (n : ℕ). StandByTicket (suc next) made n) (suc_more next (length made)) (stand_made (suc next) made tickets.1)),
 )
 
 pub stand_restarts : (n ticket : ℕ) → StandByTicket ticket (restarts n ticket) ticket

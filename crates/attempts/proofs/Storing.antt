@@ -1,5 +1,5 @@
 -- Calls leave good stores, and each attempt begins at the last snapshot.
-use Rattle.std.proofs.Common.{◌≡◌, ◌⊎◌, ◌≤◌, Bool, true, false, ℕ, zero, suc, ◌+◌, if◌then◌else◌, List, [], ◌∷◌, ◌++◌, length, filter, map, IsPermutation, refl, sym, ap, ap₂, ◌∙◌, subst, append_assoc, append-nil, arith}
+use Rattle.std.proofs.Common.{◌≡◌, ◌≤◌, Bool, true, false, ℕ, suc, ◌+◌, if◌then◌else◌, List, [], ◌∷◌, ◌++◌, length, filter, map, IsPermutation, refl, sym, ap, ap₂, ◌∙◌, subst, append_assoc, append-nil, arith}
 use Rattle.std.specs.List.{AllByRecursion}
 use Rattle.std.proofs.lemmas.List.{append_cancel_left, map-append}
 use Rattle.std.proofs.lemmas.List.Elements.{filter-append}
@@ -10,15 +10,19 @@ use Rattle.graph_core.proofs.HalvesLaws.{each-append}
 use Rattle.seq_run.specs.Orders.{IsValidFrom, all_tasks, replay}
 use Rattle.attempts.specs.Beginnings.{IsBeginning, KeepsWindow, again, held_updates, last_of, nothing, order_after, snapshot_order, unheld_updates}
 use Rattle.attempts.specs.EngineCalls.{AreAttempts, EngineCall, HaveFailed, IsEngineCall, IsOrderInTurn, begins_behind, call_order, first_ticket, last_beginning, opening}
-use Rattle.attempts.specs.Entries.{AreRising, AreUpdatesFrom, Attempt, Beginning, IsAttempt, IsByOwner, Shared, StandByTicket, cut_of, is_restart, is_update, made_by, restarts}
-use Rattle.attempts.specs.Stores.{AreEarlierFirst, AreGoodOrders, IsEarlier, IsImage, IsWithinWindow, ResumesFrom, last_order, snapshot_orders, snapshots_in, snapshots_of}
+use Rattle.cluster_cuts.specs.Goings.{AreUpdatesFrom, IsByOwner}
+use Rattle.cluster_runs.specs.Attempts.{Attempt, Beginning, IsAttempt, Shared}
+use Rattle.cluster_core.specs.Cuts.{cut_of}
+use Rattle.attempts.specs.Entries.{is_restart, is_update}
+use Rattle.cluster_model.specs.ByTicket.{restarts}
+use Rattle.attempts.specs.Stores.{AreGoodOrders, IsEarlier, IsImage, IsWithinWindow, ResumesFrom, last_order, snapshot_orders, snapshots_in, snapshots_of}
 use Rattle.attempts.proofs.Accounting.{filter_all, filter_none}
 use Rattle.attempts.proofs.Beginning.{again_begins, longer_valid}
 use Rattle.attempts.proofs.Cutting.{all_cut, cut_and_left, cut_none, stand_cut}
 use Rattle.attempts.proofs.Failing.{all_restarts, no_restart}
 use Rattle.attempts.proofs.Opening.{last_begins, opening_begins}
 use Rattle.attempts.proofs.Prefixes.{IsUnder, all_map, cut_earlier, cuts_earlier_first, earlier_first_append, earlier_first_front, earlier_longer, earlier_than_last, last_order_append, last_order_holds, last_order_map, rising_last, rising_more}
-use Rattle.attempts.proofs.Standing.{all_both, all_front, all_weaker, stand_append, stand_made}
+use Rattle.attempts.proofs.Standing.{all_front, all_weaker, stand_append, stand_made}
 
 -- every entry is a restart
 abbrev AreRestartsAlone : List Entry → Type 0
@@ -156,8 +160,7 @@ module _ (shared : Shared) where
       by_kept [] same =
           let own : List Entry = restarts a.struck (b.next + length a.made) in
           let none : held_updates a ≡ [] = ap (λ (counts : List (ℕ → ℕ)). cut_of (last_of nothing counts) a.made) same ∙ cut_none b.next a.made is.tickets in
-          subst (λ (order : List Entry). ResumesFrom order (b.front ++ (held_updates a ++ own))) (sym (ap (λ (counts : List (ℕ → ℕ)). last_order snapshot (map (snapshot_order b a) counts)) same))
-          (
+          subst (λ (order : List Entry). ResumesFrom order (b.front ++ (held_updates a ++ own))) (sym (ap (λ (counts : List (ℕ → ℕ)). last_order snapshot (map (snapshot_order b a) counts)) same)) (
             back.0 ++ own,
             ap (λ (es : List Entry). b.front ++ (es ++ own)) none ∙ ap (λ (es : List Entry). es ++ own) back.1 ∙ append_assoc snapshot back.0 own,
             each-append (λ entry. is_restart entry ≡ true) back.0 own back.2 (all_restarts a.struck (b.next + length a.made)),

@@ -1,8 +1,8 @@
 -- The call that fails once is a call.
-use Rattle.std.proofs.Common.{◌≡◌, ◌≤◌, Bool, true, false, ℕ, ◌==◌, if◌then◌else◌, [], refl, inr, arith}
+use Rattle.std.proofs.Common.{◌≡◌, ◌≤◌, true, false, ℕ, ◌==◌, if◌then◌else◌, refl, inr, arith}
 use Rattle.attempts.specs.Beginnings.{again}
-use Rattle.attempts.specs.EngineCalls.{IsEngineCall, IsOrderInTurn, opening}
-use Rattle.attempts.specs.Entries.{IsAttempt}
+use Rattle.attempts.specs.EngineCalls.{IsEngineCall, opening}
+use Rattle.cluster_runs.specs.Attempts.{IsAttempt}
 use Rattle.attempts.specs.OneFailure.{alone, failing_call, first_try, second_try}
 
 low : (n : ℕ) → 0 ≤ n

@@ -5,7 +5,11 @@ use Rattle.std.specs.Prelude.{List, filter, if◌then◌else◌, length, true, �
 use Rattle.gl_base.specs.declared.entries.Entry.{Entry}
 use Rattle.gl_base.specs.declared.jobs.FailureAt.{FailureAt}
 use Rattle.attempts.specs.EngineCalls.{EngineCall, fired_of, call_order, struck_in}
-use Rattle.attempts.specs.Entries.{AreUpdatesFrom, IsByOwner, Shared, StandByTicket, entries_of, is_below, is_restart, is_restart_at, is_update_from, is_update_within, ticket_of}
+use Rattle.cluster_cuts.specs.Goings.{AreUpdatesFrom, IsByOwner}
+use Rattle.cluster_runs.specs.Attempts.{Shared}
+use Rattle.cluster_model.specs.ByTicket.{StandByTicket}
+use Rattle.cluster_core.specs.Replays.{entries_of, ticket_of}
+use Rattle.attempts.specs.Entries.{is_below, is_restart, is_restart_at, is_update_from, is_update_within}
 use Rattle.seq_run.specs.Orders.{IsValidOrder}
 
 -- Those of the order from the first ticket on and the lost ones are together the updates of the call, which have the tickets from the
@@ -37,8 +41,8 @@ abbrev pub IsRestartBetween : List Entry → Entry → Entry → Type 0
 IsRestartBetween order x y = (r : ℕ) × (list_any (is_restart_at r) order ≡ true) × (ticket_of x < r) × (r ≤ ticket_of y)
 
 -- where the failure's machine made its update of that count and one more, a restart comes between these two
-abbrev pub IsFollowed : List Entry → List Entry → FailureAt → Type 0
-IsFollowed order updates failure =
+abbrev pub IsFollowedByRestart : List Entry → List Entry → FailureAt → Type 0
+IsFollowedByRestart order updates failure =
     (before : List Entry) (x y : Entry) (more : List Entry) →
     entries_of failure.machine.0 updates ≡ before ++ x ∷ y ∷ more → length before + 1 ≡ failure.after → IsRestartBetween order x y
 

@@ -3,7 +3,10 @@ use Rattle.std.specs.List.{AllByRecursion}
 use Rattle.std.specs.Prelude.{List, [], if◌then◌else◌, length, pred, ℕ, ◌++◌, ◌+◌, ◌==◌, ◌∷◌, ◌≡◌, ◌≤◌}
 use Rattle.gl_base.specs.declared.entries.Entry.{Entry}
 use Rattle.gl_base.specs.declared.entries.Entry.TheVariants.{Go, Restart}
-use Rattle.attempts.specs.Entries.{Attempt, Beginning, IsByOwner, Shared, StandByTicket, cut_of, done_with, made_by, restarts}
+use Rattle.cluster_runs.specs.Attempts.{Attempt, Beginning, Shared, done_with, made_by}
+use Rattle.cluster_cuts.specs.Goings.{IsByOwner}
+use Rattle.cluster_model.specs.ByTicket.{StandByTicket, restarts}
+use Rattle.cluster_core.specs.Cuts.{cut_of}
 use Rattle.cluster_core.specs.Ranges.{set_at}
 use Rattle.seq_run.specs.Orders.{IsValidOrder, all_tasks, tasks_after}
 

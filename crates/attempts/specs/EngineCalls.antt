@@ -1,11 +1,14 @@
 -- A call that runs a job: attempts that failed, in turn, and a last one.
 use Rattle.std.specs.List.{AllByRecursion}
-use Rattle.std.specs.Prelude.{Bool, List, [], false, filter, if◌then◌else◌, max, nat_le, suc, true, ℕ, ⊤, ◌++◌, ◌+◌, ◌<◌, ◌∷◌, ◌≡◌, ◌≤◌, ◌⊎◌}
+use Rattle.std.specs.Prelude.{Bool, List, [], false, filter, if◌then◌else◌, max, nat_le, suc, true, ℕ, ⊤, ◌++◌, ◌+◌, ◌∷◌, ◌≡◌, ◌≤◌, ◌⊎◌}
 use Rattle.gl_base.specs.declared.entries.Entry.{Entry}
 use Rattle.gl_base.specs.declared.entries.Entry.TheVariants.{Restart}
 use Rattle.gl_base.specs.declared.jobs.FailureAt.{FailureAt}
 use Rattle.attempts.specs.Beginnings.{again, nothing, order_after, unheld_updates}
-use Rattle.attempts.specs.Entries.{Attempt, Beginning, IsAttempt, IsByOwner, Shared, StandByTicket, made_by, ticket_of}
+use Rattle.cluster_runs.specs.Attempts.{Attempt, Beginning, IsAttempt, Shared, made_by}
+use Rattle.cluster_cuts.specs.Goings.{IsByOwner}
+use Rattle.cluster_model.specs.ByTicket.{StandByTicket}
+use Rattle.cluster_core.specs.Replays.{ticket_of}
 use Rattle.seq_run.specs.Orders.{IsValidOrder}
 
 -- The order of the store's last snapshot as the call opened it, or no entry; whether the call resumes it; the attempts that failed; and

@@ -2,11 +2,7 @@
 use Rattle.std.specs.Prelude.{Bool, false, nat_le, nat_lt, true, ℕ, ◌&&◌, ◌==◌}
 use Rattle.gl_base.specs.declared.entries.Entry.{Entry}
 use Rattle.gl_base.specs.declared.entries.Entry.TheVariants.{Go, Restart}
-pub use Rattle.cluster_core.specs.Cuts.{Begins, cut_of, updates_at, updates_of}
-pub use Rattle.cluster_core.specs.Replays.{entries_of, is_of, ticket_of}
-pub use Rattle.cluster_cuts.specs.Goings.{AreUpdatesFrom, IsByOwner}
-pub use Rattle.cluster_model.specs.ByTicket.{StandByTicket, restarts}
-pub use Rattle.cluster_runs.specs.Attempts.{AreRising, Attempt, Beginning, IsAttempt, Shared, StopsAtFailure, done_with, is_reached, made_by}
+use Rattle.cluster_core.specs.Replays.{ticket_of}
 
 -- the entry is a restart
 abbrev pub is_restart : Entry → Bool

@@ -1,10 +1,10 @@
 -- A call in which a machine fails once: what was made behind the snapshot is lost, and made again behind a restart.
-use Rattle.std.specs.Prelude.{List, [], false, if◌then◌else◌, ℕ, ◌==◌, ◌∷◌}
+use Rattle.std.specs.Prelude.{[], false, if◌then◌else◌, ℕ, ◌==◌, ◌∷◌}
 use Rattle.gl_base.specs.declared.entries.Entry.{Entry}
 use Rattle.gl_base.specs.declared.entries.Entry.TheVariants.{Go}
 use Rattle.gl_base.specs.declared.jobs.FailureAt.{FailureAt}
 use Rattle.attempts.specs.EngineCalls.{EngineCall}
-use Rattle.attempts.specs.Entries.{Attempt, Shared}
+use Rattle.cluster_runs.specs.Attempts.{Attempt, Shared}
 use Rattle.graph_core.specs.DataGraph.{DataGraph}
 use Rattle.update_api.specs.Updates.{update_of_components}
 

@@ -4,8 +4,10 @@ use Rattle.std.specs.List.Sorted.{IsPermutation}
 use Rattle.std.specs.Prelude.{List, [], filter, map, true, ℕ, ⊤, ◌++◌, ◌∷◌, ◌≡◌, ◌≤◌}
 use Rattle.gl_base.specs.declared.entries.Entry.{Entry}
 use Rattle.attempts.specs.Beginnings.{again, snapshot_order}
-use Rattle.attempts.specs.EngineCalls.{EngineCall, IsEngineCall, IsOrderInTurn, begins_behind, last_beginning, opening}
-use Rattle.attempts.specs.Entries.{Attempt, Beginning, Begins, Shared, is_restart, is_update, made_by, updates_at}
+use Rattle.attempts.specs.EngineCalls.{EngineCall, IsOrderInTurn, last_beginning, opening}
+use Rattle.cluster_runs.specs.Attempts.{Attempt, Beginning, Shared, made_by}
+use Rattle.cluster_core.specs.Cuts.{Begins, updates_at}
+use Rattle.attempts.specs.Entries.{is_restart, is_update}
 
 -- The updates of each vertex in the earlier order begin those in the later one, and so do the restarts.
 pub record IsEarlier (earlier later : List Entry) : Type 0 where

@@ -2,10 +2,13 @@
 ghost use Rattle.std.specs.List.{AllByRecursion};
 ghost use Rattle.std.specs.Prelude.{List, [], filter, length, ℕ, ◌*◌, ◌+◌, ◌++◌, ◌∷◌, ◌≡◌, ◌≤◌};
 ghost use Rattle.gl_base.specs.declared.entries.Entry.{Entry};
-ghost use Rattle.attempts.specs.Accounted.{AreAccounted, AreRestarts, AreValidBetween, IsFollowed};
+ghost use Rattle.attempts.specs.Accounted.{AreAccounted, AreRestarts, AreValidBetween, IsFollowedByRestart};
 ghost use Rattle.attempts.specs.Beginnings.{IsBeginning, KeepsWindow, again, held_updates, last_of, nothing, order_after, snapshot_order};
 ghost use Rattle.attempts.specs.EngineCalls.{AreAttempts, EngineCall, HaveFailed, IsEngineCall, IsOrderInTurn, begins_behind, call_order, fired_of, first_ticket, last_beginning, lost_of, made_of, opening};
-ghost use Rattle.attempts.specs.Entries.{Attempt, Beginning, IsAttempt, Shared, cut_of, is_restart, made_by, restarts};
+ghost use Rattle.cluster_runs.specs.Attempts.{Attempt, Beginning, IsAttempt, Shared, made_by};
+ghost use Rattle.cluster_core.specs.Cuts.{cut_of};
+ghost use Rattle.attempts.specs.Entries.{is_restart};
+ghost use Rattle.cluster_model.specs.ByTicket.{restarts};
 ghost use Rattle.attempts.specs.Stores.{AreGoodOrders, IsImage, IsWithinWindow, ResumesFrom, last_order, snapshot_orders, snapshots_in, snapshots_of};
 ghost use Rattle.seq_run.specs.Orders.{IsValidFrom, IsValidOrder, all_tasks, replay, replay_from, tasks_after, tasks_from};
 
@@ -55,7 +58,7 @@ pub fn losses_are_few()
 /// A restart follows each failure that fired, before its machine's next update.
 pub fn failures_are_followed()
     ensures { (shared : Shared) (call : EngineCall) → IsEngineCall shared call →
-        AllByRecursion (IsFollowed (call_order call) (made_of call)) shared.failures }
+        AllByRecursion (IsFollowedByRestart (call_order call) (made_of call)) shared.failures }
 {}
 
 /// Which restarts an order has, how many failures fired, and that no more attempts failed than that.

@@ -1,5 +1,5 @@
 -- What the snapshots of an attempt have are cuts of its updates, one after another.
-use Rattle.std.proofs.Common.{◌≡◌, ◌⊎◌, ◌≤◌, ◌<◌, Bool, true, false, ℕ, zero, suc, ◌==◌, if◌then◌else◌, List, [], ◌∷◌, ◌++◌, map, refl, sym, ap, ◌∙◌, subst, ⊎_elim, le_refl, le_trans, arith}
+use Rattle.std.proofs.Common.{◌≡◌, ◌≤◌, Bool, true, false, ℕ, suc, ◌==◌, if◌then◌else◌, List, [], ◌∷◌, map, refl, sym, ap, ◌∙◌, subst, ⊎_elim, le_refl, arith}
 use Rattle.std.specs.List.{AllByRecursion}
 use Rattle.std.proofs.lemmas.Bool.{cases_Bool, le-leb, leb-true}
 use Rattle.gl_base.specs.declared.entries.Entry.{Entry}
@@ -9,8 +9,10 @@ use Rattle.cluster_model.specs.Leading.{Snapshot}
 use Rattle.cluster_whole.specs.Logged.{Logged, all_entries, entries_to, is_up_to}
 use Rattle.cluster_records.specs.Recorded.{GoOnByNumber, IsGoodSnapshot}
 use Rattle.cluster_records.proofs.Filtering.{passing-cons_in, passing-cons_out}
-use Rattle.attempts.specs.Beginnings.{last_of, nothing}
-use Rattle.attempts.specs.Entries.{AreRising, AreUpdatesFrom, Begins, cut_of, updates_at, updates_of}
+use Rattle.attempts.specs.Beginnings.{last_of}
+use Rattle.cluster_runs.specs.Attempts.{AreRising}
+use Rattle.cluster_cuts.specs.Goings.{AreUpdatesFrom}
+use Rattle.cluster_core.specs.Cuts.{Begins, cut_of, updates_at, updates_of}
 use Rattle.cluster_attempts.specs.CallsSoFar.{count_to, counts_of}
 use Rattle.cluster_attempts.proofs.Picking.{cut_picked, picked}
 
@@ -98,8 +100,7 @@ count_rises k (l ∷ logged) v =
 pub counts_rise : (logged : List Logged) (low high : ℕ) (snapshots : List Snapshot) → GoOnByNumber low snapshots high → AreRising (count_to logged low) (counts_of logged snapshots)
 counts_rise logged low high [] numbered = tt
 counts_rise logged low high (snapshot ∷ snapshots) numbered =
-    let is : count_to logged snapshot.number ≡ count_to logged (suc low) = ap (count_to logged) numbered.0 in
-    (
+    let is : count_to logged snapshot.number ≡ count_to logged (suc low) = ap (count_to logged) numbered.0 in (
       λ v. subst (λ (count : ℕ → ℕ). count_to logged low v ≤ count v) (sym is) (count_rises low logged v),
       subst (λ (count : ℕ → ℕ). AreRising count (counts_of logged snapshots)) (sym is) (counts_rise logged (suc low) high snapshots numbered.1),
     )

@@ -1,13 +1,12 @@
 -- Every list of events in a call makes attempts, one after another.
-use Rattle.std.proofs.Common.{◌≡◌, ◌≤◌, ◌<◌, ℕ, suc, ◌+◌, Option, List, [], ◌∷◌, ◌++◌, length, count_by, refl, sym, ap, ap₂, ◌∙◌, subst, append_assoc, append-nil, arith}
+use Rattle.std.proofs.Common.{◌≡◌, ◌≤◌, ℕ, suc, ◌+◌, Option, List, [], ◌∷◌, ◌++◌, length, refl, sym, ap, ap₂, ◌∙◌, subst, append_assoc, append-nil, arith}
 use Rattle.std.specs.List.{AllByRecursion}
 use Rattle.std.proofs.lemmas.List.{length-append}
 use Rattle.gl_base.specs.declared.entries.Entry.{Entry}
-use Rattle.gl_base.specs.declared.entries.Entry.TheVariants.{Go, Restart}
+use Rattle.gl_base.specs.declared.entries.Entry.TheVariants.{Go}
 use Rattle.gl_base.specs.declared.jobs.FailureAt.{FailureAt}
 use Rattle.gl_base.specs.declared.scopes.ScopeId.{ScopeId}
 use Rattle.cluster_core.specs.Messages.{Ask, Done, Message, Ready}
-use Rattle.cluster_core.specs.Recovering.{going_on}
 use Rattle.cluster_core.specs.Settings.{IsSetting, Setting}
 use Rattle.cluster_core.proofs.Basics.{set_at-kept}
 use Rattle.cluster_cuts.proofs.CutsGoOn.{updates_from-append}
@@ -19,19 +18,21 @@ use Rattle.cluster_model.specs.Working.{admits, fails, grants, hands, hands_repo
 use Rattle.cluster_runs.specs.Recorded.{shared_of}
 use Rattle.cluster_whole.specs.Logged.{Logged, all_entries, entries_to}
 use Rattle.cluster_whole.specs.Whole.{IsNoRecovery, IsWhole, setting_behind}
-use Rattle.cluster_records.specs.Bases.{IsBase, IsBased}
+use Rattle.cluster_records.specs.Bases.{IsBased}
 use Rattle.cluster_records.specs.Recorded.{IsAccounted}
 use Rattle.cluster_records.proofs.Accounts.{quiet_kept, update_kept}
 use Rattle.cluster_records.proofs.Based.{base_kept, base_order, next_base, still_based, update_based}
 use Rattle.cluster_records.proofs.Courses.{are_coloured, begun}
 use Rattle.cluster_records.proofs.Entering.{IsNoUpdate, draws_none, update_logged}
 use Rattle.cluster_records.proofs.Filtering.{all-more}
-use Rattle.attempts.specs.Beginnings.{again, held_updates}
-use Rattle.attempts.specs.EngineCalls.{AreAttempts, HaveFailed, begins_behind}
-use Rattle.attempts.specs.Entries.{AreUpdatesFrom, Attempt, Beginning, IsAttempt, Shared, done_with, restarts}
+use Rattle.attempts.specs.Beginnings.{again}
+use Rattle.attempts.specs.EngineCalls.{AreAttempts, begins_behind}
+use Rattle.cluster_cuts.specs.Goings.{AreUpdatesFrom}
+use Rattle.cluster_runs.specs.Attempts.{Attempt, Beginning, IsAttempt, Shared}
+use Rattle.cluster_model.specs.ByTicket.{restarts}
 use Rattle.attempts.proofs.Storing.{attempts_end, begins_push, failed_push}
 use Rattle.cluster_attempts.specs.CallsSoFar.{IsCallSoFar, attempt_of}
-use Rattle.cluster_attempts.specs.Failures.{FailAsOrdered, KeepToJob, StopsAt}
+use Rattle.cluster_attempts.specs.Failures.{FailAsOrdered, KeepToJob, StopsAtCount}
 use Rattle.cluster_attempts.proofs.Making.{attempt_is, done_is, held_is, stops_same, struck_same}
 
 -- ---- what machines made in earlier attempts
@@ -127,7 +128,7 @@ module _ (failures : List FailureAt) (start : Beginning) where
     abbrev now_made : Attempt
     now_made = attempt_of failures here c logged
 
-    pub made_now : AllByRecursion (StopsAt c) failures → IsAttempt (shared_of st failures) here now_made
+    pub made_now : AllByRecursion (StopsAtCount c) failures → IsAttempt (shared_of st failures) here now_made
     made_now stops = attempt_is st is c whole logged account failures here based so.front so.tickets (stops_same st is c whole logged account failures here so.done stops)
 
     recover_so : (base : BaseView) → GoesBackTo st c base → FailAsOrdered st failures c → IsCallSoFar (shared_of st failures) start (recovers st base c) [] (failed ++ now_made ∷ [])

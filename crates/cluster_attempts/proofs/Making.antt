@@ -1,11 +1,11 @@
 -- What the newest attempt of a cluster did is an attempt of the call.
-use Rattle.std.proofs.Common.{◌≡◌, ◌≤◌, ◌<◌, Bool, true, ℕ, ◌+◌, List, [], ◌∷◌, ◌++◌, length, count_by, refl, sym, ap, ap₂, ◌∙◌, subst}
+use Rattle.std.proofs.Common.{◌≡◌, true, ℕ, ◌+◌, List, [], ◌∷◌, length, count_by, refl, sym, ap, ap₂, ◌∙◌, subst}
 use Rattle.std.specs.List.{AllByRecursion}
 use Rattle.std.proofs.lemmas.List.Sums.{length-filter}
 use Rattle.gl_base.specs.declared.entries.Entry.{Entry}
 use Rattle.gl_base.specs.declared.entries.Entry.TheVariants.{Go, Restart}
 use Rattle.gl_base.specs.declared.jobs.FailureAt.{FailureAt}
-use Rattle.cluster_core.specs.Replays.{entries_of, is_of, replay_of}
+use Rattle.cluster_core.specs.Replays.{entries_of, is_of}
 use Rattle.cluster_core.specs.Settings.{IsSetting, Setting}
 use Rattle.cluster_model.specs.Clusters.{Cluster}
 use Rattle.cluster_model.specs.Leading.{Snapshot}
@@ -20,11 +20,13 @@ use Rattle.cluster_records.proofs.Numbering.{all_own, passing_own, valid_same}
 use Rattle.seq_run.specs.Orders.{IsValidFrom, all_tasks, replay}
 use Rattle.seq_run.specs.States.{GraphState}
 use Rattle.attempts.specs.Beginnings.{held_updates, last_of, nothing}
-use Rattle.attempts.specs.Entries.{AreRising, AreUpdatesFrom, Beginning, Begins, IsAttempt, IsByOwner, StopsAtFailure, cut_of, done_with, is_reached, made_by, updates_at, updates_of}
+use Rattle.cluster_runs.specs.Attempts.{AreRising, Beginning, IsAttempt, StopsAtFailure, done_with, is_reached}
+use Rattle.cluster_cuts.specs.Goings.{AreUpdatesFrom, IsByOwner}
+use Rattle.cluster_core.specs.Cuts.{Begins, cut_of, updates_at, updates_of}
 use Rattle.attempts.proofs.Prefixes.{all_map}
 use Rattle.attempts.proofs.Standing.{all_weaker}
 use Rattle.cluster_attempts.specs.CallsSoFar.{attempt_of, count_to, counts_of}
-use Rattle.cluster_attempts.specs.Failures.{StopsAt, done_before, done_now}
+use Rattle.cluster_attempts.specs.Failures.{StopsAtCount, done_before, done_now}
 use Rattle.cluster_attempts.proofs.Counted.{HasFirst, counts_rise, cut_is, last_count, last_first}
 
 pub logs_are : (st : Setting) (c : Cluster) (whole : IsWhole st c) (logged : List Logged) → IsAccounted st c whole logged → (a : ℕ) → (c.machine a).part.log ≡ entries_of a (all_entries logged)
@@ -93,7 +95,7 @@ module _ (st : Setting) (is : IsSetting st) (c : Cluster) (whole : IsWhole st c)
     pub now_same : done_now c ≡ done_with b made
     now_same = λ i. λ a. done_is a i
 
-    pub stops_same : AllByRecursion (StopsAt c) failures → AllByRecursion (StopsAtFailure b made) failures
+    pub stops_same : AllByRecursion (StopsAtCount c) failures → AllByRecursion (StopsAtFailure b made) failures
     stops_same stops =
         subst (λ (now : ℕ → ℕ). AllByRecursion (λ (failure : FailureAt). is_reached b.done now failure ≡ true → now failure.machine.0 ≡ failure.after) failures) now_same
         (subst (λ (was : ℕ → ℕ). AllByRecursion (λ (failure : FailureAt). is_reached was (done_now c) failure ≡ true → done_now c failure.machine.0 ≡ failure.after) failures) before_same stops)

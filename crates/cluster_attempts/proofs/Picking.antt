@@ -1,15 +1,15 @@
 -- A part of a list of updates that has of each vertex the first ones is the cut with these counts.
-use Rattle.std.proofs.Common.{◌≡◌, ◌≢◌, ◌⊎◌, ◌≤◌, ◌<◌, Bool, true, false, ℕ, zero, suc, pred, ◌==◌, if◌then◌else◌, List, [], ◌∷◌, ◌++◌, refl, sym, ap, ◌∙◌, subst, subst₂, ⊎_elim, le_refl, le_trans, arith}
+use Rattle.std.proofs.Common.{◌≡◌, ◌≢◌, ◌≤◌, Bool, true, false, ℕ, suc, pred, ◌==◌, List, [], ◌∷◌, ◌++◌, refl, sym, ap, ◌∙◌, subst, subst₂, ⊎_elim, le_refl, arith}
 use Rattle.std.specs.List.{AllByRecursion}
 use Rattle.std.proofs.lemmas.Bool.{cases_eq, cond-false, cond-true, eq-eqb, ne_eqb}
 use Rattle.gl_base.specs.declared.entries.Entry.{Entry}
 use Rattle.gl_base.specs.declared.entries.Entry.TheVariants.{Go, Restart}
 use Rattle.gl_base.specs.declared.numbers.MachineNo.{MachineNo}
 use Rattle.gl_base.specs.declared.numbers.Vertex.{Vertex}
-use Rattle.cluster_core.specs.Ranges.{set_at}
 use Rattle.cluster_core.proofs.Basics.{set_at-here, set_at-there}
-use Rattle.attempts.specs.Beginnings.{nothing}
-use Rattle.attempts.specs.Entries.{AreUpdatesFrom, Begins, cut_of, ticket_of, updates_at, updates_of}
+use Rattle.cluster_cuts.specs.Goings.{AreUpdatesFrom}
+use Rattle.cluster_core.specs.Cuts.{Begins, cut_of, updates_at, updates_of}
+use Rattle.cluster_core.specs.Replays.{ticket_of}
 use Rattle.attempts.proofs.Cutting.{cut_none, either, one_less}
 
 -- the entries that are marked
@@ -96,9 +96,9 @@ cut_picked (true ∷ bs) (Go m u t ∷ es) next tickets begins =
     let own : count u.0 ≡ suc (updates_of u.0 front) = of_here u.0 m u t front refl in
     let left : (v : ℕ) → one_less count u.0 v ≡ updates_of v front =
     λ v. ⊎_elim
-        (λ (same : u.0 ≡ v). set_at-here (λ (n : ℕ). n) count u.0 (pred (count u.0)) v (sym same) ∙ ap pred own ∙ ap (λ (x : ℕ). updates_of x front) same)
-        (λ (other : u.0 ≢ v). set_at-there (λ (n : ℕ). n) count u.0 (pred (count u.0)) v (λ at. other (sym at)) ∙ of_there v m u t front other)
-        (cases_eq u.0 v) in
+    (λ (same : u.0 ≡ v). set_at-here (λ (n : ℕ). n) count u.0 (pred (count u.0)) v (sym same) ∙ ap pred own ∙ ap (λ (x : ℕ). updates_of x front) same)
+    (λ (other : u.0 ≢ v). set_at-there (λ (n : ℕ). n) count u.0 (pred (count u.0)) v (λ at. other (sym at)) ∙ of_there v m u t front other)
+    (cases_eq u.0 v) in
     cond-false (count u.0 == 0) (cut_of count es) (Go m u t ∷ cut_of (one_less count u.0) es) (ne_eqb (count u.0) 0 (λ none. suc_not (updates_of u.0 front) (sym own ∙ none)))
     ∙ ap (λ (c : ℕ → ℕ). Go m u t ∷ cut_of c es) (λ i. λ v. left v i)
     ∙ ap (λ (xs : List Entry). Go m u t ∷ xs)
@@ -107,7 +107,7 @@ cut_picked (true ∷ bs) (Go m u t ∷ es) next tickets begins =
     (λ (same : u.0 ≡ v). (
       (begins v).0,
       tail_same (Go m u t) (updates_at v es) (updates_at v front ++ (begins v).0)
-      (sym (at_here v m u t es same) ∙ (begins v).1 ∙ ap (λ (xs : List Entry). xs ++ (begins v).0) (at_here v m u t front same)),
+          (sym (at_here v m u t es same) ∙ (begins v).1 ∙ ap (λ (xs : List Entry). xs ++ (begins v).0) (at_here v m u t front same)),
     ))
     (λ (other : u.0 ≢ v). subst₂ Begins (at_there v m u t front other) (at_there v m u t es other) (begins v))
     (cases_eq u.0 v)))

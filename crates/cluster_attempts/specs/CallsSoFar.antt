@@ -2,7 +2,9 @@
 use Rattle.std.specs.Prelude.{List, count_by, length, map, ℕ, ◌+◌, ◌≡◌}
 use Rattle.gl_base.specs.declared.jobs.FailureAt.{FailureAt}
 use Rattle.attempts.specs.EngineCalls.{HaveFailed, begins_behind}
-use Rattle.attempts.specs.Entries.{AreUpdatesFrom, Attempt, Beginning, Shared, done_with, is_reached, updates_of}
+use Rattle.cluster_cuts.specs.Goings.{AreUpdatesFrom}
+use Rattle.cluster_runs.specs.Attempts.{Attempt, Beginning, Shared, done_with, is_reached}
+use Rattle.cluster_core.specs.Cuts.{updates_of}
 use Rattle.cluster_model.specs.Clusters.{Cluster}
 use Rattle.cluster_model.specs.Leading.{Snapshot}
 use Rattle.cluster_whole.specs.Logged.{Logged, all_entries, entries_to}
