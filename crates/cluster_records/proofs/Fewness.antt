@@ -14,9 +14,9 @@ use Rattle.cluster_model.specs.Machines.{outside}
 use Rattle.cluster_model.specs.Working.{half_window}
 use Rattle.cluster_whole.specs.Logged.{Logged, entries_to, is_up_to}
 use Rattle.cluster_whole.specs.Whole.{AreColoured, IsNoRecovery, IsWhole}
-use Rattle.cluster_records.specs.Few.{stored_at, stored_in, unasked_at, unasked_in}
+use Rattle.cluster_records.specs.Few.{snapshot_at, snapshots_in_all, unasked_at, unasked_in}
 use Rattle.cluster_records.specs.Recorded.{IsAccounted}
-use Rattle.cluster_records.specs.Wanting.{AreAsking, commits_in, is_outside, numbers_from, want_told}
+use Rattle.cluster_records.specs.Wanting.{AreAsking, known_by_calls, is_outside, numbers_from, want_told}
 use Rattle.cluster_records.proofs.Accounts.{begun_accounts, quiet_kept, update_kept}
 use Rattle.cluster_records.proofs.Asking.{events_asking, update_asking}
 use Rattle.cluster_records.proofs.Courses.{are_coloured}
@@ -156,7 +156,7 @@ module _ (half first total : ℕ) (st : Setting) (is : IsSetting st) (same_half 
   -- what an event leaves
   abbrev Leaves : Event → Type 0
   Leaves event = IsSetting (setting_after st event) × (half_window (setting_after st event) ≡ half) × (next : HasAccounts (setting_after st event) (after_event st c event)) × (before : ℕ)
-      × HasFew half first total (after_event st c event) next.logged (stored_at event + stored) (unasked_at c event + unasked) before
+      × HasFew half first total (after_event st c event) next.logged (snapshot_at event + stored) (unasked_at c event + unasked) before
 
   abbrev quiet_accounts : (event : Event) → MayDo st c event → IsNoRecovery event → IsNoUpdate event → HasAccounts st (after_event st c event)
   quiet_accounts event may other none =
@@ -180,10 +180,10 @@ module _ (half first total : ℕ) (st : Setting) (is : IsSetting st) (same_half 
         tickets = (λ i. same.2 i + same.3 i) ∙ tally.tickets;
       }
 
-  quiet : (event : Event) (may : MayDo st c event) (other : IsNoRecovery event) (none : IsNoUpdate event) → TallySame c (after_event st c event) → stored_at event ≡ 0 → unasked_at c event ≡ 0 →
-      (next : HasAccounts st (after_event st c event)) × (before : ℕ) × HasFew half first total (after_event st c event) next.logged (stored_at event + stored) (unasked_at c event + unasked) before
+  quiet : (event : Event) (may : MayDo st c event) (other : IsNoRecovery event) (none : IsNoUpdate event) → TallySame c (after_event st c event) → snapshot_at event ≡ 0 → unasked_at c event ≡ 0 →
+      (next : HasAccounts st (after_event st c event)) × (before : ℕ) × HasFew half first total (after_event st c event) next.logged (snapshot_at event + stored) (unasked_at c event + unasked) before
   quiet event may other none same no_store no_ask =
-      (quiet_accounts event may other none, earlier, same_few (after_event st c event) same (stored_at event) (unasked_at c event) no_store no_ask)
+      (quiet_accounts event may other none, earlier, same_few (after_event st c event) same (snapshot_at event) (unasked_at c event) no_store no_ask)
 
   -- ---- an update, a snapshot begun, one acknowledged, and a recovery
 
@@ -311,16 +311,16 @@ plus_none : (n : ℕ) → n + 0 ≡ n
 plus_none n = omega arith
 
 courses_few : (half first budget : ℕ) (events : List Event) (st : Setting) → IsSetting st → half_window st ≡ half → (c new : Cluster) (has : HasAccounts st c) (stored unasked earlier : ℕ) →
-    HasFew half first (first + budget) c has.logged stored unasked earlier → IsCourse st c events new → half * (stored + stored_in events) ≤ budget + half * (unasked + unasked_in st c events)
+    HasFew half first (first + budget) c has.logged stored unasked earlier → IsCourse st c events new → half * (stored + snapshots_in_all events) ≤ budget + half * (unasked + unasked_in st c events)
 courses_few half first budget [] st is same_half c new has stored unasked earlier tally course =
     subst (λ (n : ℕ). half * n ≤ budget + half * (unasked + 0)) (sym (plus_none stored))
     (subst (λ (n : ℕ). half * stored ≤ budget + half * n) (sym (plus_none unasked))
     (last_few (half * stored) (pending half c) earlier (length (entries_to c.coordinator.begun has.logged)) (length has.logged) (half * unasked) c.next first tally.few (held_few c.coordinator.begun has.logged) tally.drawn c.left (first + budget) tally.tickets budget refl))
 courses_few half first budget (event ∷ events) st is same_half c new has stored unasked earlier tally course =
     let next = event_few half first (first + budget) st is same_half c has stored unasked earlier tally event course.0.1 in
-    let rest = courses_few half first budget events (setting_after st event) next.0 next.1 (after_event st c event) new next.2 (stored_at event + stored) (unasked_at c event + unasked) next.3 next.4 course.1 in
-    subst (λ (n : ℕ). half * n ≤ budget + half * (unasked + unasked_in st c (event ∷ events))) (regroup (stored_at event) stored (stored_in events))
-    (subst (λ (n : ℕ). half * ((stored_at event + stored) + stored_in events) ≤ budget + half * n) (regroup (unasked_at c event) unasked (unasked_in (setting_after st event) (after_event st c event) events)) rest)
+    let rest = courses_few half first budget events (setting_after st event) next.0 next.1 (after_event st c event) new next.2 (snapshot_at event + stored) (unasked_at c event + unasked) next.3 next.4 course.1 in
+    subst (λ (n : ℕ). half * n ≤ budget + half * (unasked + unasked_in st c (event ∷ events))) (regroup (snapshot_at event) stored (snapshots_in_all events))
+    (subst (λ (n : ℕ). half * ((snapshot_at event + stored) + snapshots_in_all events) ≤ budget + half * n) (regroup (unasked_at c event) unasked (unasked_in (setting_after st event) (after_event st c event) events)) rest)
 
 first_few : (x y pend : ℕ) → x ≡ 0 → pend ≡ 0 → x + pend ≤ 0 + 0 + y
 first_few x y pend one two = omega arith
@@ -329,7 +329,7 @@ from_first : (n : ℕ) → n ≡ n + 0 + 0
 from_first n = omega arith
 
 pub attempts_few : (st : Setting) → IsSetting st → AreColoured st st.engine → (base : BaseView) (c : Cluster) (events : List Event) (new : Cluster) → IsCourse (going_on st base.numbers base.number) (recovers st base c) events new →
-    half_window st * stored_in events ≤ c.left + half_window st * unasked_in (going_on st base.numbers base.number) (recovers st base c) events
+    half_window st * snapshots_in_all events ≤ c.left + half_window st * unasked_in (going_on st base.numbers base.number) (recovers st base c) events
 attempts_few st is coloured base c events new course =
     let start : Cluster = recovers st base c in
     let now : Setting = going_on st base.numbers base.number in
@@ -341,8 +341,8 @@ attempts_few st is coloured base c events new course =
       drawn = from_first c.next;
       tickets = refl;
     }) course in
-    subst (λ (n : ℕ). half * n ≤ c.left + half * unasked_in now start events) (zero-add (stored_in events))
-    (subst (λ (n : ℕ). half * (0 + stored_in events) ≤ c.left + half * n) (zero-add (unasked_in now start events)) rest)
+    subst (λ (n : ℕ). half * n ≤ c.left + half * unasked_in now start events) (zero-add (snapshots_in_all events))
+    (subst (λ (n : ℕ). half * (0 + snapshots_in_all events) ≤ c.left + half * n) (zero-add (unasked_in now start events)) rest)
 
 -- ---- and so few in all
 
@@ -374,15 +374,15 @@ by_half half stored unasked budget some few =
 -- ---- who asks, event by event
 
 pub in_time : (st : Setting) (c : Cluster) (updates : List Logged) → AreAsking st c updates → (a : ℕ) → a < st.machines → 0 < half_window st → st.stored ≡ true → half_window st ≤ outside (c.machine a) →
-    ((rest : List ℕ) × (commits_in (call_way c a) ≡ suc (c.machine a).acknowledged ∷ rest)) ⊎ ((want_told (c.machine a).acknowledged (report_way c a) ≡ true) ⊎ (c.coordinator.wanted ≡ true))
+    ((rest : List ℕ) × (known_by_calls (call_way c a) ≡ suc (c.machine a).acknowledged ∷ rest)) ⊎ ((want_told (c.machine a).acknowledged (report_way c a) ≡ true) ⊎ (c.coordinator.wanted ≡ true))
 in_time st c updates asking a low some stored half =
     let counting = asking.counting a low in
     let its = asking.asking a low in
     by_late counting.late counting.newest counting.commits (its.told (its.asked some stored half))
   where
-    by_late : (late : ℕ) → c.coordinator.acknowledged ≡ (c.machine a).acknowledged + late → commits_in (call_way c a) ≡ numbers_from (suc (c.machine a).acknowledged) late →
+    by_late : (late : ℕ) → c.coordinator.acknowledged ≡ (c.machine a).acknowledged + late → known_by_calls (call_way c a) ≡ numbers_from (suc (c.machine a).acknowledged) late →
         ((c.machine a).acknowledged ≡ c.coordinator.acknowledged → (want_told (c.machine a).acknowledged (report_way c a) ≡ true) ⊎ (c.coordinator.wanted ≡ true)) →
-        ((rest : List ℕ) × (commits_in (call_way c a) ≡ suc (c.machine a).acknowledged ∷ rest)) ⊎ ((want_told (c.machine a).acknowledged (report_way c a) ≡ true) ⊎ (c.coordinator.wanted ≡ true))
+        ((rest : List ℕ) × (known_by_calls (call_way c a) ≡ suc (c.machine a).acknowledged ∷ rest)) ⊎ ((want_told (c.machine a).acknowledged (report_way c a) ≡ true) ⊎ (c.coordinator.wanted ≡ true))
     by_late zero newest commits told = inr (told (plus_zero (c.machine a).acknowledged ∙ sym newest))
     by_late (suc late) newest commits told = inl (numbers_from (suc (suc (c.machine a).acknowledged)) late, commits)
 

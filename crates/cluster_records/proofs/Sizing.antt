@@ -22,7 +22,7 @@ use Rattle.cluster_whole.specs.Views.{world_of}
 use Rattle.cluster_whole.specs.Whole.{IsNoRecovery, IsWhole}
 use Rattle.cluster_whole.proofs.Pieces.{passed}
 use Rattle.cluster_records.specs.Listed.{AreListed, entries_at, is_first_in}
-use Rattle.cluster_records.specs.Wanting.{IsCounting, commits_in, numbers_from, sizes_from}
+use Rattle.cluster_records.specs.Wanting.{IsCounting, known_by_calls, numbers_from, sizes_from}
 use Rattle.cluster_cuts.proofs.MarkSteps.{newest_above}
 use Rattle.cluster_records.proofs.Entering.{IsNoUpdate, update_logged}
 use Rattle.cluster_records.proofs.Filtering.{in_no, in_other, other_entry}
@@ -30,15 +30,15 @@ use Rattle.cluster_records.proofs.Listed.{received_sent, sent_near, unmarked_uns
 use Rattle.cluster_records.proofs.Outside.{sizes_kept, sizes_push}
 use Rattle.cluster_records.proofs.Recording.{next_number}
 
-commits-append : (xs ys : List Call) → commits_in (xs ++ ys) ≡ commits_in xs ++ commits_in ys
+commits-append : (xs ys : List Call) → known_by_calls (xs ++ ys) ≡ known_by_calls xs ++ known_by_calls ys
 commits-append [] ys = refl
 commits-append (Begin k ∷ xs) ys = commits-append xs ys
 commits-append (Committed k ∷ xs) ys = ap (λ (ks : List ℕ). k ∷ ks) (commits-append xs ys)
 commits-append (Wave k ∷ xs) ys = commits-append xs ys
 commits-append (Step colour ∷ xs) ys = commits-append xs ys
 
-pushed : (xs ys : List Call) (call : Call) → commits_in (xs ++ (ys ++ call ∷ [])) ≡ commits_in (xs ++ ys) ++ commits_in (call ∷ [])
-pushed xs ys call = ap commits_in (sym (append_assoc xs ys (call ∷ []))) ∙ commits-append (xs ++ ys) (call ∷ [])
+pushed : (xs ys : List Call) (call : Call) → known_by_calls (xs ++ (ys ++ call ∷ [])) ≡ known_by_calls (xs ++ ys) ++ known_by_calls (call ∷ [])
+pushed xs ys call = ap known_by_calls (sym (append_assoc xs ys (call ∷ []))) ∙ commits-append (xs ++ ys) (call ∷ [])
 
 plus_zero : (k : ℕ) → k ≡ k + 0
 plus_zero k = omega arith
@@ -66,7 +66,7 @@ abbrev pub CountsSame : Machine → Machine → Type 0
 CountsSame old new = (new.acknowledged ≡ old.acknowledged) × (new.unsure ≡ old.unsure) × (new.part.sent ≡ old.part.sent)
 
 module _ (a : ℕ) (m : Machine) (acknowledged : ℕ) (calls : List Call) (logged : List Logged) (was : IsCounting a m acknowledged calls logged) where
-  pub same_counting : (new : Machine) (others : List Call) → CountsSame m new → commits_in others ≡ commits_in calls → IsCounting a new acknowledged others logged
+  pub same_counting : (new : Machine) (others : List Call) → CountsSame m new → known_by_calls others ≡ known_by_calls calls → IsCounting a new acknowledged others logged
   same_counting new others same commits =
       record {
         late = was.late;
@@ -98,7 +98,7 @@ module _ (a : ℕ) (m : Machine) (acknowledged : ℕ) (calls : List Call) (logge
       next_number sent known many is = omega arith
 
   -- a snapshot more is acknowledged
-  pub record_counting : (begun : ℕ) (others : List Call) → begun ≡ suc acknowledged → commits_in others ≡ commits_in calls ++ begun ∷ [] → IsCounting a m begun others logged
+  pub record_counting : (begun : ℕ) (others : List Call) → begun ≡ suc acknowledged → known_by_calls others ≡ known_by_calls calls ++ begun ∷ [] → IsCounting a m begun others logged
   record_counting begun others next commits =
       record {
         late = suc was.late;
@@ -132,7 +132,7 @@ module _ (a : ℕ) (m : Machine) (acknowledged : ℕ) (calls : List Call) (logge
       up_to j sent known many low is = omega arith
 
 -- the machine hears that the first snapshot that it doesn't know to be acknowledged is
-commit_at : (a : ℕ) (m : Machine) (acknowledged k : ℕ) (rest : List ℕ) (others : List Call) (logged : List Logged) (late many : ℕ) → acknowledged ≡ m.acknowledged + late → k ∷ rest ≡ numbers_from (suc m.acknowledged) late → commits_in others ≡ rest →
+commit_at : (a : ℕ) (m : Machine) (acknowledged k : ℕ) (rest : List ℕ) (others : List Call) (logged : List Logged) (late many : ℕ) → acknowledged ≡ m.acknowledged + late → k ∷ rest ≡ numbers_from (suc m.acknowledged) late → known_by_calls others ≡ rest →
     m.part.sent ≡ m.acknowledged + many → m.unsure ≡ sizes_from a (suc m.acknowledged) many logged → acknowledged ≤ m.part.sent → IsCounting a (commits k m) acknowledged others logged
 commit_at a m acknowledged k rest others logged zero many newest commits now sent unsure low = absurd (cons_nil k rest commits)
 commit_at a m acknowledged k rest others logged (suc late) zero newest commits now sent unsure low = absurd (none_sent acknowledged m.acknowledged late m.part.sent newest sent low)
@@ -150,7 +150,7 @@ commit_at a m acknowledged k rest others logged (suc late) (suc many) newest com
       unsure = ap rest_of unsure ∙ ap (λ (n : ℕ). sizes_from a (suc n) many logged) (sym next);
     }
 
-commit_counting : (a : ℕ) (m : Machine) (acknowledged k : ℕ) (rest : List ℕ) (calls others : List Call) (logged : List Logged) → IsCounting a m acknowledged calls logged → commits_in calls ≡ k ∷ rest → commits_in others ≡ rest → acknowledged ≤ m.part.sent → IsCounting a (commits k m) acknowledged others logged
+commit_counting : (a : ℕ) (m : Machine) (acknowledged k : ℕ) (rest : List ℕ) (calls others : List Call) (logged : List Logged) → IsCounting a m acknowledged calls logged → known_by_calls calls ≡ k ∷ rest → known_by_calls others ≡ rest → acknowledged ≤ m.part.sent → IsCounting a (commits k m) acknowledged others logged
 commit_counting a m acknowledged k rest calls others logged was first now low =
     commit_at a m acknowledged k rest others logged was.late was.sections was.newest (sym first ∙ was.commits) now was.sent was.unsure low
 
@@ -177,7 +177,7 @@ module _ (st : Setting) (is : IsSetting st) (c : Cluster) (whole : IsWhole st c)
   AreCounting new = (a : ℕ) → a < st.machines → IsCounting a (new.machine a) new.coordinator.acknowledged (call_way new a) logged
 
   -- the calls bring the same news of acknowledged snapshots, and one machine at most changes
-  one : (a : ℕ) (new : Machine) (calls : ℕ → List Call) → CountsSame (c.machine a) new → ((b : ℕ) → commits_in (calls b) ≡ commits_in (call_way c b)) →
+  one : (a : ℕ) (new : Machine) (calls : ℕ → List Call) → CountsSame (c.machine a) new → ((b : ℕ) → known_by_calls (calls b) ≡ known_by_calls (call_way c b)) →
       (b : ℕ) → b < st.machines → IsCounting b (set_at c.machine a new b) w.acknowledged (calls b) logged
   one a new calls same commits b low =
       same_counting b (c.machine b) w.acknowledged (call_way c b) logged (counting b low) (set_at c.machine a new b) (calls b)
@@ -186,16 +186,16 @@ module _ (st : Setting) (is : IsSetting st) (c : Cluster) (whole : IsWhole st c)
   still : (a : ℕ) (new : Machine) → CountsSame (c.machine a) new → (b : ℕ) → b < st.machines → IsCounting b (set_at c.machine a new b) w.acknowledged (call_way c b) logged
   still a new same = one a new (call_way c) same (λ b. refl)
 
-  told : (call : Call) → commits_in (call ∷ []) ≡ [] → (b : ℕ) → b < st.machines → IsCounting b (c.machine b) w.acknowledged (c.calls b ++ (c.coordinator.out b ++ call ∷ [])) logged
+  told : (call : Call) → known_by_calls (call ∷ []) ≡ [] → (b : ℕ) → b < st.machines → IsCounting b (c.machine b) w.acknowledged (c.calls b ++ (c.coordinator.out b ++ call ∷ [])) logged
   told call none b low =
       same_counting b (c.machine b) w.acknowledged (call_way c b) logged (counting b low) (c.machine b) (c.calls b ++ (c.coordinator.out b ++ call ∷ [])) (refl, refl, refl)
-      (pushed (c.calls b) (c.coordinator.out b) call ∙ ap (λ (ks : List ℕ). commits_in (call_way c b) ++ ks) none ∙ append-nil (commits_in (call_way c b)))
+      (pushed (c.calls b) (c.coordinator.out b) call ∙ ap (λ (ks : List ℕ). known_by_calls (call_way c b) ++ ks) none ∙ append-nil (known_by_calls (call_way c b)))
 
   -- the first call is gone
-  call_gone : (a : ℕ) (call : Call) (behind : List Call) → c.calls a ≡ call ∷ behind → commits_in (call ∷ []) ≡ [] → (b : ℕ) → commits_in (set_at c.calls a behind b ++ c.coordinator.out b) ≡ commits_in (call_way c b)
+  call_gone : (a : ℕ) (call : Call) (behind : List Call) → c.calls a ≡ call ∷ behind → known_by_calls (call ∷ []) ≡ [] → (b : ℕ) → known_by_calls (set_at c.calls a behind b ++ c.coordinator.out b) ≡ known_by_calls (call_way c b)
   call_gone a call behind first none b =
-      set_at-holds (λ (b : ℕ) (xs : List Call). commits_in (xs ++ c.coordinator.out b) ≡ commits_in (call_way c b)) c.calls a behind b
-      (sym (ap (λ (xs : List Call). commits_in (xs ++ c.coordinator.out a)) first ∙ commits-append (call ∷ []) (behind ++ c.coordinator.out a) ∙ ap (λ (ks : List ℕ). ks ++ commits_in (behind ++ c.coordinator.out a)) none))
+      set_at-holds (λ (b : ℕ) (xs : List Call). known_by_calls (xs ++ c.coordinator.out b) ≡ known_by_calls (call_way c b)) c.calls a behind b
+      (sym (ap (λ (xs : List Call). known_by_calls (xs ++ c.coordinator.out a)) first ∙ commits-append (call ∷ []) (behind ++ c.coordinator.out a) ∙ ap (λ (ks : List ℕ). ks ++ known_by_calls (behind ++ c.coordinator.out a)) none))
       (λ off. refl)
 
   heard : (a : ℕ) (call : Call) (behind : List Call) → c.calls a ≡ call ∷ behind → AreCounting (delivers_call st c a (call ∷ behind))
@@ -209,13 +209,13 @@ module _ (st : Setting) (is : IsSetting st) (c : Cluster) (whole : IsWhole st c)
       let new : Machine = prompt st a (takes_call st a (Committed k) m) in
       set_at-holds (λ (b : ℕ) (x : Machine). b < st.machines → IsCounting b x w.acknowledged (others b) logged) c.machine a new b
       (λ low.
-      let here : commits_in (others a) ≡ commits_in rest = ap (λ (xs : List Call). commits_in (xs ++ c.coordinator.out a)) (set_at-same c.calls a behind) in
+      let here : known_by_calls (others a) ≡ known_by_calls rest = ap (λ (xs : List Call). known_by_calls (xs ++ c.coordinator.out a)) (set_at-same c.calls a behind) in
       let done : IsCounting a (commits k m) w.acknowledged (others a) logged =
-      commit_counting a m w.acknowledged k (commits_in rest) (call_way c a) (others a) logged (counting a low) (ap (λ (xs : List Call). commits_in (xs ++ c.coordinator.out a)) first) here (marks.sent_low a low).0 in
+      commit_counting a m w.acknowledged k (known_by_calls rest) (call_way c a) (others a) logged (counting a low) (ap (λ (xs : List Call). known_by_calls (xs ++ c.coordinator.out a)) first) here (marks.sent_low a low).0 in
       same_counting a (commits k m) w.acknowledged (others a) logged done new (others a) (refl, refl, refl) refl)
       (λ off low.
       same_counting b (c.machine b) w.acknowledged (call_way c b) logged (counting b low) (c.machine b) (others b) (refl, refl, refl)
-      (ap (λ (xs : List Call). commits_in (xs ++ c.coordinator.out b)) (set_at-other c.calls a behind b off)))
+      (ap (λ (xs : List Call). known_by_calls (xs ++ c.coordinator.out b)) (set_at-other c.calls a behind b off)))
 
   sectioned : (a : ℕ) → MayDo st c (Section a) → AreCounting (after_event st c (Section a))
   sectioned a may = λ b.
@@ -260,7 +260,7 @@ module _ (st : Setting) (is : IsSetting st) (c : Cluster) (whole : IsWhole st c)
   events_counting (SendCall a) may other none =
       subst (λ (calls : List Call). AreCounting (sends_call c a calls)) (sym may.1.first)
       (λ b low. same_counting b (c.machine b) w.acknowledged (call_way c b) logged (counting b low) (c.machine b)
-      (call_way (sends_call c a (may.1.message ∷ may.1.behind)) b) (refl, refl, refl) (ap commits_in (passed c.calls c.coordinator.out a may.1.message may.1.behind may.1.first b)))
+      (call_way (sends_call c a (may.1.message ∷ may.1.behind)) b) (refl, refl, refl) (ap known_by_calls (passed c.calls c.coordinator.out a may.1.message may.1.behind may.1.first b)))
   events_counting (SendReport a) may other none =
       subst (λ (reports : List Report). AreCounting (sends_report c a reports)) (sym may.1.first) (still a (hands_report may.1.behind (c.machine a)) (refl, refl, refl))
   events_counting (Deliver p q) may other none =

@@ -5,14 +5,14 @@ use Rattle.cluster_model.specs.Clusters.{Cluster}
 use Rattle.cluster_model.specs.Events.{Event, PutBegin, Record, after_event, setting_after}
 
 -- 1 where a snapshot is acknowledged
-abbrev pub stored_at : Event → ℕ
-stored_at Record = 1
-stored_at event = 0
+abbrev pub snapshot_at : Event → ℕ
+snapshot_at Record = 1
+snapshot_at event = 0
 
 -- how many are acknowledged
-abbrev pub stored_in : List Event → ℕ
-stored_in [] = 0
-stored_in (event ∷ events) = stored_at event + stored_in events
+abbrev pub snapshots_in_all : List Event → ℕ
+snapshots_in_all [] = 0
+snapshots_in_all (event ∷ events) = snapshot_at event + snapshots_in_all events
 
 -- 1 where a snapshot begins that no machine asked for
 abbrev pub unasked_at : Cluster → Event → ℕ

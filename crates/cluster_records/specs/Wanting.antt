@@ -30,12 +30,12 @@ numbers_from k zero = []
 numbers_from k (suc many) = k ∷ numbers_from (suc k) many
 
 -- the snapshots of which a machine is told that they are acknowledged
-abbrev pub commits_in : List Call → List ℕ
-commits_in [] = []
-commits_in (Begin k ∷ calls) = commits_in calls
-commits_in (Committed k ∷ calls) = k ∷ commits_in calls
-commits_in (Wave k ∷ calls) = commits_in calls
-commits_in (Step colour ∷ calls) = commits_in calls
+abbrev pub known_by_calls : List Call → List ℕ
+known_by_calls [] = []
+known_by_calls (Begin k ∷ calls) = known_by_calls calls
+known_by_calls (Committed k ∷ calls) = k ∷ known_by_calls calls
+known_by_calls (Wave k ∷ calls) = known_by_calls calls
+known_by_calls (Step colour ∷ calls) = known_by_calls calls
 
 -- the machine asks for a snapshot after snapshot k
 abbrev pub is_want : ℕ → Report → Bool
@@ -52,7 +52,7 @@ want_told k reports = list_any (is_want k) reports
 pub record IsCounting (a : ℕ) (m : Machine) (acknowledged : ℕ) (calls : List Call) (logged : List Logged) : Type 0 where
   pub late : ℕ
   pub newest : acknowledged ≡ m.acknowledged + late
-  pub commits : commits_in calls ≡ numbers_from (suc m.acknowledged) late
+  pub commits : known_by_calls calls ≡ numbers_from (suc m.acknowledged) late
   pub sections : ℕ
   pub sent : m.part.sent ≡ m.acknowledged + sections
   pub unsure : m.unsure ≡ sizes_from a (suc m.acknowledged) sections logged

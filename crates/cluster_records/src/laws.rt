@@ -17,10 +17,10 @@ ghost use Rattle.cluster_model.specs.Machines.{outside};
 ghost use Rattle.cluster_model.specs.Totals.{total};
 ghost use Rattle.cluster_model.specs.Working.{half_window};
 ghost use Rattle.cluster_records.specs.Bases.{IsBase, IsBased};
-ghost use Rattle.cluster_records.specs.Few.{stored_in, unasked_in};
+ghost use Rattle.cluster_records.specs.Few.{snapshots_in_all, unasked_in};
 ghost use Rattle.cluster_records.specs.Listed.{entries_at};
 ghost use Rattle.cluster_records.specs.Recorded.{HaveSameNumbers, IsAccounted, IsGoodSnapshot, snapshot_due};
-ghost use Rattle.cluster_records.specs.Wanting.{AreAsking, commits_in, entries_outside, want_told};
+ghost use Rattle.cluster_records.specs.Wanting.{AreAsking, known_by_calls, entries_outside, want_told};
 ghost use Rattle.cluster_whole.specs.Logged.{Logged, entries_to};
 ghost use Rattle.cluster_whole.specs.Views.{world_of};
 ghost use Rattle.cluster_whole.specs.Whole.{AreColoured, IsNoRecovery, IsWhole, setting_behind};
@@ -152,7 +152,7 @@ pub fn machines_ask_in_time()
         outside (c.machine a) ≡ length (entries_outside a (c.machine a).acknowledged logged) }
     ensures asked { (st : Setting) (c : Cluster) (logged : List Logged) (a : ℕ) →
         AreAsking st c logged → a < st.machines → 0 < half_window st → st.stored ≡ true → half_window st ≤ outside (c.machine a) →
-        ((rest : List ℕ) × (commits_in (call_way c a) ≡ suc (c.machine a).acknowledged ∷ rest))
+        ((rest : List ℕ) × (known_by_calls (call_way c a) ≡ suc (c.machine a).acknowledged ∷ rest))
         ⊎ ((want_told (c.machine a).acknowledged (report_way c a) ≡ true) ⊎ (c.coordinator.wanted ≡ true)) }
     ensures wanted { (st : Setting) (c : Cluster) (logged : List Logged) → AreAsking st c logged → c.coordinator.wanted ≡ true →
         (a : ℕ) × (a < st.machines) × (half_window st ≤ length (entries_outside a c.coordinator.acknowledged logged)) }
@@ -164,5 +164,5 @@ pub fn machines_ask_in_time()
 pub fn snapshots_are_few()
     ensures { (st : Setting) (base : BaseView) (c : Cluster) (events : List Event) (new : Cluster) →
         IsSetting st → AreColoured st st.engine → 0 < half_window st → IsCourse (going_on st base.numbers base.number) (recovers st base c) events new →
-        stored_in events ≤ c.left / half_window st + unasked_in (going_on st base.numbers base.number) (recovers st base c) events }
+        snapshots_in_all events ≤ c.left / half_window st + unasked_in (going_on st base.numbers base.number) (recovers st base c) events }
 {}

@@ -2,11 +2,11 @@
 use Rattle.cluster_model.specs.Working.{half_window}
 use Rattle.cluster_core.specs.Recovering.{going_on}
 use Rattle.cluster_model.specs.Events.{recovers}
-use Rattle.cluster_records.specs.Few.{stored_in, unasked_in}
+use Rattle.cluster_records.specs.Few.{snapshots_in_all, unasked_in}
 use Rattle.cluster_records.proofs.Fewness.{attempts_few, by_half}
 use Rattle.cluster_records.proofs.laws.snapshots_are_few.Goals as goal
 
 pub returns : goal.returns
 returns c = λ st base cluster events new is coloured some course.
-    by_half (half_window st) (stored_in events) (unasked_in (going_on st base.numbers base.number) (recovers st base cluster) events) cluster.left some
+    by_half (half_window st) (snapshots_in_all events) (unasked_in (going_on st base.numbers base.number) (recovers st base cluster) events) cluster.left some
     (attempts_few st is coloured base cluster events new course)
