@@ -1,0 +1,11 @@
+pub mod Standing
+pub mod Cutting
+pub mod Beginning
+pub mod Opening
+pub mod Accounting
+pub mod Counting
+pub mod Failing
+pub mod Prefixes
+pub mod Storing
+pub mod Worked
+pub mod Pieces

@@ -1,0 +1,4 @@
+pub mod Picking
+pub mod Counted
+pub mod Making
+pub mod Joining
