@@ -15,7 +15,7 @@ use Rattle.attempts.specs.EngineCalls.{AreAttempts, EngineCall, IsEngineCall, be
 use Rattle.cluster_cuts.specs.Goings.{AreUpdatesFrom}
 use Rattle.cluster_runs.specs.Attempts.{Attempt, Beginning, IsAttempt, Shared}
 use Rattle.cluster_model.specs.ByTicket.{StandByTicket, restarts}
-use Rattle.attempts.specs.Entries.{is_below, is_restart_at, is_update_within}
+use Rattle.attempts.specs.Entries.{is_before_ticket, is_restart_at, is_update_within}
 use Rattle.attempts.proofs.Accounting.{filter_all, filter_none, made_tickets, restart_behind}
 use Rattle.attempts.proofs.Beginning.{again_begins, longer_valid, stand_held}
 use Rattle.attempts.proofs.Cutting.{all_cut}
@@ -37,13 +37,13 @@ not_less : (t r : ℕ) → r ≤ t → t < r → ⊥
 not_less t r one other = omega arith
 
 -- entries from low on, none of which is below r
-none_below : (r low : ℕ) (order : List Entry) (high : ℕ) → StandByTicket low order high → r ≤ low → filter (is_below r) order ≡ []
-none_below r low order high stand up = filter_none (is_below r) order (all low order high stand up)
+none_below : (r low : ℕ) (order : List Entry) (high : ℕ) → StandByTicket low order high → r ≤ low → filter (is_before_ticket r) order ≡ []
+none_below r low order high stand up = filter_none (is_before_ticket r) order (all low order high stand up)
   where
     step : (r low t : ℕ) → r ≤ low → low ≤ t → r ≤ suc t
     step r low t one other = omega arith
 
-    all : (low : ℕ) (order : List Entry) (high : ℕ) → StandByTicket low order high → r ≤ low → AllByRecursion (λ e. is_below r e ≡ false) order
+    all : (low : ℕ) (order : List Entry) (high : ℕ) → StandByTicket low order high → r ≤ low → AllByRecursion (λ e. is_before_ticket r e ≡ false) order
     all low [] high stand up = tt
     all low (Go m v t ∷ order) high stand up = (le-ltb t r (le_trans up stand.0), all (suc t) order high stand.1 (step r low t up stand.0))
     all low (Restart t ∷ order) high stand up = (le-ltb t r (le_trans up stand.0), all t order high stand.1 (le_trans up stand.0))
@@ -63,16 +63,16 @@ all_at r order stand = filter_all (is_restart_at r) order (all r order stand (le
     all low (Go m v t ∷ order) stand up = absurd (past r t (le_trans up stand.0) (stand_within (suc t) order r stand.1))
     all low (Restart t ∷ order) stand up = (eq-eqb t r (same r t (le_trans up stand.0) (stand_within t order r stand.1)), all t order stand.1 (le_trans up stand.0))
 
-split_at : (r low : ℕ) (order : List Entry) → StandByTicket low order r → filter (is_below r) order ++ filter (is_restart_at r) order ≡ order
+split_at : (r low : ℕ) (order : List Entry) → StandByTicket low order r → filter (is_before_ticket r) order ++ filter (is_restart_at r) order ≡ order
 split_at r low [] stand = refl
 split_at r low (Go m v t ∷ order) stand =
-    ap (λ (es : List Entry). es ++ filter (is_restart_at r) order) (cond-true (nat_lt t r) (Go m v t ∷ filter (is_below r) order) (filter (is_below r) order) (lt-ltb t r (stand_within (suc t) order r stand.1)))
+    ap (λ (es : List Entry). es ++ filter (is_restart_at r) order) (cond-true (nat_lt t r) (Go m v t ∷ filter (is_before_ticket r) order) (filter (is_before_ticket r) order) (lt-ltb t r (stand_within (suc t) order r stand.1)))
     ∙ ap (λ (es : List Entry). Go m v t ∷ es) (split_at r (suc t) order stand.1)
 split_at r low (Restart t ∷ order) stand =
     ⊎_elim
     (λ (less : t < r).
     ap₂ (λ (xs ys : List Entry). xs ++ ys)
-    (cond-true (nat_lt t r) (Restart t ∷ filter (is_below r) order) (filter (is_below r) order) (lt-ltb t r less))
+    (cond-true (nat_lt t r) (Restart t ∷ filter (is_before_ticket r) order) (filter (is_before_ticket r) order) (lt-ltb t r less))
     (cond-false (t == r) (Restart t ∷ filter (is_restart_at r) order) (filter (is_restart_at r) order) (ne_eqb t r (λ same. not_same t r less same)))
     ∙ ap (λ (es : List Entry). Restart t ∷ es) (split_at r t order stand.1))
     (λ (high : r ≤ t).
@@ -195,13 +195,13 @@ module _ (shared : Shared) where
       (subst (λ (n : ℕ). StandByTicket next (behind (again b a) failed last) n) (long_is b a failed last) (behind_stands (again b a) failed last are.2))
 
   -- the three parts at an attempt's beginning are its order, where nothing behind is at that ticket
-  piece : (b : Beginning) (made more rest : List Entry) (top : ℕ) → IsBeginning shared b → filter (is_below b.next) rest ≡ [] → filter (is_restart_at b.next) rest ≡ [] →
+  piece : (b : Beginning) (made more rest : List Entry) (top : ℕ) → IsBeginning shared b → filter (is_before_ticket b.next) rest ≡ [] → filter (is_restart_at b.next) rest ≡ [] →
       filter (is_update_within b.next top) (made ++ more) ≡ made → pieces_at b.next top (b.front ++ rest) (made ++ more) ≡ b.front ++ made
   piece b made more rest top is below at within =
-      let fb : List Entry = filter (is_below b.next) b.front in
+      let fb : List Entry = filter (is_before_ticket b.next) b.front in
       let fa : List Entry = filter (is_restart_at b.next) b.front in
       ap₂ (λ (xs ys : List Entry). xs ++ ys)
-      (filter-append (is_below b.next) b.front rest ∙ ap (λ (es : List Entry). fb ++ es) below ∙ append-nil fb)
+      (filter-append (is_before_ticket b.next) b.front rest ∙ ap (λ (es : List Entry). fb ++ es) below ∙ append-nil fb)
       (ap₂ (λ (xs ys : List Entry). xs ++ ys) (filter-append (is_restart_at b.next) b.front rest ∙ ap (λ (es : List Entry). fa ++ es) at ∙ append-nil fa) within)
       ∙ sym (append_assoc fb fa made) ∙ ap (λ (es : List Entry). es ++ made) (split_at b.next 0 b.front is.by_ticket)
 
@@ -330,7 +330,7 @@ module _ (shared : Shared) where
       (λ (has : (next ≤ q) × (list_any (is_restart_at q) order ≡ true)). inr (inl (le_trans (plus_low b.next (length a.made)) has.0, has.1)))
       (λ (at : q ≡ top). inr (inr at)) more) bound in
       let go_on : next ≤ r → IsValidOrder shared.graph shared.program (pieces_at r s order (a.made ++ rest)) =
-      λ up. subst (λ (es : List Entry). IsValidOrder shared.graph shared.program (filter (is_below r) order ++ (filter (is_restart_at r) order ++ es)))
+      λ up. subst (λ (es : List Entry). IsValidOrder shared.graph shared.program (filter (is_before_ticket r) order ++ (filter (is_restart_at r) order ++ es)))
       (sym (filter-append (is_update_within r s) a.made rest ∙ ap (λ (es : List Entry). es ++ filter (is_update_within r s) rest) (within_none r s b.next a.made are.0.tickets up)))
       (pieces (again b a) failed last begins are.2 order (same ∙ sym (append_assoc b.front (held_updates a ++ own) later)) top top_again r s
       (again_bound r bound_r up) (again_bound s bound_s (le_trans up (below r s less))) less (λ q bound high. least q (back_bound q bound) high)) in
@@ -338,7 +338,7 @@ module _ (shared : Shared) where
       λ at some.
       let end : s ≡ next = ⊎_elim (λ (at_s : s ≡ b.next). absurd (no_self r s b.next at (subst (λ (n : ℕ). s ≤ n) at_s (le_refl s)) less))
       (λ (up : next ≤ s). equal s next (least next (inr (inl (plus_low b.next (length a.made), has_next))) (subst (λ (n : ℕ). n < next) (sym at) some)) up) (parted s bound_s) in
-      let behind_low : filter (is_below b.next) ((held_updates a ++ own) ++ later) ≡ [] =
+      let behind_low : filter (is_before_ticket b.next) ((held_updates a ++ own) ++ later) ≡ [] =
       none_below b.next b.next ((held_updates a ++ own) ++ later) (b.next + length (made_in (a ∷ failed) last)) (behind_stands b (a ∷ failed) last are) (le_refl b.next) in
       let behind_none : filter (is_restart_at b.next) ((held_updates a ++ own) ++ later) ≡ [] =
       filter_none (is_restart_at b.next) ((held_updates a ++ own) ++ later)

@@ -15,7 +15,7 @@ use Rattle.cluster_runs.specs.Attempts.{Attempt, Beginning, IsAttempt, Shared}
 use Rattle.cluster_core.specs.Cuts.{cut_of}
 use Rattle.attempts.specs.Entries.{is_restart, is_update}
 use Rattle.cluster_model.specs.ByTicket.{restarts}
-use Rattle.attempts.specs.Stores.{AreGoodOrders, IsEarlier, IsImage, IsWithinWindow, ResumesFrom, last_order, snapshot_orders, snapshots_in, snapshots_of}
+use Rattle.attempts.specs.Stores.{AreGoodOrders, IsEarlier, IsStoreImage, IsWithinWindow, ResumesFrom, last_order, snapshot_orders, attempted_snapshots, snapshots_of}
 use Rattle.attempts.proofs.Accounting.{filter_all, filter_none}
 use Rattle.attempts.proofs.Beginning.{again_begins, longer_valid}
 use Rattle.attempts.proofs.Cutting.{all_cut, cut_and_left, cut_none, stand_cut}
@@ -86,11 +86,11 @@ module _ (shared : Shared) where
       a.kept (rising_last nothing a.kept attempt.rising)))
 
   stores_grow : (store : List (List Entry)) (b : Beginning) (failed : List Attempt) (last : Attempt) → IsBeginning shared b → AreAttempts shared b failed last → AreGoodOrders shared store →
-      AllByRecursion (λ (order : List Entry). IsEarlier order b.front) store → AreGoodOrders shared (store ++ (snapshots_in b failed ++ snapshot_orders (begins_behind b failed) last))
+      AllByRecursion (λ (order : List Entry). IsEarlier order b.front) store → AreGoodOrders shared (store ++ (attempted_snapshots b failed ++ snapshot_orders (begins_behind b failed) last))
   stores_grow store b [] last is are good before = store_longer store b last is are good before
   stores_grow store b (a ∷ failed) last is are good before =
       let own : List (List Entry) = snapshot_orders b a in
-      let later : List (List Entry) = snapshots_in (again b a) failed in
+      let later : List (List Entry) = attempted_snapshots (again b a) failed in
       let ends : List (List Entry) = snapshot_orders (begins_behind (again b a) failed) last in
       subst (AreGoodOrders shared) (append_assoc store own (later ++ ends) ∙ ap (λ (orders : List (List Entry)). store ++ orders) (sym (append_assoc own later ends)))
       (stores_grow (store ++ own) (again b a) failed last (again_begins shared b a are.0 is are.1) are.2 (store_longer store b a is are.0 good before) (store_before store b a are.0 before))
@@ -105,7 +105,7 @@ module _ (shared : Shared) where
   pub good_front : (orders more : List (List Entry)) → AreGoodOrders shared (orders ++ more) → AreGoodOrders shared orders
   good_front orders more good = record { in_turn = all_front (IsOrderInTurn shared) orders more good.in_turn; earlier_first = earlier_first_front orders more good.earlier_first }
 
-  pub images_good : (store added image : List (List Entry)) → AreGoodOrders shared (store ++ added) → IsImage store added image → AreGoodOrders shared image
+  pub images_good : (store added image : List (List Entry)) → AreGoodOrders shared (store ++ added) → IsStoreImage store added image → AreGoodOrders shared image
   images_good store added image good is =
       subst (AreGoodOrders shared) (sym is.3)
       (good_front (store ++ is.0) is.1 (subst (AreGoodOrders shared) (ap (λ (orders : List (List Entry)). store ++ orders) is.2 ∙ sym (append_assoc store is.0 is.1)) good))
@@ -147,8 +147,8 @@ module _ (shared : Shared) where
       let other_is : IsEngineCall shared other =
       record { counts = is.counts; base = is.base; begins = is.begins; attempts = last_changes (opening call) call.failed call.last (with_one call.last later) is.attempts (one_more_is b call.last later both.1 under valid) } in
       subst (λ (orders : List (List Entry)). AreGoodOrders shared (store ++ orders))
-      (ap (λ (orders : List (List Entry)). snapshots_in (opening call) call.failed ++ orders) (map-append (snapshot_order b call.last) call.last.kept (later ∷ []))
-      ∙ sym (append_assoc (snapshots_in (opening call) call.failed) (snapshot_orders b call.last) (snapshot_order b call.last later ∷ [])))
+      (ap (λ (orders : List (List Entry)). attempted_snapshots (opening call) call.failed ++ orders) (map-append (snapshot_order b call.last) call.last.kept (later ∷ []))
+      ∙ sym (append_assoc (attempted_snapshots (opening call) call.failed) (snapshot_orders b call.last) (snapshot_order b call.last later ∷ [])))
       (call_stores store other good base other_is)
 
   -- ---- each attempt begins at the last snapshot
@@ -174,17 +174,17 @@ module _ (shared : Shared) where
           (own, sym (append_assoc b.front (held_updates a) own), all_restarts a.struck (b.next + length a.made))
 
   begins_back : (snapshot : List Entry) (b : Beginning) (failed : List Attempt) (last : Attempt) → AreAttempts shared b failed last → ResumesFrom snapshot b.front →
-      ResumesFrom (last_order snapshot (snapshots_in b failed)) (begins_behind b failed).front
+      ResumesFrom (last_order snapshot (attempted_snapshots b failed)) (begins_behind b failed).front
   begins_back snapshot b [] last are back = back
   begins_back snapshot b (a ∷ failed) last are back =
-      subst (λ (order : List Entry). ResumesFrom order (begins_behind (again b a) failed).front) (sym (last_order_append snapshot (snapshot_orders b a) (snapshots_in (again b a) failed)))
+      subst (λ (order : List Entry). ResumesFrom order (begins_behind (again b a) failed).front) (sym (last_order_append snapshot (snapshot_orders b a) (attempted_snapshots (again b a) failed)))
       (begins_back (last_order snapshot (snapshot_orders b a)) (again b a) failed last are.2 (goes_back snapshot b a are.0 back))
 
   opened_alone : (b : Bool) (f : ℕ) → AreRestartsAlone (if b then Restart f ∷ [] else [])
   opened_alone true f = (refl, tt)
   opened_alone false f = tt
 
-  pub call_back : (call : EngineCall) → IsEngineCall shared call → ResumesFrom (last_order call.base (snapshots_in (opening call) call.failed)) (last_beginning call).front
+  pub call_back : (call : EngineCall) → IsEngineCall shared call → ResumesFrom (last_order call.base (attempted_snapshots (opening call) call.failed)) (last_beginning call).front
   call_back call is =
       begins_back call.base (opening call) call.failed call.last is.attempts (if call.resumed then Restart (first_ticket call) ∷ [] else [], refl, opened_alone call.resumed (first_ticket call))
 
@@ -198,8 +198,8 @@ module _ (shared : Shared) where
       let newest : List Entry = last_order call.base (snapshots_of call) in
       let own : List Entry = restarts a.struck (b.next + length a.made) in
       let back : ResumesFrom newest (again b a).front =
-      subst (λ (order : List Entry). ResumesFrom order (again b a).front) (sym (last_order_append call.base (snapshots_in (opening call) call.failed) (snapshot_orders b a)))
-      (goes_back (last_order call.base (snapshots_in (opening call) call.failed)) b a attempt (call_back call is)) in
+      subst (λ (order : List Entry). ResumesFrom order (again b a).front) (sym (last_order_append call.base (attempted_snapshots (opening call) call.failed) (snapshot_orders b a)))
+      (goes_back (last_order call.base (attempted_snapshots (opening call) call.failed)) b a attempt (call_back call is)) in
       let updates : AllByRecursion (λ entry. is_update entry ≡ true) a.made = all_updates b.next a.made attempt.tickets in
       let snapshot : filter is_update newest ≡ filter is_update b.front ++ held_updates a =
       sym (append-nil (filter is_update newest)) ∙ ap (λ (es : List Entry). filter is_update newest ++ es) (sym (no_updates back.0 back.2)) ∙ sym (filter-append is_update newest back.0)
@@ -253,8 +253,8 @@ module _ (shared : Shared) where
 
   pub full_is : (call : EngineCall) → IsEngineCall shared call → 1 ≤ length call.last.kept → held_updates call.last ≡ call.last.made → last_order call.base (snapshots_of call) ≡ call_order call
   full_is call is some full =
-      last_order_append call.base (snapshots_in (opening call) call.failed) (snapshot_orders (last_beginning call) call.last)
-      ∙ full_kept (last_order call.base (snapshots_in (opening call) call.failed)) (last_beginning call) call.last call.last.kept refl some full
+      last_order_append call.base (attempted_snapshots (opening call) call.failed) (snapshot_orders (last_beginning call) call.last)
+      ∙ full_kept (last_order call.base (attempted_snapshots (opening call) call.failed)) (last_beginning call) call.last call.last.kept refl some full
 
   -- ---- one attempt more
 

@@ -9,7 +9,7 @@ use Rattle.cluster_cuts.specs.Goings.{AreUpdatesFrom, IsByOwner}
 use Rattle.cluster_runs.specs.Attempts.{Shared}
 use Rattle.cluster_model.specs.ByTicket.{StandByTicket}
 use Rattle.cluster_core.specs.Replays.{entries_of, ticket_of}
-use Rattle.attempts.specs.Entries.{is_below, is_restart, is_restart_at, is_update_from, is_update_within}
+use Rattle.attempts.specs.Entries.{is_before_ticket, is_restart, is_restart_at, is_update_from, is_update_within}
 use Rattle.seq_run.specs.Orders.{IsValidOrder}
 
 -- Those of the order from the first ticket on and the lost ones are together the updates of the call, which have the tickets from the
@@ -27,7 +27,7 @@ IsBound first order top r = (r ≡ first) ⊎ (((first ≤ r) × (list_any (is_r
 
 -- the entries of the order below r, its restarts at r, and the updates from r on and below s
 abbrev pub pieces_at : ℕ → ℕ → List Entry → List Entry → List Entry
-pieces_at r s order updates = filter (is_below r) order ++ (filter (is_restart_at r) order ++ filter (is_update_within r s) updates)
+pieces_at r s order updates = filter (is_before_ticket r) order ++ (filter (is_restart_at r) order ++ filter (is_update_within r s) updates)
 
 -- from each bound to the next the updates are valid behind what the order has before
 abbrev pub AreValidBetween : Shared → ℕ → List Entry → List Entry → Type 0

@@ -15,8 +15,8 @@ is_update (Go machine vertex ticket) = true
 is_update (Restart ticket) = false
 
 -- an entry with a ticket below r
-abbrev pub is_below : ℕ → Entry → Bool
-is_below r entry = nat_lt (ticket_of entry) r
+abbrev pub is_before_ticket : ℕ → Entry → Bool
+is_before_ticket r entry = nat_lt (ticket_of entry) r
 
 -- a restart with ticket r
 abbrev pub is_restart_at : ℕ → Entry → Bool

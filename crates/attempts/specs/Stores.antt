@@ -34,13 +34,13 @@ abbrev pub snapshot_orders : Beginning → Attempt → List (List Entry)
 snapshot_orders b a = map (snapshot_order b a) a.kept
 
 -- and in attempts that failed
-abbrev pub snapshots_in : Beginning → List Attempt → List (List Entry)
-snapshots_in b [] = []
-snapshots_in b (a ∷ failed) = snapshot_orders b a ++ snapshots_in (again b a) failed
+abbrev pub attempted_snapshots : Beginning → List Attempt → List (List Entry)
+attempted_snapshots b [] = []
+attempted_snapshots b (a ∷ failed) = snapshot_orders b a ++ attempted_snapshots (again b a) failed
 
 -- the orders of all snapshots that were acknowledged in a call
 abbrev pub snapshots_of : EngineCall → List (List Entry)
-snapshots_of call = snapshots_in (opening call) call.failed ++ snapshot_orders (last_beginning call) call.last
+snapshots_of call = attempted_snapshots (opening call) call.failed ++ snapshot_orders (last_beginning call) call.last
 
 -- the order is the snapshot's, and behind it restarts that the snapshot lacks
 abbrev pub ResumesFrom : List Entry → List Entry → Type 0
@@ -53,5 +53,5 @@ pub record IsWithinWindow (window : ℕ) (snapshot order : List Entry) : Type 0 
   pub few : (m : ℕ) → made_by outside m ≤ window
 
 -- the store, and the first of the snapshots that the call adds, so many as it may be
-abbrev pub IsImage : List (List Entry) → List (List Entry) → List (List Entry) → Type 0
-IsImage store added image = (front : List (List Entry)) × (behind : List (List Entry)) × (added ≡ front ++ behind) × (image ≡ store ++ front)
+abbrev pub IsStoreImage : List (List Entry) → List (List Entry) → List (List Entry) → Type 0
+IsStoreImage store added image = (front : List (List Entry)) × (behind : List (List Entry)) × (added ≡ front ++ behind) × (image ≡ store ++ front)

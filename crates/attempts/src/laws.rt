@@ -9,7 +9,7 @@ ghost use Rattle.cluster_runs.specs.Attempts.{Attempt, Beginning, IsAttempt, Sha
 ghost use Rattle.cluster_core.specs.Cuts.{cut_of};
 ghost use Rattle.attempts.specs.Entries.{is_restart};
 ghost use Rattle.cluster_model.specs.ByTicket.{restarts};
-ghost use Rattle.attempts.specs.Stores.{AreGoodOrders, IsImage, IsWithinWindow, ResumesFrom, last_order, snapshot_orders, snapshots_in, snapshots_of};
+ghost use Rattle.attempts.specs.Stores.{AreGoodOrders, IsStoreImage, IsWithinWindow, ResumesFrom, last_order, snapshot_orders, attempted_snapshots, snapshots_of};
 ghost use Rattle.seq_run.specs.Orders.{IsValidFrom, IsValidOrder, all_tasks, replay, replay_from, tasks_after, tasks_from};
 
 /// What an attempt leads to is a valid order. Its replay and its tasks go on from where the attempt began, and so does the replay of a
@@ -70,7 +70,7 @@ pub fn restarts_are_counted()
 /// Each attempt begins with the order of the last acknowledged snapshot, and the restarts that this lacks.
 pub fn attempts_begin_at_snapshots()
     ensures { (shared : Shared) (call : EngineCall) → IsEngineCall shared call →
-        ResumesFrom (last_order call.base (snapshots_in (opening call) call.failed)) (last_beginning call).front }
+        ResumesFrom (last_order call.base (attempted_snapshots (opening call) call.failed)) (last_beginning call).front }
 {}
 
 /// A recovery goes back to the order of the last acknowledged snapshot, and adds the restarts that this lacks of those so far and one for
@@ -100,7 +100,7 @@ pub fn stores_stay_good()
         IsValidFrom shared.graph shared.program (replay shared.graph shared.program (last_beginning call).front) (all_tasks shared.graph) (cut_of later call.last.made) →
         AreGoodOrders shared (store ++ (snapshots_of call ++ snapshot_order (last_beginning call) call.last later ∷ [])) }
     ensures images { (shared : Shared) (store added image : List (List Entry)) →
-        AreGoodOrders shared (store ++ added) → IsImage store added image → AreGoodOrders shared image }
+        AreGoodOrders shared (store ++ added) → IsStoreImage store added image → AreGoodOrders shared image }
     ensures base { (shared : Shared) (store : List (List Entry)) → AreGoodOrders shared store → IsOrderInTurn shared (last_order [] store) }
 {}
 
