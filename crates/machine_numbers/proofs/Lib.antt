@@ -1,0 +1,4 @@
+pub mod WakeLemmas
+pub mod LearnLemmas
+pub mod KeepLemmas
+pub mod TellLemmas

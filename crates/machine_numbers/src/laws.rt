@@ -1,0 +1,31 @@
+//! Laws about what a machine keeps and tells, for every setting of a cluster. Each is the contract of a function that does nothing.
+ghost use Rattle.std.specs.Prelude.{◌≡◌, ℕ, length};
+ghost use Rattle.gl_base.specs.declared.entries.Entry.{Entry};
+ghost use Rattle.gl_base.specs.declared.numbers.MachineNo.{MachineNo};
+ghost use Rattle.gl_base.specs.declared.scopes.ScopeId.{ScopeId};
+ghost use Rattle.local_graph.specs.declared.works.Outcome.{Outcome};
+ghost use Rattle.wire_msgs.specs.declared.messages.Done.{Done};
+ghost use Rattle.machine_numbers.specs.declared.keeping.Numbers.{Numbers};
+ghost use Rattle.machine_numbers.specs.Views.{News, news_of, sides_at};
+ghost use Rattle.machine_numbers.specs.Steps.{HasLearned, HasUpdated, TellsOf};
+ghost use Rattle.machine_numbers.specs.Settings.{Setting, Part, applied, updated, news_for, with_numbers, IsOutcomeOf, EdgesShared};
+
+/// What a machine learns of an update elsewhere is the effect on its data, edges and tasks that the cluster has of it, and its log
+/// stays.
+pub fn news_are_applied()
+    ensures { (st : Setting) (a : ℕ) (s : ScopeId) (news : News) (old new : Numbers) (part : Part) → HasLearned old new news →
+        with_numbers new (applied st a s news (with_numbers old part)) ≡ applied st a s news (with_numbers old part) }
+{}
+
+/// What a machine keeps of an update is the effect on its data, edges, tasks and log that the cluster has of it, for every setting
+/// of which the outcome is the update.
+pub fn updates_are_made()
+    ensures { (st : Setting) (s : ScopeId) (o : Outcome) (entry : Entry) (old new : Numbers) (part : Part) → IsOutcomeOf st old o → HasUpdated old new o entry →
+        with_numbers new (updated st old.local.me.0 s o.work.vertex.0 entry (with_numbers old part)) ≡ updated st old.local.me.0 s o.work.vertex.0 entry (with_numbers old part) }
+{}
+
+/// What is told to each other machine is what the cluster's effect tells it.
+pub fn lists_are_the_news()
+    ensures { (st : Setting) (to : MachineNo) (o : Outcome) (done : Done) (n : Numbers) (part : Part) → IsOutcomeOf st n o → EdgesShared st o.work.vertex.0 → TellsOf n to o done →
+        news_of done ≡ news_for st (with_numbers n part) o.work.vertex.0 to.0 }
+{}

@@ -1,0 +1,13 @@
+//! What of a machine carries numbers: its part of the graph, the copies of ghosts, its tasks, and its log.
+#![tactic(auto)]
+
+mod finishing;
+mod keeping;
+mod laws;
+mod learning;
+mod telling;
+mod waking;
+
+pub use keeping::{Numbers, Spare};
+pub use laws::{lists_are_the_news, news_are_applied, updates_are_made};
+pub use telling::blank_done;
