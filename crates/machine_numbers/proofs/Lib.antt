@@ -2,3 +2,5 @@ pub mod WakeLemmas
 pub mod LearnLemmas
 pub mod KeepLemmas
 pub mod TellLemmas
+pub mod RowLemmas
+pub mod JoinLemmas

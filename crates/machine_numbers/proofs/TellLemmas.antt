@@ -1,11 +1,9 @@
 -- Lists of what is told, filled one after another.
-use Rattle.std.proofs.Common.{◌≡◌, ℕ, ◌+◌, ◌<◌, ◌≤◌, ◌==◌, ◌&&◌, ◌++◌, not, true, false, if◌then◌else◌, List, [], ◌∷◌, length, get_or, drop, refl, sym, ap, ◌∙◌, arith}
+use Rattle.std.proofs.Common.{◌≡◌, ℕ, ◌+◌, ◌<◌, ◌≤◌, ◌==◌, ◌&&◌, ◌++◌, not, if◌then◌else◌, List, [], ◌∷◌, length, get_or, drop, refl, sym, ap, ◌∙◌, arith}
 use Rattle.std.specs.declared.vec.Vec.{Vec}
 use Rattle.std.specs.declared.alloc.Global.{Global}
 use Rattle.std.specs.Vec.{vec_capacity, vec_len}
 use Rattle.std.proofs.lemmas.List.{drop_more, drop_all}
-use Rattle.gl_base.specs.declared.numbers.EdgeNo.{EdgeNo}
-use Rattle.gl_base.specs.declared.numbers.Vertex.{Vertex}
 use Rattle.update_api.specs.declared.links.Link.{Link}
 use Rattle.update_api.specs.declared.woken.Woken.{Woken}
 use Rattle.local_graph.specs.declared.sides.Side.{Side}

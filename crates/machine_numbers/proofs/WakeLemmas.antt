@@ -1,8 +1,8 @@
 -- Vertices that are made tasks, one after another.
-use Rattle.std.proofs.Common.{◌≡◌, ℕ, ◌+◌, ◌<◌, ◌≤◌, ◌==◌, ◌&&◌, ◌||◌, Bool, true, false, if◌then◌else◌, Some, List, [], ◌∷◌, length, get_or, set, drop, nat_lt, refl, sym, ap, ◌∙◌, subst, arith, inl, inr}
+use Rattle.std.proofs.Common.{◌≡◌, ℕ, ◌+◌, ◌<◌, ◌≤◌, ◌==◌, ◌&&◌, ◌||◌, Bool, true, false, if◌then◌else◌, Some, List, ◌∷◌, length, get_or, drop, refl, sym, ap, ◌∙◌, arith, inl, inr}
 use Rattle.std.specs.Prelude.{slice_set}
 use Rattle.std.proofs.lemmas.Bool.{cases_eq, eq-eqb, ne_eqb, ltb-true}
-use Rattle.std.proofs.lemmas.List.{drop_more, drop_all, length-set}
+use Rattle.std.proofs.lemmas.List.{drop_more, drop_all}
 use Rattle.gl_base.specs.declared.numbers.Vertex.{Vertex}
 use Rattle.update_api.specs.declared.links.Link.{Link}
 use Rattle.update_api.specs.declared.woken.Woken.{Woken}

@@ -6,7 +6,6 @@ use Rattle.std.specs.Prelude.{◌≡◌, ℕ, List, [], ◌∷◌, ◌++◌}
 use Rattle.std.specs.List.{All}
 use Rattle.graph_core.specs.Halves.{halves_of}
 use Rattle.local_graph.specs.declared.works.Outcome.{Outcome}
-use Rattle.local_graph.specs.declared.sides.Side.{Side}
 use Rattle.update_api.specs.Links.{nears_at}
 use Rattle.update_api.specs.Marks.{AreMarked}
 use Rattle.machine_numbers.specs.declared.keeping.Numbers.{Numbers}
