@@ -4,3 +4,5 @@ pub mod KeepLemmas
 pub mod TellLemmas
 pub mod RowLemmas
 pub mod JoinLemmas
+pub mod PartLemmas
+pub mod FinishLemmas

@@ -32,8 +32,8 @@ filled_all {X} all left items is none = sym (append_none items) ∙ ap (λ ys. i
 pub edges_more : (to : ℕ) (sides : List Side) (xs ys : List ℕ) (i : ℕ) (s : Side) → i < length sides → length xs ≡ length sides → length ys ≡ length sides
     → told_edges to (drop i sides) (drop i xs) (drop i ys)
     ≡ (if (get_or sides i s).owner.0 == to && not (get_or xs i 0 == get_or ys i 0)
-       then ((get_or sides i s).edge, get_or ys i 0) ∷ told_edges to (drop (i + 1) sides) (drop (i + 1) xs) (drop (i + 1) ys)
-       else told_edges to (drop (i + 1) sides) (drop (i + 1) xs) (drop (i + 1) ys))
+    then ((get_or sides i s).edge, get_or ys i 0) ∷ told_edges to (drop (i + 1) sides) (drop (i + 1) xs) (drop (i + 1) ys)
+    else told_edges to (drop (i + 1) sides) (drop (i + 1) xs) (drop (i + 1) ys))
 edges_more to sides xs ys i s inside as_xs as_ys =
     ap (λ (ss : List Side). told_edges to ss (drop i xs) (drop i ys)) (drop_more sides i s inside)
     ∙ ap (λ (zs : List ℕ). told_edges to (get_or sides i s ∷ drop (i + 1) sides) zs (drop i ys)) (drop_more xs i 0 (omega arith))
@@ -45,8 +45,8 @@ edges_none to sides xs ys i all = ap (λ (ss : List Side). told_edges to ss (dro
 pub wakes_more : (to : ℕ) (woken : Woken) (sides : List Side) (links : List Link) (i : ℕ) (s : Side) (link : Link) → i < length sides → length links ≡ length sides
     → told_wakes to woken (drop i sides) (drop i links)
     ≡ (if wakes_there to woken (get_or sides i s) (get_or links i link)
-       then (get_or sides i s).other ∷ told_wakes to woken (drop (i + 1) sides) (drop (i + 1) links)
-       else told_wakes to woken (drop (i + 1) sides) (drop (i + 1) links))
+    then (get_or sides i s).other ∷ told_wakes to woken (drop (i + 1) sides) (drop (i + 1) links)
+    else told_wakes to woken (drop (i + 1) sides) (drop (i + 1) links))
 wakes_more to woken sides links i s link inside same =
     ap (λ (ss : List Side). told_wakes to woken ss (drop i links)) (drop_more sides i s inside)
     ∙ ap (λ (ls : List Link). told_wakes to woken (get_or sides i s ∷ drop (i + 1) sides) ls) (drop_more links i link (omega arith))

@@ -27,14 +27,14 @@ woken_at l old new v k are at inside is u =
     ap (λ (t : TasksView). flag_there t.task (place_at l u)) is ∙ at_written l.places old.task v k true false are.apart at inside u
     ∙ turned u v (flag_there old.task (place_at l u))
 
-first : (a b : Bool) → (a && b) ≡ true → a ≡ true
-first true b both = refl
-first false b both = both
+pub left_holds : (a b : Bool) → (a && b) ≡ true → a ≡ true
+left_holds true b both = refl
+left_holds false b both = both
 
 -- the end of a side that is woken here is an own vertex
 pub end_inside : (l : LocalView) (t : TasksView) (woken : Woken) (s : Side) (link : Link) → IsSideHere l s → AreTasksOf l t → wakes_there l.me.0 woken s link ≡ true → s.place < length t.task
 end_inside l t woken s link here are wakes =
-    own_inside l t s.other.0 s.place are (here.own (first (s.owner.0 == l.me.0) (wakes_along woken link) wakes)) here.place
+    own_inside l t s.other.0 s.place are (here.own (left_holds (s.owner.0 == l.me.0) (wakes_along woken link) wakes)) here.place
 
 pub end_woken : (l : LocalView) (old new : TasksView) (woken : Woken) (s : Side) (link : Link) → IsSideHere l s → AreTasksOf l old → wakes_there l.me.0 woken s link ≡ true
     → new ≡ record old { task = slice_set old.task s.place true }

@@ -1,7 +1,7 @@
 -- What the calls ask and leave.
 pub use Rattle.cluster_core.specs.Effects.{datum_after, edge_after, newer_datum, renewed, told_datum}
 pub use Rattle.cluster_core.specs.Ranges.{set_at}
-use Rattle.std.specs.Prelude.{◌≡◌, ℕ, ◌<◌, ◌≤◌, ◌==◌, ◌&&◌, ◌||◌, Bool, true, false, not, Some, None, List, [], ◌∷◌, ◌++◌, length, if◌then◌else◌, vec_len, vec_capacity}
+use Rattle.std.specs.Prelude.{◌+◌, slice_set, ◌≡◌, ℕ, ◌<◌, ◌≤◌, ◌==◌, ◌&&◌, ◌||◌, Bool, true, false, not, Some, None, List, [], ◌∷◌, ◌++◌, length, if◌then◌else◌, vec_len, vec_capacity}
 use Rattle.std.specs.List.{All}
 use Rattle.gl_base.specs.declared.entries.Entry.{Entry}
 use Rattle.gl_base.specs.declared.numbers.EdgeNo.{EdgeNo}
@@ -18,7 +18,7 @@ use Rattle.local_graph.specs.declared.works.Work.{Work}
 use Rattle.wire_msgs.specs.declared.messages.Done.{Done}
 use Rattle.machine_numbers.specs.declared.keeping.Numbers.{Numbers}
 use Rattle.machine_numbers.specs.declared.keeping.Spare.{Spare}
-use Rattle.machine_numbers.specs.Views.{LocalView, News, place_at, is_own, id_at, links_at, sides_at, numbers_along, near_along, written, datum_here, value_here, task_here, edge_here, flag_there}
+use Rattle.machine_numbers.specs.Views.{LocalView, TasksView, News, place_at, is_own, id_at, links_at, sides_at, numbers_along, near_along, written, datum_here, value_here, task_here, edge_here, flag_there}
 
 -- ---- whom an update wakes
 
@@ -86,6 +86,17 @@ pub record CanFinish (n : Numbers) (o : Outcome) : Type 0 where
   pub outside : n.tasks.outside < 18446744073709551615
   pub version : (datum_here n o.work.vertex.0).version < 4294967295
   pub room : vec_len n.log < vec_capacity n.log
+
+-- the vertex at this place is not admitted any more, and one update more is outside the last acknowledged snapshot
+pub record HasRun (old new : TasksView) (place : ℕ) : Type 0 where
+  pub plans : new.plans + 1 ≡ old.plans
+  pub rest : new ≡ record old {
+    task = new.task;
+    admitted = slice_set old.admitted place false;
+    planned = slice_set old.planned place false;
+    plans = new.plans;
+    outside = old.outside + 1;
+  }
 
 -- the update is kept
 pub record HasUpdated (old new : Numbers) (o : Outcome) (entry : Entry) : Type 0 where

@@ -1,6 +1,6 @@
 -- The numbers and tasks of a machine, as functions of vertices and edges.
 pub use Rattle.local_graph.specs.Locals.{LocalView, at_place, place_at, own_datum, is_own, id_at, links_at, sides_at, edge_number_at, HasEdge, numbers_along, written}
-pub use Rattle.local_graph.specs.Played.{no_datum}
+pub use Rattle.local_graph.specs.Played.{no_datum, IsPlayedFrom}
 pub use Rattle.ghost_cache.specs.Caches.{ghost_datum}
 pub use Rattle.task_sched.specs.Tasks.{TasksView, is_flagged}
 pub use Rattle.cluster_core.specs.Messages.{News}

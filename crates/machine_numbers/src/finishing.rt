@@ -1,7 +1,7 @@
 //! Updates that were made, kept.
 ghost use Rattle.std.specs.Prelude.{◌≡◌, ℕ, ◌+◌, ◌<◌, ◌==◌, ◌&&◌, true, false, not, Some, is_some, if◌then◌else◌};
-ghost use Rattle.machine_numbers.specs.Views.{AreTasksOf, is_own, own_datum, links_at, place_at, flag_there, datum_or};
-ghost use Rattle.machine_numbers.specs.Steps.{CanFinish, HasUpdated, renewed};
+ghost use Rattle.machine_numbers.specs.Views.{AreTasksOf, HasEdge, is_own, own_datum, links_at, place_at, flag_there, datum_or};
+ghost use Rattle.machine_numbers.specs.Steps.{CanFinish, HasUpdated, HasRun, renewed};
 
 use crate::waking::wake_along;
 use crate::{Numbers, Spare};
@@ -20,7 +20,11 @@ impl Numbers {
         ensures back { (x : ℕ) → links_at self.new.local x ≡ (if x == outcome.work.vertex.0 then Some outcome.work.row.links.items else links_at self.old.local x) }
         ensures local { self.new.local ≡ record self.old.local { kept = self.new.local.kept; rows = self.new.local.rows; numbers = self.new.local.numbers } }
         ensures ghosts { self.new.ghosts ≡ self.old.ghosts }
+        ensures own { (x : ℕ) → is_own self.new.local x ≡ is_own self.old.local x }
+        ensures edges { (e : ℕ) → HasEdge self.old.local e → HasEdge self.new.local e }
+        ensures run { (k : ℕ) → place_at self.old.local outcome.work.vertex.0 ≡ Some k → HasRun self.old.tasks self.new.tasks k }
         ensures tasks_kept { AreTasksOf self.new.local self.new.tasks }
+        ensures spare { (result.edges ≡ outcome.work.row.numbers) × (result.near ≡ outcome.work.near) }
     {
         let Outcome {
             work,
@@ -29,7 +33,10 @@ impl Numbers {
             woken,
         } = outcome;
         let Work {
-            vertex, row, near, ..
+            vertex,
+            row,
+            near,
+            ..
         } = work;
         let Row { links, numbers } = row;
         renew(&mut self.local, vertex, value);
@@ -80,10 +87,13 @@ fn end_task(tasks: &mut TaskSet, local: &LocalGraph, v: Vertex)
     requires not_pending { flag_there tasks.old.pending (place_at local.now v.0) ≡ false }
     requires outside { tasks.old.outside < 18446744073709551615 }
     ensures each { (u : ℕ) → flag_there tasks.new.task (place_at local.now u) ≡ (flag_there tasks.old.task (place_at local.now u) && not (u == v.0)) }
+    ensures run { (k : ℕ) → place_at local.now v.0 ≡ Some k → HasRun tasks.old tasks.new k }
     ensures tasks { AreTasksOf local.now tasks.new }
 {
     let count = tasks.count() as usize;
-    if let Some(place) = local.place(v) && place < count {
+    if let Some(place) = local.place(v)
+        && place < count
+    {
         tasks.ran(Vertex(place as u32));
     }
 }

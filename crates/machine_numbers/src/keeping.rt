@@ -1,6 +1,6 @@
 //! The numbers of a machine, and the works that are taken of them.
 ghost use Rattle.std.specs.Prelude.{◌≡◌, ℕ, ◌≤◌, ◌==◌, true, None, Some, is_some, length, if◌then◌else◌, vec_capacity, IfOk};
-ghost use Rattle.machine_numbers.specs.Views.{is_own, links_at, sides_at, numbers_along, datum_here, value_here, edge_here, near_along};
+ghost use Rattle.machine_numbers.specs.Views.{HasEdge, is_own, links_at, sides_at, numbers_along, datum_here, value_here, edge_here, near_along};
 ghost use Rattle.machine_numbers.specs.Steps.{HasTakenOut, HasRoom};
 
 use ghost_cache::GhostCache;
@@ -86,11 +86,15 @@ impl Numbers {
         requires numbers { work.row.numbers.items ≡ numbers_along (edge_here self.old) (sides_at self.old.local work.vertex.0) }
         ensures back { (x : ℕ) → links_at self.new.local x ≡ (if x == work.vertex.0 then Some work.row.links.items else links_at self.old.local x) }
         ensures edge { (e : ℕ) → edge_here self.new e ≡ edge_here self.old e }
+        ensures edges { (e : ℕ) → HasEdge self.old.local e → HasEdge self.new.local e }
         ensures rest { self.new ≡ record self.old { local = record self.old.local { rows = self.new.local.rows; numbers = self.new.local.numbers } } }
         ensures spare { (result.edges ≡ work.row.numbers) × (result.near ≡ work.near) }
     {
         let Work {
-            vertex, row, near, ..
+            vertex,
+            row,
+            near,
+            ..
         } = work;
         let edges = self.local.put_row(vertex, row);
         Spare { edges, near }

@@ -1,14 +1,17 @@
 //! Laws about what a machine keeps and tells, for every setting of a cluster. Each is the contract of a function that does nothing.
-ghost use Rattle.std.specs.Prelude.{◌≡◌, ℕ, length};
+ghost use Rattle.std.specs.Prelude.{◌≡◌, ℕ, true, length};
+ghost use Rattle.std.specs.List.{All};
+ghost use Rattle.gl_base.specs.declared.atoms.Lines.{Lines};
 ghost use Rattle.gl_base.specs.declared.entries.Entry.{Entry};
 ghost use Rattle.gl_base.specs.declared.numbers.MachineNo.{MachineNo};
 ghost use Rattle.gl_base.specs.declared.scopes.ScopeId.{ScopeId};
+ghost use Rattle.local_graph.specs.declared.outlines.Outline.{Outline};
 ghost use Rattle.local_graph.specs.declared.works.Outcome.{Outcome};
 ghost use Rattle.wire_msgs.specs.declared.messages.Done.{Done};
 ghost use Rattle.machine_numbers.specs.declared.keeping.Numbers.{Numbers};
-ghost use Rattle.machine_numbers.specs.Views.{News, news_of, sides_at};
-ghost use Rattle.machine_numbers.specs.Steps.{HasLearned, HasUpdated, TellsOf};
-ghost use Rattle.machine_numbers.specs.Settings.{Setting, Part, applied, updated, news_for, with_numbers, IsOutcomeOf, EdgesShared};
+ghost use Rattle.machine_numbers.specs.Views.{LocalView, TasksView, AreTasksOf, IsPlayedFrom, News, news_of, is_own, sides_at};
+ghost use Rattle.machine_numbers.specs.Steps.{HasLearned, HasUpdated, IsSideHere, TellsOf};
+ghost use Rattle.machine_numbers.specs.Settings.{Setting, IsLocalOf, Part, applied, updated, news_for, with_numbers, IsOutcomeOf, EdgesShared};
 
 /// What a machine learns of an update elsewhere is the effect on its data, edges and tasks that the cluster has of it, and its log
 /// stays.
@@ -28,4 +31,15 @@ pub fn updates_are_made()
 pub fn lists_are_the_news()
     ensures { (st : Setting) (to : MachineNo) (o : Outcome) (done : Done) (n : Numbers) (part : Part) → IsOutcomeOf st n o → EdgesShared st o.work.vertex.0 → TellsOf n to o done →
         news_of done ≡ news_for st (with_numbers n part) o.work.vertex.0 to.0 }
+{}
+
+/// What a machine that played its lines owns has the places of its tasks, where there are as many flags.
+pub fn played_parts_have_their_tasks()
+    ensures { (me : MachineNo) (lines : Lines) (outline : Outline) (l : LocalView) (t : TasksView) → IsPlayedFrom me lines outline l → length t.task ≡ length l.owned →
+        AreTasksOf l t }
+{}
+
+/// The sides of an own vertex are here as `finish` asks, where what the machine holds is its part of the graph.
+pub fn sides_are_here()
+    ensures { (st : Setting) (l : LocalView) (v : ℕ) → IsLocalOf st l → is_own l v ≡ true → All (IsSideHere l) (sides_at l v) }
 {}

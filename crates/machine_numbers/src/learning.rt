@@ -22,6 +22,8 @@ impl Numbers {
         requires tasks { AreTasksOf self.old.local self.old.tasks }
         ensures learned { HasLearned self.old self.new (news_of done.now) }
         ensures local { self.new.local ≡ record self.old.local { numbers = self.new.local.numbers } }
+        ensures edges { (e : ℕ) → HasEdge self.old.local e → HasEdge self.new.local e }
+        ensures ghosts { (x : ℕ) → is_some (ghost_datum self.new.ghosts x) ≡ is_some (ghost_datum self.old.ghosts x) }
         ensures tasks { self.new.tasks ≡ record self.old.tasks { task = self.new.tasks.task } }
         ensures tasks_kept { AreTasksOf self.new.local self.new.tasks }
     {
@@ -46,6 +48,7 @@ fn keep(ghosts: &mut GhostCache, v: Vertex, datum: Option<Datum>)
 fn write_edges(local: &mut LocalGraph, edges: &[(EdgeNo, u64)])
     requires { All (λ e. HasEdge local.old e.0.0) edges.now }
     ensures each { (e : ℕ) → edge_number_at local.new e ≡ edge_after (number_told edges.now e) (edge_number_at local.old e) }
+    ensures edges { (e : ℕ) → HasEdge local.old e → HasEdge local.new e }
     ensures rest { local.new ≡ record local.old { numbers = local.new.numbers } }
 {
     for place in (0..edges.len()).rev() {

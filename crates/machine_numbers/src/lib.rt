@@ -9,5 +9,8 @@ mod telling;
 mod waking;
 
 pub use keeping::{Numbers, Spare};
-pub use laws::{lists_are_the_news, news_are_applied, updates_are_made};
+pub use laws::{
+    lists_are_the_news, news_are_applied, played_parts_have_their_tasks, sides_are_here,
+    updates_are_made,
+};
 pub use telling::blank_done;

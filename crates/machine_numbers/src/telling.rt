@@ -103,13 +103,7 @@ fn is_changed(side: &Side, to: MachineNo, old: u64, new: u64) -> bool
 }
 
 /// Lists the vertices of machine `to` that an update wakes.
-fn fill_wakes(
-    wakes: &mut Vec<Vertex>,
-    to: MachineNo,
-    sides: &[Side],
-    links: &[Link],
-    woken: Woken,
-)
+fn fill_wakes(wakes: &mut Vec<Vertex>, to: MachineNo, sides: &[Side], links: &[Link], woken: Woken)
     requires none { wakes.old.items ≡ [] }
     requires room { length sides.now ≤ vec_capacity wakes.old }
     requires many { length links.now ≡ length sides.now }
