@@ -6,3 +6,4 @@ pub mod RowLemmas
 pub mod JoinLemmas
 pub mod PartLemmas
 pub mod FinishLemmas
+pub mod WorkLemmas

@@ -8,6 +8,7 @@ use Rattle.graph_core.specs.Halves.{halves_of}
 use Rattle.local_graph.specs.declared.works.Outcome.{Outcome}
 use Rattle.update_api.specs.Links.{nears_at}
 use Rattle.update_api.specs.Marks.{AreMarked}
+use Rattle.update_api.specs.Updates.{Update}
 use Rattle.machine_numbers.specs.declared.keeping.Numbers.{Numbers}
 use Rattle.machine_numbers.specs.Views.{sides_at, numbers_along, datum_here, value_here, task_here, edge_here, near_along}
 
@@ -32,3 +33,9 @@ pub record IsOutcomeOf (st : Setting) (n : Numbers) (o : Outcome) : Type 0 where
 -- each edge at v is shared with the owner of its other end alone
 abbrev pub EdgesShared : Setting → ℕ → Type 0
 EdgesShared st v = ShareEdges st v (halves_of st.graph v)
+
+-- the outcome is what the program makes of the numbers that its work holds
+pub record IsMadeOfWork (p : Update) (o : Outcome) : Type 0 where
+  pub value : o.value ≡ p.number o.work.value (nears_at (o.work.near.items ++ o.work.value ∷ []) o.work.row.numbers.items o.work.row.links.items)
+  pub marks : AreMarked (p.mark o.value) (o.work.near.items ++ o.work.value ∷ []) o.work.row.numbers.items o.work.row.links.items o.edges.items
+  pub woken : o.woken ≡ p.woken o.work.value o.value

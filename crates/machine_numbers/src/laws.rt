@@ -4,14 +4,15 @@ ghost use Rattle.std.specs.List.{All};
 ghost use Rattle.gl_base.specs.declared.atoms.Lines.{Lines};
 ghost use Rattle.gl_base.specs.declared.entries.Entry.{Entry};
 ghost use Rattle.gl_base.specs.declared.numbers.MachineNo.{MachineNo};
+ghost use Rattle.gl_base.specs.declared.numbers.Vertex.{Vertex};
 ghost use Rattle.gl_base.specs.declared.scopes.ScopeId.{ScopeId};
 ghost use Rattle.local_graph.specs.declared.outlines.Outline.{Outline};
 ghost use Rattle.local_graph.specs.declared.works.Outcome.{Outcome};
 ghost use Rattle.wire_msgs.specs.declared.messages.Done.{Done};
 ghost use Rattle.machine_numbers.specs.declared.keeping.Numbers.{Numbers};
 ghost use Rattle.machine_numbers.specs.Views.{LocalView, TasksView, AreTasksOf, IsPlayedFrom, News, news_of, is_own, sides_at};
-ghost use Rattle.machine_numbers.specs.Steps.{HasLearned, HasUpdated, IsSideHere, TellsOf};
-ghost use Rattle.machine_numbers.specs.Settings.{Setting, IsLocalOf, Part, applied, updated, news_for, with_numbers, IsOutcomeOf, EdgesShared};
+ghost use Rattle.machine_numbers.specs.Steps.{HasLearned, HasTakenOut, HasUpdated, IsSideHere, TellsOf};
+ghost use Rattle.machine_numbers.specs.Settings.{Setting, IsLocalOf, Part, applied, updated, news_for, with_numbers, IsOutcomeOf, IsMadeOfWork, EdgesShared};
 
 /// What a machine learns of an update elsewhere is the effect on its data, edges and tasks that the cluster has of it, and its log
 /// stays.
@@ -42,4 +43,11 @@ pub fn played_parts_have_their_tasks()
 /// The sides of an own vertex are here as `finish` asks, where what the machine holds is its part of the graph.
 pub fn sides_are_here()
     ensures { (st : Setting) (l : LocalView) (v : ℕ) → IsLocalOf st l → is_own l v ≡ true → All (IsSideHere l) (sides_at l v) }
+{}
+
+/// What a program makes of a work, as `Outcome::update` says, is what the setting's program makes of the numbers as they stood when
+/// the work was taken.
+pub fn works_have_the_numbers()
+    ensures { (st : Setting) (old new : Numbers) (scope : ScopeId) (v : Vertex) (o : Outcome) → IsLocalOf st old.local → is_own old.local v.0 ≡ true →
+        HasTakenOut old new scope v o.work → IsMadeOfWork st.program o → IsOutcomeOf st old o }
 {}

@@ -11,6 +11,6 @@ mod waking;
 pub use keeping::{Numbers, Spare};
 pub use laws::{
     lists_are_the_news, news_are_applied, played_parts_have_their_tasks, sides_are_here,
-    updates_are_made,
+    updates_are_made, works_have_the_numbers,
 };
 pub use telling::blank_done;
