@@ -1,6 +1,6 @@
 //! The part of the graph that a machine owns.
 ghost use Rattle.std.specs.Prelude.{◌≡◌, ℕ, ◌<◌, ◌≤◌, ◌==◌, true, None, Some, is_some, length, if◌then◌else◌, vec_capacity};
-ghost use Rattle.local_graph.specs.Locals.{is_placed, is_own, own_datum, id_at, links_at, sides_at, parts_at, part_at, edge_number_at, HasEdge, numbers_along, written};
+ghost use Rattle.local_graph.specs.Locals.{place_at, is_placed, is_own, own_datum, id_at, links_at, sides_at, parts_at, part_at, edge_number_at, HasEdge, numbers_along, written};
 
 use crate::numbers::{fill_numbers, write_numbers};
 use crate::{Row, Side};
@@ -71,6 +71,14 @@ impl LocalGraph {
             Some(place) => place < self.kept.len(),
             None => false,
         }
+    }
+
+    /// The place of v in the machine's own order, ghosts behind own vertices, and `None` where v is neither.
+    #[inline]
+    pub fn place(&self, v: Vertex) -> Option<usize>
+        ensures { result ≡ place_at self.now v.0 }
+    {
+        self.places.place(v)
     }
 
     /// The identifier of an own vertex.
