@@ -6,11 +6,11 @@ ghost use Rattle.graph_core.specs.DataGraph.{size};
 ghost use Rattle.graph_core.specs.Halves.{halves_of};
 ghost use Rattle.atom_cut.specs.Atoms.{AreAtoms};
 ghost use Rattle.local_graph.specs.declared.outlines.Outline.{Outline};
-ghost use Rattle.local_parts.specs.Parts.{Setting, IsSetting, LocalView, IsPlayedFrom, AreLinesOf, owners_of, CanBePlayed, IsLocalOf, AreIn, ShareEdges};
+ghost use Rattle.local_parts.specs.Parts.{Setting, IsSetting, LocalView, IsPlayedFrom, AreLinesOf, owner_numbers, CanBePlayed, IsLocalOf, AreIn, ShareEdges};
 
 /// Where a graph is cut so that each vertex is in the atom with the number of its owner, each machine's atom is its lines.
 pub fn atoms_by_owner_are_lines()
-    ensures { (st : Setting) (all : List Lines) (outline : Outline) → AreAtoms st.graph (owners_of st) st.machines all →
+    ensures { (st : Setting) (all : List Lines) (outline : Outline) → AreAtoms st.graph (owner_numbers st) st.machines all →
         outline.machines ≡ st.machines → outline.vertices ≡ size st.graph → outline.edges ≡ length st.graph.edges → outline.directed ≡ st.graph.directed →
         (a : ℕ) (d : Lines) → a < st.machines → AreLinesOf st a (slice_index_or all a d) outline }
 {}
