@@ -1,26 +1,41 @@
 -- Files of atoms, one after the other.
-use Rattle.std.proofs.Common.{◌≡◌, ℕ, suc, ◌+◌, ◌<◌, inl, inr, List, Some, None, sym, ap, ◌∙◌, subst, arith}
+use Rattle.std.proofs.Common.{◌≡◌, ℕ, suc, ◌+◌, ◌<◌, List, ◌++◌, get_or, Some, None, sym, ap, ◌∙◌, arith}
 use Rattle.std.specs.Option.{option_or}
-use Rattle.std.specs.declared.vec.Vec.{Vec}
-use Rattle.std.specs.declared.alloc.Global.{Global}
-use Rattle.std.proofs.lemmas.Bool.{cases_lt}
 use Rattle.gl_base.specs.declared.atoms.AtomsFault.{AtomsFault}
+use Rattle.gl_base.specs.declared.atoms.Lines.{Lines}
+use Rattle.graph_core.specs.DataGraph.{DataGraph}
+use Rattle.atom_file.specs.Atoms.{Atom, atom_of, atom_bytes}
 use Rattle.atom_file.specs.Faults.{atom_fault}
-use Rattle.atom_gather.specs.Files.{atom_file_at, form_of, forms_fault}
+use Rattle.atom_cut.specs.Atoms.{graph_atom, AreAtoms}
+use Rattle.atom_cut.proofs.CountLemmas.{flat_map-range_more}
+use Rattle.atom_gather.specs.Files.{form_of, forms_fault, differs_fault, files_fault}
+use Rattle.atom_gather.specs.Owners.{vertices_added, with_atom, added_by}
 
 -- a file without a fault of form
-pub forms_next : (files : List (Vec ℕ Global)) (n i a : ℕ) → i ≡ suc n → atom_fault (atom_file_at files a) ≡ None → forms_fault files n (a + 1) ≡ forms_fault files i a
-forms_next files n i a more none =
-    sym (ap (λ (j : ℕ). forms_fault files j a) more ∙ ap (λ f. option_or (form_of (a + 1) f) (forms_fault files n (a + 1))) none)
+pub forms_next : (file : ℕ → List ℕ) (n i a : ℕ) → i ≡ suc n → atom_fault (file a) ≡ None → forms_fault file n (a + 1) ≡ forms_fault file i a
+forms_next file n i a more none =
+    sym (ap (λ (j : ℕ). forms_fault file j a) more ∙ ap (λ f. option_or (form_of (a + 1) f) (forms_fault file n (a + 1))) none)
 
 -- and one with it
-pub forms_here : (files : List (Vec ℕ Global)) (n i a : ℕ) (fault : AtomsFault) → i ≡ suc n → form_of (a + 1) (atom_fault (atom_file_at files a)) ≡ Some fault → forms_fault files i a ≡ Some fault
-forms_here files n i a fault more here =
-    ap (λ (j : ℕ). forms_fault files j a) more ∙ ap (λ f. option_or f (forms_fault files n (a + 1))) here
+pub forms_here : (file : ℕ → List ℕ) (n i a : ℕ) (fault : AtomsFault) → i ≡ suc n → form_of (a + 1) (atom_fault (file a)) ≡ Some fault → forms_fault file i a ≡ Some fault
+forms_here file n i a fault more here =
+    ap (λ (j : ℕ). forms_fault file j a) more ∙ ap (λ f. option_or f (forms_fault file n (a + 1))) here
 
--- what holds of all below a number and of this one
-pub below_more : (P : ℕ → Type 0) (n : ℕ) → ((a : ℕ) → a < n → P a) → P n → (a : ℕ) → a < n + 1 → P a
-below_more P n before here a inside = elim (cases_lt a n) [
-  | inl low ↦ before a low
-  | inr high ↦ subst P (omega (arith, high, inside)) here
-]
+-- what one atom more adds
+pub added_more : (file : ℕ → List ℕ) (a : ℕ) → added_by file (a + 1) ≡ added_by file a ++ with_atom a (vertices_added (file a))
+added_more file a = flat_map-range_more (λ b. with_atom b (vertices_added (file b))) 0 a a (omega arith)
+
+-- a file that is the graph's, and one that is not
+pub files_next : (g : DataGraph) (of : List ℕ) (file : ℕ → List ℕ) (n i a : ℕ) → i ≡ suc n → differs_fault (a + 1) (file a) (atom_bytes (graph_atom g of a)) ≡ None → files_fault g of file n (a + 1) ≡ files_fault g of file i a
+files_next g of file n i a more none =
+    sym (ap (λ (j : ℕ). files_fault g of file j a) more ∙ ap (λ f. option_or f (files_fault g of file n (a + 1))) none)
+
+pub files_here : (g : DataGraph) (of : List ℕ) (file : ℕ → List ℕ) (n i a : ℕ) (fault : AtomsFault) → i ≡ suc n → differs_fault (a + 1) (file a) (atom_bytes (graph_atom g of a)) ≡ Some fault → files_fault g of file i a ≡ Some fault
+files_here g of file n i a fault more here =
+    ap (λ (j : ℕ). files_fault g of file j a) more ∙ ap (λ f. option_or f (files_fault g of file n (a + 1))) here
+
+-- the comparison with an atom's lines is that with the graph's atom
+pub lines_fault : (g : DataGraph) (of : List ℕ) (atoms a : ℕ) (lines : List Lines) (l : Lines) (bytes found : List ℕ) → AreAtoms g of atoms lines → a < atoms → l ≡ get_or lines a l → bytes ≡ found → differs_fault (a + 1) found (atom_bytes (graph_atom g of a)) ≡ differs_fault (a + 1) bytes (atom_bytes (atom_of a l))
+lines_fault g of atoms a lines l bytes found are inside is same =
+    ap (λ (x : Atom). differs_fault (a + 1) found (atom_bytes x)) (sym (ap (atom_of a) is ∙ are.each a l inside))
+    ∙ ap (λ (bs : List ℕ). differs_fault (a + 1) bs (atom_bytes (atom_of a l))) (sym same)

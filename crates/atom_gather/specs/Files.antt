@@ -13,7 +13,7 @@ use Rattle.graph_core.specs.DataGraph.{DataGraph}
 use Rattle.atom_cut.specs.Atoms.{graph_atom}
 use Rattle.atom_cut.specs.Index.{index_bytes}
 
--- the file of atom a; a missing one has no bytes
+-- the file of atom a among these; a missing one has no bytes
 abbrev pub atom_file_at : List (Vec ℕ Global) → ℕ → List ℕ
 atom_file_at files a = option_map_or (λ (file : Vec ℕ Global). file.items) (slice_get files a) []
 
@@ -29,9 +29,9 @@ form_of file None = None
 form_of file (Some fault) = Some (form_fault file fault)
 
 -- the first fault of form of the files of n atoms, from atom a on
-abbrev pub forms_fault : List (Vec ℕ Global) → ℕ → ℕ → Option AtomsFault
-forms_fault files zero a = None
-forms_fault files (suc n) a = option_or (form_of (a + 1) (atom_fault (atom_file_at files a))) (forms_fault files n (a + 1))
+abbrev pub forms_fault : (ℕ → List ℕ) → ℕ → ℕ → Option AtomsFault
+forms_fault file zero a = None
+forms_fault file (suc n) a = option_or (form_of (a + 1) (atom_fault (file a))) (forms_fault file n (a + 1))
 
 -- the first place where two lists differ, counted from n; where one ends and the other does not, they differ there
 abbrev pub difference_from : ℕ → List ℕ → List ℕ → Option ℕ
@@ -49,16 +49,16 @@ abbrev pub differs_fault : ℕ → List ℕ → List ℕ → Option AtomsFault
 differs_fault file bytes wanted = differs_of file (difference_from 0 bytes wanted)
 
 -- the first of n atoms, from atom a on, whose file is not that of the graph
-abbrev pub files_fault : DataGraph → List ℕ → List (Vec ℕ Global) → ℕ → ℕ → Option AtomsFault
-files_fault g of files zero a = None
-files_fault g of files (suc n) a =
-    option_or (differs_fault (a + 1) (atom_file_at files a) (atom_bytes (graph_atom g of a))) (files_fault g of files n (a + 1))
+abbrev pub files_fault : DataGraph → List ℕ → (ℕ → List ℕ) → ℕ → ℕ → Option AtomsFault
+files_fault g of file zero a = None
+files_fault g of file (suc n) a =
+    option_or (differs_fault (a + 1) (file a) (atom_bytes (graph_atom g of a))) (files_fault g of file n (a + 1))
 
 -- the first of the files and the index that is not that of the graph
-abbrev pub cut_fault : DataGraph → List ℕ → ℕ → List ℕ → List (Vec ℕ Global) → Option AtomsFault
-cut_fault g of atoms index files = option_or (files_fault g of files atoms 0) (differs_fault 0 index (index_bytes g of atoms))
+abbrev pub cut_fault : DataGraph → List ℕ → ℕ → List ℕ → (ℕ → List ℕ) → Option AtomsFault
+cut_fault g of atoms index file = option_or (files_fault g of file atoms 0) (differs_fault 0 index (index_bytes g of atoms))
 
 -- the index and the files are those of the graph, where each vertex is in its atom
-pub record AreFiles (g : DataGraph) (of : List ℕ) (atoms : ℕ) (index : List ℕ) (files : List (Vec ℕ Global)) : Type 0 where
+pub record AreFiles (g : DataGraph) (atoms : ℕ) (of : List ℕ) (index : List ℕ) (file : ℕ → List ℕ) : Type 0 where
   pub index_is : index ≡ index_bytes g of atoms
-  pub files_are : (a : ℕ) → a < atoms → atom_file_at files a ≡ atom_bytes (graph_atom g of a)
+  pub files_are : (a : ℕ) → a < atoms → file a ≡ atom_bytes (graph_atom g of a)

@@ -1,2 +1,5 @@
 pub mod IndexForm
 pub mod Files
+pub mod Owners
+pub mod Gathered
+pub mod Inner

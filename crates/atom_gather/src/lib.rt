@@ -1,10 +1,16 @@
-//! Atoms read back from their files.
+//! Atoms gathered from their files.
 #![tactic(auto)]
 
 mod comparing;
 mod forms;
+mod gathering;
 mod index_form;
+mod laws;
+mod owners;
 
 pub use comparing::check_same;
-pub use forms::check_forms;
+pub use forms::fault_in;
+pub use gathering::{AtomsReading, check_atom, gathered};
 pub use index_form::check_index;
+pub use laws::cuts_are_gathered;
+pub use owners::Owners;

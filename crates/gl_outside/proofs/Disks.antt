@@ -1,10 +1,10 @@
 -- What writes and syncs leave, what a crash may leave of them, and how a run of calls on a disk goes on.
-use Rattle.std.proofs.Common.{◌≡◌, ◌⊎◌, inl, inr, ⊎_elim, ℕ, ◌+◌, ◌-◌, ◌<◌, ◌≤◌, List, [], ◌∷◌, ◌++◌, length, take, drop, get_or, refl, sym, ap, ◌∙◌, subst, arith, length-append}
+use Rattle.std.proofs.Common.{◌≡◌, ◌⊎◌, inl, inr, ⊎_elim, ℕ, ◌+◌, ◌-◌, ◌<◌, ◌≤◌, List, [], ◌∷◌, ◌++◌, length, take, drop, get_or, sym, ap, ◌∙◌, subst, arith, length-append}
 use Rattle.std.specs.Prelude.{All, replicate}
 use Rattle.std.proofs.lemmas.Bool.{cases_lt}
-use Rattle.std.proofs.lemmas.List.{append-nil, append_assoc, drop_all, drop-append-le, ext_get_or, get_or_append_left, get_or_default, get_or_past, get_or_push, get_or-drop, get_or-take, length-drop, length-replicate, length-take, take_all, take-append-le, take-replicate}
+use Rattle.std.proofs.lemmas.List.{append-nil, drop_all, ext_get_or, get_or_append_left, get_or_default, get_or_past, get_or_push, get_or-drop, get_or-take, length-drop, length-replicate, length-take, take_all, take-append-le, take-replicate}
 use Rattle.std.proofs.Math.Seq.{take-append-add}
-use Rattle.gl_outside.specs.Disk.{ByteRange, DiskPast, DiskState, IsImage, IsOutside, IsTorn, LeavesOnly, clock, followed_by, images_since, state_at, with_piece}
+use Rattle.gl_outside.specs.Disk.{DiskPast, DiskState, IsImage, IsOutside, IsTorn, LeavesOnly, clock, followed_by, images_since, state_at, with_piece}
 
 -- A piece over bytes that were made long enough for it by zeros.
 take-grown : (bytes : List ℕ) (at more : ℕ) → at ≤ length bytes + more → take at (bytes ++ replicate more 0) ≡ take at bytes ++ replicate (at - length bytes) 0

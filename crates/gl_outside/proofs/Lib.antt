@@ -4,3 +4,4 @@ pub mod HostFrames
 pub mod Opening
 pub mod Fronts
 pub mod Disks
+pub mod DiskPlaces

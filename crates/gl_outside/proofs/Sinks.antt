@@ -16,7 +16,7 @@ use Rattle.gl_outside.specs.Inner.Laws.{decide, found, newer-other, newest-none}
 use Rattle.gl_outside.specs.Inner.OpenFiles.{left_in, IsOpenInside, appended, AreSinks}
 use Rattle.gl_outside.specs.declared.files.OpenFault.{OpenFault}
 use Rattle.gl_outside.specs.declared.mem_files.OpenFile.{OpenFile}
-use Rattle.gl_outside.proofs.StoredFiles.{bytes_at-append, bytes_of-push, bytes_of_other, IsOpenInside-append, same_contents, same_files, same_opened, same_sources}
+use Rattle.gl_outside.proofs.StoredFiles.{bytes_at-append, bytes_of-push, bytes_of_other, IsOpenInside-append, same_contents, same_disks, same_files, same_opened, same_pasts, same_sources}
 
 -- a file more takes its name from older ones
 newest-push : (files : List NamedBytes) (file : NamedBytes) (place : ℕ) → place < length files
@@ -151,9 +151,9 @@ sinks-push files file name (p ∷ ps) named known =
 -- an open for writing adds an empty file
 pub opens_sink : (old new : StoreState) (file : NamedBytes) (name : List ℕ) (number : ℕ) → file.name ≡ name → file.bytes ≡ [] → number ≡ length old.sinks
     → new.files ≡ old.files ++ file ∷ [] → new.sinks ≡ old.sinks ++ length old.files ∷ [] → AreSinks old.files old.sinks
-    → new.reads ≡ old.reads → new.source_names ≡ old.source_names → new.opened ≡ old.opened
+    → new.reads ≡ old.reads → new.source_names ≡ old.source_names → new.opened ≡ old.opened → new.disks ≡ old.disks
     → OpensSink (files_of_store old) (files_of_store new) name (Ok (record { 0 = number }))
-opens_sink old new file name number named empty numbered files sinks are reads names opened =
+opens_sink old new file name number named empty numbered files sinks are reads names opened disks =
     let all = old.files ++ file ∷ [] in
     let last : sink_at all (length old.files) ≡ record { name = Some name; bytes = Some [] } =
     let n = newest-pushed old.files file ∙ ap (λ (x : List ℕ). Some x) named in
@@ -166,16 +166,17 @@ opens_sink old new file name number named empty numbered files sinks are reads n
     ∙ ap (λ (ws : List Written). ws ++ sink_at all (length old.files) ∷ []) (sinks-push old.files file name old.sinks named are.known)
     ∙ ap (λ (w : Written). map (without_name name) (map (sink_at old.files) old.sinks) ++ w ∷ []) last in (
       numbered ∙ sym (length-map old.sinks (sink_at old.files)),
-      same_files _ _ refl (same_sources old new reads names opened) (same_opened _ _ refl refl grown),
+      same_files _ _ refl (same_sources old new reads names opened) (same_opened _ _ refl refl grown) (same_pasts old new disks) (same_disks old new disks),
       λ other apart. bytes_of_other old.files new.files file name other files named apart,
     )
 
 -- an open that fails adds none
 pub opens_no_sink : (old new : StoreState) (name : List ℕ) (fault : OpenFault) → new.files ≡ old.files → new.sinks ≡ old.sinks
-    → new.reads ≡ old.reads → new.source_names ≡ old.source_names → new.opened ≡ old.opened → OpensSink (files_of_store old) (files_of_store new) name (Err fault)
-opens_no_sink old new name fault files sinks reads names opened =
+    → new.reads ≡ old.reads → new.source_names ≡ old.source_names → new.opened ≡ old.opened → new.disks ≡ old.disks → OpensSink (files_of_store old) (files_of_store new) name (Err fault)
+opens_no_sink old new name fault files sinks reads names opened disks =
     same_files _ _ (same_contents old new files) (same_sources old new reads names opened)
     (same_opened _ _ refl refl (ap (λ (fs : List NamedBytes). map (sink_at fs) new.sinks) files ∙ ap (map (sink_at old.files)) sinks))
+    (same_pasts old new disks) (same_disks old new disks)
 
 -- a piece is written to one file
 sinks_apart : (files : List NamedBytes) (sinks : List ℕ) (i j p q : ℕ) → AreSinks files sinks → slice_get sinks i ≡ Some p → slice_get sinks j ≡ Some q → i ≢ j → p ≢ q
@@ -229,9 +230,9 @@ sinks-written files sinks file place piece ready is are =
 -- a piece is written to one file
 pub writes_only : (old new : StoreState) (file place : ℕ) (piece : List ℕ) (ready : ℕ) → slice_get old.sinks file ≡ Some place → place < length old.files → AreSinks old.files old.sinks
     → new.files ≡ appended old.files place piece ready → new.sinks ≡ old.sinks → new.sink_names ≡ old.sink_names
-    → new.reads ≡ old.reads → new.source_names ≡ old.source_names → new.opened ≡ old.opened
+    → new.reads ≡ old.reads → new.source_names ≡ old.source_names → new.opened ≡ old.opened → new.disks ≡ old.disks
     → WritesOnly file (files_of_store old) (files_of_store new)
-writes_only old new file place piece ready is inside are files sinks names reads source_names opened =
+writes_only old new file place piece ready is inside are files sinks names reads source_names opened disks =
     let now = appended old.files place piece ready in
     let own : NamedBytes = record { name = name_at_place old.files place; bytes = bytes_at old.files place ++ piece; ready = ready } in
     let seen : sink_of (files_of_store old) file ≡ sink_at old.files place = sink-seen old.files old.sinks file place is in
@@ -242,7 +243,7 @@ writes_only old new file place piece ready is inside are files sinks names reads
     ∙ ap (λ (b : Option (List ℕ)). record { name = (sink_of (files_of_store old) file).name; bytes = b }) (ap (λ (w : Written). w.bytes) (sym seen_now)) in
     let sunk = changed ∙ sinks-written old.files old.sinks file place piece ready is are ∙ ap (slice_set (map (sink_at old.files) old.sinks) file) kept in
     record {
-      state = same_files _ _ refl (same_sources old new reads source_names opened) (same_opened _ _ refl (ap (λ (ns : List (List ℕ)). Some ns) names) sunk);
+      state = same_files _ _ refl (same_sources old new reads source_names opened) (same_opened _ _ refl (ap (λ (ns : List (List ℕ)). Some ns) names) sunk) (same_pasts old new disks) (same_disks old new disks);
       others = λ name apart.
           ap (λ (fs : List NamedBytes). bytes_of fs name) files
           ∙ set-replaced old.files place own name None refl (λ newest. apart (ap (λ (w : Written). w.name) seen ∙ newest));
@@ -250,15 +251,15 @@ writes_only old new file place piece ready is inside are files sinks names reads
 
 -- a write that failed
 pub writes_none : (old new : StoreState) (file : ℕ) → new.files ≡ old.files → new.sinks ≡ old.sinks → new.sink_names ≡ old.sink_names
-    → new.reads ≡ old.reads → new.source_names ≡ old.source_names → new.opened ≡ old.opened → WritesOnly file (files_of_store old) (files_of_store new)
-writes_none old new file files sinks names reads source_names opened =
+    → new.reads ≡ old.reads → new.source_names ≡ old.source_names → new.opened ≡ old.opened → new.disks ≡ old.disks → WritesOnly file (files_of_store old) (files_of_store new)
+writes_none old new file files sinks names reads source_names opened disks =
     let none : Written = record { name = None; bytes = None } in
     let before = map (sink_at old.files) old.sinks in
     let kept : map (sink_at new.files) new.sinks ≡ before = ap (λ (fs : List NamedBytes). map (sink_at fs) new.sinks) files ∙ ap (map (sink_at old.files)) sinks in
     let same : before ≡ slice_set before file (record (get_or before file none) { bytes = (sink_of (files_of_store new) file).bytes }) =
     sym (set-get_or before file none) ∙ ap (λ (ws : List Written). slice_set before file (record (get_or before file none) { bytes = (get_or ws file none).bytes })) (sym kept) in
     record {
-      state = same_files _ _ refl (same_sources old new reads source_names opened) (same_opened _ _ refl (ap (λ (ns : List (List ℕ)). Some ns) names) (kept ∙ same));
+      state = same_files _ _ refl (same_sources old new reads source_names opened) (same_opened _ _ refl (ap (λ (ns : List (List ℕ)). Some ns) names) (kept ∙ same)) (same_pasts old new disks) (same_disks old new disks);
       others = λ name apart. ap (λ (fs : List NamedBytes). bytes_of fs name) files;
     }
 

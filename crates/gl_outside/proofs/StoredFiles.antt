@@ -6,6 +6,8 @@ use Rattle.std.specs.Io.KnownBytes.{Consumes, IsAtEnd}
 use Rattle.std.proofs.lemmas.Option.{slice_get-map, slice_get_read}
 use Rattle.std.proofs.lemmas.Bool.Decides.{nat_tests}
 use Rattle.gl_outside.specs.Calls.{CallCounts}
+use Rattle.gl_outside.specs.Disk.{DiskPast}
+use Rattle.gl_outside.specs.DiskStore.{DisksState, opened_disks, past_among}
 use Rattle.gl_outside.specs.FilesState.{FilesState, Opened, Written, is_opened, left_of}
 use Rattle.gl_outside.specs.Frames.{OpensSource, ReadsOnly}
 use Rattle.gl_outside.specs.declared.files.OpenFault.{OpenFault}
@@ -137,12 +139,22 @@ reads_next old new before after buf count old_is new_is spelled counted =
     rw (old_is, new_is) (spelled, λ none room. empty_from_length after (omega (arith, counted, none, room, lengths)))
 
 -- two states of files are one where they agree
-pub same_files : (a b : FilesState) → a.contents ≡ b.contents → a.sources ≡ b.sources → a.sinks ≡ b.sinks → a ≡ b
-same_files a b contents sources sinks =
+pub same_files : (a b : FilesState) → a.contents ≡ b.contents → a.sources ≡ b.sources → a.sinks ≡ b.sinks → a.pasts ≡ b.pasts → a.disks ≡ b.disks → a ≡ b
+same_files a b contents sources sinks pasts disks =
     let first : a ≡ record a { contents = b.contents } = ap (λ (c : List ℕ → Option (List ℕ)). record a { contents = c }) contents in
     let second : record a { contents = b.contents } ≡ record a { contents = b.contents; sources = b.sources } = ap (λ (s : Opened (Option (List ℕ))). record a { contents = b.contents; sources = s }) sources in
-    let third : record a { contents = b.contents; sources = b.sources } ≡ b = ap (λ (s : Opened Written). record b { sinks = s }) sinks in
-    first ∙ second ∙ third
+    let third : record a { contents = b.contents; sources = b.sources } ≡ record a { contents = b.contents; sources = b.sources; sinks = b.sinks } =
+    ap (λ (s : Opened Written). record a { contents = b.contents; sources = b.sources; sinks = s }) sinks in
+    let fourth : record a { contents = b.contents; sources = b.sources; sinks = b.sinks } ≡ record b { disks = a.disks } = ap (λ (p : List ℕ → DiskPast). record b { pasts = p; disks = a.disks }) pasts in
+    let fifth : record b { disks = a.disks } ≡ b = ap (λ (d : Opened (Option (List ℕ))). record b { disks = d }) disks in
+    first ∙ second ∙ third ∙ fourth ∙ fifth
+
+-- the disks are the same
+pub same_pasts : (old new : StoreState) → new.disks ≡ old.disks → (files_of_store new).pasts ≡ (files_of_store old).pasts
+same_pasts old new disks = ap {B = List ℕ → DiskPast} (λ (d : DisksState). past_among d.disks) disks
+
+pub same_disks : (old new : StoreState) → new.disks ≡ old.disks → (files_of_store new).disks ≡ (files_of_store old).disks
+same_disks old new disks = ap opened_disks disks
 
 pub same_opened : {X : Type 0} (a b : Opened X) → a.faults ≡ b.faults → a.names ≡ b.names → a.files ≡ b.files → a ≡ b
 same_opened a b faults names files =
@@ -167,21 +179,21 @@ same_sinks old new files writes names sinks =
 
 -- an open for reading adds a file
 pub opens_source : (old new : StoreState) (name : List ℕ) (number : ℕ) (left : List ℕ) → number ≡ length old.opened → new.opened ≡ old.opened ++ left ∷ []
-    → bytes_of old.files name ≡ Some left → new.files ≡ old.files → new.writes ≡ old.writes → new.sink_names ≡ old.sink_names → new.sinks ≡ old.sinks
+    → bytes_of old.files name ≡ Some left → new.files ≡ old.files → new.writes ≡ old.writes → new.sink_names ≡ old.sink_names → new.sinks ≡ old.sinks → new.disks ≡ old.disks
     → OpensSource (files_of_store old) (files_of_store new) name (Ok (record { 0 = number }))
-opens_source old new name number left numbered opened gives files writes names sinks =
+opens_source old new name number left numbered opened gives files writes names sinks disks =
     let some : List ℕ → Option (List ℕ) = λ left. Some left in
     let grown : map some new.opened ≡ map some old.opened ++ bytes_of old.files name ∷ [] =
     ap (map some) opened ∙ map-append some old.opened (left ∷ []) ∙ ap (λ (o : Option (List ℕ)). map some old.opened ++ o ∷ []) (sym gives) in (
       numbered ∙ sym (length-map old.opened some),
-      same_files _ _ (same_contents old new files) (same_opened _ _ refl refl grown) (same_sinks old new files writes names sinks),
+      same_files _ _ (same_contents old new files) (same_opened _ _ refl refl grown) (same_sinks old new files writes names sinks) (same_pasts old new disks) (same_disks old new disks),
     )
 
 -- an open that fails adds none
 pub opens_no_source : (old new : StoreState) (name : List ℕ) (fault : OpenFault) → new.opened ≡ old.opened → new.files ≡ old.files → new.writes ≡ old.writes
-    → new.sink_names ≡ old.sink_names → new.sinks ≡ old.sinks → OpensSource (files_of_store old) (files_of_store new) name (Err fault)
-opens_no_source old new name fault opened files writes names sinks =
-    same_files _ _ (same_contents old new files) (same_opened _ _ refl refl (ap (map (λ (left : List ℕ). Some left)) opened)) (same_sinks old new files writes names sinks)
+    → new.sink_names ≡ old.sink_names → new.sinks ≡ old.sinks → new.disks ≡ old.disks → OpensSource (files_of_store old) (files_of_store new) name (Err fault)
+opens_no_source old new name fault opened files writes names sinks disks =
+    same_files _ _ (same_contents old new files) (same_opened _ _ refl refl (ap (map (λ (left : List ℕ). Some left)) opened)) (same_sinks old new files writes names sinks) (same_pasts old new disks) (same_disks old new disks)
 
 -- what a file has left, as callers see it
 pub left-seen : (lefts : List (List ℕ)) (file : ℕ) (left : List ℕ) → slice_get lefts file ≡ Some left → get_or (map (λ (l : List ℕ). Some l) lefts) file None ≡ Some left
@@ -191,9 +203,9 @@ left-seen (l ∷ ls) (suc k) left is = left-seen ls k left is
 
 -- a read changes what one file has left
 pub reads_only : (old new : StoreState) (file : ℕ) (left : List ℕ) → file < length old.opened → new.opened ≡ slice_set old.opened file left
-    → new.source_names ≡ old.source_names → new.files ≡ old.files → new.writes ≡ old.writes → new.sink_names ≡ old.sink_names → new.sinks ≡ old.sinks
+    → new.source_names ≡ old.source_names → new.files ≡ old.files → new.writes ≡ old.writes → new.sink_names ≡ old.sink_names → new.sinks ≡ old.sinks → new.disks ≡ old.disks
     → ReadsOnly file (files_of_store old) (files_of_store new)
-reads_only old new file left inside opened read_names files writes names sinks =
+reads_only old new file left inside opened read_names files writes names sinks disks =
     let some : List ℕ → Option (List ℕ) = λ left. Some left in
     let changed : map some new.opened ≡ slice_set (map some old.opened) file (Some left) = ap (map some) opened ∙ map-set some old.opened file left in
     let at : left_of (files_of_store new) file ≡ Some left =
@@ -201,17 +213,17 @@ reads_only old new file left inside opened read_names files writes names sinks =
     ∙ get_or-set_same (map some old.opened) file (Some left) None (omega (arith, inside, length-map old.opened some)) in
     same_files _ _ (same_contents old new files)
     (same_opened _ _ refl (ap (λ (ns : List (List ℕ)). Some ns) read_names) (changed ∙ ap (slice_set (map some old.opened) file) (sym at)))
-    (same_sinks old new files writes names sinks)
+    (same_sinks old new files writes names sinks) (same_pasts old new disks) (same_disks old new disks)
 
 -- a read that failed changes nothing
 pub reads_none : (old new : StoreState) (file : ℕ) → new.opened ≡ old.opened
-    → new.source_names ≡ old.source_names → new.files ≡ old.files → new.writes ≡ old.writes → new.sink_names ≡ old.sink_names → new.sinks ≡ old.sinks
+    → new.source_names ≡ old.source_names → new.files ≡ old.files → new.writes ≡ old.writes → new.sink_names ≡ old.sink_names → new.sinks ≡ old.sinks → new.disks ≡ old.disks
     → ReadsOnly file (files_of_store old) (files_of_store new)
-reads_none old new file opened read_names files writes names sinks =
+reads_none old new file opened read_names files writes names sinks disks =
     let some : List ℕ → Option (List ℕ) = λ left. Some left in
     let kept : map some new.opened ≡ map some old.opened = ap (map some) opened in
     let same : map some old.opened ≡ slice_set (map some old.opened) file (left_of (files_of_store new) file) =
     sym (set-get_or (map some old.opened) file None) ∙ ap (λ (os : List (Option (List ℕ))). slice_set (map some old.opened) file (get_or os file None)) (sym kept) in
     same_files _ _ (same_contents old new files)
     (same_opened _ _ refl (ap (λ (ns : List (List ℕ)). Some ns) read_names) (kept ∙ same))
-    (same_sinks old new files writes names sinks)
+    (same_sinks old new files writes names sinks) (same_pasts old new disks) (same_disks old new disks)

@@ -47,6 +47,10 @@ pub record DiskPast : Type 0 where
   pub before : List DiskState
   pub now : DiskState
 
+-- these bytes, all of them on the disk
+abbrev pub at_rest : List ℕ → DiskPast
+at_rest bytes = record { before = []; now = record { seen = bytes; synced = bytes; written = [] } }
+
 -- one state more
 abbrev pub followed_by : DiskPast → DiskState → DiskPast
 followed_by past state = record { before = past.before ++ past.now ∷ []; now = state }

@@ -1,7 +1,7 @@
 -- What each call on the files leaves: each is an equation of states, and all that it doesn't name stays.
 use Rattle.std.specs.Prelude.{◌≡◌, ◌≢◌, ℕ, if◌then◌else◌, List, [], ◌∷◌, ◌++◌, map, length, Option, None, Some, Result, Ok, Err, bytes_eq, slice_set}
 use Rattle.std.specs.Option.{option_and_then, option_map}
-use Rattle.gl_outside.specs.FilesState.{FilesState, Opened, Written, left_of, sink_of}
+use Rattle.gl_outside.specs.FilesState.{FilesState, Opened, Written, disk_name, left_of, sink_of}
 use Rattle.gl_outside.specs.declared.files.FileNo.{FileNo}
 use Rattle.gl_outside.specs.declared.files.OpenFault.{OpenFault}
 
@@ -60,3 +60,20 @@ pub record WritesOnly (file : ℕ) (old new : FilesState) : Type 0 where
     };
   }
   pub others : (name : List ℕ) → (sink_of old file).name ≢ Some name → new.contents name ≡ old.contents name
+
+-- An open as a disk adds a file that has the name, where names are told, and its number is the next one; the disks are what
+-- they were. Where it fails no file is added. Only the count of faults of disks and the names are left open here.
+abbrev pub OpensDisk : FilesState → FilesState → List ℕ → Result FileNo OpenFault → Type 0
+OpensDisk old new name (Ok file) =
+    (file.0 ≡ length old.disks.files)
+    × (new ≡ record old { disks = record new.disks { files = old.disks.files ++ option_map (λ told. name) old.disks.names ∷ [] } })
+OpensDisk old new name (Err fault) = new ≡ record old { disks = record new.disks { files = old.disks.files } }
+
+-- what only reads a disk changes the count of faults of disks alone
+abbrev pub LooksAtDisk : FilesState → FilesState → Type 0
+LooksAtDisk old new = new ≡ record old { disks = record old.disks { faults = new.disks.faults } }
+
+-- a call on a disk changes the count of faults of disks, and the states of the disk that the file is
+pub record ChangesDisk (file : ℕ) (old new : FilesState) : Type 0 where
+  pub state : new ≡ record old { pasts = new.pasts; disks = record old.disks { faults = new.disks.faults } }
+  pub others : (name : List ℕ) → disk_name old file ≢ Some name → new.pasts name ≡ old.pasts name

@@ -2,18 +2,22 @@
 use Rattle.std.specs.Prelude.{◌≡◌, ℕ, List, ◌∷◌, [], ◌++◌, Option, None, Some, length, map, slice_get, slice_set, take, Result, Ok, Err}
 use Rattle.std.specs.Io.KnownBytes.{Appends}
 use Rattle.gl_outside.specs.Calls.{raised}
+use Rattle.gl_outside.specs.Disk.{at_rest}
 use Rattle.gl_outside.specs.FilesState.{FilesState}
 use Rattle.gl_outside.specs.Fronts.{AppendsFront}
 use Rattle.gl_outside.specs.declared.files.FileNo.{FileNo}
 use Rattle.gl_outside.specs.declared.files.OpenFault.{OpenFault}
 use Rattle.gl_outside.specs.declared.files.OpenFault.TheVariants.{Failed, NoMemory}
 
--- files: those that were opened for reading and for writing, by their numbers, and how many faults of each there were
+-- files: those that were opened for reading, for writing and as disks, by their numbers, and how many faults of each there
+-- were
 pub record HostState (F : Type 0) : Type 0 where
   pub sources : List F
   pub sinks : List F
+  pub disks : List F
   pub reads : ℕ
   pub writes : ℕ
+  pub disk_faults : ℕ
 
 -- the files as every caller of `Files` sees them: how many were opened, and how many faults there were, is all that is told
 abbrev pub files_of_host : {F : Type 0} → HostState F → FilesState
@@ -22,6 +26,8 @@ files_of_host host =
       contents = λ name. None;
       sources = record { faults = host.reads; names = None; files = map (λ file. None) host.sources };
       sinks = record { faults = host.writes; names = None; files = map (λ file. record { name = None; bytes = None }) host.sinks };
+      pasts = λ name. at_rest [];
+      disks = record { faults = host.disk_faults; names = None; files = map (λ file. None) host.disks };
     }
 
 -- a writer as a sink: the writer, and how many faults there were

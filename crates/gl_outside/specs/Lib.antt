@@ -1,12 +1,13 @@
 pub mod Faults
+pub mod Disk
 pub mod FilesState
 pub mod Names
 pub mod Frames
 pub mod Calls
 pub mod InMemory
+pub mod MemDisk
+pub mod DiskStore
 pub mod Store
 pub mod Host
 pub mod Fronts
-pub mod Disk
-pub mod MemDisk
 pub mod Inner

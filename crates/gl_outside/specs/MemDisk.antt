@@ -1,13 +1,9 @@
 -- A disk in memory, as its callers see it.
-use Rattle.std.specs.Prelude.{◌⊎◌, ℕ, ◌<◌, List, [], length, fold}
+use Rattle.std.specs.Prelude.{◌⊎◌, ℕ, ◌<◌, List, length, fold}
 use Rattle.gl_outside.specs.Calls.{CallCounts, NextFails, raised}
-use Rattle.gl_outside.specs.Disk.{DiskPast, after_sync, after_write, followed_by, with_piece}
+use Rattle.gl_outside.specs.Disk.{DiskPast, at_rest, after_sync, after_write, followed_by, with_piece}
 use Rattle.gl_outside.specs.declared.disk_bytes.DiskCall.{DiskCall}
 use Rattle.gl_outside.specs.declared.disk_bytes.DiskCall.TheVariants.{Wrote, Synced}
-
--- these bytes, all of them on the disk
-abbrev pub at_rest : List ℕ → DiskPast
-at_rest bytes = record { before = []; now = record { seen = bytes; synced = bytes; written = [] } }
 
 -- the states after one call more
 abbrev pub after_disk_call : DiskPast → DiskCall → DiskPast

@@ -1,6 +1,7 @@
 -- Files in memory, as their callers see them.
 use Rattle.std.specs.Prelude.{◌≡◌, ℕ, zero, suc, ◌+◌, ◌^◌, ◌<◌, ◌≤◌, List, [], ◌∷◌, length, map, Option, None, Some, is_some, Result, Ok, Err, bytes_eq, fold, slice_index, slice_index_or, if◌then◌else◌}
 use Rattle.gl_outside.specs.Calls.{CallCounts, called, faulted}
+use Rattle.gl_outside.specs.DiskStore.{DisksState, opened_disks, past_among}
 use Rattle.gl_outside.specs.FilesState.{FilesState, Written}
 use Rattle.gl_outside.specs.declared.files.OpenFault.{OpenFault}
 use Rattle.gl_outside.specs.declared.files.OpenFault.TheVariants.{Failed, NoMemory}
@@ -13,7 +14,7 @@ pub record NamedBytes : Type 0 where
 
 -- The files, in the order in which they were put or made. Of reading: the names that were handed to `open_source`, what
 -- each file that was opened has left, by its number, and the calls. Of writing: the names that were handed to
--- `open_sink`, the place of each file that was opened, by its number, and the calls.
+-- `open_sink`, the place of each file that was opened, by its number, and the calls. The disks are files apart.
 pub record StoreState : Type 0 where
   pub files : List NamedBytes
   pub source_names : List (List ℕ)
@@ -22,6 +23,7 @@ pub record StoreState : Type 0 where
   pub sink_names : List (List ℕ)
   pub sinks : List ℕ
   pub writes : CallCounts
+  pub disks : DisksState
 
 -- this file's bytes where it has the name, else those found before
 abbrev pub newer : List ℕ → Option (List ℕ) → NamedBytes → Option (List ℕ)
@@ -64,6 +66,8 @@ files_of_store store =
       contents = bytes_of store.files;
       sources = record { faults = store.reads.faults; names = Some store.source_names; files = map (λ left. Some left) store.opened };
       sinks = record { faults = store.writes.faults; names = Some store.sink_names; files = map (sink_at store.files) store.sinks };
+      pasts = past_among store.disks.disks;
+      disks = opened_disks store.disks;
     }
 
 -- how many bytes the file of this number that was opened for writing can hold before it takes memory

@@ -1,14 +1,16 @@
 //! The files of the system.
-ghost use Rattle.std.specs.Prelude.{◌≡◌, ◌<◌, ◌≤◌, [], Err, IsTrue, is_some, IfSome, IfOk, OnOk, length};
+ghost use Rattle.std.specs.Prelude.{◌≡◌, ◌<◌, ◌≤◌, [], false, Err, IsTrue, is_some, IfSome, IfOk, OnOk, length, refl};
 ghost use Rattle.std.specs.Io.KnownBytes.{ReadConsumes, WriteAppends};
 ghost use Rattle.gl_outside.specs.Faults.{Counts, Rose};
-ghost use Rattle.gl_outside.specs.FilesState.{is_opened, left_of, written_of};
-ghost use Rattle.gl_outside.specs.Frames.{OpensSource, OpensSink, ReadsOnly, WritesOnly};
+ghost use Rattle.gl_outside.specs.Disk.{ReadsAt, Syncs, WritesAt};
+ghost use Rattle.gl_outside.specs.FilesState.{disk_past, is_opened, left_of, written_of};
+ghost use Rattle.gl_outside.specs.Frames.{ChangesDisk, LooksAtDisk, OpensDisk, OpensSource, OpensSink, ReadsOnly, WritesOnly};
 ghost use Rattle.gl_outside.specs.Names.{NotesName};
 ghost use Rattle.gl_outside.specs.Host.{files_of_host, faults_after, faults_after_open, ChangesAt, TakesFront, OpensOne};
 ghost use Rattle.gl_outside.specs.Inner.Laws.{nothing_filled};
 
 use crate::fault_count::FaultCount;
+use crate::host_disk::{HostDisk, open_host_disk};
 use crate::writer_sink::write_through;
 use crate::{Failed, FileNo, Files, OpenFault};
 use std::alloc::Global;
@@ -27,8 +29,10 @@ pub struct HostFiles<R: rt::Files> {
     rt: R,
     sources: Vec<R::File>,
     sinks: Vec<R::File>,
+    disks: Vec<HostDisk<R::File>>,
     reads: FaultCount,
     writes: FaultCount,
+    disk_faults: FaultCount,
 }
 
 impl<R: rt::Files> Model for HostFiles<R> {
@@ -36,26 +40,30 @@ impl<R: rt::Files> Model for HostFiles<R> {
 
     ghost Value = { HostState R.File };
 
-    ghost view = { λ s. record { sources = s.sources.items; sinks = s.sinks.items; reads = s.reads; writes = s.writes } };
+    ghost view = { λ s. record { sources = s.sources.items; sinks = s.sinks.items; disks = s.disks.items; reads = s.reads; writes = s.writes; disk_faults = s.disk_faults } };
 }
 
 impl<R: rt::Files> HostFiles<R> {
     /// The files of this runtime. Nothing is opened yet, and it takes no memory.
     pub fn new(alloc: Global, rt: R) -> Self
-        ensures { result ≡ record { sources = []; sinks = []; reads = 0; writes = 0 } }
+        ensures { result ≡ record { sources = []; sinks = []; disks = []; reads = 0; writes = 0; disk_faults = 0 } }
     {
         HostFiles {
             rt,
             sources: Vec::new(alloc),
             sinks: Vec::new(alloc),
+            disks: Vec::new(alloc),
             reads: FaultCount::new(),
             writes: FaultCount::new(),
+            disk_faults: FaultCount::new(),
         }
     }
 }
 
 impl<R: rt::Files> Files for HostFiles<R> {
     ghost state = { files_of_host };
+
+    ghost disks_told = { false };
 
     fn open_source(&mut self, name: &str) -> Result<FileNo, OpenFault>
         ensures opens { OpensSource (files_of_host self.old) (files_of_host self.new) name.now result }
@@ -68,6 +76,7 @@ impl<R: rt::Files> Files for HostFiles<R> {
         ensures one { OpensOne self.old.sources self.new.sources result }
         ensures counted { self.new.reads ≡ faults_after_open self.old.reads result }
         ensures written { self.new.sinks ≡ self.old.sinks }
+        ensures disks { self.new.disks ≡ self.old.disks }
         ensures no_memory { result ≡ Err OpenFault.NoMemory → self.new ≡ self.old }
     {
         let Ok(number) = u32::try_from(self.sources.len()) else {
@@ -93,6 +102,7 @@ impl<R: rt::Files> Files for HostFiles<R> {
             (λ was now. ReadConsumes (R.File.remaining was) (R.File.remaining now) result buf.new) }
         ensures counted { self.new.reads ≡ faults_after self.old.reads result }
         ensures written { self.new.sinks ≡ self.old.sinks }
+        ensures disks { self.new.disks ≡ self.old.disks }
     {
         match self.sources[file.0 as usize].read(buf) {
             Ok(count) => Ok(count),
@@ -109,6 +119,7 @@ impl<R: rt::Files> Files for HostFiles<R> {
         ensures one { OpensOne self.old.sinks self.new.sinks result }
         ensures counted { self.new.writes ≡ faults_after_open self.old.writes result }
         ensures read { self.new.sources ≡ self.old.sources }
+        ensures disks { self.new.disks ≡ self.old.disks }
         ensures no_memory { result ≡ Err OpenFault.NoMemory → self.new ≡ self.old }
     {
         let Ok(number) = u32::try_from(self.sinks.len()) else {
@@ -135,6 +146,7 @@ impl<R: rt::Files> Files for HostFiles<R> {
             (λ was now. TakesFront (R.File.contents was) (R.File.contents now) result piece.now) }
         ensures counted { self.new.writes ≡ faults_after self.old.writes result }
         ensures read { self.new.sources ≡ self.old.sources }
+        ensures disks { self.new.disks ≡ self.old.disks }
     {
         match write_through(&mut self.sinks[file.0 as usize], piece) {
             Ok(count) if count > 0 || piece.is_empty() => Ok(count),
@@ -142,5 +154,94 @@ impl<R: rt::Files> Files for HostFiles<R> {
         }
     }
 
+    /// Opens the file to read and write it, and makes it where it is missing. The first sync that succeeds syncs its folder
+    /// too, where that could be opened, so that a file that was made is found again.
+    fn open_disk(&mut self, name: &str) -> Result<FileNo, OpenFault>
+        ensures opens { OpensDisk (files_of_host self.old) (files_of_host self.new) name.now result }
+        ensures names { NotesName (files_of_host self.old).disks.names (files_of_host self.new).disks.names name.now result }
+        ensures later { self.old.disk_faults ≤ self.new.disk_faults }
+        ensures failed { result ≡ Err OpenFault.Failed → Rose self.old.disk_faults self.new.disk_faults }
+
+        ensures one { OpensOne self.old.disks self.new.disks result }
+        ensures counted { self.new.disk_faults ≡ faults_after_open self.old.disk_faults result }
+        ensures read { self.new.sources ≡ self.old.sources }
+        ensures written { self.new.sinks ≡ self.old.sinks }
+        ensures no_memory { result ≡ Err OpenFault.NoMemory → self.new ≡ self.old }
+    {
+        let Ok(number) = u32::try_from(self.disks.len()) else {
+            return Err(self.disk_faults.raise().into());
+        };
+        self.disks.reserve(1)?;
+        let Ok(disk) = open_host_disk(&self.rt, name) else {
+            return Err(self.disk_faults.raise().into());
+        };
+        self.disks.push_reserved(disk);
+        Ok(FileNo(number))
+    }
+
+    fn len(&mut self, file: FileNo) -> Result<u64, Failed>
+        requires { IsTrue (is_opened (files_of_host self.old).disks file.0) }
+        ensures length { IsTrue false → IfOk result (λ count. count ≡ length (disk_past (files_of_host self.old) file.0).now.seen) }
+        ensures frame { LooksAtDisk (files_of_host self.old) (files_of_host self.new) }
+        ensures counts { Counts self.old.disk_faults self.new.disk_faults result }
+
+        ensures of_its_file { ChangesAt file.0 self.old.disks self.new.disks (λ was now. Unit {0}) }
+        ensures counted { self.new.disk_faults ≡ faults_after self.old.disk_faults result }
+    {
+        match self.disks[file.0 as usize].len() {
+            Ok(count) => Ok(count),
+            Err(_) => Err(self.disk_faults.raise()),
+        }
+    }
+
+    fn read_at(&mut self, file: FileNo, at: u64, buf: &mut [u8]) -> Result<usize, Failed>
+        requires { IsTrue (is_opened (files_of_host self.old).disks file.0) }
+        ensures bound { IfOk result (λ count. count ≤ length buf.new) }
+        ensures bytes { IsTrue false → ReadsAt (disk_past (files_of_host self.old) file.0).now.seen at buf.new result }
+        ensures frame { LooksAtDisk (files_of_host self.old) (files_of_host self.new) }
+        ensures counts { Counts self.old.disk_faults self.new.disk_faults result }
+
+        ensures of_its_file { ChangesAt file.0 self.old.disks self.new.disks (λ was now. Unit {0}) }
+        ensures counted { self.new.disk_faults ≡ faults_after self.old.disk_faults result }
+    {
+        match self.disks[file.0 as usize].read_at(at, buf) {
+            Ok(count) => Ok(count),
+            Err(_) => Err(self.disk_faults.raise()),
+        }
+    }
+
+    fn write_at(&mut self, file: FileNo, at: u64, piece: &[u8]) -> Result<(), Failed>
+        requires { IsTrue (is_opened (files_of_host self.old).disks file.0) }
+        ensures past { IsTrue false → WritesAt (disk_past (files_of_host self.old) file.0) at piece.now (disk_past (files_of_host self.new) file.0) result }
+        ensures frame { ChangesDisk file.0 (files_of_host self.old) (files_of_host self.new) }
+        ensures counts { Counts self.old.disk_faults self.new.disk_faults result }
+
+        ensures of_its_file { ChangesAt file.0 self.old.disks self.new.disks (λ was now. Unit {0}) }
+        ensures counted { self.new.disk_faults ≡ faults_after self.old.disk_faults result }
+    {
+        match self.disks[file.0 as usize].write_at(at, piece) {
+            Ok(()) => Ok(()),
+            Err(_) => Err(self.disk_faults.raise()),
+        }
+    }
+
+    /// Asks the system to put the file on the disk, and its folder the first time.
+    fn sync(&mut self, file: FileNo) -> Result<(), Failed>
+        requires { IsTrue (is_opened (files_of_host self.old).disks file.0) }
+        ensures past { IsTrue false → Syncs (disk_past (files_of_host self.old) file.0) (disk_past (files_of_host self.new) file.0) result }
+        ensures frame { ChangesDisk file.0 (files_of_host self.old) (files_of_host self.new) }
+        ensures counts { Counts self.old.disk_faults self.new.disk_faults result }
+
+        ensures of_its_file { ChangesAt file.0 self.old.disks self.new.disks (λ was now. Unit {0}) }
+        ensures counted { self.new.disk_faults ≡ faults_after self.old.disk_faults result }
+    {
+        match self.disks[file.0 as usize].sync() {
+            Ok(()) => Ok(()),
+            Err(_) => Err(self.disk_faults.raise()),
+        }
+    }
+
     ghost filled = { nothing_filled };
+
+    ghost reads_an_image = { λ files name told. refl };
 }

@@ -1,4 +1,4 @@
-//! The outside of the engine: sources, sinks and files by name, in memory and on the real system.
+//! The outside of the engine: sources, sinks, disks and files by name, in memory and on the real system.
 //!
 //! Each object has a count of its faults, which never falls and has risen where a call answers `Failed`. What an object
 //! has left or holds is told over memory, and is not told over a real file, stream or terminal.
@@ -7,11 +7,14 @@
 mod calls;
 mod disk;
 mod disk_bytes;
+mod disk_of;
 mod fault_count;
 mod files;
 mod gate;
+mod host_disk;
 mod host_files;
 mod mem_disk;
+mod mem_disks;
 mod mem_files;
 mod mem_sink;
 mod mem_source;
@@ -23,6 +26,7 @@ mod source_of;
 mod writer_sink;
 
 pub use disk::Disk;
+pub use disk_of::DiskOf;
 pub use files::{FileNo, Files, OpenFault};
 pub use gate::{Gate, OpenGate};
 pub use host_files::HostFiles;

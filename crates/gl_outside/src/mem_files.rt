@@ -1,17 +1,21 @@
 //! Files in memory.
-ghost use Rattle.std.specs.Prelude.{◌≡◌, ◌≢◌, ◌↔◌, ◌⊎◌, ℕ, ◌+◌, ◌<◌, ◌≤◌, min, [], ◌∷◌, ◌++◌, IsTrue, List, Some, is_some, IfSome, IfOk, OnOk, OnErr, IsErr, MatchOption, length, take};
+ghost use Rattle.std.specs.Prelude.{◌≡◌, ◌≢◌, ◌↔◌, ◌⊎◌, ℕ, ◌+◌, ◌<◌, ◌≤◌, min, [], ◌∷◌, ◌++◌, true, IsTrue, List, Some, is_some, IfSome, IfOk, OnOk, OnErr, IsErr, MatchOption, length, take};
 ghost use Rattle.std.specs.Option.{option_map};
 ghost use Rattle.std.specs.Io.KnownBytes.{ReadConsumes, WriteAppends};
 ghost use Rattle.gl_outside.specs.Faults.{Counts, Rose};
-ghost use Rattle.gl_outside.specs.FilesState.{is_opened, left_of, written_of};
-ghost use Rattle.gl_outside.specs.Frames.{OpensSource, OpensSink, ReadsOnly, WritesOnly};
+ghost use Rattle.gl_outside.specs.Disk.{ReadsAt, Syncs, WritesAt, at_rest};
+ghost use Rattle.gl_outside.specs.DiskStore.{HasNoDiskNumber, opened_disks, past_among};
+ghost use Rattle.gl_outside.specs.FilesState.{disk_past, is_opened, left_of, written_of};
+ghost use Rattle.gl_outside.specs.Frames.{ChangesDisk, LooksAtDisk, OpensDisk, OpensSource, OpensSink, ReadsOnly, WritesOnly};
+ghost use Rattle.gl_outside.specs.MemDisk.{NextStops};
 ghost use Rattle.gl_outside.specs.Names.{NotesName};
 ghost use Rattle.gl_outside.specs.Calls.{no_calls, NextFails, after_call};
 ghost use Rattle.gl_outside.specs.Store.{bytes_of, bytes_at, after_open, files_of_store, IsMissing, HasNoNumber, HasNoSinkNumber, ready_at, ready_in, WantsMemoryAt, WantsMemoryIn};
 ghost use Rattle.gl_outside.specs.Inner.OpenFiles.{left_in, IsOpenInside, appended};
-ghost use Rattle.gl_outside.specs.Inner.Laws.{name_filled};
+ghost use Rattle.gl_outside.specs.Inner.Laws.{among_image, name_filled};
 
 use crate::calls::Calls;
+use crate::mem_disks::MemDisks;
 use crate::mem_source::copy_front;
 use crate::{Failed, FileNo, Files, OpenFault};
 use gl_base::{Name, NoMemory};
@@ -42,9 +46,11 @@ struct OpenFile {
 }
 
 /// Files in memory, with lists of the numbers of the calls that fail. Opens for reading and reads are counted together,
-/// and so are opens for writing and writes. The first call of each kind has the number 1.
+/// so are opens for writing and writes, and so are opens as a disk and the calls on disks, of which each after the first
+/// `stop` fails too. The first call of each kind has the number 1.
 ///
-/// A file that is put or made again is a new file: what was opened before goes on with the bytes that it had.
+/// A file that is put or made again is a new file: what was opened before goes on with the bytes that it had. A disk is a
+/// file apart from the one of its name that is read or written, and one that nobody wrote to has no bytes.
 #[derive(Drop)]
 pub struct MemFiles {
     alloc: Global,
@@ -55,6 +61,7 @@ pub struct MemFiles {
     sink_names: Vec<Name>,
     sinks: Vec<usize>,
     writes: Calls,
+    disks: MemDisks,
 }
 
 impl Model for MemFiles {
@@ -65,14 +72,15 @@ impl Model for MemFiles {
 
     ghost use Rattle.gl_outside.specs.Inner.OpenFiles.{left_in, IsOpenInside, AreSinks};
 
-    ghost view = { λ s. record { files = s.files.items; source_names = s.source_names.items; opened = map (left_in s.files.items) s.opened.items; reads = s.reads; sink_names = s.sink_names.items; sinks = s.sinks.items; writes = s.writes } };
+    ghost view = { λ s. record { files = s.files.items; source_names = s.source_names.items; opened = map (left_in s.files.items) s.opened.items; reads = s.reads; sink_names = s.sink_names.items; sinks = s.sinks.items; writes = s.writes; disks = s.disks } };
 
     ghost invariant = { λ s. All (IsOpenInside s.files.items) s.opened.items × AreSinks s.files.items s.sinks.items };
 }
 
 impl MemFiles {
-    /// No files, and the numbers of the calls that fail. It takes no memory.
-    pub fn new(alloc: Global, reads: Vec<u64>, writes: Vec<u64>) -> Self
+    /// No files, the numbers of the calls of each kind that fail, and after how many calls on disks all of them fail. It takes
+    /// no memory.
+    pub fn new(alloc: Global, reads: Vec<u64>, writes: Vec<u64>, disk: Vec<u64>, stop: u64) -> Self
         ensures { result ≡ record {
           files = [];
           source_names = [];
@@ -81,6 +89,7 @@ impl MemFiles {
           sink_names = [];
           sinks = [];
           writes = no_calls writes.items;
+          disks = record { disks = []; places = []; names = []; calls = no_calls disk.items; stop = stop };
         } }
     {
         MemFiles {
@@ -92,6 +101,7 @@ impl MemFiles {
             sink_names: Vec::new(alloc),
             sinks: Vec::new(alloc),
             writes: Calls::new(writes),
+            disks: MemDisks::new(alloc, disk, stop),
         }
     }
 
@@ -107,6 +117,7 @@ impl MemFiles {
         ensures sinks { self.new.sinks ≡ self.old.sinks }
         ensures written { (file : ℕ) → written_of (files_of_store self.new) file ≡ written_of (files_of_store self.old) file }
         ensures writes { self.new.writes ≡ self.old.writes }
+        ensures disks { self.new.disks ≡ self.old.disks }
         ensures unchanged { OnErr result (self.new ≡ self.old) }
     {
         let name = copied_name(self.alloc, name)?;
@@ -123,10 +134,33 @@ impl MemFiles {
         let file = &self.files[place];
         Some(file.bytes.as_slice())
     }
+
+    /// The disk of this name holds these bytes from now on, all of them synced. Where there is no memory, no disk changes.
+    pub fn put_disk(&mut self, name: &str, bytes: Vec<u8>) -> Result<(), NoMemory>
+        ensures holds { OnOk result (past_among self.new.disks.disks name.now ≡ at_rest bytes.items) }
+        ensures others { (other : List ℕ) → other ≢ name.now
+            → past_among self.new.disks.disks other ≡ past_among self.old.disks.disks other }
+        ensures opened { opened_disks self.new.disks ≡ opened_disks self.old.disks }
+        ensures calls { self.new.disks.calls ≡ self.old.disks.calls }
+        ensures stop { self.new.disks.stop ≡ self.old.disks.stop }
+        ensures files { self.new ≡ record self.old { disks = self.new.disks } }
+        ensures unchanged { OnErr result (past_among self.new.disks.disks ≡ past_among self.old.disks.disks) }
+    {
+        Ok(self.disks.put(name, bytes)?)
+    }
+
+    /// What the disk of this name reads, nothing where none was opened or put.
+    pub fn disk_bytes(&self, name: &str) -> &[u8]
+        ensures { result.now ≡ (past_among self.now.disks.disks name.now).now.seen }
+    {
+        self.disks.bytes(name)
+    }
 }
 
 impl Files for MemFiles {
     ghost state = { files_of_store };
+
+    ghost disks_told = { true };
 
     /// Fails where its number is listed, where no file has the name, and where as many files were opened as there are
     /// numbers for them.
@@ -149,6 +183,7 @@ impl Files for MemFiles {
         ensures files { self.new.files ≡ self.old.files }
         ensures written { self.new.sinks ≡ self.old.sinks }
         ensures writes { self.new.writes ≡ self.old.writes }
+        ensures disks { self.new.disks ≡ self.old.disks }
     {
         let listed = self.reads.count();
         self.source_names.push(copied_name(self.alloc, name)?)?;
@@ -180,6 +215,7 @@ impl Files for MemFiles {
         ensures files { self.new.files ≡ self.old.files }
         ensures written { self.new.sinks ≡ self.old.sinks }
         ensures writes { self.new.writes ≡ self.old.writes }
+        ensures disks { self.new.disks ≡ self.old.disks }
     {
         if self.reads.count() {
             return Err(self.reads.fault());
@@ -204,6 +240,7 @@ impl Files for MemFiles {
         ensures next { IfOk result (λ file. file.0 ≡ length self.old.sinks) }
         ensures calls { self.new.writes ≡ after_open self.old.writes result }
         ensures reads { self.new.reads ≡ self.old.reads }
+        ensures disks { self.new.disks ≡ self.old.disks }
     {
         let listed = self.writes.count();
         self.sink_names.push(copied_name(self.alloc, name)?)?;
@@ -238,6 +275,7 @@ impl Files for MemFiles {
         ensures refused { OnErr result (self.new.files ≡ self.old.files) }
         ensures calls { self.new.writes ≡ after_call self.old.writes result }
         ensures reads { self.new.reads ≡ self.old.reads }
+        ensures disks { self.new.disks ≡ self.old.disks }
     {
         if self.writes.count() {
             return Err(self.writes.fault());
@@ -249,10 +287,88 @@ impl Files for MemFiles {
         }
     }
 
+    /// Fails where its number is listed, past the first `stop` calls on disks, and where as many were opened as there are
+    /// numbers for them.
+    fn open_disk(&mut self, name: &str) -> Result<FileNo, OpenFault>
+        ensures opens { OpensDisk (files_of_store self.old) (files_of_store self.new) name.now result }
+        ensures names { NotesName (files_of_store self.old).disks.names (files_of_store self.new).disks.names name.now result }
+        ensures later { self.old.disks.calls.faults ≤ self.new.disks.calls.faults }
+        ensures failed { result ≡ Err OpenFault.Failed → Rose self.old.disks.calls.faults self.new.disks.calls.faults }
+
+        ensures listed { NextStops self.old.disks.calls self.old.disks.stop → IsErr result }
+        ensures only { result ≡ Err OpenFault.Failed →
+            NextStops self.old.disks.calls self.old.disks.stop ⊎ HasNoDiskNumber self.old.disks }
+        ensures calls { self.new.disks.calls ≡ after_open self.old.disks.calls result }
+        ensures stop { self.new.disks.stop ≡ self.old.disks.stop }
+        ensures files { self.new ≡ record self.old { disks = self.new.disks } }
+    {
+        self.disks.open(name)
+    }
+
+    fn len(&mut self, file: FileNo) -> Result<u64, Failed>
+        requires { IsTrue (is_opened (files_of_store self.old).disks file.0) }
+        ensures length { IsTrue true → IfOk result (λ count. count ≡ length (disk_past (files_of_store self.old) file.0).now.seen) }
+        ensures frame { LooksAtDisk (files_of_store self.old) (files_of_store self.new) }
+        ensures counts { Counts self.old.disks.calls.faults self.new.disks.calls.faults result }
+
+        ensures fails { IsErr result ↔ NextStops self.old.disks.calls self.old.disks.stop }
+        ensures calls { self.new.disks.calls ≡ after_call self.old.disks.calls result }
+        ensures files { self.new ≡ record self.old { disks = self.new.disks } }
+    {
+        self.disks.len(file)
+    }
+
+    fn read_at(&mut self, file: FileNo, at: u64, buf: &mut [u8]) -> Result<usize, Failed>
+        requires { IsTrue (is_opened (files_of_store self.old).disks file.0) }
+        ensures bound { IfOk result (λ count. count ≤ length buf.new) }
+        ensures bytes { IsTrue true → ReadsAt (disk_past (files_of_store self.old) file.0).now.seen at buf.new result }
+        ensures frame { LooksAtDisk (files_of_store self.old) (files_of_store self.new) }
+        ensures counts { Counts self.old.disks.calls.faults self.new.disks.calls.faults result }
+
+        ensures fails { IsErr result ↔ NextStops self.old.disks.calls self.old.disks.stop }
+        ensures calls { self.new.disks.calls ≡ after_call self.old.disks.calls result }
+        ensures files { self.new ≡ record self.old { disks = self.new.disks } }
+    {
+        self.disks.read_at(file, at, buf)
+    }
+
+    /// Fails where its number is listed, past the first `stop` calls on disks, and where there is no memory to keep it; then
+    /// nothing is written.
+    fn write_at(&mut self, file: FileNo, at: u64, piece: &[u8]) -> Result<(), Failed>
+        requires { IsTrue (is_opened (files_of_store self.old).disks file.0) }
+        ensures past { IsTrue true → WritesAt (disk_past (files_of_store self.old) file.0) at piece.now (disk_past (files_of_store self.new) file.0) result }
+        ensures frame { ChangesDisk file.0 (files_of_store self.old) (files_of_store self.new) }
+        ensures counts { Counts self.old.disks.calls.faults self.new.disks.calls.faults result }
+
+        ensures listed { NextStops self.old.disks.calls self.old.disks.stop → IsErr result }
+        ensures refused { OnErr result (self.new.disks.disks ≡ self.old.disks.disks) }
+        ensures calls { self.new.disks.calls ≡ after_call self.old.disks.calls result }
+        ensures files { self.new ≡ record self.old { disks = self.new.disks } }
+    {
+        self.disks.write_at(file, at, piece)
+    }
+
+    /// Fails as a write to a disk does.
+    fn sync(&mut self, file: FileNo) -> Result<(), Failed>
+        requires { IsTrue (is_opened (files_of_store self.old).disks file.0) }
+        ensures past { IsTrue true → Syncs (disk_past (files_of_store self.old) file.0) (disk_past (files_of_store self.new) file.0) result }
+        ensures frame { ChangesDisk file.0 (files_of_store self.old) (files_of_store self.new) }
+        ensures counts { Counts self.old.disks.calls.faults self.new.disks.calls.faults result }
+
+        ensures listed { NextStops self.old.disks.calls self.old.disks.stop → IsErr result }
+        ensures refused { OnErr result (self.new.disks.disks ≡ self.old.disks.disks) }
+        ensures calls { self.new.disks.calls ≡ after_call self.old.disks.calls result }
+        ensures files { self.new ≡ record self.old { disks = self.new.disks } }
+    {
+        self.disks.sync(file)
+    }
+
     ghost filled = { name_filled };
+
+    ghost reads_an_image = { λ files name told. among_image files.disks.disks name };
 }
 
-fn copied_name(alloc: Global, name: &str) -> Result<Name, AllocError>
+pub(crate) fn copied_name(alloc: Global, name: &str) -> Result<Name, AllocError>
     ensures { IfOk result (λ copy. copy ≡ name.now) }
 {
     Ok(Name::new(String::from_str(alloc, name)?))

@@ -32,21 +32,37 @@ first_fault fault before (x ∷ xs) = option_or (fault before x) (first_fault fa
 abbrev pub vertex_fault : List ℕ → ℕ → Option GraphFault
 vertex_fault before id = if list_any (λ other. other == id) before then Some (DoubleVertex (length before)) else None
 
--- what is wrong with the edge at this place, whatever stands before it
-abbrev pub ends_fault : List ℕ → EdgeIn → ℕ → Option GraphFault
-ends_fault ids e place =
+-- what each fault of an edge is called
+pub record EdgeFaults (Y : Type 0) : Type 0 where
+  pub unknown : Y
+  pub self_loop : Y
+  pub double : Y
+
+-- an end that is no vertex, and else two equal ends
+abbrev pub fault_of_ends : {Y : Type 0} → EdgeFaults Y → List ℕ → EdgeIn → Option Y
+fault_of_ends called ids e =
     if list_any (λ id. id == e.from) ids && list_any (λ id. id == e.to) ids
-    then (if e.from == e.to then Some (SelfLoop place) else None)
-    else Some (UnknownVertex place)
+    then (if e.from == e.to then Some called.self_loop else None)
+    else Some called.unknown
 
 -- two edges are the same where they are kept with the same ends
 abbrev pub same_ends : Bool → EdgeIn → EdgeIn → Bool
 same_ends directed e f = (lower_first directed e).from == (lower_first directed f).from && (lower_first directed e).to == (lower_first directed f).to
 
--- an end that is unknown, two equal ends, and an edge that stands before it too, in this order
+-- a fault of its ends, and else an edge before it that is the same
+abbrev pub fault_of_edge : {Y : Type 0} → EdgeFaults Y → List ℕ → Bool → List EdgeIn → EdgeIn → Option Y
+fault_of_edge called ids directed before e =
+    option_or (fault_of_ends called ids e) (if list_any (same_ends directed e) before then Some called.double else None)
+
+-- in a list of edges faults are called by the place
+abbrev pub faults_at : ℕ → EdgeFaults GraphFault
+faults_at place = record { unknown = UnknownVertex place; self_loop = SelfLoop place; double = DoubleEdge place }
+
+abbrev pub ends_fault : List ℕ → EdgeIn → ℕ → Option GraphFault
+ends_fault ids e place = fault_of_ends (faults_at place) ids e
+
 abbrev pub edge_fault : List ℕ → Bool → List EdgeIn → EdgeIn → Option GraphFault
-edge_fault ids directed before e =
-    option_or (ends_fault ids e (length before)) (if list_any (same_ends directed e) before then Some (DoubleEdge (length before)) else None)
+edge_fault ids directed before e = fault_of_edge (faults_at (length before)) ids directed before e
 
 -- the first fault of the identifiers, and else that of the edges
 abbrev pub graph_fault : List ℕ → List EdgeIn → Bool → Option GraphFault

@@ -1,14 +1,13 @@
 -- Edge texts over the identifiers of vertices.
 use Rattle.std.specs.Prelude.{ℕ, ◌==◌, ◌&&◌, Bool, true, false, if◌then◌else◌, List, [], ◌∷◌, Option, None, Some, nat_le, Result, Ok, Err}
-use Rattle.std.specs.List.{list_any, list_all}
-use Rattle.std.specs.Option.{option_or}
+use Rattle.std.specs.List.{list_all}
 use Rattle.gl_base.specs.declared.limits.TheConstants.{MAX_EDGES, MAX_ID}
 use Rattle.gl_base.specs.declared.text_faults.TextFault.{TextFault}
 use Rattle.gl_base.specs.declared.text_faults.TextFile.TheVariants.{Edges}
 use Rattle.gl_base.specs.declared.text_faults.TextKind.{TextKind}
 use Rattle.gl_base.specs.declared.text_faults.TextKind.TheVariants.{Fields, Number, TooLarge, Double, Unknown, SelfLoop, NoWeight}
 use Rattle.graph_core.specs.declared.graph_lists.EdgeIn.{EdgeIn}
-use Rattle.graph_core.specs.GraphLists.{same_ends}
+use Rattle.graph_core.specs.GraphLists.{EdgeFaults, fault_of_ends, fault_of_edge}
 use Rattle.graph_text.specs.declared.said.Said.{Said}
 use Rattle.graph_text.specs.declared.said.Said.TheVariants.{Passed, Wrong, Late, Item}
 use Rattle.std.specs.Char.{is_ascii_digit}
@@ -39,14 +38,15 @@ edge_said weighted (f ∷ []) = if is_comment f then Passed else Wrong Fields
 edge_said weighted (f ∷ g ∷ fs) =
     if is_comment f then Passed else ends_said (list_all is_ascii_digit f && list_all is_ascii_digit g) f g (weight_in weighted fs)
 
--- both ends are vertices, and they differ
-abbrev pub edge_fault_alone : List ℕ → EdgeIn → Option TextKind
-edge_fault_alone ids e =
-    if list_any (λ id. id == e.from) ids && list_any (λ id. id == e.to) ids then (if e.from == e.to then Some SelfLoop else None) else Some Unknown
+-- in a text faults are called by their kind
+abbrev pub edge_kinds : EdgeFaults TextKind
+edge_kinds = record { unknown = Unknown; self_loop = SelfLoop; double = Double }
 
--- and no edge before has the same ends, either way round where edges have no direction
+abbrev pub edge_fault_alone : List ℕ → EdgeIn → Option TextKind
+edge_fault_alone ids e = fault_of_ends edge_kinds ids e
+
 abbrev pub edge_fault_after : List ℕ → Bool → List EdgeIn → EdgeIn → Option TextKind
-edge_fault_after ids directed before e = option_or (edge_fault_alone ids e) (if list_any (same_ends directed e) before then Some Double else None)
+edge_fault_after ids directed before e = fault_of_edge edge_kinds ids directed before e
 
 abbrev pub edge_rules : List ℕ → Bool → Bool → Rules EdgeIn
 edge_rules ids directed weighted =

@@ -43,7 +43,7 @@ impl Scene<'_> {
 pub fn play(alloc: Global, scenario: &Scenario<'_>) -> Result<Vec<String>, AllocError> {
     let names = names_of(alloc, scenario)?;
     let mut differences = Vec::new(alloc);
-    let mut files = MemFiles::new(alloc, Vec::new(alloc), Vec::new(alloc));
+    let mut files = MemFiles::new(alloc, Vec::new(alloc), Vec::new(alloc), Vec::new(alloc), u64::MAX);
     for step in scenario.steps.iter() {
         let scene = Scene {
             step,
@@ -159,7 +159,7 @@ fn numbers(alloc: Global, faults: &[Fault], calls: Calls) -> Result<Vec<u64>, Al
 fn files_of(alloc: Global, scene: &Scene<'_>, faults: &[Fault]) -> Result<MemFiles, AllocError> {
     let reads = numbers(alloc, faults, Calls::Reads)?;
     let writes = numbers(alloc, faults, Calls::Writes)?;
-    let mut files = MemFiles::new(alloc, reads, writes);
+    let mut files = MemFiles::new(alloc, reads, writes, Vec::new(alloc), u64::MAX);
     for name in scene.names {
         if let Some(bytes) = scene.bytes(name) {
             let Ok(()) = files.put(name, Vec::from_slice(alloc, bytes)?) else {

@@ -1,5 +1,5 @@
 -- What becomes of the scopes in flight.
-use Rattle.std.proofs.Common.{◌≡◌, ℕ, ◌+◌, ◌<◌, ◌==◌, Bool, true, false, Option, Some, None, is_some, option_map, List, [], ◌∷◌, ◌++◌, slice_index_or, if◌then◌else◌, refl, sym, ◌∙◌, ap, ap₂, subst, ⊎_elim, arith, ne_eqb, eq-eqb}
+use Rattle.std.proofs.Common.{◌≡◌, ℕ, ◌+◌, ◌<◌, ◌==◌, Bool, true, false, ◌||◌, Option, Some, None, is_some, option_map, List, [], ◌∷◌, ◌++◌, slice_index_or, if◌then◌else◌, refl, sym, ◌∙◌, ap, ap₂, subst, ⊎_elim, arith, ne_eqb, eq-eqb}
 use Rattle.std.specs.List.{All, AllPairs, list_any, swap_remove}
 use Rattle.std.proofs.lemmas.Bool.{cases_Bool, true≢false, eqb-true, and_right}
 use Rattle.std.proofs.lemmas.Option.{none-some, same_Some}
@@ -299,3 +299,13 @@ finish_ready_keeps p s i f waiting_cap ready_cap entered_cap is at =
       in_part = is.in_part;
       entered_room = is.entered_room;
     }
+
+-- ---- whether a scope is in flight
+
+some_of : (here there : Option Flight) → is_some (centre_of (either here there)) ≡ (is_some here || is_some there)
+some_of None None = refl
+some_of None (Some f) = refl
+some_of (Some f) there = refl
+
+pub in_flight_where : (p : PipeView) (s : ScopeId) → is_some (flight_at p s) ≡ (is_some (by_scope flight_scope p.waiting s) || is_ready p s)
+in_flight_where p s = some_of (by_scope flight_scope p.waiting s) (by_scope flight_scope p.ready s)

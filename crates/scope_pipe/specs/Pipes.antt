@@ -1,11 +1,10 @@
 -- The scopes that a machine admitted and that are in flight, and those that have come to it for locks.
-use Rattle.std.specs.Prelude.{◌≡◌, ℕ, ◌+◌, ◌<◌, ◌≤◌, Bool, true, false, Option, Some, None, is_some, option_map, List, length}
-use Rattle.std.specs.List.{All, AllPairs}
+use Rattle.std.specs.Prelude.{◌≡◌, ℕ, ◌+◌, Bool, true, false, Option, Some, None, is_some, option_map, List, length}
 use Rattle.gl_base.specs.declared.numbers.MachineNo.{MachineNo}
 use Rattle.gl_base.specs.declared.numbers.Vertex.{Vertex}
 use Rattle.gl_base.specs.declared.scopes.ScopeId.{ScopeId}
 use Rattle.scope_lists.specs.Scopes.{set_for}
-use Rattle.scope_lists.specs.Found.{by_scope, AreOfTwoScopes}
+use Rattle.scope_lists.specs.Found.{by_scope}
 use Rattle.scope_pipe.specs.declared.flights.Flight.{Flight}
 use Rattle.scope_pipe.specs.Entered.{EnteredView, entered_scope}
 

@@ -227,7 +227,7 @@ impl ScopePipe {
         Left { centre, part, rest }
     }
 
-    /// The scope has all its locks.
+    /// The scope, which is in flight, has all its locks.
     pub fn ready(&mut self, scope: ScopeId)
         requires flies { is_some (flight_at self.old scope) ≡ true }
         requires waits { is_ready self.old scope ≡ false }
@@ -247,6 +247,21 @@ impl ScopePipe {
         ensures { result.now ≡ self.now.ready }
     {
         &self.ready
+    }
+
+    /// Whether the scope was admitted here and is in flight, ready or not.
+    pub fn is_in_flight(&self, scope: ScopeId) -> bool
+        ensures { result ≡ is_some (flight_at self.now scope) }
+    {
+        let waits = self.is_waiting(scope);
+        waits || self.is_ready(scope)
+    }
+
+    /// Whether the scope is in flight and not ready.
+    fn is_waiting(&self, scope: ScopeId) -> bool
+        ensures { result ≡ is_some (by_scope flight_scope self.now.waiting scope) }
+    {
+        flight_place(&self.waiting, self.flight_hints.place(scope), scope).is_some()
     }
 
     /// Whether the scope is in flight and ready.

@@ -1,7 +1,7 @@
 -- A queue of tasks, and what adding, removing and dropping leave of it.
-use Rattle.std.proofs.Common.{◌≡◌, ap, take, ◌||◌, ℕ, ◌+◌, ◌<◌, ◌≤◌, Bool, true, false, if◌then◌else◌, ◌==◌, List, [], ◌∷◌, ◌++◌, length, slice_index_or, slice_set, drop, sum_by, refl, sym, ◌∙◌, subst, ⊎_elim, true≢false, arith, eq-eqb, ne_eqb, length-append}
+use Rattle.std.proofs.Common.{◌≡◌, ap, take, ◌||◌, ℕ, ◌+◌, ◌<◌, ◌≤◌, Bool, true, false, if◌then◌else◌, ◌==◌, nat_lt, List, [], ◌∷◌, ◌++◌, length, slice_index_or, slice_set, drop, sum_by, refl, sym, ◌∙◌, subst, ⊎_elim, true≢false, arith, eq-eqb, ne_eqb, length-append}
 use Rattle.std.proofs.Math.ListN.{length-set, replicate}
-use Rattle.std.proofs.lemmas.Bool.{cases_Bool, cases_eq, cases_lt}
+use Rattle.std.proofs.lemmas.Bool.{cases_Bool, cases_eq, cases_lt, lt-ltb, le-ltb}
 use Rattle.std.proofs.lemmas.List.{take_more, map-append, get_or-set_same, get_or-set_other, get_or_past, get_or-replicate, length-replicate}
 use Rattle.std.proofs.lemmas.List.Sums.{sum_by-cons, sum_by_push, sum_by-set, sum_by-le}
 use Rattle.std.proofs.lemmas.List.Folds.{sum_by-replicate}
@@ -180,6 +180,19 @@ first_raised tasks queue v within first = λ d some. flag-raised tasks v (slice_
 pub first_added : (tasks : List Bool) (queue : List Vertex) (v : Vertex) → v.0 < length tasks → IsTaskFirst tasks queue → IsTaskFirst (slice_set tasks v.0 true) (queue ++ v ∷ [])
 first_added tasks [] v within first = λ d some. get_or-set_same tasks v.0 true false within
 first_added tasks (w ∷ queue) v within first = λ d some. flag-raised tasks v.0 w.0 within (first d (omega arith))
+
+-- the tasks below i were added, one after another
+pub added_below : (flags : List Bool) (i u : ℕ) → i < length flags → flag flags u ≡ nat_lt u i → flag (slice_set flags i true) u ≡ nat_lt u (i + 1)
+added_below flags i u within before = flag-set flags i u true within ∙ rw before (at_most i u)
+  where
+    at_most : (i u : ℕ) → (if u == i then true else nat_lt u i) ≡ nat_lt u (i + 1)
+    at_most i u = ⊎_elim
+        (λ (same : u ≡ i). rw (eq-eqb u i same) (sym (lt-ltb u (i + 1) (omega arith))))
+        (λ (other : u ≡ i → ⊥). rw (ne_eqb u i other) (⊎_elim
+        (λ (low : u < i). lt-ltb u i low ∙ sym (lt-ltb u (i + 1) (omega arith)))
+        (λ (high : i ≤ u). le-ltb u i high ∙ sym (le-ltb u (i + 1) (omega arith)))
+        (cases_lt u i)))
+        (cases_eq u i)
 
 either : (a b : Bool) → (if a then true else b) ≡ (b || a)
 either true true = refl

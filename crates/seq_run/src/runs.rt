@@ -1,6 +1,8 @@
 //! Runs of updates, one after another.
-ghost use Rattle.std.specs.Prelude.{◌≡◌, ℕ, ◌<◌, ◌≤◌, ◌↔◌, true, false, List, [], ◌∷◌, length, slice_index, IfOk, IfSome, OnOk, OnErr, IsOk, IsErrOf, MatchOption};
+ghost use Rattle.std.specs.Prelude.{◌≡◌, ℕ, ◌<◌, ◌≤◌, ◌↔◌, ◌==◌, nat_lt, true, false, List, [], ◌∷◌, length, slice_index, IfOk, IfSome, OnOk, OnErr, IsOk, IsErrOf, MatchOption};
+ghost use Rattle.std.specs.List.{list_all};
 ghost use Rattle.graph_core.specs.DataGraph.{size, IsDataGraph};
+ghost use Rattle.seq_run.specs.Inner.TaskQueues.{flag};
 ghost use Rattle.seq_run.specs.Orders.{IsValidOrder};
 ghost use Rattle.seq_run.specs.Runs.{replayed, tasks_left, with_updates, HasTask, HasNoTask, IsUpdates, WentOn, AreNumbers};
 ghost use Rattle.seq_run.specs.States.{start_state};
@@ -51,14 +53,14 @@ pub struct Played {
 impl<'a, P: Program> SeqRun<'a, P> {
     /// A run before its first update. Every vertex is a task. They wait in the order of growth from the vertex with the least
     /// start number: most are updated behind a neighbour that has its last number then, so labels and levels change seldom.
+    /// Where all start with one number no neighbour is worth waiting for, and they wait in ascending order.
     pub fn new(alloc: Global, graph: &'a Graph, program: P) -> Result<Self, NoMemory>
         ensures graph { IfOk result (λ run. run.graph ≡ graph.now) }
         ensures program { IfOk result (λ run. run.program ≡ program) }
         ensures order { IfOk result (λ run. run.order ≡ []) }
     {
         let values = start_values(alloc, graph, &program)?;
-        let first = least_start(&values, graph.n());
-        let vertices = growth(alloc, graph, first)?;
+        let tasks = first_tasks(alloc, graph, &values)?;
         Ok(SeqRun {
             graph,
             program,
@@ -66,7 +68,7 @@ impl<'a, P: Program> SeqRun<'a, P> {
             values,
             edges: Vec::from_elem(alloc, 0, graph.m() as usize)?,
             order: Vec::new(alloc),
-            tasks: TaskQueue::all(alloc, &vertices)?,
+            tasks,
         })
     }
 
@@ -196,6 +198,31 @@ fn start_values<P: Program>(alloc: Global, graph: &Graph, program: &P) -> Result
         values.push(program.start(graph.id(Vertex(v))))?;
     }
     Ok(values)
+}
+
+/// Every vertex as a task: in the order of growth from the vertex with the least start number, and in ascending order where
+/// all have the same.
+fn first_tasks(alloc: Global, graph: &Graph, values: &[u64]) -> Result<TaskQueue, NoMemory>
+    requires { length values.now ≡ size graph.now }
+    ensures count { IfOk result (λ tasks. length tasks ≡ size graph.now) }
+    ensures all { IfOk result (λ tasks. (u : ℕ) → flag tasks u ≡ nat_lt u (size graph.now)) }
+{
+    if is_one_number(values) {
+        return TaskQueue::ascending(alloc, graph.n());
+    }
+    let first = least_start(values, graph.n());
+    let vertices = growth(alloc, graph, first)?;
+    TaskQueue::listed(alloc, &vertices)
+}
+
+/// Whether all numbers of the list are the first one.
+fn is_one_number(values: &[u64]) -> bool
+    ensures { result ≡ list_all (λ x. x == slice_index values.now 0) values.now }
+{
+    match values.first() {
+        Some(first) => values.iter().all(|value| *value == *first),
+        None => true,
+    }
 }
 
 /// The first of the vertices with the least start number, and vertex 0 where there is none.

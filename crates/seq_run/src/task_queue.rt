@@ -41,8 +41,20 @@ impl Model for TaskQueue {
 }
 
 impl TaskQueue {
+    /// A queue in which every vertex below `count` is a task. They wait in ascending order.
+    pub fn ascending(alloc: Global, count: u32) -> Result<TaskQueue, NoMemory>
+        ensures count { IfOk result (λ tasks. length tasks ≡ count) }
+        ensures all { IfOk result (λ tasks. (u : ℕ) → flag tasks u ≡ nat_lt u count) }
+    {
+        let mut tasks = TaskQueue::none(alloc, count as usize)?;
+        for v in 0..count {
+            tasks.add(Vertex(v));
+        }
+        Ok(tasks)
+    }
+
     /// A queue in which every vertex of a graph is a task. They wait as they stand in the list, which has each once.
-    pub fn all(alloc: Global, vertices: &[Vertex]) -> Result<TaskQueue, NoMemory>
+    pub fn listed(alloc: Global, vertices: &[Vertex]) -> Result<TaskQueue, NoMemory>
         requires { ListsEach (length vertices.now) (numbers_of vertices.now) }
         ensures count { IfOk result (λ tasks. length tasks ≡ length vertices.now) }
         ensures all { IfOk result (λ tasks. (u : ℕ) → flag tasks u ≡ nat_lt u (length vertices.now)) }

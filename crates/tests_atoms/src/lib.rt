@@ -4,6 +4,8 @@
 #[cfg(test)]
 mod files;
 #[cfg(test)]
+mod gathering;
+#[cfg(test)]
 mod graphs;
 #[cfg(test)]
 mod tests;

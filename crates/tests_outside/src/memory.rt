@@ -10,6 +10,10 @@ fn bytes(alloc: Global, text: &str) -> Result<Vec<u8>, AllocError> {
     Vec::from_slice(alloc, text.as_bytes())
 }
 
+fn files_failing(alloc: Global, reads: Vec<u64>, writes: Vec<u64>) -> MemFiles {
+    MemFiles::new(alloc, reads, writes, Vec::new(alloc), u64::MAX)
+}
+
 // What reads with a buffer of two bytes give in turn, a blank at each end of a read and `!` for a fault.
 fn read_in_twos<S: Source>(source: &mut S, turns: u8, seen: &mut Vec<u8>) -> Result<(), Fail> {
     let mut buf = [0; 2];
@@ -66,7 +70,7 @@ fn a_sink_takes_what_fits(rt: HostRuntime) -> Result<(), Fail> {
 #[test]
 fn files_are_known_by_name(rt: HostRuntime) -> Result<(), Fail> {
     let alloc = rt.alloc();
-    let mut files = MemFiles::new(alloc, vec![in alloc; 3, 5]?, Vec::new(alloc));
+    let mut files = files_failing(alloc, vec![in alloc; 3, 5]?, Vec::new(alloc));
     assert_eq!(rt; files.put("a", bytes(alloc, "one")?).is_ok(), true);
     assert_eq!(rt; files.put("b", bytes(alloc, "two")?).is_ok(), true);
     assert_eq!(rt; files.open_source("c"), Err(OpenFault::Failed));
@@ -115,7 +119,7 @@ fn files_are_written_by_name(rt: HostRuntime) -> Result<(), Fail> {
         (2, [None, Some(0), Some(3)].as_slice(), Some("cde")),
         (4, [Some(2), Some(0), None].as_slice(), Some("ab")),
     ] {
-        let mut files = MemFiles::new(alloc, vec![in alloc; 1, 2]?, vec![in alloc; failing]?);
+        let mut files = files_failing(alloc, vec![in alloc; 1, 2]?, vec![in alloc; failing]?);
         assert_eq!(rt; files.put("a", bytes(alloc, "old")?).is_ok(), true);
         let took = written(alloc, &mut files, "a", &["ab", "", "cde"])?;
         assert_eq!(rt; took.as_slice(), seen, "with {failing}");
@@ -127,54 +131,6 @@ fn files_are_written_by_name(rt: HostRuntime) -> Result<(), Fail> {
         );
         assert_eq!(rt; files.bytes("b").is_none(), true);
     }
-    Ok(())
-}
-
-#[test]
-fn files_are_written_side_by_side(rt: HostRuntime) -> Result<(), Fail> {
-    let alloc = rt.alloc();
-    let mut files = MemFiles::new(alloc, Vec::new(alloc), Vec::new(alloc));
-    let (Ok(a), Ok(b)) = (files.open_sink("a"), files.open_sink("b")) else {
-        panic!(rt; "the files were opened");
-    };
-    assert_eq!(rt; (a, b), (FileNo(0), FileNo(1)));
-    assert_eq!(rt; files.write(a, b"one"), Ok(3));
-    assert_eq!(rt; files.write(b, b""), Ok(0));
-    for (name, want) in [("a", Some("one")), ("b", Some("")), ("c", None)] {
-        let held = files.bytes(name);
-        assert_eq!(rt; held == want.map(|text| text.as_bytes()), true, "at {name}");
-    }
-    Ok(())
-}
-
-/// A source goes on with what the file had as it was opened.
-#[test]
-fn sources_keep_what_files_had(rt: HostRuntime) -> Result<(), Fail> {
-    let alloc = rt.alloc();
-    let mut files = MemFiles::new(alloc, Vec::new(alloc), Vec::new(alloc));
-    assert_eq!(rt; files.put("a", bytes(alloc, "before")?).is_ok(), true);
-    let (Ok(source), Ok(a)) = (files.open_source("a"), files.open_sink("a")) else {
-        panic!(rt; "the files were opened");
-    };
-    assert_eq!(rt; write_all(&mut SinkOf::new(&mut files, a), b"more"), Ok(()));
-    let mut seen = Vec::new(alloc);
-    read_in_twos(&mut SourceOf::new(&mut files, source), 4, &mut seen)?;
-    assert_eq!(rt; seen.as_slice(), b"be fo re  ".as_slice());
-    assert_eq!(rt; files.bytes("a") == Some(b"more".as_slice()), true);
-    Ok(())
-}
-
-/// A newer file takes the name, and the older one is written on.
-#[test]
-fn newer_files_take_the_name(rt: HostRuntime) -> Result<(), Fail> {
-    let alloc = rt.alloc();
-    let mut files = MemFiles::new(alloc, Vec::new(alloc), Vec::new(alloc));
-    let (Ok(old), Ok(new)) = (files.open_sink("a"), files.open_sink("a")) else {
-        panic!(rt; "the files were opened");
-    };
-    assert_eq!(rt; files.write(old, b"old"), Ok(3));
-    assert_eq!(rt; files.write(new, b"new"), Ok(3));
-    assert_eq!(rt; files.bytes("a") == Some(b"new".as_slice()), true);
     Ok(())
 }
 

@@ -11,3 +11,7 @@ mod pipes;
 mod plain_locks;
 #[cfg(test)]
 mod plain_pipes;
+#[cfg(test)]
+mod plain_tasks;
+#[cfg(test)]
+mod tasks;

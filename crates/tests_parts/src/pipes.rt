@@ -25,6 +25,27 @@ fn one_in_flight(rt: HostRuntime) -> Result<(), Fail> {
 }
 
 #[test]
+fn in_flight_until_it_finishes(rt: HostRuntime) -> Result<(), Fail> {
+    let mut pipe = ScopePipe::new(rt.alloc(), MachineNo(2), 2)?;
+    let id = pipe.next_id();
+    assert!(rt; !pipe.is_in_flight(id));
+    if pipe.next_id().serial < u64::MAX && pipe.flight_count() < 2 {
+        assert!(rt; pipe.admit_now(Vertex(7)) == id);
+    }
+    assert!(rt; pipe.is_in_flight(id));
+    if pipe.is_in_flight(id) && !pipe.is_ready(id) {
+        assert_eq!(rt; pipe.centre(id), Vertex(7));
+        pipe.ready(id);
+    }
+    assert!(rt; pipe.is_in_flight(id) && pipe.is_ready(id));
+    if pipe.is_in_flight(id) {
+        pipe.finish(id);
+    }
+    assert!(rt; !pipe.is_in_flight(id));
+    Ok(())
+}
+
+#[test]
 fn in_canonical_order(rt: HostRuntime) -> Result<(), Fail> {
     let mut pipe = ScopePipe::new(rt.alloc(), MachineNo(0), 256)?;
     let part = Vec::from_slice(rt.alloc(), &[Vertex(2), Vertex(5), Vertex(9)])?;

@@ -59,6 +59,7 @@ impl Both {
         let is_ready = self.pipe.is_ready(scope);
         let alike = is_ready == self.ready.iter().any(|one| *one == scope)
             && self.pipe.flies(centre)
+            && self.pipe.is_in_flight(scope)
             && self.pipe.centre(scope) == centre;
         if finishes {
             self.pipe.finish(scope);

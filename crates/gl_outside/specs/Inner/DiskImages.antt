@@ -1,10 +1,10 @@
 -- A disk in memory, as it reads, is one of its images. A law's proof may cite `specs/` alone; there is nothing to be
 -- believed in this file.
-use Rattle.std.specs.Prelude.{◌≡◌, ◌⊎◌, ℕ, ◌+◌, ◌-◌, ◌<◌, ◌≤◌, List, [], ◌∷◌, ◌++◌, length, take, drop, replicate, slice_index, All, fold}
+use Rattle.std.specs.Prelude.{◌≡◌, ℕ, ◌+◌, ◌-◌, ◌<◌, ◌≤◌, List, [], ◌∷◌, ◌++◌, length, take, drop, replicate, slice_index, All, fold}
 use Rattle.std.proofs.Common.{inl, inr, refl, ap, ◌∙◌, subst, get_or, arith, length-append}
 use Rattle.std.proofs.lemmas.List.{get_or_append_left, get_or_push, get_or-take, get_or-drop, get_or-append_right, length-replicate, length-take, length-drop}
-use Rattle.gl_outside.specs.Disk.{ByteRange, DiskPast, DiskState, IsOutside, IsTorn, MayLeave, images_now, with_piece}
-use Rattle.gl_outside.specs.MemDisk.{KeptDisk, after_disk_call, at_rest, past_of}
+use Rattle.gl_outside.specs.Disk.{ByteRange, DiskPast, IsOutside, IsTorn, MayLeave, at_rest, images_now, with_piece}
+use Rattle.gl_outside.specs.MemDisk.{KeptDisk, after_disk_call, past_of}
 use Rattle.gl_outside.specs.declared.disk_bytes.DiskCall.{DiskCall}
 use Rattle.gl_outside.specs.declared.disk_bytes.DiskCall.TheVariants.{Wrote, Synced}
 

@@ -1,12 +1,16 @@
--- Proofs of the laws of `Source`, `Sink` and `Files` for the objects here. A law's proof may cite `specs/` alone; there is
+-- Proofs of the laws of `Source`, `Sink`, `Disk` and `Files` for the objects here. A law's proof may cite `specs/` alone; there is
 -- nothing to be believed in this file.
 use Rattle.std.proofs.Common.{◌≡◌, ◌≢◌, ◌⊎◌, inl, inr, ℕ, zero, suc, Bool, true, false, List, [], ◌∷◌, map, get_or, slice_set, Option, None, Some, refl, sym, ap, ◌∙◌, subst}
-use Rattle.std.specs.Prelude.{bytes_eq, fold}
+use Rattle.std.specs.Prelude.{bytes_eq, fold, if◌then◌else◌}
 use Rattle.std.proofs.lemmas.List.{set-get_or}
 use Rattle.std.proofs.lemmas.Slice.Eq.{bytes_eq-Decides}
-use Rattle.gl_outside.specs.FilesState.{FilesState, Written, left_of, sink_of, written_of}
-use Rattle.gl_outside.specs.Frames.{ReadsOnly, WritesOnly}
+use Rattle.gl_outside.specs.Disk.{DiskPast, images_now}
+use Rattle.gl_outside.specs.DiskStore.{NamedDisk, past_among}
+use Rattle.gl_outside.specs.FilesState.{FilesState, Written, disk_name, left_of, past_under, sink_of, written_of}
+use Rattle.gl_outside.specs.Frames.{ChangesDisk, ReadsOnly, WritesOnly}
 use Rattle.gl_outside.specs.Host.{HostState, files_of_host}
+use Rattle.gl_outside.specs.Inner.DiskImages.{kept_image}
+use Rattle.gl_outside.specs.MemDisk.{past_of}
 use Rattle.gl_outside.specs.Store.{NamedBytes, StoreState, bytes_at, bytes_of, files_of_store, newer, newest_name, sink_at}
 
 -- an element is replaced twice
@@ -155,3 +159,29 @@ name_filled store file name is = at store.sinks file is
     at [] k is = absurd (no_name is)
     at (place ∷ places) zero is = newest-gives store.files place name None is
     at (place ∷ places) (suc k) is = at places k is
+
+pub ChangesDisk-refl : (file : ℕ) (files : FilesState) → ChangesDisk file files files
+ChangesDisk-refl file files = record { state = refl; others = λ name apart. refl }
+
+pub ChangesDisk-trans : (file again : ℕ) (a b c : FilesState) → again ≡ file → ChangesDisk file a b → ChangesDisk again b c → ChangesDisk file a c
+ChangesDisk-trans file again a b c one p r =
+    let q : ChangesDisk file b c = subst (λ (k : ℕ). ChangesDisk k b c) one r in
+    let kept : disk_name b file ≡ disk_name a file = ap (λ (s : FilesState). disk_name s file) p.state in
+    record {
+      state = q.state ∙ ap (λ (s : FilesState). record s { pasts = c.pasts; disks = record s.disks { faults = c.disks.faults } }) p.state;
+      others = λ name apart. q.others name (λ is. apart (sym kept ∙ is)) ∙ p.others name apart;
+    }
+
+-- disks in memory, as they read, are images of themselves
+either_image : (b : Bool) (p q : DiskPast) → images_now p p.now.seen → images_now q q.now.seen → images_now (if b then p else q) (if b then p else q).now.seen
+either_image true p q yes_p yes_q = yes_p
+either_image false p q yes_p yes_q = yes_q
+
+pub among_image : (disks : List NamedDisk) (name : List ℕ) → images_now (past_among disks name) (past_among disks name).now.seen
+among_image [] name = refl
+among_image (disk ∷ disks) name = either_image (bytes_eq disk.name name) (past_of disk.kept) (past_among disks name) (kept_image disk.kept) (among_image disks name)
+
+-- an open file is one where each disk is
+pub under_image : (pasts : List ℕ → DiskPast) (name : Option (List ℕ)) → ((own : List ℕ) → images_now (pasts own) (pasts own).now.seen) → images_now (past_under pasts name) (past_under pasts name).now.seen
+under_image pasts None all = refl
+under_image pasts (Some name) all = all name

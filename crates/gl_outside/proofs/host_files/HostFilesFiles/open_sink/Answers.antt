@@ -6,4 +6,4 @@ pub returns-clause-opens : goal.returns-clause-opens
 returns-clause-opens g c =
     let number : c.in-Ok.number ≡ length c.args.self.now.sinks = search rules in
     let grown : c.push_reserved.new.self.items ≡ c.args.self.now.sinks ++ c.in-Ok-create.file ∷ [] = search rules in
-    opens_host c.args.self.now _ c.args.name.now c.in-Ok.number c.in-Ok-create.file number grown (search rules) (search rules)
+    opens_host c.args.self.now _ c.args.name.now c.in-Ok.number c.in-Ok-create.file number grown (search rules) (search rules) (search rules) (search rules)

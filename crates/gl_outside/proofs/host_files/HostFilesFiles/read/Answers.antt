@@ -8,10 +8,10 @@ returns-in-Ok-clause-bytes g c =
     consumes_untold _ _ _ _ c.in-Ok.count (constant {Y = Option (List ℕ)} None _ c.args.file.0) (constant {Y = Option (List ℕ)} None _ c.args.file.0)
 
 pub returns-in-Ok-clause-frame : goal.returns-in-Ok-clause-frame
-returns-in-Ok-clause-frame g c = reads_host c.args.self.now _ c.args.file.0 c.read.new.self (search rules) (search rules) (search rules)
+returns-in-Ok-clause-frame g c = reads_host c.args.self.now _ c.args.file.0 c.read.new.self (search rules) (search rules) (search rules) (search rules) (search rules)
 
 pub returns-in-Err-clause-frame : goal.returns-in-Err-clause-frame
-returns-in-Err-clause-frame g c = reads_host c.args.self.now _ c.args.file.0 c.read.new.self (search rules) (search rules) (search rules)
+returns-in-Err-clause-frame g c = reads_host c.args.self.now _ c.args.file.0 c.read.new.self (search rules) (search rules) (search rules) (search rules) (search rules)
 
 pub returns-in-Ok-clause-from_system : goal.returns-in-Ok-clause-from_system
 returns-in-Ok-clause-from_system g c =

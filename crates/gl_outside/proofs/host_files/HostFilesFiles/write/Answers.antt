@@ -3,10 +3,10 @@ use Rattle.gl_outside.proofs.HostFrames.{changes_at, number_inside, writes_host}
 use Rattle.gl_outside.proofs.host_files.HostFilesFiles.write.Goals as goal
 
 pub returns-in-Ok-clause-frame : goal.returns-in-Ok-clause-frame
-returns-in-Ok-clause-frame g c = writes_host c.args.self.now _ c.args.file.0 c.write_through.new.writer (search rules) (search rules) (search rules)
+returns-in-Ok-clause-frame g c = writes_host c.args.self.now _ c.args.file.0 c.write_through.new.writer (search rules) (search rules) (search rules) (search rules) (search rules)
 
 pub returns-in_default-clause-frame : goal.returns-in_default-clause-frame
-returns-in_default-clause-frame g c = writes_host c.args.self.now _ c.args.file.0 c.write_through.new.writer (search rules) (search rules) (search rules)
+returns-in_default-clause-frame g c = writes_host c.args.self.now _ c.args.file.0 c.write_through.new.writer (search rules) (search rules) (search rules) (search rules) (search rules)
 
 pub returns-in-Ok-clause-to_system : goal.returns-in-Ok-clause-to_system
 returns-in-Ok-clause-to_system g c =

@@ -27,14 +27,14 @@ returns-clause-opens c =
     let number : c.in-Ok.number ≡ length sinks = search rules in
     let are = subst (λ (s : StoreState). AreSinks s.files s.sinks) c.self.view_is c.self.invariant.1 in
     let opened = c.self.inside.opened.items in
-    opens_sink c.args.self.now (record { files = _; source_names = _; opened = _; reads = _; sink_names = _; sinks = _; writes = c.count-listed.new.self }) file c.args.name.now c.in-Ok.number c.in_ok-copied_name-2.ensures c.new.ensures.items
+    opens_sink c.args.self.now (record { files = _; source_names = _; opened = _; reads = _; sink_names = _; sinks = _; writes = c.count-listed.new.self; disks = _ }) file c.args.name.now c.in-Ok.number c.in_ok-copied_name-2.ensures c.new.ensures.items
     (number ∙ ap (λ (s : StoreState). length s.sinks) c.self.view_is)
     (grown ∙ ap (λ (s : StoreState). s.files ++ file ∷ []) c.self.view_is)
     (sunk ∙ ap (λ (s : StoreState). s.sinks ++ length s.files ∷ []) c.self.view_is) are
     (ap (λ (s : StoreState). s.reads) c.self.view_is) (ap (λ (s : StoreState). s.source_names) c.self.view_is)
     (ap (λ (fs : List NamedBytes). map (left_in fs) opened) grown
     ∙ map-left_in-append files (file ∷ []) opened c.self.invariant.0
-    ∙ ap (λ (s : StoreState). s.opened) c.self.view_is)
+    ∙ ap (λ (s : StoreState). s.opened) c.self.view_is) (ap (λ (s : StoreState). s.disks) c.self.view_is)
 
 pub returns-clause-gives : goal.returns-clause-gives
 returns-clause-gives c =

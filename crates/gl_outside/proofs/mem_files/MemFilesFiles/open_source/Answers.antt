@@ -18,9 +18,9 @@ returns-clause-opens c =
     let same : c.behind-self.inside.bytes.items ≡ bytes_at files c.in-Some.place =
     ap (λ (f : NamedBytes). f.bytes) c.behind-self.view_is ∙ sym (bytes_at-read files c.in-Some.place c.index.result.now inside c.index.ensures) in
     let left = left_in-new files c.in-Some.place c.len-end.result (size ∙ ap (length {A = ℕ}) same) in
-    opens_source c.args.self.now (record { files = _; source_names = _; opened = _; reads = c.count-listed.new.self; sink_names = _; sinks = _; writes = _ }) c.args.name.now c.in-Ok.number (left_in files new)
+    opens_source c.args.self.now (record { files = _; source_names = _; opened = _; reads = c.count-listed.new.self; sink_names = _; sinks = _; writes = _; disks = _ }) c.args.name.now c.in-Ok.number (left_in files new)
     (number ∙ sym (length-map c.self.inside.opened.items (left_in files)) ∙ ap (λ (s : StoreState). length s.opened) c.self.view_is)
     (ap (map (left_in files)) grown ∙ map-append (left_in files) c.self.inside.opened.items (new ∷ []) ∙ ap (λ (s : StoreState). s.opened ++ left_in files new ∷ []) c.self.view_is)
     (sym (ap (λ (s : StoreState). bytes_of s.files c.args.name.now) c.self.view_is) ∙ sym found ∙ ap (λ (bytes : _). Some bytes) (sym left))
     (ap (λ (s : StoreState). s.files) c.self.view_is) (ap (λ (s : StoreState). s.writes) c.self.view_is)
-    (ap (λ (s : StoreState). s.sink_names) c.self.view_is) (ap (λ (s : StoreState). s.sinks) c.self.view_is)
+    (ap (λ (s : StoreState). s.sink_names) c.self.view_is) (ap (λ (s : StoreState). s.sinks) c.self.view_is) (ap (λ (s : StoreState). s.disks) c.self.view_is)

@@ -19,10 +19,10 @@ pub returns-clause-frame : goal.returns-clause-frame
 returns-clause-frame c =
     let files = c.self.inside.files.items in
     let opened = c.self.inside.opened.items in
-    reads_only c.args.self.now (record { files = _; source_names = _; opened = _; reads = c.count.new.self; sink_names = _; sinks = _; writes = _ }) c.args.file.0 (left_in files c.read_on-count.result.1) (number_inside c.args.self.now c.args.file.0 c.requires)
+    reads_only c.args.self.now (record { files = _; source_names = _; opened = _; reads = c.count.new.self; sink_names = _; sinks = _; writes = _; disks = _ }) c.args.file.0 (left_in files c.read_on-count.result.1) (number_inside c.args.self.now c.args.file.0 c.requires)
     (map-slice_set (left_in files) opened c.args.file.0 c.read_on-count.result.1 ∙ ap (λ (s : StoreState). slice_set s.opened c.args.file.0 (left_in files c.read_on-count.result.1)) c.self.view_is)
     (ap (λ (s : StoreState). s.source_names) c.self.view_is) (ap (λ (s : StoreState). s.files) c.self.view_is) (ap (λ (s : StoreState). s.writes) c.self.view_is)
-    (ap (λ (s : StoreState). s.sink_names) c.self.view_is) (ap (λ (s : StoreState). s.sinks) c.self.view_is)
+    (ap (λ (s : StoreState). s.sink_names) c.self.view_is) (ap (λ (s : StoreState). s.sinks) c.self.view_is) (ap (λ (s : StoreState). s.disks) c.self.view_is)
 
 pub returns-clause-all : goal.returns-clause-all
 returns-clause-all c =

@@ -26,9 +26,9 @@ returns-in-Ok-clause-frame c =
     let at = place_of old c.self.inside.sinks.items c.args.file.0 place are sinks c.requires c.index-place.ensures in
     let inside : place < length c.self.inside.files.items = omega (arith, at.1, ap (λ (s : StoreState). length s.files) c.self.view_is) in
     let opened = c.self.inside.opened.items in
-    writes_only old (record { files = _; source_names = _; opened = _; reads = _; sink_names = _; sinks = _; writes = c.count.new.self }) c.args.file.0 place c.args.piece.now ready at.0 at.1 are
+    writes_only old (record { files = _; source_names = _; opened = _; reads = _; sink_names = _; sinks = _; writes = c.count.new.self; disks = _ }) c.args.file.0 place c.args.piece.now ready at.0 at.1 are
     (c.in-Ok.ensures.ok ∙ ap (λ (s : StoreState). appended s.files place c.args.piece.now ready) c.self.view_is) sinks
     (ap (λ (s : StoreState). s.sink_names) c.self.view_is) (ap (λ (s : StoreState). s.reads) c.self.view_is) (ap (λ (s : StoreState). s.source_names) c.self.view_is)
     (ap (λ (fs : List NamedBytes). map (left_in fs) opened) c.in-Ok.ensures.ok
     ∙ map-left_in-appended c.self.inside.files.items place c.args.piece.now ready opened inside c.self.invariant.0
-    ∙ ap (λ (s : StoreState). s.opened) c.self.view_is)
+    ∙ ap (λ (s : StoreState). s.opened) c.self.view_is) (ap (λ (s : StoreState). s.disks) c.self.view_is)

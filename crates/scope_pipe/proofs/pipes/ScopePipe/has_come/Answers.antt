@@ -1,10 +1,8 @@
-use Rattle.std.proofs.Common.{◌≡◌, ◌∙◌, Option, Some, None, is_some, IfSome, List, sym, ap, ap₂, subst}
+use Rattle.std.proofs.Common.{◌∙◌, is_some, IfSome, List, sym, ap, subst}
 use Rattle.scope_lists.specs.Found.{by_scope, StandsAt}
 use Rattle.scope_lists.proofs.FoundLemmas.{place_found}
-use Rattle.scope_pipe.specs.declared.flights.Flight.{Flight}
 use Rattle.scope_pipe.specs.Entered.{EnteredView, entered_scope}
-use Rattle.scope_pipe.specs.Pipes.{PipeView, flight_scope, flight_at, is_ready, entered_at}
-use Rattle.scope_pipe.specs.contracts.pipes.ScopePipe.{the_view}
+use Rattle.scope_pipe.specs.Pipes.{PipeView, entered_at}
 use Rattle.scope_pipe.proofs.pipes.ScopePipe.has_come.Goals as goal
 
 pub returns : goal.returns

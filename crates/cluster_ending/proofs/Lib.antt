@@ -1,0 +1,17 @@
+pub mod Sums
+pub mod Words
+pub mod Leaving
+pub mod Deeds
+pub mod Idle
+pub mod Turns
+pub mod Coming
+pub mod Putting
+pub mod Growing
+pub mod Watching
+pub mod Finding
+pub mod Courses
+pub mod Fronts
+pub mod Informing
+pub mod Reporting
+pub mod WorkedWaves
+pub mod Stepless

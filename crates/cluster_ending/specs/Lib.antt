@@ -1,0 +1,4 @@
+pub mod Watched
+pub mod Ends
+pub mod Snapshotting
+pub mod FourWaves

@@ -1,0 +1,12 @@
+-- The updates of a snapshot are in no other one.
+use Rattle.cluster_model.specs.Working.{half_window}
+use Rattle.cluster_core.specs.Recovering.{going_on}
+use Rattle.cluster_model.specs.Events.{recovers}
+use Rattle.cluster_records.specs.Few.{snapshots_in_all, unasked_in}
+use Rattle.cluster_records.proofs.Fewness.{attempts_few, by_half}
+use Rattle.cluster_records.proofs.laws.snapshots_are_few.Goals as goal
+
+pub returns : goal.returns
+returns c = λ st base cluster events new is coloured some course.
+    by_half (half_window st) (snapshots_in_all events) (unasked_in (going_on st base.numbers base.number) (recovers st base cluster) events) cluster.left some
+    (attempts_few st is coloured base cluster events new course)

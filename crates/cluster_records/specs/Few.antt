@@ -1,0 +1,25 @@
+-- How many snapshots a list of events stores.
+use Rattle.std.specs.Prelude.{List, [], if◌then◌else◌, ℕ, ◌+◌, ◌∷◌}
+use Rattle.cluster_core.specs.Settings.{Setting}
+use Rattle.cluster_model.specs.Clusters.{Cluster}
+use Rattle.cluster_model.specs.Events.{Event, PutBegin, Record, after_event, setting_after}
+
+-- 1 where a snapshot is acknowledged
+abbrev pub snapshot_at : Event → ℕ
+snapshot_at Record = 1
+snapshot_at event = 0
+
+-- how many are acknowledged
+abbrev pub snapshots_in_all : List Event → ℕ
+snapshots_in_all [] = 0
+snapshots_in_all (event ∷ events) = snapshot_at event + snapshots_in_all events
+
+-- 1 where a snapshot begins that no machine asked for
+abbrev pub unasked_at : Cluster → Event → ℕ
+unasked_at c PutBegin = if c.coordinator.wanted then 0 else 1
+unasked_at c event = 0
+
+-- how many such snapshots begin
+abbrev pub unasked_in : Setting → Cluster → List Event → ℕ
+unasked_in st c [] = 0
+unasked_in st c (event ∷ events) = unasked_at c event + unasked_in (setting_after st event) (after_event st c event) events

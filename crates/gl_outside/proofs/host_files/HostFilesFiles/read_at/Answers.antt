@@ -1,0 +1,19 @@
+use Rattle.std.proofs.Common.{◌<◌, length, rules}
+use Rattle.gl_outside.proofs.HostFrames.{changes_at, looks_host, number_inside}
+use Rattle.gl_outside.proofs.host_files.HostFilesFiles.read_at.Goals as goal
+
+pub returns-in-Ok-clause-frame : goal.returns-in-Ok-clause-frame
+returns-in-Ok-clause-frame g c = looks_host c.args.self.now _ c.args.file.0 c.read_at.new.self (search rules) (search rules) (search rules) (search rules) (search rules)
+
+pub returns-in-Ok-clause-of_its_file : goal.returns-in-Ok-clause-of_its_file
+returns-in-Ok-clause-of_its_file g c =
+    let inside : c.args.file.0 < length c.args.self.now.disks = number_inside _ c.args.self.now.disks c.args.file.0 c.requires in
+    changes_at c.args.self.now.disks _ c.args.file.0 c.index_mut.result.now c.read_at.new.self _ inside (search rules) (search rules) tt
+
+pub returns-in-Err-clause-frame : goal.returns-in-Err-clause-frame
+returns-in-Err-clause-frame g c = looks_host c.args.self.now _ c.args.file.0 c.read_at.new.self (search rules) (search rules) (search rules) (search rules) (search rules)
+
+pub returns-in-Err-clause-of_its_file : goal.returns-in-Err-clause-of_its_file
+returns-in-Err-clause-of_its_file g c =
+    let inside : c.args.file.0 < length c.args.self.now.disks = number_inside _ c.args.self.now.disks c.args.file.0 c.requires in
+    changes_at c.args.self.now.disks _ c.args.file.0 c.index_mut.result.now c.read_at.new.self _ inside (search rules) (search rules) tt

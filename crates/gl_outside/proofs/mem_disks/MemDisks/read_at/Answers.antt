@@ -1,0 +1,11 @@
+use Rattle.std.proofs.Common.{sym, ap, ◌∙◌, subst}
+use Rattle.gl_outside.specs.Disk.{DiskPast, ReadsSome}
+use Rattle.gl_outside.specs.DiskStore.{NamedDisk}
+use Rattle.gl_outside.specs.MemDisk.{past_of}
+use Rattle.gl_outside.proofs.DiskPlaces.{past_of_open}
+use Rattle.gl_outside.proofs.mem_disks.MemDisks.read_at.Goals as goal
+
+pub returns-clause-bytes : goal.returns-clause-bytes
+returns-clause-bytes c =
+    let found = past_of_open _ c.args.self.now c.self.view_is c.self.invariant.0 c.self.invariant.1 c.args.file.0 c.index.result.now c.index-disk.result.now c.requires c.index.ensures c.index-disk.ensures in
+    subst (λ (p : DiskPast). ReadsSome p.now.seen c.args.at c.read.new.buf c.read.result) (ap (λ (d : NamedDisk). past_of d.kept) c.disk.view_is ∙ sym found) c.read.ensures

@@ -1,0 +1,9 @@
+pub mod FillLemmas
+pub mod PlaceLemmas
+pub mod RowLemmas
+pub mod EndLemmas
+pub mod ListLemmas
+pub mod ScopeLemmas
+pub mod LowLemmas
+pub mod PlayLemmas
+pub mod MadeLemmas

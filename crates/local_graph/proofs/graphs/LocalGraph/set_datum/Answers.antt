@@ -1,0 +1,17 @@
+use Rattle.std.proofs.Common.{◌≡◌, ◌<◌, ◌==◌, true, Some, if◌then◌else◌, length, set, sym, ◌∙◌, subst}
+use Rattle.local_graph.specs.Locals.{LocalView, own_datum, is_own, got_at, place_of_vertex}
+use Rattle.local_graph.proofs.PlaceLemmas.{got_written}
+use Rattle.local_graph.proofs.RowLemmas.{own_place}
+use Rattle.local_graph.proofs.graphs.LocalGraph.set_datum.Goals as goal
+
+pub returns-clause-datum : goal.returns-clause-datum
+returns-clause-datum c =
+    let g = c.self.inside in
+    let v = c.args.v.0 in
+    let k = c.in-Some.place in
+    let at : place_of_vertex g.places v ≡ Some k = sym c.place.ensures ∙ c.in-Some.is in
+    let own = subst (λ (l : LocalView). is_own l v ≡ true) (sym c.self.view_is) c.requires in
+    let within : k < length g.kept.items = own_place g.kept.items (place_of_vertex g.places v) k at own in
+    λ x.
+    subst (λ (l : LocalView). got_at (set g.kept.items k c.args.datum) (place_of_vertex g.places x) ≡ (if x == v then Some c.args.datum else own_datum l x)) c.self.view_is
+    (got_written g.places g.kept.items v k c.args.datum c.self.invariant.apart at within x)

@@ -1,0 +1,5 @@
+use Rattle.local_graph.proofs.FillLemmas.{AreFilled}
+use Rattle.local_graph.proofs.numbers.fill_numbers.Given as goal
+
+abbrev pub invariant-loop-side : goal.invariant-loop-side
+invariant-loop-side l = AreFilled l.filled l.sides l.numbers l.side-index

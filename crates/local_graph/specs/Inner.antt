@@ -1,0 +1,6 @@
+-- What the type and the clauses of private functions cite.
+pub mod Kept
+pub mod Views
+pub mod Ends
+pub mod Pairs
+pub mod ByPlace

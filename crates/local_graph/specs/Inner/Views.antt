@@ -1,0 +1,21 @@
+-- What contracts see of a machine's lists.
+use Rattle.std.specs.Prelude.{map}
+use Rattle.local_graph.specs.declared.graphs.LocalGraph.TheInside.{Inside}
+use Rattle.local_graph.specs.Locals.{LocalView}
+use Rattle.local_graph.specs.Inner.Kept.{links_of}
+
+abbrev pub local_view_of : Inside → LocalView
+local_view_of g =
+    record {
+      me = g.me;
+      owned = g.owned.items;
+      ghosts = g.ghosts.items;
+      places = g.places;
+      ids = g.ids.items;
+      kept = g.kept.items;
+      rows = map links_of g.rows.items;
+      sides = g.sides;
+      parts = g.parts;
+      part = g.part;
+      numbers = g.numbers.items;
+    }

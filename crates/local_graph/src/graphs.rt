@@ -1,0 +1,198 @@
+//! The part of the graph that a machine owns.
+ghost use Rattle.std.specs.Prelude.{◌≡◌, ℕ, ◌<◌, ◌≤◌, ◌==◌, true, None, Some, is_some, length, if◌then◌else◌, vec_capacity};
+ghost use Rattle.local_graph.specs.Locals.{is_placed, is_own, own_datum, id_at, links_at, sides_at, parts_at, part_at, edge_number_at, HasEdge, numbers_along, written};
+
+use crate::numbers::{fill_numbers, write_numbers};
+use crate::{Row, Side};
+use gl_base::{Datum, EdgeNo, GhostLine, MachineNo, Vertex};
+use graph_core::Rows;
+use std::marker::Model;
+use update_api::Link;
+use vertex_places::Places;
+
+/// The part of the graph that a machine owns, with the data of its own vertices and the numbers of edges. Contracts see it by
+/// the vertex's number; what is kept stands in an order of the machine's own.
+#[derive(Drop)]
+pub struct LocalGraph {
+    pub(crate) me: MachineNo,
+    pub(crate) owned: Vec<Vertex>,
+    pub(crate) ghosts: Vec<GhostLine>,
+    pub(crate) places: Places,
+    pub(crate) ids: Vec<u64>,
+    pub(crate) kept: Vec<Datum>,
+    pub(crate) rows: Vec<Option<Vec<Link>>>,
+    pub(crate) sides: Rows<Side>,
+    pub(crate) parts: Rows<MachineNo>,
+    pub(crate) part: Rows<Vertex>,
+    pub(crate) numbers: Vec<u64>,
+}
+
+impl Model for LocalGraph {
+    ghost use Rattle.std.specs.Prelude.{map};
+    ghost use Rattle.local_graph.specs.Locals.{LocalView};
+
+    ghost Value = { LocalView };
+
+    ghost use Rattle.local_graph.specs.Inner.Views.{local_view_of};
+    ghost use Rattle.local_graph.specs.Inner.Kept.{IsWellKept};
+
+    ghost view = { local_view_of };
+
+    ghost invariant = { λ g. IsWellKept (local_view_of g) };
+}
+
+impl LocalGraph {
+    /// The machine.
+    pub fn me(&self) -> MachineNo
+        ensures { result ≡ self.now.me }
+    {
+        self.me
+    }
+
+    /// Its own vertices, ascending.
+    pub fn owned(&self) -> &[Vertex]
+        ensures { result.now ≡ self.now.owned }
+    {
+        &self.owned
+    }
+
+    /// Its ghosts, ascending.
+    pub fn ghosts(&self) -> &[GhostLine]
+        ensures { result.now ≡ self.now.ghosts }
+    {
+        &self.ghosts
+    }
+
+    /// Whether the machine owns v.
+    pub fn owns(&self, v: Vertex) -> bool
+        ensures { result ≡ is_own self.now v.0 }
+    {
+        match self.places.place(v) {
+            Some(place) => place < self.kept.len(),
+            None => false,
+        }
+    }
+
+    /// The identifier of an own vertex.
+    pub fn id(&self, v: Vertex) -> u64
+        requires { is_own self.now v.0 ≡ true }
+        ensures { result ≡ id_at self.now v.0 }
+    {
+        match self.places.place(v) {
+            Some(place) => self.ids[place],
+            None => unreachable!(),
+        }
+    }
+
+    /// The datum of an own vertex.
+    pub fn datum(&self, v: Vertex) -> Datum
+        requires { is_own self.now v.0 ≡ true }
+        ensures { own_datum self.now v.0 ≡ Some result }
+    {
+        match self.places.place(v) {
+            Some(place) => self.kept[place],
+            None => unreachable!(),
+        }
+    }
+
+    /// Writes the datum of an own vertex.
+    pub fn set_datum(&mut self, v: Vertex, datum: Datum)
+        requires { is_own self.old v.0 ≡ true }
+        ensures datum { (x : ℕ) → own_datum self.new x ≡ (if x == v.0 then Some datum else own_datum self.old x) }
+        ensures rest { self.new ≡ record self.old { kept = self.new.kept } }
+    {
+        match self.places.place(v) {
+            Some(place) => self.kept[place] = datum,
+            None => unreachable!(),
+        }
+    }
+
+    /// The edges at an own vertex or a ghost that the machine holds, in the order of edges.
+    pub fn sides(&self, v: Vertex) -> &[Side]
+        ensures { result.now ≡ sides_at self.now v.0 }
+    {
+        match self.places.place(v) {
+            Some(place) => self.sides.row(place),
+            None => &[],
+        }
+    }
+
+    /// The machines of the scope of an own vertex, ascending.
+    pub fn parts(&self, v: Vertex) -> &[MachineNo]
+        requires { is_own self.now v.0 ≡ true }
+        ensures { result.now ≡ parts_at self.now v.0 }
+    {
+        match self.places.place(v) {
+            Some(place) => self.parts.row(place),
+            None => unreachable!(),
+        }
+    }
+
+    /// The own vertices in the scope of an own vertex or a ghost, ascending, and none for any other vertex.
+    pub fn part(&self, v: Vertex) -> &[Vertex]
+        ensures { result.now ≡ part_at self.now v.0 }
+    {
+        match self.places.place(v) {
+            Some(place) => self.part.row(place),
+            None => &[],
+        }
+    }
+
+    /// The number of an edge.
+    pub fn number(&self, edge: EdgeNo) -> u64
+        requires { HasEdge self.now edge.0 }
+        ensures { result ≡ edge_number_at self.now edge.0 }
+    {
+        self.numbers[edge.0 as usize]
+    }
+
+    /// Writes the number of an edge.
+    pub fn set_number(&mut self, edge: EdgeNo, number: u64)
+        requires { HasEdge self.old edge.0 }
+        ensures number { (e : ℕ) → edge_number_at self.new e ≡ (if e == edge.0 then number else edge_number_at self.old e) }
+        ensures edges { (e : ℕ) → HasEdge self.old e → HasEdge self.new e }
+        ensures rest { self.new ≡ record self.old { numbers = self.new.numbers } }
+    {
+        self.numbers[edge.0 as usize] = number;
+    }
+
+    /// Moves the row of an own vertex out, with the numbers of its edges in a list that has room for them.
+    pub fn take_row(&mut self, v: Vertex, spare: Vec<u64>) -> Row
+        requires row { is_some (links_at self.old v.0) ≡ true }
+        requires room { length (sides_at self.old v.0) ≤ vec_capacity spare }
+        ensures links { links_at self.old v.0 ≡ Some result.links.items }
+        ensures many { length result.links.items ≡ length (sides_at self.old v.0) }
+        ensures numbers { result.numbers.items ≡ numbers_along (edge_number_at self.old) (sides_at self.old v.0) }
+        ensures out { (x : ℕ) → links_at self.new x ≡ (if x == v.0 then None else links_at self.old x) }
+        ensures rest { self.new ≡ record self.old { rows = self.new.rows } }
+    {
+        let Some(place) = self.places.place(v) else {
+            unreachable!();
+        };
+        let numbers = fill_numbers(spare, self.sides.row(place), &self.numbers);
+        match self.rows[place].take() {
+            Some(links) => Row { links, numbers },
+            None => unreachable!(),
+        }
+    }
+
+    /// Moves the row of an own vertex back, and writes the numbers of its edges. Hands back the list that they stood in.
+    pub fn put_row(&mut self, v: Vertex, row: Row) -> Vec<u64>
+        requires own { is_own self.old v.0 ≡ true }
+        requires links { length row.links.items ≡ length (sides_at self.old v.0) }
+        requires numbers { length row.numbers.items ≡ length (sides_at self.old v.0) }
+        ensures spare { result ≡ row.numbers }
+        ensures back { (x : ℕ) → links_at self.new x ≡ (if x == v.0 then Some row.links.items else links_at self.old x) }
+        ensures numbers { (e : ℕ) → edge_number_at self.new e ≡ written (sides_at self.old v.0) row.numbers.items (edge_number_at self.old) e }
+        ensures edges { (e : ℕ) → HasEdge self.old e → HasEdge self.new e }
+        ensures rest { self.new ≡ record self.old { rows = self.new.rows; numbers = self.new.numbers } }
+    {
+        let Row { links, numbers } = row;
+        let Some(place) = self.places.place(v) else {
+            unreachable!();
+        };
+        write_numbers(&mut self.numbers, self.sides.row(place), &numbers);
+        self.rows[place] = Some(links);
+        numbers
+    }
+}

@@ -1,0 +1,3 @@
+mod Staging
+mod Keeping
+mod Picks

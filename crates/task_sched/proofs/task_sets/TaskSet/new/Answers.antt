@@ -1,0 +1,38 @@
+use Rattle.std.proofs.Common.{◌≡◌, ◌∙◌, ℕ, ◌<◌, ◌≤◌, Bool, true, false, List, nat_lt, ap, sym, ⊎_elim, arith}
+use Rattle.std.proofs.Math.ListN.{replicate}
+use Rattle.std.proofs.lemmas.Bool.{cases_lt, lt-ltb, le-ltb}
+use Rattle.std.proofs.lemmas.List.{get_or-replicate, get_or_past, length-replicate}
+use Rattle.vertex_queue.proofs.Queueing.{flags_down}
+use Rattle.task_sched.specs.Tasks.{is_flagged}
+use Rattle.task_sched.proofs.Keeping.{kept_new}
+use Rattle.task_sched.proofs.task_sets.TaskSet.new.Goals as goal
+
+flags_up : (n u : ℕ) → is_flagged (replicate n true) u ≡ nat_lt u n
+flags_up n u = ⊎_elim
+    (λ (within : u < n). get_or-replicate n u true false within ∙ sym (lt-ltb u n within))
+    (λ (past : n ≤ u). get_or_past (replicate n true) u false (rw length-replicate past) ∙ sym (le-ltb u n past))
+    (cases_lt u n)
+
+pub invariant_of-result : goal.invariant_of-result
+invariant_of-result c =
+    let n = c.args.count in
+    let tasks : c.in_ok-from_elem.field-0.items ≡ replicate n true = c.in_ok-from_elem.ensures.items_if_clones_equal (λ y clone. clone) in
+    let pending : c.in_ok-from_elem-2.field-0.items ≡ replicate n false = c.in_ok-from_elem-2.ensures.items_if_clones_equal (λ y clone. clone) in
+    let admitted : c.in_ok-from_elem-3.field-0.items ≡ replicate n false = c.in_ok-from_elem-3.ensures.items_if_clones_equal (λ y clone. clone) in
+    let planned : c.in_ok-from_elem-4.field-0.items ≡ replicate n false = c.in_ok-from_elem-4.ensures.items_if_clones_equal (λ y clone. clone) in
+    rw (tasks, pending, admitted, planned)
+    (kept_new n (replicate n true) (replicate n false) (replicate n false) (replicate n false) c.in_ok-new.field-0 c.in_ok-new-2.field-0.among c.args.window
+    (omega (arith, c.ranges.count.fits)) (length-replicate n true) (length-replicate n false) (length-replicate n false) (length-replicate n false) c.in_ok-new.ensures.count c.in_ok-new-2.ensures.count
+    (flags_up n) (flags_down n) (flags_down n) (flags_down n) c.in_ok-new.ensures.all c.in_ok-new-2.ensures.none)
+
+pub returns-clause-none : goal.returns-clause-none
+returns-clause-none c =
+    let n = c.args.count in
+    let pending : c.in_ok-from_elem-2.field-0.items ≡ replicate n false = c.in_ok-from_elem-2.ensures.items_if_clones_equal (λ y clone. clone) in
+    let admitted : c.in_ok-from_elem-3.field-0.items ≡ replicate n false = c.in_ok-from_elem-3.ensures.items_if_clones_equal (λ y clone. clone) in
+    let planned : c.in_ok-from_elem-4.field-0.items ≡ replicate n false = c.in_ok-from_elem-4.ensures.items_if_clones_equal (λ y clone. clone) in
+    λ u. (
+      ap (λ (flags : List Bool). is_flagged flags u) pending ∙ flags_down n u,
+      ap (λ (flags : List Bool). is_flagged flags u) admitted ∙ flags_down n u,
+      ap (λ (flags : List Bool). is_flagged flags u) planned ∙ flags_down n u,
+    )

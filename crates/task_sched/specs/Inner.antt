@@ -1,0 +1,4 @@
+-- What the clauses of private functions and the invariants cite. Who reads the public clauses need not read it.
+pub mod Stages
+pub mod Kept
+pub mod Picking

@@ -1,0 +1,18 @@
+//! What a crash may leave of a small history, worked out by hand.
+ghost use Rattle.std.specs.Prelude.{◌≡◌, ℕ, List, [], ◌∷◌};
+ghost use Rattle.gl_outside.specs.Disk.{images_now, images_since};
+ghost use Rattle.tests_outside.specs.History.{synced, written_over};
+
+/// Of the bytes 1, 2, 3 the one at place 1 is written over by 9. Until a sync a crash may leave any byte there and any bytes
+/// behind the old end, and nothing else; behind the sync it leaves 1, 9, 3, and before it may have left what it might then.
+pub fn images_of_a_write()
+    ensures seen { written_over.now.seen ≡ 1 ∷ 9 ∷ 3 ∷ [] }
+    ensures old { images_now written_over (1 ∷ 2 ∷ 3 ∷ []) }
+    ensures torn { images_now written_over (1 ∷ 7 ∷ 3 ∷ []) }
+    ensures longer { images_now written_over (1 ∷ 9 ∷ 3 ∷ 8 ∷ []) }
+    ensures shorter { images_now written_over (1 ∷ 9 ∷ []) → ⊥ }
+    ensures elsewhere { images_now written_over (1 ∷ 9 ∷ 4 ∷ []) → ⊥ }
+    ensures only { (image : List ℕ) → images_now synced image → image ≡ 1 ∷ 9 ∷ 3 ∷ [] }
+    ensures earlier { images_since synced 1 (1 ∷ 7 ∷ 3 ∷ []) }
+    ensures later { images_since synced 2 (1 ∷ 7 ∷ 3 ∷ []) → ⊥ }
+{}

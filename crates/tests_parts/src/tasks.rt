@@ -1,0 +1,165 @@
+//! Tasks: which vertex is admitted next.
+use gl_base::Vertex;
+use std::test::Fail;
+use task_sched::{Pick, TaskSet};
+
+/// A call, and what it is to answer.
+#[derive(Clone, Copy)]
+enum Call {
+    Wake(u32, u64),
+    Pend(u32),
+    Snapshot(u32),
+    Update(u32),
+    Nothing,
+    Ran(u32),
+    Marked(u32),
+    Acknowledged(u64),
+    Reset,
+}
+
+/// Makes the call, and tells whether its answer is the wanted one.
+fn make(set: &mut TaskSet, call: Call) -> bool {
+    match call {
+        Call::Wake(v, key) => wake(set, Vertex(v), key),
+        Call::Pend(v) => pend(set, Vertex(v)),
+        Call::Snapshot(v) => gives(set, Some((v, true))),
+        Call::Update(v) => gives(set, Some((v, false))),
+        Call::Nothing => gives(set, None),
+        Call::Ran(v) => ran(set, Vertex(v)),
+        Call::Marked(v) => marked(set, Vertex(v)),
+        Call::Acknowledged(count) => acknowledged(set, count),
+        Call::Reset => {
+            set.reset();
+            true
+        }
+    }
+}
+
+/// Whether these are the answers of `look` and of `next`.
+fn gives(set: &mut TaskSet, wanted: Option<(u32, bool)>) -> bool {
+    let wanted = wanted.map(|(v, snapshot)| Pick {
+        vertex: Vertex(v),
+        snapshot,
+    });
+    let looked = set.look();
+    let next = set.next();
+    looked == wanted && next == wanted
+}
+
+pub fn wake(set: &mut TaskSet, v: Vertex, key: u64) -> bool {
+    if v.0 >= set.count() {
+        return false;
+    }
+    set.wake(v, key);
+    set.is_task(v)
+}
+
+pub fn pend(set: &mut TaskSet, v: Vertex) -> bool {
+    if v.0 >= set.count() {
+        return false;
+    }
+    set.pend(v);
+    set.is_pending(v)
+}
+
+pub fn ran(set: &mut TaskSet, v: Vertex) -> bool {
+    if !set.is_admitted(v) || !set.is_task(v) || set.is_pending(v) || set.outside() == u64::MAX {
+        return false;
+    }
+    set.ran(v);
+    !set.is_admitted(v)
+}
+
+pub fn marked(set: &mut TaskSet, v: Vertex) -> bool {
+    if !set.is_admitted(v) || !set.is_pending(v) {
+        return false;
+    }
+    set.marked(v);
+    !set.is_pending(v)
+}
+
+pub fn acknowledged(set: &mut TaskSet, count: u64) -> bool {
+    if count > set.outside() {
+        return false;
+    }
+    set.acknowledged(count);
+    true
+}
+
+#[test]
+fn within_the_window(rt: HostRuntime) -> Result<(), Fail> {
+    let calls = [
+        Call::Update(0),
+        Call::Nothing,
+        Call::Ran(0),
+        Call::Nothing,
+        Call::Acknowledged(1),
+        Call::Update(1),
+        Call::Nothing,
+        Call::Pend(1),
+        Call::Nothing,
+        Call::Marked(1),
+        Call::Update(1),
+        Call::Reset,
+        Call::Update(0),
+    ];
+    let mut set = TaskSet::new(rt.alloc(), 2, Some(1))?;
+    for call in calls {
+        assert!(rt; make(&mut set, call));
+    }
+    Ok(())
+}
+
+#[test]
+fn pending_ones_first(rt: HostRuntime) -> Result<(), Fail> {
+    let calls = [
+        Call::Update(0),
+        Call::Pend(2),
+        Call::Pend(1),
+        Call::Pend(2),
+        Call::Pend(0),
+        Call::Snapshot(2),
+        Call::Snapshot(1),
+        Call::Nothing,
+        Call::Marked(0),
+        Call::Update(0),
+        Call::Marked(2),
+        Call::Update(2),
+        Call::Nothing,
+    ];
+    let mut set = TaskSet::new(rt.alloc(), 3, None)?;
+    for call in calls {
+        assert!(rt; make(&mut set, call));
+    }
+    assert_eq!(rt; set.some_pending(), Some(Vertex(1)));
+    assert!(rt; set.some_task().is_some());
+    let none = TaskSet::new(rt.alloc(), 0, None)?;
+    assert_eq!(rt; none.look(), None);
+    assert_eq!(rt; none.some_task(), None);
+    Ok(())
+}
+
+#[test]
+fn near_ones_first(rt: HostRuntime) -> Result<(), Fail> {
+    let mut set = TaskSet::new(rt.alloc(), 5, None)?;
+    for v in 0..5 {
+        assert!(rt; make(&mut set, Call::Update(v)));
+        assert!(rt; make(&mut set, Call::Ran(v)));
+    }
+    let calls = [
+        Call::Nothing,
+        Call::Wake(4, 100),
+        Call::Wake(3, 90),
+        Call::Wake(2, 10),
+        Call::Wake(1, 12),
+        Call::Update(4),
+        Call::Update(2),
+        Call::Update(1),
+        Call::Update(3),
+        Call::Nothing,
+    ];
+    for call in calls {
+        assert!(rt; make(&mut set, call));
+    }
+    Ok(())
+}

@@ -1,0 +1,4 @@
+pub mod Queueing
+pub mod Standings
+pub mod LineLemmas
+mod WrittenBack

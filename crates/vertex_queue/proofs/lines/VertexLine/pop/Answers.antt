@@ -1,0 +1,26 @@
+use Rattle.std.proofs.Common.{◌≡◌, ◌<◌, refl, false, length, arith}
+use Rattle.std.proofs.Math.ListN.{length-set}
+use Rattle.vertex_queue.proofs.Queueing.{first_within, popped}
+use Rattle.vertex_queue.proofs.lines.VertexLine.pop.Goals as goal
+
+pub index_mut-requires : goal.index_mut-requires
+index_mut-requires c =
+    let among = c.self.inside.among.items in
+    let line = c.self.inside.line.items in
+    let some : 0 < length line = let long = c.self.inside.line.ok in omega (arith, long, c.in_ok-first.ensures.variant.0 refl) in
+    let within = first_within among among line c.in_ok-first.first some c.in_ok-first.ensures.lookup c.self.invariant.queue in
+    let long = c.self.inside.among.ok in
+    omega (arith, within, long)
+
+pub invariant_of-self-2 : goal.invariant_of-self-2
+invariant_of-self-2 c =
+    let among = c.self.inside.among.items in
+    let line = c.self.inside.line.items in
+    let some : 0 < length line = let long = c.self.inside.line.ok in omega (arith, long, c.in_ok-first.ensures.variant.0 refl) in
+    let many = length-set among c.in_ok-first.first.0 false in
+    let room = c.self.invariant.room in
+    rw (c.in_ok-first.ensures.rest, c.in_ok-first.ensures.capacity)
+    (record {
+      queue = popped among line c.in_ok-first.first some c.in_ok-first.ensures.lookup c.self.invariant.queue;
+      room = omega (arith, many, room);
+    })

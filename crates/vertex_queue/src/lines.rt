@@ -1,0 +1,84 @@
+//! Vertices in line.
+ghost use Rattle.std.specs.Prelude.{◌≡◌, ℕ, ◌<◌, ◌==◌, ◌++◌, None, [], ◌∷◌, true, false, length, drop, slice_get, slice_set, IfOk, IfSome};
+ghost use Rattle.std.specs.List.{list_any};
+ghost use Rattle.vertex_queue.specs.Flags.{is_flagged};
+ghost use Rattle.vertex_queue.specs.Lines.{LineView, without};
+
+use gl_base::{NoMemory, Vertex};
+use std::alloc::Global;
+use std::collections::VecDeque;
+use std::marker::Model;
+
+/// Vertices in the order in which they came, each once. It has room for all of them, so that no later call takes memory.
+#[derive(Drop)]
+pub struct VertexLine {
+    among: Vec<bool>,
+    line: VecDeque<Vertex>,
+}
+
+impl Model for VertexLine {
+    ghost use Rattle.vertex_queue.specs.Lines.{LineView};
+    ghost use Rattle.vertex_queue.specs.Inner.Queues.{IsLine};
+
+    ghost Value = { LineView };
+
+    ghost view = { λ l. record { among = l.among.items; line = l.line.items } };
+
+    ghost invariant = { λ l. IsLine l.among.items l.line.items l.line.cap };
+}
+
+impl VertexLine {
+    /// A line for the vertices below `count`, in which none stands.
+    pub fn new(alloc: Global, count: u32) -> Result<VertexLine, NoMemory>
+        ensures count { IfOk result (λ l. length l.among ≡ count) }
+        ensures none { IfOk result (λ l. (u : ℕ) → is_flagged l.among u ≡ false) }
+        ensures line { IfOk result (λ l. l.line ≡ []) }
+    {
+        let count = count as usize;
+        Ok(VertexLine {
+            among: Vec::from_elem(alloc, false, count)?,
+            line: VecDeque::with_capacity(alloc, count)?,
+        })
+    }
+
+    /// The first in line, and `None` where nobody stands there.
+    pub fn first(&self) -> Option<Vertex>
+        ensures first { result ≡ slice_get self.now.line 0 }
+        ensures among { IfSome result (λ v. is_flagged self.now.among v.0 ≡ true) }
+        ensures none { result ≡ None → (u : ℕ) → is_flagged self.now.among u ≡ false }
+        ensures each { (u : ℕ) → list_any (λ v. v.0 == u) self.now.line ≡ is_flagged self.now.among u }
+    {
+        self.line.front().copied()
+    }
+
+    /// The vertex comes, and stands behind the others.
+    pub fn push(&mut self, vertex: Vertex)
+        requires within { vertex.0 < length self.old.among }
+        requires away { is_flagged self.old.among vertex.0 ≡ false }
+        ensures { self.new ≡ record { among = slice_set self.old.among vertex.0 true; line = self.old.line ++ vertex ∷ [] } }
+    {
+        self.among[vertex.0 as usize] = true;
+        self.line.push_back_reserved(vertex);
+    }
+
+    /// The first in line leaves.
+    pub fn pop(&mut self) -> Option<Vertex>
+        ensures first { result ≡ slice_get self.old.line 0 }
+        ensures rest { self.new ≡ without self.old result }
+    {
+        let first = self.line.pop_front()?;
+        self.among[first.0 as usize] = false;
+        Some(first)
+    }
+
+    /// All leave.
+    pub fn clear(&mut self)
+        ensures count { length self.new.among ≡ length self.old.among }
+        ensures none { (u : ℕ) → is_flagged self.new.among u ≡ false }
+        ensures line { self.new.line ≡ [] }
+    {
+        'line: while self.first().is_some() {
+            self.pop();
+        }
+    }
+}
