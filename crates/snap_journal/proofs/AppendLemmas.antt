@@ -12,6 +12,7 @@ use Rattle.store_format.specs.Records.{stored_bytes}
 use Rattle.store_format.specs.Stores.{StandsFor, stored_in, records_size, IsBeforeOrAfter}
 use Rattle.store_format.proofs.ReadLemmas.{IsStored}
 use Rattle.store_format.proofs.StoreLemmas.{IsBase, based, stands_closed, stands_open, stands_of, stored_are, ok_from, with_length, stored_bytes-split, length-stored_bytes, stored_body}
+use Rattle.snap_journal.specs.Inner.Found.{IsFound}
 use Rattle.snap_journal.specs.Inner.Settled.{IsAtRest, IsSettled, FollowsOn, body_between}
 use Rattle.snap_journal.proofs.ImageLemmas.{torn_behind, torn_gate, written_behind, written_gate}
 
@@ -262,3 +263,32 @@ fresh_piece [] piece none = nothing_behind piece (0 + length piece)
     nothing_behind piece zero = append-nil piece
     nothing_behind piece (suc n) = append-nil piece
 fresh_piece (byte ∷ seen) piece none = absurd (omega arith)
+
+-- a sync leaves what a read gave, which is what a crash might have left before
+pub synced_once : (old mid new : DiskPast) → mid ≡ followed_by old (after_sync old.now) → new ≡ mid → IsImage old.now old.now.seen → LeavesOnly old new (IsImage old.now)
+synced_once old mid new is same image =
+    let rests = after_sync_rests old.now old.now.seen refl in
+    let run = goes_on old old mid (after_sync old.now) (IsImage old.now) (started old (IsImage old.now) (λ i left. left)) is
+    (λ i left. subst (IsImage old.now) (sym (rest_leaves (after_sync old.now) old.now.seen i rests left)) image) in
+    stands_still old mid new (IsImage old.now) run same
+
+pub not_synced : (old new : DiskPast) → new ≡ old → LeavesOnly old new (IsImage old.now)
+not_synced old new same = stands_still old old new (IsImage old.now) (started old (IsImage old.now) (λ i left. left)) same
+
+pub synced_rests : (old mid new : DiskPast) → mid ≡ followed_by old (after_sync old.now) → new ≡ mid → IsAtRest new.now old.now.seen
+synced_rests old mid new is same =
+    let rests = after_sync_rests old.now old.now.seen refl in
+    subst (λ (p : DiskPast). IsAtRest p.now old.now.seen) (sym (same ∙ is)) rests
+
+pub synced_seen : (old mid new : DiskPast) → mid ≡ followed_by old (after_sync old.now) → new ≡ mid → new.now.seen ≡ old.now.seen
+synced_seen old mid new is same = ap (λ (p : DiskPast). p.now.seen) (same ∙ is)
+
+-- what was found of a disk at rest is what a journal knows
+pub found_settled : (header : Header) (count gate : ℕ) (now : DiskPast) (seen : List ℕ) → IsFound header now.now.seen count gate → IsAtRest now.now seen → IsSettled header count gate now
+found_settled header count gate now seen found rests = record {
+  reads = found.reads;
+  counts = found.counts;
+  place = found.place;
+  synced = rests.synced ∙ sym rests.seen;
+  quiet = rests.quiet;
+}

@@ -1,2 +1,5 @@
 pub mod ImageLemmas
 pub mod AppendLemmas
+pub mod GateLemmas
+pub mod SurveyLemmas
+pub mod HeadLemmas

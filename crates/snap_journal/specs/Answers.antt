@@ -1,9 +1,11 @@
 -- Why a call on a store was refused.
-use Rattle.std.specs.Prelude.{◌≡◌, ◌⊎◌, ℕ, ◌+◌, ◌^◌, ◌<◌, ◌≤◌, Bool, true, false, ⊤}
+use Rattle.std.specs.Prelude.{◌≡◌, ◌⊎◌, ℕ, ◌+◌, ◌^◌, ◌<◌, ◌≤◌, Bool, true, false, List, Err, ⊤}
+use Rattle.store_format.specs.declared.header.Header.{Header}
 use Rattle.store_format.specs.declared.faults.StoreFault.TheVariants.{NotEmpty}
 use Rattle.snap_journal.specs.declared.faults.JournalFault.{JournalFault}
 use Rattle.snap_journal.specs.declared.faults.JournalFault.TheVariants.{DiskFault, BadStore, Full, Failed, NoMemory}
 use Rattle.snap_journal.specs.Disks.{Rose}
+use Rattle.snap_journal.specs.Formats.{read_store}
 
 -- a store of so many snapshots and bytes has no room for a record of so many bytes with its length and its next gate
 abbrev pub IsFullFor : ℕ → ℕ → ℕ → Type 0
@@ -16,6 +18,14 @@ IsWhyNotMade told length before now (BadStore fault) = told → (0 < length) × 
 IsWhyNotMade told length before now (Full stored bytes) = ⊥
 IsWhyNotMade told length before now Failed = ⊥
 IsWhyNotMade told length before now NoMemory = ⊤
+
+-- why a store was not opened: it has this first fault, or there was a fault of the disk or want of memory
+abbrev pub IsWhyNotOpened : Type 0 → Header → List ℕ → ℕ → ℕ → JournalFault → Type 0
+IsWhyNotOpened told header seen before now DiskFault = Rose before now
+IsWhyNotOpened told header seen before now (BadStore fault) = told → read_store header seen ≡ Err fault
+IsWhyNotOpened told header seen before now (Full stored bytes) = ⊥
+IsWhyNotOpened told header seen before now Failed = ⊥
+IsWhyNotOpened told header seen before now NoMemory = ⊤
 
 -- Why a record of so many bytes was not added to a store of so many snapshots and bytes. `old` and `new` tell whether an earlier
 -- call had found a fault of the disk, and whether one has now; `same` says that nothing changed.

@@ -1,9 +1,12 @@
 //! The journal of snapshots: a store on a disk, which loses nothing that was acknowledged.
 #![tactic(auto)]
 
+mod disk_reads;
 mod faults;
 mod journal;
 mod making;
+mod opening;
+mod records_read;
 
 pub use faults::JournalFault;
 pub use journal::Journal;

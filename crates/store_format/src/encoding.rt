@@ -122,7 +122,7 @@ fn push_sections(bytes: &mut Vec<u8>, sections: &[SavedPart]) -> Result<(), NoMe
 }
 
 /// Adds the body of a record.
-fn push_body(bytes: &mut Vec<u8>, next: &Record) -> Result<(), NoMemory>
+pub fn push_body(bytes: &mut Vec<u8>, next: &Record) -> Result<(), NoMemory>
     requires { RecordFits next.now }
     ensures { OnOk result (bytes.new.items ≡ bytes.old.items ++ body_bytes next.now) }
 {

@@ -10,6 +10,7 @@ mod header;
 mod header_check;
 mod made;
 mod sections_check;
+mod taking;
 
 pub use atom_file::u32_at;
 pub use body_check::{body_size, fault_of_body};
@@ -19,3 +20,4 @@ pub use fields::u64_at;
 pub use header::{Digest, Header, ProgramKey};
 pub use header_check::{HEADER, check_header};
 pub use made::new_store;
+pub use taking::is_record;

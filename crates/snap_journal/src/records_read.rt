@@ -1,0 +1,95 @@
+//! Records, read one after another.
+ghost use Rattle.std.specs.Prelude.{◌≡◌, ◌+◌, ◌^◌, ◌<◌, ◌≤◌, length, drop, IsTrue, IfOk, IfErr, IfSome};
+ghost use Rattle.snap_journal.specs.Formats.{IsBody};
+ghost use Rattle.snap_journal.specs.Inner.Reads.{IsNextLength, IsNextBody, IsWhyNot};
+
+use crate::JournalFault;
+use crate::disk_reads::read_front;
+use gl_outside::Disk;
+use std::alloc::Global;
+use store_format::{Header, StoreFault, body_size, fault_of_body, u32_at, u64_at};
+
+/// The byte of an open gate.
+pub const OPEN: u8 = 1;
+
+/// How many bytes an open gate, a length, a number and a count of entries have.
+const HEAD: u64 = 17;
+
+/// Reads what stands at a gate: nothing where it isn't open, and else the length of a body that is there.
+fn next_length<D: Disk>(
+    alloc: Global,
+    disk: &mut D,
+    header: &Header,
+    number: u32,
+    at: u64,
+    len: u64,
+) -> Result<Option<u64>, JournalFault>
+    requires inside { at ≤ len }
+    requires len { IsTrue D.told → len ≡ length (D.past disk.old).now.seen }
+    ensures next { IsTrue D.told → IfOk result (IsNextLength header.now number at (drop at (D.past disk.old).now.seen)) }
+    ensures here { IfOk result (λ next. at < len) }
+    ensures room { IfOk result (λ next. IfSome next (λ size. at + 10 + size ≤ len)) }
+    ensures least { IfOk result (λ next. IfSome next (λ size. 8 ≤ size)) }
+    ensures small { IfOk result (λ next. IfSome next (λ size. size < 2 ^ 38)) }
+    ensures fault { IfErr result (IsWhyNot (IsTrue D.told) header.now number at (D.past disk.old).now.seen (D.faults disk.old) (D.faults disk.new)) }
+    ensures past { IsTrue D.told → D.past disk.new ≡ D.past disk.old }
+    ensures same { D.same disk.old disk.new }
+    ensures later { D.faults disk.old ≤ D.faults disk.new }
+{
+    let there = (len - at).min(HEAD);
+    let head = read_front(alloc, disk, at, there as usize)?;
+    if head.is_empty() {
+        return Err(JournalFault::BadStore(StoreFault::Torn(at)));
+    }
+    if head[0] != OPEN {
+        return Ok(None);
+    }
+    if (head.len() as u64) < HEAD {
+        return Err(JournalFault::BadStore(StoreFault::Torn(at + head.len() as u64)));
+    }
+    let size = u64_at(&head, 1);
+    if size != body_size(header, u32_at(&head, 13)) {
+        return Err(JournalFault::BadStore(StoreFault::BadByte(at + 1)));
+    }
+    if len - at < 10 + size {
+        return Err(JournalFault::BadStore(StoreFault::Torn(len)));
+    }
+    Ok(Some(size))
+}
+
+/// Reads what stands at a gate: nothing where it isn't open, and else the body of a record.
+pub fn next_body<D: Disk>(
+    alloc: Global,
+    disk: &mut D,
+    header: &Header,
+    number: u32,
+    at: u64,
+    len: u64,
+) -> Result<Option<Vec<u8>>, JournalFault>
+    requires inside { at ≤ len }
+    requires len { IsTrue D.told → len ≡ length (D.past disk.old).now.seen }
+    ensures next { IsTrue D.told → IfOk result (IsNextBody header.now number at (D.past disk.old).now.seen) }
+    ensures here { IfOk result (λ next. at < len) }
+    ensures ascends { IfOk result (λ next. IfSome next (λ body. at + 10 + length body.items ≤ len)) }
+    ensures numbers { IfOk result (λ next. IfSome next (λ body. number < 4294967295)) }
+    ensures form { IfOk result (λ next. IfSome next (λ body. IsBody header.now number body.items)) }
+    ensures fault { IfErr result (IsWhyNot (IsTrue D.told) header.now number at (D.past disk.old).now.seen (D.faults disk.old) (D.faults disk.new)) }
+    ensures past { IsTrue D.told → D.past disk.new ≡ D.past disk.old }
+    ensures same { D.same disk.old disk.new }
+    ensures later { D.faults disk.old ≤ D.faults disk.new }
+{
+    let Some(size) = next_length(alloc, disk, header, number, at, len)? else {
+        return Ok(None);
+    };
+    let body = read_front(alloc, disk, at + 9, size as usize)?;
+    if (body.len() as u64) < size {
+        return Err(JournalFault::BadStore(StoreFault::Torn(at + 9 + body.len() as u64)));
+    }
+    if size != body_size(header, u32_at(&body, 4)) {
+        return Err(JournalFault::BadStore(StoreFault::BadByte(at + 1)));
+    }
+    match fault_of_body(alloc, header, number, &body)? {
+        Some(place) => Err(JournalFault::BadStore(StoreFault::BadByte(at + 9 + place as u64))),
+        None => Ok(Some(body)),
+    }
+}
