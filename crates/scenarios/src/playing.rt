@@ -43,7 +43,13 @@ impl Scene<'_> {
 pub fn play(alloc: Global, scenario: &Scenario<'_>) -> Result<Vec<String>, AllocError> {
     let names = names_of(alloc, scenario)?;
     let mut differences = Vec::new(alloc);
-    let mut files = MemFiles::new(alloc, Vec::new(alloc), Vec::new(alloc), Vec::new(alloc), u64::MAX);
+    let mut files = MemFiles::new(
+        alloc,
+        Vec::new(alloc),
+        Vec::new(alloc),
+        Vec::new(alloc),
+        u64::MAX,
+    );
     for step in scenario.steps.iter() {
         let scene = Scene {
             step,

@@ -13,7 +13,13 @@ const ANSWER: &str = "1 0\n2 1\n3 2\n4 9223372036854775807\n";
 
 /// Makes the call, and answers how it ended and what `out` holds.
 fn made(rt: &impl Abort, alloc: Global) -> Result<(Ended, MemSink), NoMemory> {
-    let mut files = MemFiles::new(alloc, Vec::new(alloc), Vec::new(alloc), Vec::new(alloc), u64::MAX);
+    let mut files = MemFiles::new(
+        alloc,
+        Vec::new(alloc),
+        Vec::new(alloc),
+        Vec::new(alloc),
+        u64::MAX,
+    );
     for (name, text) in [("j", JOB), ("g.v", "1\n2\n3\n4\n"), ("g.e", "1 2\n2 3\n")] {
         files.put(name, Vec::from_slice(alloc, text.as_bytes())?)?;
     }
