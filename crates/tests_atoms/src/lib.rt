@@ -4,8 +4,6 @@
 #[cfg(test)]
 mod files;
 #[cfg(test)]
-mod gathering;
-#[cfg(test)]
 mod graphs;
 #[cfg(test)]
 mod tests;

@@ -6,8 +6,6 @@ mod images;
 pub use images::images_of_a_write;
 
 #[cfg(test)]
-mod disks;
-#[cfg(test)]
 mod memory;
 #[cfg(test)]
 mod system;

@@ -1,6 +1,5 @@
 //! The objects over the system.
-use crate::disks::play;
-use gl_outside::{DiskOf, Failed, FileNo, Files, HostFiles, NoteSink, OpenFault, OutSink, Sink};
+use gl_outside::{Failed, FileNo, Files, HostFiles, NoteSink, OpenFault, OutSink, Sink};
 use std::test::Fail;
 use std::{env, fs, io};
 
@@ -51,29 +50,6 @@ fn files_are_written_by_path(rt: HostRuntime) -> Result<(), Fail> {
     fs::remove_file(&rt, path.as_str())?;
     assert_eq!(rt; held.as_slice(), b"one line\n".as_slice());
     assert_eq!(rt; files.open_sink(folder.as_str()), Err(OpenFault::Failed));
-    Ok(())
-}
-
-/// A missing file is made, and an opened one goes on with what it has.
-#[test]
-fn disks_are_files(rt: HostRuntime) -> Result<(), Fail> {
-    let folder = env::temp_dir(&rt)?;
-    let path = format!(in rt.alloc(); "{}/glab_tests_outside_disk.bin", folder.as_str())?;
-    let mut files = HostFiles::new(rt.alloc(), &rt);
-    let Ok(file) = files.open_disk(path.as_str()) else {
-        panic!(rt; "the disk was opened");
-    };
-    let mut seen = Vec::new(rt.alloc());
-    play(&mut DiskOf::new(&mut files, file), &mut seen)?;
-    assert_eq!(rt; seen.as_slice(), b"+++bxyz5".as_slice());
-    let Ok(again) = files.open_disk(path.as_str()) else {
-        panic!(rt; "the disk was opened");
-    };
-    assert_eq!(rt; files.len(again), Ok(5));
-    let held = fs::read(&rt, path.as_str())?;
-    fs::remove_file(&rt, path.as_str())?;
-    assert_eq!(rt; held.as_slice(), b"abxyz".as_slice());
-    assert_eq!(rt; files.open_disk(folder.as_str()), Err(OpenFault::Failed));
     Ok(())
 }
 
