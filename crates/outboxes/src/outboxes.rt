@@ -18,11 +18,14 @@ pub struct Outboxes {
 }
 
 impl Model for Outboxes {
+    ghost use Rattle.std.specs.Prelude.{◌<◌, length};
     ghost use Rattle.outboxes.specs.Outboxes.{OutboxesView};
 
     ghost Value = { OutboxesView };
 
     ghost view = { λ o. record { machines = o.machines.items; coordinator = o.coordinator } };
+
+    ghost invariant = { λ o. length o.machines.items < 65536 };
 }
 
 impl Outboxes {
