@@ -54,11 +54,11 @@ abbrev pub emptied : OutboxView → OutboxView
 emptied box = record { messages = []; room = box.room + length box.messages }
 
 -- a message waits
-abbrev pub waits : OutboxView → Bool
-waits box = nat_lt 0 (length box.messages)
+abbrev pub has_waiting : OutboxView → Bool
+has_waiting box = nat_lt 0 (length box.messages)
 
 -- The first machine from this one on for which a message waits; where there is none, the coordinator where one waits for it.
 abbrev pub IsNextWaiting : OutboxesView → ℕ → Option Peer → Type 0
-IsNextWaiting o from None = ((b : ℕ) → from ≤ b → waits (slice_index_or o.machines b no_outbox) ≡ false) × (waits o.coordinator ≡ false)
-IsNextWaiting o from (Some (Machine b)) = (from ≤ b.0) × (waits (slice_index_or o.machines b.0 no_outbox) ≡ true) × ((c : ℕ) → from ≤ c → c < b.0 → waits (slice_index_or o.machines c no_outbox) ≡ false)
-IsNextWaiting o from (Some Coordinator) = ((b : ℕ) → from ≤ b → waits (slice_index_or o.machines b no_outbox) ≡ false) × (waits o.coordinator ≡ true)
+IsNextWaiting o from None = ((b : ℕ) → from ≤ b → has_waiting (slice_index_or o.machines b no_outbox) ≡ false) × (has_waiting o.coordinator ≡ false)
+IsNextWaiting o from (Some (Machine b)) = (from ≤ b.0) × (has_waiting (slice_index_or o.machines b.0 no_outbox) ≡ true) × ((c : ℕ) → from ≤ c → c < b.0 → has_waiting (slice_index_or o.machines c no_outbox) ≡ false)
+IsNextWaiting o from (Some Coordinator) = ((b : ℕ) → from ≤ b → has_waiting (slice_index_or o.machines b no_outbox) ≡ false) × (has_waiting o.coordinator ≡ true)

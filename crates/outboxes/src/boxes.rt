@@ -1,6 +1,6 @@
 //! What waits for one peer.
 ghost use Rattle.std.specs.Prelude.{◌≡◌, ◌<◌, ◌≤◌, [], slice_get, option_map, OnOk};
-ghost use Rattle.outboxes.specs.Outboxes.{no_outbox, with_message, without_first, emptied, waits, message_view};
+ghost use Rattle.outboxes.specs.Outboxes.{no_outbox, with_message, without_first, emptied, has_waiting, message_view};
 
 use gl_base::NoMemory;
 use std::alloc::Global;
@@ -61,7 +61,7 @@ impl Outbox {
 
     /// Whether a message waits.
     pub fn waits(&self) -> bool
-        ensures { result ≡ waits self.now }
+        ensures { result ≡ has_waiting self.now }
     {
         !self.queue.is_empty()
     }

@@ -1,7 +1,7 @@
 //! What waits to be sent.
 ghost use Rattle.std.specs.Prelude.{◌≡◌, ◌<◌, ◌≤◌, [], length, map, slice_get, option_map, IfOk, OnOk};
 ghost use Rattle.std.specs.List.{All};
-ghost use Rattle.outboxes.specs.Outboxes.{outbox_to, waiting_for, IsPeerOf, IsNextWaiting, with_outbox, with_message, without_first, emptied, waits, message_view};
+ghost use Rattle.outboxes.specs.Outboxes.{outbox_to, waiting_for, IsPeerOf, IsNextWaiting, with_outbox, with_message, without_first, emptied, has_waiting, message_view};
 
 use crate::boxes::Outbox;
 use gl_base::{MachineNo, NoMemory, Peer};
@@ -89,7 +89,7 @@ impl Outboxes {
 
     /// Whether a message waits for a peer.
     pub fn waits(&self, to: Peer) -> bool
-        ensures { result ≡ waits (outbox_to self.now to) }
+        ensures { result ≡ has_waiting (outbox_to self.now to) }
     {
         match to {
             Peer::Machine(machine) => {
