@@ -1,0 +1,10 @@
+//! The parts of one machine of a cluster, and what they stand for in the cluster's law.
+#![tactic(auto)]
+
+mod cores;
+mod refusals;
+mod spare;
+
+pub use cores::{Core, Terms};
+pub use refusals::Refused;
+pub use spare::SpareParts;
