@@ -1,13 +1,15 @@
 -- What calls on the files of the system leave.
-use Rattle.std.proofs.Common.{◌≡◌, ℕ, ◌<◌, zero, suc, List, [], ◌∷◌, ◌++◌, map, length, get_or, Option, None, Ok, IsTrue, slice_set, refl, sym, ap, ◌∙◌, arith}
+use Rattle.std.proofs.Common.{◌≡◌, ℕ, ◌<◌, zero, suc, List, [], ◌∷◌, ◌++◌, map, length, get_or, Option, None, Result, Ok, Err, IsTrue, slice_set, refl, sym, ap, ◌∙◌, arith}
 use Rattle.std.specs.Io.KnownBytes.{Consumes, IsAtEnd}
 use Rattle.std.proofs.lemmas.Bool.Decides.{nat_tests}
 use Rattle.std.proofs.lemmas.Option.{slice_get_read}
 use Rattle.std.proofs.lemmas.List.{length-map, map-append, map-set}
 use Rattle.gl_outside.specs.FilesState.{Opened, Written, is_opened, left_of, sink_of}
 use Rattle.gl_outside.specs.Frames.{ChangesDisk, LooksAtDisk, OpensSink, ReadsOnly, WritesOnly, without_name}
-use Rattle.gl_outside.specs.Host.{ChangesAt, HostState, files_of_host}
+use Rattle.gl_outside.specs.Host.{ChangesAt, HostState, OpensOne, files_of_host}
 use Rattle.gl_outside.specs.Inner.Laws.{constant}
+use Rattle.gl_outside.specs.declared.files.FileNo.{FileNo}
+use Rattle.gl_outside.specs.declared.files.OpenFault.{OpenFault}
 use Rattle.gl_outside.proofs.StoredFiles.{same_files, same_opened}
 
 abbrev untold : Written
@@ -69,6 +71,12 @@ opens_host {F} old new name number opened numbered sinks sources reads disks fau
       same_files _ _ refl (same_opened _ _ reads refl (ap (map (λ (f : F). None)) sources)) (same_opened _ _ refl refl grown) refl (same_host_disks old new disks faults),
       λ other apart. refl,
     )
+
+pub opens_host_by : {F : Type 0} (old new : HostState F) (name : List ℕ) (result : Result FileNo OpenFault) → OpensOne old.sinks new.sinks result
+    → new.sources ≡ old.sources → new.reads ≡ old.reads → new.disks ≡ old.disks → new.disk_faults ≡ old.disk_faults → OpensSink (files_of_host old) (files_of_host new) name result
+opens_host_by old new name (Ok file) one sources reads disks faults = opens_host old new name file.0 one.0 one.2 one.1 sources reads disks faults
+opens_host_by {F} old new name (Err fault) one sources reads disks faults =
+    same_files _ _ refl (same_opened _ _ reads refl (ap (map (λ (f : F). None)) sources)) (same_opened _ _ refl refl (ap (map (λ (f : F). untold)) one)) refl (same_host_disks old new disks faults)
 
 -- the file of this number alone changed
 pub changes_at : {F : Type 0} (old new : List F) (file : ℕ) (was now : F) (Change : F → F → Type 0) → file < length old → was ≡ get_or old file was

@@ -1,5 +1,6 @@
 pub mod StoredFiles
 pub mod Sinks
+pub mod MemOpens
 pub mod HostFrames
 pub mod Opening
 pub mod Fronts

@@ -1,11 +1,12 @@
 //! The calls of an object in memory: which of them fail, and how many faults there were.
-ghost use Rattle.std.specs.Prelude.{◌≡◌, ◌↔◌, ◌≤◌, IsTrue};
+ghost use Rattle.std.specs.Prelude.{◌≡◌, ◌↔◌, ◌≤◌, Err, IsTrue};
 ghost use Rattle.gl_outside.specs.Faults.{Rose};
-ghost use Rattle.gl_outside.specs.Calls.{no_calls, NextFails, called, faulted};
+ghost use Rattle.gl_outside.specs.Calls.{CallCounts, no_calls, NextFails, called, faulted};
 ghost use Rattle.gl_outside.specs.MemDisk.{NextStops};
+ghost use Rattle.gl_outside.specs.Store.{after_open};
 
-use crate::Failed;
 use crate::fault_count::FaultCount;
+use crate::{Failed, FileNo, OpenFault};
 use std::marker::Model;
 
 /// Counts of calls and of faults, which stay at the end of their type, and the numbers of the calls that fail.
@@ -61,5 +62,19 @@ impl Calls {
         ensures rose { Rose self.old.faults self.new.faults }
     {
         self.faults.raise()
+    }
+
+    /// Counts a fault where an open failed.
+    pub(crate) fn settle(&mut self, answer: Result<FileNo, OpenFault>)
+        ensures counted { (before : CallCounts) → self.old ≡ called before → self.new ≡ after_open before answer }
+        ensures later { self.old.faults ≤ self.new.faults }
+        ensures rose { answer ≡ Err OpenFault.Failed → Rose self.old.faults self.new.faults }
+    {
+        match answer {
+            Ok(_) | Err(OpenFault::NoMemory) => {}
+            Err(OpenFault::Failed) => {
+                self.fault();
+            }
+        }
     }
 }

@@ -79,15 +79,13 @@ impl<R: rt::Files> Files for HostFiles<R> {
         ensures disks { self.new.disks ≡ self.old.disks }
         ensures no_memory { result ≡ Err OpenFault.NoMemory → self.new ≡ self.old }
     {
-        let Ok(number) = u32::try_from(self.sources.len()) else {
-            return Err(self.reads.raise().into());
-        };
-        self.sources.reserve(1)?;
-        let Ok(file) = File::open(&self.rt, name) else {
-            return Err(self.reads.raise().into());
-        };
-        self.sources.push_reserved(file);
-        Ok(FileNo(number))
+        open_file(
+            &self.rt,
+            Way::Read,
+            &mut self.sources,
+            &mut self.reads,
+            name,
+        )
     }
 
     /// Reads on in the file of this number alone. What it gives is what the system gave.
@@ -122,15 +120,13 @@ impl<R: rt::Files> Files for HostFiles<R> {
         ensures disks { self.new.disks ≡ self.old.disks }
         ensures no_memory { result ≡ Err OpenFault.NoMemory → self.new ≡ self.old }
     {
-        let Ok(number) = u32::try_from(self.sinks.len()) else {
-            return Err(self.writes.raise().into());
-        };
-        self.sinks.reserve(1)?;
-        let Ok(file) = File::create(&self.rt, name) else {
-            return Err(self.writes.raise().into());
-        };
-        self.sinks.push_reserved(file);
-        Ok(FileNo(number))
+        open_file(
+            &self.rt,
+            Way::Write,
+            &mut self.sinks,
+            &mut self.writes,
+            name,
+        )
     }
 
     /// Hands the piece to the file of this number alone, once.
@@ -168,15 +164,7 @@ impl<R: rt::Files> Files for HostFiles<R> {
         ensures written { self.new.sinks ≡ self.old.sinks }
         ensures no_memory { result ≡ Err OpenFault.NoMemory → self.new ≡ self.old }
     {
-        let Ok(number) = u32::try_from(self.disks.len()) else {
-            return Err(self.disk_faults.raise().into());
-        };
-        self.disks.reserve(1)?;
-        let Ok(disk) = open_host_disk(&self.rt, name) else {
-            return Err(self.disk_faults.raise().into());
-        };
-        self.disks.push_reserved(disk);
-        Ok(FileNo(number))
+        open_disk_file(&self.rt, &mut self.disks, &mut self.disk_faults, name)
     }
 
     fn len(&mut self, file: FileNo) -> Result<u64, Failed>
@@ -244,4 +232,62 @@ impl<R: rt::Files> Files for HostFiles<R> {
     ghost filled = { nothing_filled };
 
     ghost reads_an_image = { λ files name told. refl };
+}
+
+/// What a file is opened for.
+#[derive(Clone, Copy)]
+enum Way {
+    Read,
+    Write,
+}
+
+/// Opens a file behind those that are open, once there is memory for it.
+fn open_file<R: rt::Files>(
+    rt: &R,
+    way: Way,
+    files: &mut Vec<R::File>,
+    faults: &mut FaultCount,
+    name: &str,
+) -> Result<FileNo, OpenFault>
+    ensures one { OpensOne files.old.items files.new.items result }
+    ensures counted { faults.new ≡ faults_after_open faults.old result }
+    ensures later { faults.old ≤ faults.new }
+    ensures failed { result ≡ Err OpenFault.Failed → Rose faults.old faults.new }
+{
+    let Ok(number) = u32::try_from(files.len()) else {
+        return Err(faults.raise().into());
+    };
+    files.reserve(1)?;
+    let opened = match way {
+        Way::Read => File::open(rt, name),
+        Way::Write => File::create(rt, name),
+    };
+    let Ok(file) = opened else {
+        return Err(faults.raise().into());
+    };
+    files.push_reserved(file);
+    Ok(FileNo(number))
+}
+
+/// Opens a file as a disk behind those that are open, once there is memory for it.
+fn open_disk_file<R: rt::Files>(
+    rt: &R,
+    disks: &mut Vec<HostDisk<R::File>>,
+    faults: &mut FaultCount,
+    name: &str,
+) -> Result<FileNo, OpenFault>
+    ensures one { OpensOne disks.old.items disks.new.items result }
+    ensures counted { faults.new ≡ faults_after_open faults.old result }
+    ensures later { faults.old ≤ faults.new }
+    ensures failed { result ≡ Err OpenFault.Failed → Rose faults.old faults.new }
+{
+    let Ok(number) = u32::try_from(disks.len()) else {
+        return Err(faults.raise().into());
+    };
+    disks.reserve(1)?;
+    let Ok(disk) = open_host_disk(rt, name) else {
+        return Err(faults.raise().into());
+    };
+    disks.push_reserved(disk);
+    Ok(FileNo(number))
 }

@@ -1,5 +1,5 @@
 //! Disks in memory, by name.
-ghost use Rattle.std.specs.Prelude.{◌≡◌, ◌≢◌, ◌↔◌, ◌⊎◌, ℕ, ◌<◌, ◌≤◌, [], ◌∷◌, ◌++◌, List, Some, None, Err, IfOk, OnOk, OnErr, IsErr, MatchOption, All, length, map, slice_index_or};
+ghost use Rattle.std.specs.Prelude.{◌≡◌, ◌≢◌, ◌↔◌, ◌⊎◌, ℕ, ◌^◌, ◌<◌, ◌≤◌, [], ◌∷◌, ◌++◌, IsTrue, List, Some, None, Err, IfOk, OnOk, OnErr, IsErr, MatchOption, All, length, map, slice_index_or};
 ghost use Rattle.gl_outside.specs.Calls.{no_calls, after_call};
 ghost use Rattle.gl_outside.specs.Disk.{ReadsAt, Syncs, WritesAt, at_rest};
 ghost use Rattle.gl_outside.specs.DiskStore.{HasNoDiskNumber, disk_at, opened_disks, past_among, past_in, told_name};
@@ -11,7 +11,7 @@ ghost use Rattle.gl_outside.specs.Inner.Disks.{HaveOwnNames, IsUnknown};
 
 use crate::calls::Calls;
 use crate::disk_bytes::DiskBytes;
-use crate::mem_files::copied_name;
+use crate::mem_files::{copied_name, next_number, note};
 use crate::{Failed, FileNo, OpenFault};
 use gl_base::Name;
 use std::alloc::{AllocError, Global};
@@ -113,17 +113,16 @@ impl MemDisks {
         ensures stop { self.new.stop ≡ self.old.stop }
     {
         let listed = self.calls.count_until(self.stop);
-        self.names.push(copied_name(self.alloc, name)?)?;
-        if listed {
-            return Err(self.calls.fault().into());
-        }
-        let Ok(number) = u32::try_from(self.places.len()) else {
-            return Err(self.calls.fault().into());
-        };
-        self.places.reserve(1)?;
-        let place = place_for(self.alloc, &mut self.disks, name)?;
-        self.places.push_reserved(place);
-        Ok(FileNo(number))
+        let answer = open_in(
+            self.alloc,
+            &mut self.disks,
+            &mut self.places,
+            &mut self.names,
+            listed,
+            name,
+        );
+        self.calls.settle(answer);
+        answer
     }
 
     pub(crate) fn len(&mut self, file: FileNo) -> Result<u64, Failed>
@@ -198,6 +197,56 @@ impl MemDisks {
             Err(_) => Err(self.calls.fault()),
         }
     }
+}
+
+/// Opens the disk of this name, which is made where there is none, unless the call is listed. The name is noted first.
+fn open_in(
+    alloc: Global,
+    disks: &mut Vec<StoredDisk>,
+    places: &mut Vec<usize>,
+    names: &mut Vec<Name>,
+    listed: bool,
+    name: &str,
+) -> Result<FileNo, OpenFault>
+    requires inside { All (λ place. place < length disks.old.items) places.old.items }
+    requires apart { HaveOwnNames disks.old.items }
+    ensures number { IfOk result (λ file. file.0 ≡ length places.old.items) }
+    ensures names { NotesName (Some names.old.items) (Some names.new.items) name.now result }
+    ensures opened { OnOk result (map (told_name disks.new.items) places.new.items ≡ map (told_name disks.old.items) places.old.items ++ Some name.now ∷ []) }
+    ensures refused { OnErr result (map (told_name disks.new.items) places.new.items ≡ map (told_name disks.old.items) places.old.items) }
+    ensures pasts { past_among disks.new.items ≡ past_among disks.old.items }
+    ensures inside { All (λ place. place < length disks.new.items) places.new.items }
+    ensures apart { HaveOwnNames disks.new.items }
+    ensures listed { IsTrue listed → IsErr result }
+    ensures only { result ≡ Err OpenFault.Failed → IsTrue listed ⊎ (2 ^ 32 ≤ length places.old.items) }
+{
+    note(alloc, names, name)?;
+    let Some(number) = next_number(listed, places.len()) else {
+        return Err(OpenFault::Failed);
+    };
+    add_place(alloc, disks, places, name)?;
+    Ok(number)
+}
+
+/// Adds the place of the disk of this name to those that are open. Where there is no memory, none is added.
+fn add_place(
+    alloc: Global,
+    disks: &mut Vec<StoredDisk>,
+    places: &mut Vec<usize>,
+    name: &str,
+) -> Result<(), AllocError>
+    requires inside { All (λ place. place < length disks.old.items) places.old.items }
+    requires apart { HaveOwnNames disks.old.items }
+    ensures opened { OnOk result (map (told_name disks.new.items) places.new.items ≡ map (told_name disks.old.items) places.old.items ++ Some name.now ∷ []) }
+    ensures refused { OnErr result (map (told_name disks.new.items) places.new.items ≡ map (told_name disks.old.items) places.old.items) }
+    ensures pasts { past_among disks.new.items ≡ past_among disks.old.items }
+    ensures inside { All (λ place. place < length disks.new.items) places.new.items }
+    ensures apart { HaveOwnNames disks.new.items }
+{
+    places.reserve(1)?;
+    let place = place_for(alloc, disks, name)?;
+    places.push_reserved(place);
+    Ok(())
 }
 
 /// The place of the disk of this name.

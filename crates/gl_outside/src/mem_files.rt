@@ -1,5 +1,5 @@
 //! Files in memory.
-ghost use Rattle.std.specs.Prelude.{◌≡◌, ◌≢◌, ◌↔◌, ◌⊎◌, ℕ, ◌+◌, ◌<◌, ◌≤◌, min, [], ◌∷◌, ◌++◌, true, IsTrue, List, Some, is_some, IfSome, IfOk, OnOk, OnErr, IsErr, MatchOption, length, take};
+ghost use Rattle.std.specs.Prelude.{◌≡◌, ◌≢◌, ◌↔◌, ◌⊎◌, ℕ, ◌+◌, ◌^◌, ◌<◌, ◌≤◌, min, [], ◌∷◌, ◌++◌, true, IsTrue, List, Some, None, is_some, All, IfSome, IfOk, OnOk, OnErr, IsErr, MatchOption, Err, length, map, take};
 ghost use Rattle.std.specs.Option.{option_map};
 ghost use Rattle.std.specs.Io.KnownBytes.{ReadConsumes, WriteAppends};
 ghost use Rattle.gl_outside.specs.Faults.{Counts, Rose};
@@ -11,7 +11,7 @@ ghost use Rattle.gl_outside.specs.MemDisk.{NextStops};
 ghost use Rattle.gl_outside.specs.Names.{NotesName};
 ghost use Rattle.gl_outside.specs.Calls.{no_calls, NextFails, after_call};
 ghost use Rattle.gl_outside.specs.Store.{bytes_of, bytes_at, after_open, files_of_store, IsMissing, HasNoNumber, HasNoSinkNumber, ready_at, ready_in, WantsMemoryAt, WantsMemoryIn};
-ghost use Rattle.gl_outside.specs.Inner.OpenFiles.{left_in, IsOpenInside, appended};
+ghost use Rattle.gl_outside.specs.Inner.OpenFiles.{AddsFile, AddsSink, AddsSource, left_in, IsOpenInside, appended};
 ghost use Rattle.gl_outside.specs.Inner.Laws.{among_image, name_filled};
 
 use crate::calls::Calls;
@@ -186,19 +186,16 @@ impl Files for MemFiles {
         ensures disks { self.new.disks ≡ self.old.disks }
     {
         let listed = self.reads.count();
-        self.source_names.push(copied_name(self.alloc, name)?)?;
-        if listed {
-            return Err(self.reads.fault().into());
-        }
-        let Some(place) = newest(&self.files, name) else {
-            return Err(self.reads.fault().into());
-        };
-        let Ok(number) = u32::try_from(self.opened.len()) else {
-            return Err(self.reads.fault().into());
-        };
-        let end = self.files[place].bytes.len();
-        self.opened.push(OpenFile { place, at: 0, end })?;
-        Ok(FileNo(number))
+        let answer = open_in(
+            self.alloc,
+            &self.files,
+            &mut self.source_names,
+            &mut self.opened,
+            listed,
+            name,
+        );
+        self.reads.settle(answer);
+        answer
     }
 
     fn read(&mut self, file: FileNo, buf: &mut [u8]) -> Result<usize, Failed>
@@ -243,19 +240,16 @@ impl Files for MemFiles {
         ensures disks { self.new.disks ≡ self.old.disks }
     {
         let listed = self.writes.count();
-        self.sink_names.push(copied_name(self.alloc, name)?)?;
-        if listed {
-            return Err(self.writes.fault().into());
-        }
-        let Ok(number) = u32::try_from(self.sinks.len()) else {
-            return Err(self.writes.fault().into());
-        };
-        let file = StoredFile {
-            name: copied_name(self.alloc, name)?,
-            bytes: Vec::new(self.alloc),
-        };
-        make(&mut self.files, &mut self.sinks, file)?;
-        Ok(FileNo(number))
+        let answer = make_in(
+            self.alloc,
+            &mut self.files,
+            &mut self.sink_names,
+            &mut self.sinks,
+            listed,
+            name,
+        );
+        self.writes.settle(answer);
+        answer
     }
 
     /// Takes the whole piece. It fails where its number is listed, and where there is no memory for the piece.
@@ -277,11 +271,9 @@ impl Files for MemFiles {
         ensures reads { self.new.reads ≡ self.old.reads }
         ensures disks { self.new.disks ≡ self.old.disks }
     {
-        if self.writes.count() {
-            return Err(self.writes.fault());
-        }
+        let listed = self.writes.count();
         let place = self.sinks[file.0 as usize];
-        match append(&mut self.files, place, piece) {
+        match write_in(&mut self.files, place, listed, piece) {
             Ok(()) => Ok(piece.len()),
             Err(_) => Err(self.writes.fault()),
         }
@@ -374,6 +366,102 @@ pub(crate) fn copied_name(alloc: Global, name: &str) -> Result<Name, AllocError>
     Ok(Name::new(String::from_str(alloc, name)?))
 }
 
+/// Notes a name that was handed to an open. Where there is no memory, none is noted.
+pub(crate) fn note(alloc: Global, names: &mut Vec<Name>, name: &str) -> Result<(), AllocError>
+    ensures ok { OnOk result (names.new.items ≡ names.old.items ++ name.now ∷ []) }
+    ensures err { OnErr result (names.new.items ≡ names.old.items) }
+{
+    names.push(copied_name(alloc, name)?)?;
+    Ok(())
+}
+
+/// The number of the next file, where the call is not listed and there is a number left.
+pub(crate) fn next_number(listed: bool, count: usize) -> Option<FileNo>
+    ensures { MatchOption result (IsTrue listed ⊎ (2 ^ 32 ≤ count)) (λ file. (file.0 ≡ count) × (IsTrue listed → ⊥)) }
+{
+    if listed {
+        return None;
+    }
+    let number = u32::try_from(count).ok()?;
+    Some(FileNo(number))
+}
+
+/// Opens the newest file of this name for reading, unless the call is listed. The name is noted first.
+fn open_in(
+    alloc: Global,
+    files: &[StoredFile],
+    names: &mut Vec<Name>,
+    opened: &mut Vec<OpenFile>,
+    listed: bool,
+    name: &str,
+) -> Result<FileNo, OpenFault>
+    requires { All (IsOpenInside files.now) opened.old.items }
+    ensures names { NotesName (Some names.old.items) (Some names.new.items) name.now result }
+    ensures adds { AddsSource files.now opened.old.items opened.new.items name.now result }
+    ensures inside { All (IsOpenInside files.now) opened.new.items }
+    ensures listed { IsTrue listed → IsErr result }
+    ensures only { result ≡ Err OpenFault.Failed → IsTrue listed ⊎ (bytes_of files.now name.now ≡ None) ⊎ (2 ^ 32 ≤ length opened.old.items) }
+{
+    note(alloc, names, name)?;
+    add_opened(files, opened, listed, name)
+}
+
+/// Adds the newest file of this name to those that are open, unless the call is listed.
+fn add_opened(
+    files: &[StoredFile],
+    opened: &mut Vec<OpenFile>,
+    listed: bool,
+    name: &str,
+) -> Result<FileNo, OpenFault>
+    requires { All (IsOpenInside files.now) opened.old.items }
+    ensures adds { AddsSource files.now opened.old.items opened.new.items name.now result }
+    ensures inside { All (IsOpenInside files.now) opened.new.items }
+    ensures listed { IsTrue listed → IsErr result }
+    ensures only { result ≡ Err OpenFault.Failed → IsTrue listed ⊎ (bytes_of files.now name.now ≡ None) ⊎ (2 ^ 32 ≤ length opened.old.items) }
+{
+    let Some(number) = next_number(listed, opened.len()) else {
+        return Err(OpenFault::Failed);
+    };
+    let Some(file) = open_newest(files, name) else {
+        return Err(OpenFault::Failed);
+    };
+    opened.push(file)?;
+    Ok(number)
+}
+
+/// The newest file of this name, from its front.
+fn open_newest(files: &[StoredFile], name: &str) -> Option<OpenFile>
+    ensures inside { IfSome result (λ file. IsOpenInside files.now file) }
+    ensures left { option_map (left_in files.now) result ≡ bytes_of files.now name.now }
+{
+    let place = newest(files, name)?;
+    let file = &files[place];
+    let end = file.bytes.len();
+    Some(OpenFile { place, at: 0, end })
+}
+
+/// Makes an empty file of this name and opens it for writing, unless the call is listed. The name is noted first.
+fn make_in(
+    alloc: Global,
+    files: &mut Vec<StoredFile>,
+    names: &mut Vec<Name>,
+    sinks: &mut Vec<usize>,
+    listed: bool,
+    name: &str,
+) -> Result<FileNo, OpenFault>
+    ensures names { NotesName (Some names.old.items) (Some names.new.items) name.now result }
+    ensures adds { AddsSink files.old.items files.new.items sinks.old.items sinks.new.items name.now result }
+    ensures listed { IsTrue listed → IsErr result }
+    ensures only { result ≡ Err OpenFault.Failed → IsTrue listed ⊎ (2 ^ 32 ≤ length sinks.old.items) }
+{
+    note(alloc, names, name)?;
+    let Some(number) = next_number(listed, sinks.len()) else {
+        return Err(OpenFault::Failed);
+    };
+    make(alloc, files, sinks, name)?;
+    Ok(number)
+}
+
 /// The place of the newest file of this name.
 fn newest(files: &[StoredFile], name: &str) -> Option<usize>
     ensures inside { IfSome result (λ place. place < length files.now) }
@@ -401,22 +489,48 @@ fn read_on(files: &[StoredFile], file: OpenFile, buf: &mut [u8]) -> (usize, Open
     (count, OpenFile { at, ..file })
 }
 
-/// Adds a file, and its place to those that are open for writing. Where there is no memory, all stays as it was.
+/// Adds an empty file of this name, and its place to those that are open for writing. Where there is no memory, all stays as it was.
 fn make(
+    alloc: Global,
     files: &mut Vec<StoredFile>,
     sinks: &mut Vec<usize>,
-    file: StoredFile,
+    name: &str,
 ) -> Result<(), AllocError>
-    ensures files { OnOk result (files.new.items ≡ files.old.items ++ file ∷ []) }
-    ensures sinks { OnOk result (sinks.new.items ≡ sinks.old.items ++ length files.old.items ∷ []) }
+    ensures adds { OnOk result (AddsFile files.old.items files.new.items sinks.old.items sinks.new.items name.now) }
     ensures err { OnErr result ((files.new.items ≡ files.old.items) × (sinks.new.items ≡ sinks.old.items)) }
 {
+    let name = copied_name(alloc, name)?;
+    let bytes = Vec::new(alloc);
     sinks.push(files.len())?;
-    if files.push(file).is_err() {
+    if files.push(StoredFile { name, bytes }).is_err() {
         sinks.pop();
         return Err(AllocError);
     }
     Ok(())
+}
+
+/// Adds the piece to the file at this place, unless the call is listed. Where it fails, all stays as it was.
+fn write_in(
+    files: &mut Vec<StoredFile>,
+    place: usize,
+    listed: bool,
+    piece: &[u8],
+) -> Result<(), Failed>
+    requires { place < length files.old.items }
+    ensures ok { OnOk result
+        (files.new.items ≡ appended files.old.items place piece.now (ready_at files.new.items place)) }
+    ensures err { OnErr result (files.new.items ≡ files.old.items) }
+    ensures listed { IsTrue listed → IsErr result }
+    ensures only { OnErr result (IsTrue listed ⊎ WantsMemoryAt files.old.items place piece.now) }
+    ensures ready { ready_at files.old.items place ≤ ready_at files.new.items place }
+{
+    if listed {
+        return Err(Failed);
+    }
+    match append(files, place, piece) {
+        Ok(()) => Ok(()),
+        Err(_) => Err(Failed),
+    }
 }
 
 /// Adds the piece to the file at this place. Where there is no memory, all stays as it was.

@@ -1,6 +1,8 @@
 -- The files that were opened in memory, inside `MemFiles`.
-use Rattle.std.specs.Prelude.{ℕ, ◌<◌, ◌≤◌, ◌++◌, List, length, take, drop, slice_index, slice_set, All}
-use Rattle.gl_outside.specs.Store.{NamedBytes, bytes_at, name_at_place}
+use Rattle.std.specs.Prelude.{◌≡◌, ℕ, ◌<◌, ◌≤◌, [], ◌∷◌, ◌++◌, List, Some, Result, Ok, Err, length, map, take, drop, slice_index, slice_set, All}
+use Rattle.gl_outside.specs.Store.{NamedBytes, bytes_at, bytes_of, name_at_place}
+use Rattle.gl_outside.specs.declared.files.FileNo.{FileNo}
+use Rattle.gl_outside.specs.declared.files.OpenFault.{OpenFault}
 use Rattle.gl_outside.specs.declared.mem_files.OpenFile.{OpenFile}
 
 -- what an open file has left, of the bytes that it had as it was opened
@@ -21,3 +23,23 @@ pub record AreSinks (files : List NamedBytes) (sinks : List ℕ) : Type 0 where
 -- the piece behind the bytes of the file at this place, which can hold so many then before it takes memory
 abbrev pub appended : List NamedBytes → ℕ → List ℕ → ℕ → List NamedBytes
 appended files place piece ready = slice_set files place (record { name = name_at_place files place; bytes = bytes_at files place ++ piece; ready = ready })
+
+-- an open for reading adds a file that has left what the name gives, and its number is the next one; where it fails it adds none
+abbrev pub AddsSource : List NamedBytes → List OpenFile → List OpenFile → List ℕ → Result FileNo OpenFault → Type 0
+AddsSource files old new name (Ok file) =
+    (file.0 ≡ length old)
+    × ((left : List ℕ) × (bytes_of files name ≡ Some left) × (map (left_in files) new ≡ map (left_in files) old ++ left ∷ []))
+AddsSource files old new name (Err fault) = new ≡ old
+
+-- an empty file of this name was added, and its place to those of the files that are open for writing
+pub record AddsFile (files files_now : List NamedBytes) (sinks sinks_now : List ℕ) (name : List ℕ) : Type 0 where
+  pub file : NamedBytes
+  pub named : file.name ≡ name
+  pub empty : file.bytes ≡ []
+  pub files_grow : files_now ≡ files ++ file ∷ []
+  pub sinks_grow : sinks_now ≡ sinks ++ length files ∷ []
+
+-- an open for writing adds such a file, whose number is the next one; where it fails it adds none
+abbrev pub AddsSink : List NamedBytes → List NamedBytes → List ℕ → List ℕ → List ℕ → Result FileNo OpenFault → Type 0
+AddsSink files files_now sinks sinks_now name (Ok file) = (file.0 ≡ length sinks) × AddsFile files files_now sinks sinks_now name
+AddsSink files files_now sinks sinks_now name (Err fault) = (files_now ≡ files) × (sinks_now ≡ sinks)

@@ -1,44 +1,30 @@
-use Rattle.std.proofs.Common.{◌≡◌, ℕ, [], ◌∷◌, ◌++◌, List, length, map, Some, ap, ◌∙◌, subst, rules}
-use Rattle.gl_outside.specs.Store.{NamedBytes, StoreState}
-use Rattle.std.specs.Prelude.{vec_capacity}
-use Rattle.gl_outside.specs.Inner.OpenFiles.{left_in, AreSinks}
-use Rattle.gl_outside.proofs.StoredFiles.{bytes_of_put, map-left_in-append}
-use Rattle.gl_outside.proofs.Sinks.{all_inside-append, sinks_pushed, opens_sink}
+use Rattle.std.proofs.Common.{◌⊎◌, inl, inr, map, refl, subst}
+use Rattle.gl_outside.specs.Calls.{NextFails}
+use Rattle.gl_outside.specs.Frames.{OpensSink}
+use Rattle.gl_outside.specs.Store.{HasNoSinkNumber, StoreState, files_of_store}
+use Rattle.gl_outside.specs.Inner.OpenFiles.{left_in}
+use Rattle.gl_outside.proofs.MemOpens.{opened_kept, sink_gives, sink_opened}
 use Rattle.gl_outside.proofs.mem_files.MemFilesFiles.open_sink.Goals as goal
-
-pub invariant_of-self-2 : goal.invariant_of-self-2
-invariant_of-self-2 c =
-    let files = c.self.inside.files.items in
-    let file : NamedBytes = record { name = c.in_ok-copied_name-2.field-0; bytes = c.new.result.items; ready = vec_capacity c.new.result } in
-    let grown : c.make.new.files.items ≡ files ++ file ∷ [] = c.in_ok-make.ensures.files in
-    let sinks = c.self.inside.sinks.items in
-    let sunk : c.make.new.sinks.items ≡ sinks ++ length files ∷ [] = c.in_ok-make.ensures.sinks in (
-      all_inside-append files c.make.new.files.items (file ∷ []) c.self.inside.opened.items grown c.self.invariant.0,
-      sinks_pushed files c.make.new.files.items sinks c.make.new.sinks.items file grown sunk c.self.invariant.1,
-    )
 
 pub returns-clause-opens : goal.returns-clause-opens
 returns-clause-opens c =
-    let files = c.self.inside.files.items in
-    let file : NamedBytes = record { name = c.in_ok-copied_name-2.field-0; bytes = c.new.result.items; ready = vec_capacity c.new.result } in
-    let grown : c.make.new.files.items ≡ files ++ file ∷ [] = c.in_ok-make.ensures.files in
-    let sinks = c.self.inside.sinks.items in
-    let sunk : c.make.new.sinks.items ≡ sinks ++ length files ∷ [] = c.in_ok-make.ensures.sinks in
-    let number : c.in-Ok.number ≡ length sinks = search rules in
-    let are = subst (λ (s : StoreState). AreSinks s.files s.sinks) c.self.view_is c.self.invariant.1 in
-    let opened = c.self.inside.opened.items in
-    opens_sink c.args.self.now (record { files = _; source_names = _; opened = _; reads = _; sink_names = _; sinks = _; writes = c.count-listed.new.self; disks = _ }) file c.args.name.now c.in-Ok.number c.in_ok-copied_name-2.ensures c.new.ensures.items
-    (number ∙ ap (λ (s : StoreState). length s.sinks) c.self.view_is)
-    (grown ∙ ap (λ (s : StoreState). s.files ++ file ∷ []) c.self.view_is)
-    (sunk ∙ ap (λ (s : StoreState). s.sinks ++ length s.files ∷ []) c.self.view_is) are
-    (ap (λ (s : StoreState). s.reads) c.self.view_is) (ap (λ (s : StoreState). s.source_names) c.self.view_is)
-    (ap (λ (fs : List NamedBytes). map (left_in fs) opened) grown
-    ∙ map-left_in-append files (file ∷ []) opened c.self.invariant.0
-    ∙ ap (λ (s : StoreState). s.opened) c.self.view_is) (ap (λ (s : StoreState). s.disks) c.self.view_is)
+    let was = c.self.inside in
+    let made = c.make_in-answer.new in
+    let old : StoreState =
+    record { files = was.files.items; source_names = was.source_names.items; opened = map (left_in was.files.items) was.opened.items; reads = was.reads; sink_names = was.sink_names.items; sinks = was.sinks.items; writes = was.writes; disks = was.disks } in
+    let new : StoreState =
+    record old { files = made.files.items; opened = map (left_in made.files.items) was.opened.items; sink_names = made.names.items; sinks = made.sinks.items; writes = c.settle.new.self } in
+    let kept = opened_kept was.files.items made.files.items was.sinks.items made.sinks.items c.args.name.now c.make_in-answer.result was.opened.items c.make_in-answer.ensures.adds c.self.invariant.0 in
+    subst (λ (s : StoreState). OpensSink (files_of_store s) (files_of_store new) c.args.name.now c.make_in-answer.result) c.self.view_is
+    (sink_opened old new c.args.name.now c.make_in-answer.result c.make_in-answer.ensures.adds c.self.invariant.1 refl refl kept refl)
+
+pub returns-clause-only : goal.returns-clause-only
+returns-clause-only c = λ failed.
+    subst (λ (s : StoreState). NextFails s.writes ⊎ HasNoSinkNumber s) c.self.view_is
+    (elim (c.make_in-answer.ensures.only failed) [
+      | inl listed ↦ inl (c.count-listed.ensures.told.0 listed)
+      | inr full ↦ inr full
+    ])
 
 pub returns-clause-gives : goal.returns-clause-gives
-returns-clause-gives c =
-    let files = c.self.inside.files.items in
-    let file : NamedBytes = record { name = c.in_ok-copied_name-2.field-0; bytes = c.new.result.items; ready = vec_capacity c.new.result } in
-    let grown : c.make.new.files.items ≡ files ++ file ∷ [] = c.in_ok-make.ensures.files in
-    bytes_of_put files c.make.new.files.items file c.args.name.now grown c.in_ok-copied_name-2.ensures ∙ ap (λ (bytes : List ℕ). Some bytes) c.new.ensures.items
+returns-clause-gives c = sink_gives c.self.inside.files.items c.make_in-answer.new.files.items c.self.inside.sinks.items _ c.args.name.now c.make_in-answer.result c.make_in-answer.ensures.adds
