@@ -20,7 +20,7 @@ use Rattle.cluster_ending.proofs.Watching.{event_watched}
 
 -- ---- the setting behind an event
 
-setting_same : (st : Setting) (event : Event) → IsNoRecovery event → setting_after st event ≡ st
+pub setting_same : (st : Setting) (event : Event) → IsNoRecovery event → setting_after st event ≡ st
 setting_same st (Admit a v) other = refl
 setting_same st (Grant a x) other = refl
 setting_same st (Send p q) other = refl
