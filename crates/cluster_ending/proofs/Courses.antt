@@ -153,7 +153,7 @@ saves_same st c s (Some v) = (refl, refl)
 abbrev GoesOnTo : Event → Cluster → Cluster → Type 0
 GoesOnTo event c new = (put_of new ≡ (if puts_wave_out event then suc (put_of c) else put_of c)) × (new.coordinator.begun ≡ c.coordinator.begun)
 
-numbers_after : (st : Setting) (c : Cluster) (event : Event) → IsNoRecovery event → IsNoBegin event → GoesOnTo event c (after_event st c event)
+pub numbers_after : (st : Setting) (c : Cluster) (event : Event) → IsNoRecovery event → IsNoBegin event → GoesOnTo event c (after_event st c event)
 numbers_after st c (Admit a v) other no_begin = (refl, refl)
 numbers_after st c (Grant a x) other no_begin = (refl, refl)
 numbers_after st c (Send p q) other no_begin = sends_same c p q ((c.machine p).part.out q)

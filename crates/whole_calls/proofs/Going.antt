@@ -15,15 +15,14 @@ use Rattle.cluster_attempts.proofs.Joining.{done_kept, quiet_so, recover_so, upd
 use Rattle.cluster_attempts.proofs.Making.{logs_are}
 use Rattle.cluster_core.specs.Replays.{entries_of, is_of}
 use Rattle.cluster_core.specs.Settings.{IsSetting, Setting}
-use Rattle.cluster_ending.proofs.Courses.{setting_same}
 use Rattle.cluster_model.specs.Clusters.{BaseView, Cluster}
-use Rattle.cluster_model.specs.Events.{Event, Fail, GoesBackTo, IsCourse, MayDo, Recover, Update, after_event, failures_in, recovers, setting_after}
+use Rattle.cluster_model.specs.Events.{Event, Fail, GoesBackTo, MayDo, Recover, Update, after_event, recovers, setting_after}
 use Rattle.cluster_model.specs.Machines.{Machine}
 use Rattle.cluster_model.specs.Totals.{total}
 use Rattle.cluster_runs.specs.Attempts.{Attempt, Beginning, is_reached}
 use Rattle.cluster_runs.specs.Recorded.{shared_of}
 use Rattle.cluster_whole.specs.Logged.{Logged, all_entries}
-use Rattle.cluster_whole.specs.Whole.{IsNoRecovery, IsWhole, setting_behind}
+use Rattle.cluster_whole.specs.Whole.{IsNoRecovery, IsWhole}
 use Rattle.cluster_whole.proofs.Flows.{total_from-same}
 use Rattle.cluster_records.specs.Bases.{IsBased}
 use Rattle.cluster_records.specs.Recorded.{IsAccounted}
@@ -35,8 +34,7 @@ use Rattle.cluster_records.proofs.Courses.{are_coloured, begun}
 use Rattle.cluster_records.proofs.Entering.{IsNoUpdate, own_logged, update_logged}
 use Rattle.cluster_records.proofs.Fewness.{begun_asking}
 use Rattle.cluster_records.proofs.Filtering.{all-more, other_entry, own_entry}
-use Rattle.whole_calls.specs.Following.{AreJobFailures, FollowJob, FollowsJob, has_reached, reaches}
-use Rattle.whole_calls.proofs.EventKinds.{by_kind}
+use Rattle.whole_calls.specs.Following.{AreJobFailures, FollowsJob, has_reached, reaches}
 use Rattle.whole_calls.proofs.Failed.{failed_by}
 use Rattle.whole_calls.proofs.Reaching.{is_within, none_reached, one_at, reached_many}
 use Rattle.whole_calls.proofs.Windowed.{unheld_few}
@@ -275,30 +273,3 @@ module _ (failures : List FailureAt) (start : Beginning) (st : Setting) (c : Clu
 
       not_so : false ≡ true → ⊥
       not_so is = cc
-
-  -- what an event leaves
-  abbrev Leaves : Event → Type 0
-  Leaves event = (now : List Logged) × (more : List Attempt) × IsInCall failures start (setting_after st event) (after_event st c event) now more
-
-  pub event_in : (event : Event) → MayDo st c event → FollowsJob st failures c event → Leaves event
-  event_in event may follows =
-      by_kind (λ event. MayDo st c event → FollowsJob st failures c event → Leaves event)
-      (λ event other none may follows. (
-        logged ++ [],
-        failed,
-        subst (λ (s : Setting). IsInCall failures start s (after_event st c event) (logged ++ []) failed) (sym (setting_same st event other)) (quiet_in event may other none follows),
-      ))
-      (λ s may follows. (logged ++ update_logged st c s may.1.vertex ∷ [], failed, update_in s may follows))
-      (λ base may follows. ([], failed ++ now_made ∷ [], recover_in base may follows))
-      event may follows
-
--- ---- every list of events
-
-pub courses_in : (failures : List FailureAt) (start : Beginning) (events : List Event) (st : Setting) (old last : Cluster) (logged : List Logged) (failed : List Attempt) →
-    IsInCall failures start st old logged failed → IsCourse st old events last → FollowJob st failures old events →
-    (now : List Logged) × (more : List Attempt) × IsInCall failures start (setting_behind st events) last now more
-courses_in failures start [] st old last logged failed at course follow =
-    subst (λ (c : Cluster). (now : List Logged) × (more : List Attempt) × IsInCall failures start st c now more) (sym course) (logged, failed, at)
-courses_in failures start (event ∷ events) st old last logged failed at course follow =
-    let next = event_in failures start st old logged failed at event course.0.1 follow.0 in
-    courses_in failures start events (setting_after st event) (after_event st old event) last next.0 next.1 next.2 course.1 follow.1

@@ -34,14 +34,14 @@ use Rattle.graph_core.specs.DataGraph.{size}
 use Rattle.seq_run.specs.Orders.{IsValidOrder, replay, tasks_after}
 use Rattle.seq_run.specs.States.{GraphState}
 use Rattle.whole_calls.specs.Called.{IsCallOf, KeepsWindows}
-use Rattle.whole_calls.specs.Opened.{IsCourseOfCall, IsOpened}
-use Rattle.whole_calls.proofs.Going.{IsInCall, courses_in, stops_first}
+use Rattle.whole_calls.specs.Opened.{IsOpened}
+use Rattle.whole_calls.proofs.Going.{IsInCall, stops_first}
 use Rattle.whole_calls.proofs.Windowed.{unheld_few}
 
 -- ---- the setting behind events
 
 -- the same but for what the attempt began with
-abbrev since : Setting → GraphState → ℕ → Setting
+abbrev pub since : Setting → GraphState → ℕ → Setting
 since st start base = record st { start = start; base = base }
 
 after_since : (st : Setting) (event : Event) → setting_after st event ≡ since st (setting_after st event).start (setting_after st event).base
@@ -90,7 +90,7 @@ all_done b (a ∷ failed) last m = all_done (again b a) failed last m ∙ sym (�
 abbrev pub opened_at : List Entry → Bool → Beginning
 opened_at kept resumed = record { front = kept ++ (if resumed then Restart (ticket_above kept) ∷ [] else []); next = ticket_above kept; done = nothing }
 
-module _ (st : Setting) (failures : List FailureAt) (kept : List Entry) (resumed : Bool) (budget : ℕ) (base : BaseView) (first : Cluster) (opened : IsOpened st failures kept resumed budget base first) where
+module _ (st : Setting) (failures : List FailureAt) (kept : List Entry) (resumed : Bool) (base : BaseView) (first : Cluster) (opened : IsOpened st failures kept resumed base first) where
   abbrev shared : Shared
   shared = shared_of st failures
 
@@ -188,39 +188,10 @@ module _ (failures : List FailureAt) (kept : List Entry) (resumed : Bool) (st : 
         outside = call_window (shared_of st failures) st.window call is_call (unheld_few st at.is c at.whole logged at.account failures here at.so.tickets at.asking stored);
       }
 
--- ---- from the opening on
-
--- the call that a cluster made, and how it is with it
-pub record HasCalled (st : Setting) (failures : List FailureAt) (kept : List Entry) (resumed : Bool) (c : Cluster) : Type 0 where
-  pub start : GraphState
-  pub number : ℕ
-  pub logged : List Logged
-  pub failed : List Attempt
-  pub at : IsInCall failures (opened_at kept resumed) (since st start number) c logged failed
-  pub in_turn : IsOrderInTurn (shared_of st failures) kept
-  pub begins : (resumed ≡ true) ⊎ ((resumed ≡ false) × (kept ≡ []))
-
-pub has_called : (st : Setting) (failures : List FailureAt) (kept : List Entry) (resumed : Bool) (budget : ℕ) (events : List Event) (c : Cluster) →
-    IsCourseOfCall st failures kept resumed budget events c → HasCalled st failures kept resumed c
-has_called st failures kept resumed budget events c course =
-    let first : Setting = going_on st course.base.numbers course.base.number in
-    let last : Setting = setting_behind first events in
-    let next = courses_in failures (opened_at kept resumed) events first (recovers st course.base course.first) c [] []
-    (opened_in st failures kept resumed budget course.base course.first course.opened course.is course.coloured) course.course course.follows in
-    record {
-      start = last.start;
-      number = last.base;
-      logged = next.0;
-      failed = next.1;
-      at = subst (λ (s : Setting). IsInCall failures (opened_at kept resumed) s c next.0 next.1) (behind_since events first) next.2;
-      in_turn = course.opened.in_turn;
-      begins = course.opened.begins;
-    }
-
 -- nothing of the call rests on what the last attempt began with
-pub call_then : (st : Setting) (start : GraphState) (number : ℕ) (failures : List FailureAt) (kept : List Entry) (resumed : Bool) (c : Cluster) (call : EngineCall) →
-    IsCallOf (since st start number) failures kept resumed c call → IsCallOf st failures kept resumed c call
-call_then st start number failures kept resumed c call of =
+pub call_then : (st : Setting) (start : GraphState) (number : ℕ) (failures : List FailureAt) (kept : List Entry) (resumed : Bool) (c : Cluster) (one : EngineCall) →
+    IsCallOf (since st start number) failures kept resumed c one → IsCallOf st failures kept resumed c one
+call_then st start number failures kept resumed c one of =
     record {
       is = of.is;
       base = of.base;
@@ -233,5 +204,5 @@ call_then st start number failures kept resumed c call of =
       tasks = of.tasks;
     }
 
-pub windows_then : (st : Setting) (start : GraphState) (number : ℕ) (failures : List FailureAt) (call : EngineCall) → KeepsWindows (since st start number) failures call → KeepsWindows st failures call
-windows_then st start number failures call keeps = record { lost = keeps.lost; outside = keeps.outside }
+pub windows_then : (st : Setting) (start : GraphState) (number : ℕ) (failures : List FailureAt) (one : EngineCall) → KeepsWindows (since st start number) failures one → KeepsWindows st failures one
+windows_then st start number failures one keeps = record { lost = keeps.lost; outside = keeps.outside }

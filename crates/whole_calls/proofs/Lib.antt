@@ -4,3 +4,8 @@ pub mod Windowed
 pub mod Failed
 pub mod Going
 pub mod Leading
+pub mod Waved
+pub mod Holding
+pub mod Acknowledged
+pub mod Ending
+pub mod Calling

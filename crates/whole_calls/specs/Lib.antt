@@ -1,3 +1,5 @@
 pub mod Following
 pub mod Opened
 pub mod Called
+pub mod Saved
+pub mod Telling

@@ -16,23 +16,21 @@ use Rattle.seq_run.specs.Orders.{replay}
 use Rattle.whole_calls.specs.Following.{AreJobFailures, FollowJob}
 
 -- A call opens with the order of the store's last snapshot, where it resumes that, and with no order where it doesn't. The first attempt
--- goes back to that, and behind it a restart where it resumes; no machine has made an update, and the budget is so many tickets.
-pub record IsOpened (st : Setting) (failures : List FailureAt) (kept : List Entry) (resumed : Bool) (budget : ℕ) (base : BaseView) (c : Cluster) : Type 0 where
+-- goes back to that, and behind it a restart where it resumes; the tickets that are left are the budget, and no machine has made an
+-- update.
+pub record IsOpened (st : Setting) (failures : List FailureAt) (kept : List Entry) (resumed : Bool) (base : BaseView) (first : Cluster) : Type 0 where
   pub ordered : AreJobFailures st.machines failures
   pub in_turn : IsOrderInTurn (shared_of st failures) kept
   pub begins : (resumed ≡ true) ⊎ ((resumed ≡ false) × (kept ≡ []))
   pub front : base.order ≡ kept ++ (if resumed then Restart (ticket_above kept) ∷ [] else [])
   pub numbers : HaveSameNumbers st.graph base.numbers (replay st.graph st.program base.order)
-  pub next : c.next ≡ ticket_above kept
-  pub left : c.left ≡ budget
-  pub done : (a : ℕ) → completed (c.machine a) ≡ 0
+  pub next : first.next ≡ ticket_above kept
+  pub done : (a : ℕ) → completed (first.machine a) ≡ 0
 
 -- These events lead from the opening of the call to this cluster, and follow the job.
-pub record IsCourseOfCall (st : Setting) (failures : List FailureAt) (kept : List Entry) (resumed : Bool) (budget : ℕ) (events : List Event) (c : Cluster) : Type 0 where
+pub record IsCourseOfCall (st : Setting) (failures : List FailureAt) (kept : List Entry) (resumed : Bool) (base : BaseView) (first : Cluster) (events : List Event) (c : Cluster) : Type 0 where
   pub is : IsSetting st
   pub coloured : AreColoured st st.engine
-  pub base : BaseView
-  pub first : Cluster
-  pub opened : IsOpened st failures kept resumed budget base first
+  pub opened : IsOpened st failures kept resumed base first
   pub course : IsCourse (going_on st base.numbers base.number) (recovers st base first) events c
   pub follows : FollowJob (going_on st base.numbers base.number) failures (recovers st base first) events
