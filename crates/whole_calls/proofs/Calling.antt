@@ -1,12 +1,15 @@
 -- What the events of a call make, part by part.
 use Rattle.std.proofs.Common.{◌≡◌, ◌⊎◌, ℕ, suc, ◌+◌, ◌/◌, ◌<◌, ◌≤◌, Bool, true, false, if◌then◌else◌, List, [], ◌∷◌, ◌++◌, length, sum_by, inl, inr, refl, sym, ◌∙◌, ap, ap₂, subst, ⊎_elim, arith}
 use Rattle.std.proofs.lemmas.Bool.{both_ways, cases_eq, cond-false, false_from_ne_true}
-use Rattle.std.proofs.lemmas.List.{length-append}
+use Rattle.std.specs.List.{AllByRecursion}
+use Rattle.std.proofs.lemmas.List.{length-append, length-map}
 use Rattle.gl_base.specs.declared.entries.Entry.{Entry}
+use Rattle.gl_base.specs.declared.entries.Entry.TheVariants.{Restart}
 use Rattle.gl_base.specs.declared.jobs.FailureAt.{FailureAt}
 use Rattle.graph_core.specs.DataGraph.{size}
 use Rattle.attempts.specs.Beginnings.{held_updates}
 use Rattle.attempts.specs.EngineCalls.{EngineCall, IsOrderInTurn, begins_behind, call_order, made_of, ticket_above}
+use Rattle.attempts.specs.Entries.{is_restart}
 use Rattle.attempts.specs.Stores.{attempted_snapshots, last_order, snapshot_orders, snapshots_of}
 use Rattle.attempts.proofs.Storing.{full_is}
 use Rattle.cluster_attempts.specs.CallsSoFar.{counts_of}
@@ -44,7 +47,7 @@ use Rattle.whole_calls.specs.Telling.{HasSavedTheEnd, TellsOfCall}
 use Rattle.whole_calls.proofs.Acknowledged.{good_snapshots, snapshots_append, snapshots_long}
 use Rattle.whole_calls.proofs.Ending.{EndsBehind, HasAskedAll, IsEnding, IsPlain, courses_end, which}
 use Rattle.whole_calls.proofs.Going.{IsInCall}
-use Rattle.whole_calls.proofs.Holding.{holds_only}
+use Rattle.whole_calls.proofs.Holding.{holds_only, told_many}
 use Rattle.whole_calls.proofs.Leading.{behind_since, call_of, call_then, call_with, is_call, opened_at, opened_in, since, windows_are, windows_then}
 use Rattle.whole_calls.proofs.Reaching.{one_at, reached_many}
 use Rattle.whole_calls.proofs.Waved.{end_unreached, recovered_late}
@@ -58,7 +61,7 @@ one_some : (n : ℕ) → 1 ≤ suc n
 one_some n = omega arith
 
 module _ (failures : List FailureAt) (kept : List Entry) (resumed : Bool) (number budget : ℕ) (st : Setting) (c : Cluster) (logged : List Logged) (failed : List Attempt) (taken : List Snapshot) (unasked : ℕ)
-    (e : IsEnding failures (opened_at kept resumed) number (ticket_above kept + budget) st c logged failed taken unasked)
+    (e : IsEnding failures (opened_at kept resumed) kept number (ticket_above kept + budget) st c logged failed taken unasked)
     (in_turn : IsOrderInTurn (shared_of st failures) kept) (begins_with : (resumed ≡ true) ⊎ ((resumed ≡ false) × (kept ≡ []))) where
   abbrev at : IsInCall failures (opened_at kept resumed) st c logged failed
   at = e.at
@@ -72,15 +75,15 @@ module _ (failures : List FailureAt) (kept : List Entry) (resumed : Bool) (numbe
   its_call : IsCallOf st failures kept resumed c made_call
   its_call = call_of failures kept resumed st c logged failed at in_turn begins_with
 
-  orders_are : AreSnapshotsOf st number taken (snapshots_of made_call)
+  orders_are : AreSnapshotsOf st number kept taken (snapshots_of made_call)
   orders_are =
       let snapshots : List Snapshot = c.coordinator.snapshots in
       let orders : List (List Entry) = snapshot_orders behind made_call.last in
-      subst (λ (ss : List Snapshot). AreSnapshotsOf st number ss (snapshots_of made_call)) (sym e.taken_are)
-      (snapshots_append st number e.earlier snapshots (attempted_snapshots (opened_at kept resumed) failed) orders e.orders
-      (subst (λ (n : ℕ). AreSnapshotsOf st n snapshots orders) e.numbered
-      (good_snapshots st at.is c at.whole logged at.account at.based failures behind at.so.front at.so.tickets st.base c.coordinator.acknowledged snapshots
-      at.account.records.numbered at.account.records.good)))
+      let newest : List Entry = last_order kept (attempted_snapshots (opened_at kept resumed) failed) in
+      subst (λ (ss : List Snapshot). AreSnapshotsOf st number kept ss (snapshots_of made_call)) (sym e.taken_are)
+      (snapshots_append st number kept e.earlier snapshots (attempted_snapshots (opened_at kept resumed) failed) orders e.orders
+      (subst (λ (n : ℕ). AreSnapshotsOf st n newest snapshots orders) e.numbered
+      (good_snapshots st at.is c at.whole logged at.account at.based failures behind at.so.front at.so.tickets newest e.resumes)))
 
   none_left : HasSeenTheEnd c.coordinator → (u : ℕ) → u < size st.graph → tasks_after st.graph st.program (call_order made_call) u ≡ false
   none_left end u low =
@@ -127,6 +130,7 @@ module _ (failures : List FailureAt) (kept : List Entry) (resumed : Bool) (numbe
       record {
         tasks = none_left;
         unharmed = none_struck;
+        told = λ end. told_many st at.is c at.whole logged at.account e.watch e.watched end ∙ sym (length-map logged (λ (l : Logged). l.entry));
         saved = saved_all;
         spent = of_budget c.next c.left (ticket_above kept) budget (length (made_of made_call)) e.tickets its_call.next;
       }
@@ -162,6 +166,10 @@ one_at_most n stored share few once = ⊎_elim (λ (none : 0 + n ≡ 0). with_no
 plus_none : (n : ℕ) → n ≡ n + 0
 plus_none n = omega arith
 
+restart_alone : (b : Bool) (f : ℕ) → AllByRecursion (λ entry. is_restart entry ≡ true) (if b then Restart f ∷ [] else [])
+restart_alone true f = (refl, tt)
+restart_alone false f = tt
+
 module _ (st : Setting) (failures : List FailureAt) (kept : List Entry) (resumed : Bool) (base : BaseView) (first : Cluster) (events : List Event) (c : Cluster)
     (course : IsCourseOfCall st failures kept resumed base first events c) where
   abbrev now : Setting
@@ -170,7 +178,7 @@ module _ (st : Setting) (failures : List FailureAt) (kept : List Entry) (resumed
   abbrev begun : Cluster
   begun = recovers st base first
 
-  opening : IsEnding failures (opened_at kept resumed) base.number (ticket_above kept + first.left) now begun [] [] [] 0
+  opening : IsEnding failures (opened_at kept resumed) kept base.number (ticket_above kept + first.left) now begun [] [] [] 0
   opening =
       let followed = (start_followed st course.is course.coloured base first [] begun refl).followed in
       record {
@@ -183,16 +191,17 @@ module _ (st : Setting) (failures : List FailureAt) (kept : List Entry) (resumed
         taken_are = refl;
         numbered = plus_none base.number;
         orders = tt;
+        resumes = (if resumed then Restart (ticket_above kept) ∷ [] else [], refl, restart_alone resumed (ticket_above kept));
         tickets = ap (λ (n : ℕ). n + first.left) course.opened.next;
       }
 
   abbrev last : Setting
   last = setting_behind now events
 
-  ended : EndsBehind failures (opened_at kept resumed) base.number (ticket_above kept + first.left) (since st last.start last.base) c (recorded_in now begun events) (0 + unasked_in now begun events)
+  ended : EndsBehind failures (opened_at kept resumed) kept base.number (ticket_above kept + first.left) (since st last.start last.base) c (recorded_in now begun events) (0 + unasked_in now begun events)
   ended =
-      subst (λ (s : Setting). EndsBehind failures (opened_at kept resumed) base.number (ticket_above kept + first.left) s c (recorded_in now begun events) (0 + unasked_in now begun events)) (behind_since events now)
-      (courses_end failures (opened_at kept resumed) base.number (ticket_above kept + first.left) events now begun c [] [] [] 0 opening course.course course.follows)
+      subst (λ (s : Setting). EndsBehind failures (opened_at kept resumed) kept base.number (ticket_above kept + first.left) s c (recorded_in now begun events) (0 + unasked_in now begun events)) (behind_since events now)
+      (courses_end failures (opened_at kept resumed) kept base.number (ticket_above kept + first.left) events now begun c [] [] [] 0 opening course.course course.follows)
 
   saved_then : (start : GraphState) (number : ℕ) → HasSavedTheEnd st c.coordinator → HasSavedTheEnd (since st start number) c.coordinator
   saved_then start number is =
@@ -204,7 +213,7 @@ module _ (st : Setting) (failures : List FailureAt) (kept : List Entry) (resumed
   pub the_call : (one : EngineCall)
       × IsCallOf st failures kept resumed c one
       × (st.stored ≡ true → KeepsWindows st failures one)
-      × AreSnapshotsOf st base.number (recorded_in (going_on st base.numbers base.number) (recovers st base first) events) (snapshots_of one)
+      × AreSnapshotsOf st base.number kept (recorded_in (going_on st base.numbers base.number) (recovers st base first) events) (snapshots_of one)
       × (0 < half_window st → length (snapshots_of one) ≤ first.left / half_window st + 1)
       × TellsOfCall st first.left c one
   the_call =
@@ -213,20 +222,20 @@ module _ (st : Setting) (failures : List FailureAt) (kept : List Entry) (resumed
       let failed : List Attempt = ended.1 in
       let taken : List Snapshot = recorded_in now begun events in
       let unasked : ℕ = 0 + unasked_in now begun events in
-      let e : IsEnding failures (opened_at kept resumed) base.number (ticket_above kept + first.left) last_st c logged failed taken unasked = ended.2 in
+      let e : IsEnding failures (opened_at kept resumed) kept base.number (ticket_above kept + first.left) last_st c logged failed taken unasked = ended.2 in
       let one : EngineCall = call_with failures kept resumed c logged failed in
       let in_turn = course.opened.in_turn in
       let begins = course.opened.begins in
-      let are : AreSnapshotsOf st base.number taken (snapshots_of one) = orders_are failures kept resumed base.number first.left last_st c logged failed taken unasked e in_turn begins in
+      let are : AreSnapshotsOf st base.number kept taken (snapshots_of one) = orders_are failures kept resumed base.number first.left last_st c logged failed taken unasked e in_turn begins in
       let told : TellsOfCall last_st first.left c one = tells failures kept resumed base.number first.left last_st c logged failed taken unasked e in_turn begins in (
         one,
         call_then st last.start last.base failures kept resumed c one (call_of failures kept resumed last_st c logged failed e.at in_turn begins),
         λ stored. windows_then st last.start last.base failures one (windows_are failures kept resumed last_st c logged failed e.at in_turn begins stored),
         are,
         λ half.
-            subst (λ (n : ℕ). n ≤ first.left / half_window st + 1) (sym (snapshots_long st base.number taken (snapshots_of one) are ∙ recorded_many events now begun))
+            subst (λ (n : ℕ). n ≤ first.left / half_window st + 1) (sym (snapshots_long st base.number kept taken (snapshots_of one) are ∙ recorded_many events now begun))
             (one_at_most (unasked_in now begun events) (snapshots_in_all events) (first.left / half_window st)
             (by_half (half_window st) (snapshots_in_all events) (unasked_in now begun events) first.left half (attempts_few st course.is course.coloured base first events c course.course))
             (once_or last_st logged unasked e.once)),
-        record { tasks = told.tasks; unharmed = told.unharmed; saved = λ stored is. told.saved stored (saved_then last.start last.base is); spent = told.spent },
+        record { tasks = told.tasks; unharmed = told.unharmed; told = told.told; saved = λ stored is. told.saved stored (saved_then last.start last.base is); spent = told.spent },
       )

@@ -8,7 +8,10 @@ use Rattle.gl_base.specs.declared.jobs.FailureAt.{FailureAt}
 use Rattle.gl_base.specs.declared.scopes.ScopeId.{ScopeId}
 use Rattle.graph_core.specs.DataGraph.{size}
 use Rattle.attempts.specs.EngineCalls.{begins_behind}
-use Rattle.attempts.specs.Stores.{attempted_snapshots, snapshot_orders}
+use Rattle.attempts.specs.Stores.{ResumesFrom, attempted_snapshots, last_order, snapshot_orders}
+use Rattle.attempts.proofs.Prefixes.{last_order_append}
+use Rattle.attempts.proofs.Storing.{begins_push, goes_back}
+use Rattle.cluster_attempts.proofs.Joining.{made_now}
 use Rattle.cluster_core.specs.Messages.{Message}
 use Rattle.cluster_core.specs.Settings.{IsSetting, Setting}
 use Rattle.cluster_ending.specs.Watched.{HasNoTaskLeft, IsWatched, Watch}
@@ -21,6 +24,7 @@ use Rattle.cluster_model.specs.Clusters.{BaseView, Cluster}
 use Rattle.cluster_model.specs.Events.{Event, Admit, DeliverCall, DeliverReport, Deliver, Fail, GoesBackTo, Grant, IsCourse, Mark, MayDo, PutBegin, PutStep, PutWave, Record, Recover, Section, Send, SendCall, SendReport, Stop, Update, after_event, delivers_call, delivers_message, delivers_report, failures_in, makes, recovers, saves, sends_call, sends_message, sends_report, setting_after}
 use Rattle.cluster_model.specs.Leading.{HasSeenTheEnd, HoldsAll, Snapshot}
 use Rattle.cluster_runs.specs.Attempts.{Attempt, Beginning}
+use Rattle.cluster_runs.specs.Recorded.{shared_of}
 use Rattle.cluster_whole.specs.Logged.{Logged}
 use Rattle.cluster_whole.specs.Views.{world_of}
 use Rattle.cluster_whole.specs.Whole.{IsNoRecovery, setting_behind}
@@ -114,7 +118,7 @@ HasAskedOnce failures st c logged unasked = (unasked ≡ 0) ⊎ ((unasked ≡ 1)
 
 -- These snapshots were acknowledged, the last ones in this attempt, so many were begun that no machine asked for, and so many tickets
 -- were there.
-pub record IsEnding (failures : List FailureAt) (start : Beginning) (number total : ℕ) (st : Setting) (c : Cluster) (logged : List Logged) (failed : List Attempt) (taken : List Snapshot) (unasked : ℕ) : Type 0 where
+pub record IsEnding (failures : List FailureAt) (start : Beginning) (kept : List Entry) (number total : ℕ) (st : Setting) (c : Cluster) (logged : List Logged) (failed : List Attempt) (taken : List Snapshot) (unasked : ℕ) : Type 0 where
   pub at : IsInCall failures start st c logged failed
   pub watch : Watch
   pub watched : IsWatched st c watch
@@ -123,7 +127,8 @@ pub record IsEnding (failures : List FailureAt) (start : Beginning) (number tota
   pub earlier : List Snapshot
   pub taken_are : taken ≡ earlier ++ c.coordinator.snapshots
   pub numbered : st.base ≡ number + length earlier
-  pub orders : AreSnapshotsOf st number earlier (attempted_snapshots start failed)
+  pub orders : AreSnapshotsOf st number kept earlier (attempted_snapshots start failed)
+  pub resumes : ResumesFrom (last_order kept (attempted_snapshots start failed)) (begins_behind start failed).front
   pub tickets : c.next + c.left ≡ total
 
 stays_zero : (n k : ℕ) → n ≡ 0 → k ≡ 0 → n + k ≡ 0
@@ -166,8 +171,8 @@ numbers_up : (low high : ℕ) (ls : List Logged) → low ≤ high → AllByRecur
 numbers_up low high [] up all = tt
 numbers_up low high (l ∷ ls) up all = (le_up l.number low high all.0 up, numbers_up low high ls up all.1)
 
-module _ (failures : List FailureAt) (start : Beginning) (number total : ℕ) (st : Setting) (c : Cluster) (logged : List Logged) (failed : List Attempt) (taken : List Snapshot) (unasked : ℕ)
-    (e : IsEnding failures start number total st c logged failed taken unasked) where
+module _ (failures : List FailureAt) (start : Beginning) (kept : List Entry) (number total : ℕ) (st : Setting) (c : Cluster) (logged : List Logged) (failed : List Attempt) (taken : List Snapshot) (unasked : ℕ)
+    (e : IsEnding failures start kept number total st c logged failed taken unasked) where
   abbrev in_call : IsInCall failures start st c logged failed
   in_call = e.at
 
@@ -276,32 +281,33 @@ module _ (failures : List FailureAt) (start : Beginning) (number total : ℕ) (s
   -- ---- each event
 
   pub quiet_ending : (event : Event) → MayDo st c event → IsNoRecovery event → IsNoUpdate event → FollowsJob st failures c event →
-      IsEnding failures start number total st (after_event st c event) (logged ++ []) failed (taken ++ recorded_at c event) (unasked + unasked_at c event)
+      IsEnding failures start kept number total st (after_event st c event) (logged ++ []) failed (taken ++ recorded_at c event) (unasked + unasked_at c event)
   quiet_ending event may other none follows =
-      let kept = event_kept st in_call.is c in_call.whole e.watch e.watched event may other in
+      let seen = event_kept st in_call.is c in_call.whole e.watch e.watched event may other in
       record {
         at = quiet_in failures start st c logged failed in_call event may other none follows;
-        watch = kept.0;
-        watched = kept.1.0;
+        watch = seen.0;
+        watched = seen.1.0;
         late = quiet_late failures start st c logged failed in_call e.watch e.watched e.late event may other none follows;
         once = once_on event may other none;
         earlier = e.earlier;
         taken_are = taken_on event may other;
         numbered = e.numbered;
         orders = e.orders;
+        resumes = e.resumes;
         tickets = ap₂ (λ (n k : ℕ). n + k) (draws_none st c event may none) (left_kept st c event may none) ∙ e.tickets;
       }
 
   pub update_ending : (s : ScopeId) (may : MayDo st c (Update s)) → FollowsJob st failures c (Update s) →
-      IsEnding failures start number total st (after_event st c (Update s)) (logged ++ update_logged st c s may.1.vertex ∷ []) failed (taken ++ []) (unasked + 0)
+      IsEnding failures start kept number total st (after_event st c (Update s)) (logged ++ update_logged st c s may.1.vertex ∷ []) failed (taken ++ []) (unasked + 0)
   update_ending s may follows =
       let other : IsNoRecovery (Update s) = λ base same. cc in
       let own = own_logged st in_call.is c in_call.whole logged in_call.account.order s may other in
-      let kept = event_kept st in_call.is c in_call.whole e.watch e.watched (Update s) may other in
+      let seen = event_kept st in_call.is c in_call.whole e.watch e.watched (Update s) may other in
       record {
         at = update_in failures start st c logged failed in_call s may follows;
-        watch = kept.0;
-        watched = kept.1.0;
+        watch = seen.0;
+        watched = seen.1.0;
         late = update_late failures start st c logged failed in_call e.watch e.watched e.late s may;
         once = ⊎_elim
             (λ (zero_so : unasked ≡ 0). inl (stays_zero unasked 0 zero_so refl))
@@ -312,6 +318,7 @@ module _ (failures : List FailureAt) (start : Beginning) (number total : ℕ) (s
         taken_are = none_taken (Update s) may other (λ same. cc) refl;
         numbered = e.numbered;
         orders = e.orders;
+        resumes = e.resumes;
         tickets = subst (λ (flight : Option ℕ). (makes st c s flight).next + (makes st c s flight).left ≡ total) (sym may.1.flight) (one_ticket c.next c.left total e.tickets may.1.ticket);
       }
 
@@ -327,17 +334,18 @@ module _ (failures : List FailureAt) (start : Beginning) (number total : ℕ) (s
       in_range a n low = omega arith
 
   pub recover_ending : (base : BaseView) (back : GoesBackTo st c base) → FollowsJob st failures c (Recover base) →
-      IsEnding failures start number total (setting_after st (Recover base)) (recovers st base c) [] (failed ++ now_made failures start st c logged failed in_call ∷ []) (taken ++ []) (unasked + 0)
+      IsEnding failures start kept number total (setting_after st (Recover base)) (recovers st base c) [] (failed ++ now_made failures start st c logged failed in_call ∷ []) (taken ++ []) (unasked + 0)
   recover_ending base back follows =
-      let kept = watch_kept st in_call.is c (in_call.whole, e.watch, e.watched) (Recover base) back in
+      let seen = watch_kept st in_call.is c (in_call.whole, e.watch, e.watched) (Recover base) back in
       let a : Attempt = now_made failures start st c logged failed in_call in
       let snapshots : List Snapshot = c.coordinator.snapshots in
       let behind : Beginning = begins_behind start failed in
+      let newest : List Entry = last_order kept (attempted_snapshots start failed) in
       let long : c.coordinator.acknowledged ≡ st.base + length snapshots = numbered_long st.base c.coordinator.acknowledged snapshots in_call.account.records.numbered in
       record {
         at = recover_in failures start st c logged failed in_call base back follows;
-        watch = kept.0;
-        watched = kept.1;
+        watch = seen.0;
+        watched = seen.1;
         late = recovered_late failures st (setting_after st (Recover base)) base c;
         once = ⊎_elim
             (λ (zero_so : unasked ≡ 0). inl (stays_zero unasked 0 zero_so refl))
@@ -348,18 +356,22 @@ module _ (failures : List FailureAt) (start : Beginning) (number total : ℕ) (s
         numbered = back.number
             ∙ grows number st.base c.coordinator.acknowledged (length e.earlier) e.numbered (length snapshots) long
             ∙ ap (λ (n : ℕ). number + n) (sym (length-append e.earlier snapshots));
-        orders = subst (AreSnapshotsOf st number (e.earlier ++ snapshots)) (sym (attempted_push start failed a))
-            (snapshots_append st number e.earlier snapshots (attempted_snapshots start failed) (snapshot_orders behind a) e.orders
-            (subst (λ (n : ℕ). AreSnapshotsOf st n snapshots (snapshot_orders behind a)) e.numbered
-            (good_snapshots st in_call.is c in_call.whole logged in_call.account in_call.based failures behind in_call.so.front in_call.so.tickets st.base c.coordinator.acknowledged snapshots
-            in_call.account.records.numbered in_call.account.records.good)));
+        orders = subst (AreSnapshotsOf st number kept (e.earlier ++ snapshots)) (sym (attempted_push start failed a))
+            (snapshots_append st number kept e.earlier snapshots (attempted_snapshots start failed) (snapshot_orders behind a) e.orders
+            (subst (λ (n : ℕ). AreSnapshotsOf st n newest snapshots (snapshot_orders behind a)) e.numbered
+            (good_snapshots st in_call.is c in_call.whole logged in_call.account in_call.based failures behind in_call.so.front in_call.so.tickets newest e.resumes)));
+        resumes = subst (λ (orders : List (List Entry)). ResumesFrom (last_order kept orders) (begins_behind start (failed ++ a ∷ [])).front) (sym (attempted_push start failed a))
+            (subst (λ (order : List Entry). ResumesFrom order (begins_behind start (failed ++ a ∷ [])).front) (sym (last_order_append kept (attempted_snapshots start failed) (snapshot_orders behind a)))
+            (subst (λ (b : Beginning). ResumesFrom (last_order newest (snapshot_orders behind a)) b.front) (sym (begins_push start failed a))
+            (goes_back (shared_of st failures) newest behind a
+            (made_now failures start st in_call.is c in_call.whole logged in_call.account in_call.based failed in_call.so in_call.stops) e.resumes)));
         tickets = e.tickets;
       }
 
   -- what an event leaves
   abbrev Leaves : Event → Type 0
   Leaves event = (now : List Logged) × (more : List Attempt)
-      × IsEnding failures start number total (setting_after st event) (after_event st c event) now more (taken ++ recorded_at c event) (unasked + unasked_at c event)
+      × IsEnding failures start kept number total (setting_after st event) (after_event st c event) now more (taken ++ recorded_at c event) (unasked + unasked_at c event)
 
   pub event_ending : (event : Event) → MayDo st c event → FollowsJob st failures c event → Leaves event
   event_ending event may follows =
@@ -367,7 +379,7 @@ module _ (failures : List FailureAt) (start : Beginning) (number total : ℕ) (s
       (λ x other none may_x follows_x. (
         logged ++ [],
         failed,
-        subst (λ (s : Setting). IsEnding failures start number total s (after_event st c x) (logged ++ []) failed (taken ++ recorded_at c x) (unasked + unasked_at c x)) (sym (setting_same st x other))
+        subst (λ (s : Setting). IsEnding failures start kept number total s (after_event st c x) (logged ++ []) failed (taken ++ recorded_at c x) (unasked + unasked_at c x)) (sym (setting_same st x other))
             (quiet_ending x may_x other none follows_x),
       ))
       (λ s may_x follows_x. (logged ++ update_logged st c s may_x.1.vertex ∷ [], failed, update_ending s may_x follows_x))
@@ -383,22 +395,22 @@ plus_more : (n k m : ℕ) → (n + k) + m ≡ n + (k + m)
 plus_more n k m = omega arith
 
 -- where they lead
-abbrev pub EndsBehind : List FailureAt → Beginning → ℕ → ℕ → Setting → Cluster → List Snapshot → ℕ → Type 0
-EndsBehind failures start number total st c taken unasked = (now : List Logged) × (more : List Attempt) × IsEnding failures start number total st c now more taken unasked
+abbrev pub EndsBehind : List FailureAt → Beginning → List Entry → ℕ → ℕ → Setting → Cluster → List Snapshot → ℕ → Type 0
+EndsBehind failures start kept number total st c taken unasked = (now : List Logged) × (more : List Attempt) × IsEnding failures start kept number total st c now more taken unasked
 
-pub courses_end : (failures : List FailureAt) (start : Beginning) (number total : ℕ) (events : List Event) (st : Setting) (old last : Cluster) (logged : List Logged) (failed : List Attempt) (taken : List Snapshot) (unasked : ℕ) →
-    IsEnding failures start number total st old logged failed taken unasked → IsCourse st old events last → FollowJob st failures old events →
-    EndsBehind failures start number total (setting_behind st events) last (taken ++ recorded_in st old events) (unasked + unasked_in st old events)
-courses_end failures start number total [] st old last logged failed taken unasked e course follow =
-    subst (λ (c : Cluster). EndsBehind failures start number total st c (taken ++ []) (unasked + 0)) (sym course)
-    (subst (λ (ss : List Snapshot). EndsBehind failures start number total st old ss (unasked + 0)) (sym (append-nil taken))
-    (subst (EndsBehind failures start number total st old taken) (plus_none unasked) (logged, failed, e)))
-courses_end failures start number total (event ∷ events) st old last logged failed taken unasked e course follow =
+pub courses_end : (failures : List FailureAt) (start : Beginning) (kept : List Entry) (number total : ℕ) (events : List Event) (st : Setting) (old last : Cluster) (logged : List Logged) (failed : List Attempt) (taken : List Snapshot) (unasked : ℕ) →
+    IsEnding failures start kept number total st old logged failed taken unasked → IsCourse st old events last → FollowJob st failures old events →
+    EndsBehind failures start kept number total (setting_behind st events) last (taken ++ recorded_in st old events) (unasked + unasked_in st old events)
+courses_end failures start kept number total [] st old last logged failed taken unasked e course follow =
+    subst (λ (c : Cluster). EndsBehind failures start kept number total st c (taken ++ []) (unasked + 0)) (sym course)
+    (subst (λ (ss : List Snapshot). EndsBehind failures start kept number total st old ss (unasked + 0)) (sym (append-nil taken))
+    (subst (EndsBehind failures start kept number total st old taken) (plus_none unasked) (logged, failed, e)))
+courses_end failures start kept number total (event ∷ events) st old last logged failed taken unasked e course follow =
     let mid : Cluster = after_event st old event in
     let after_it : Setting = setting_after st event in
-    let one = event_ending failures start number total st old logged failed taken unasked e event course.0.1 follow.0 in
-    let rest = courses_end failures start number total events after_it mid last one.0 one.1 (taken ++ recorded_at old event) (unasked + unasked_at old event) one.2 course.1 follow.1 in
-    subst (λ (ss : List Snapshot). EndsBehind failures start number total (setting_behind after_it events) last ss (unasked + (unasked_at old event + unasked_in after_it mid events)))
+    let one = event_ending failures start kept number total st old logged failed taken unasked e event course.0.1 follow.0 in
+    let rest = courses_end failures start kept number total events after_it mid last one.0 one.1 (taken ++ recorded_at old event) (unasked + unasked_at old event) one.2 course.1 follow.1 in
+    subst (λ (ss : List Snapshot). EndsBehind failures start kept number total (setting_behind after_it events) last ss (unasked + (unasked_at old event + unasked_in after_it mid events)))
     (append_assoc taken (recorded_at old event) (recorded_in after_it mid events))
-    (subst (EndsBehind failures start number total (setting_behind after_it events) last ((taken ++ recorded_at old event) ++ recorded_in after_it mid events))
+    (subst (EndsBehind failures start kept number total (setting_behind after_it events) last ((taken ++ recorded_at old event) ++ recorded_in after_it mid events))
     (plus_more unasked (unasked_at old event) (unasked_in after_it mid events)) rest)

@@ -1,9 +1,12 @@
 -- The snapshots that a list of events has acknowledged, and the orders that they stand for.
-use Rattle.std.specs.Prelude.{List, [], suc, ℕ, ⊤, ◌++◌, ◌∷◌, ◌≡◌}
+use Rattle.std.specs.List.{AllByRecursion}
+use Rattle.std.specs.List.Sorted.{IsPermutation}
+use Rattle.std.specs.Prelude.{List, [], suc, true, ℕ, ⊤, ◌++◌, ◌∷◌, ◌≡◌}
 use Rattle.gl_base.specs.declared.entries.Entry.{Entry}
+use Rattle.attempts.specs.Entries.{is_restart}
 use Rattle.cluster_core.specs.Settings.{Setting}
 use Rattle.cluster_model.specs.Clusters.{Cluster}
-use Rattle.cluster_model.specs.Events.{Event, Record, after_event, setting_after, snapshot_numbers}
+use Rattle.cluster_model.specs.Events.{Event, Record, after_event, entries_below, setting_after, snapshot_numbers}
 use Rattle.cluster_model.specs.Leading.{Snapshot}
 use Rattle.cluster_records.specs.Recorded.{HaveSameNumbers, snapshot_due}
 use Rattle.seq_run.specs.Orders.{replay}
@@ -18,14 +21,20 @@ abbrev pub recorded_in : Setting → Cluster → List Event → List Snapshot
 recorded_in st c [] = []
 recorded_in st c (event ∷ events) = recorded_at c event ++ recorded_in (setting_after st event) (after_event st c event) events
 
--- the snapshot has this number, and its numbers are the replay of this order
-abbrev pub IsSnapshotOf : Setting → ℕ → List Entry → Snapshot → Type 0
-IsSnapshotOf st number order snapshot =
-    (snapshot.number ≡ number) × HaveSameNumbers st.graph (snapshot_numbers st snapshot) (replay st.graph st.program order)
+-- The snapshot has this number, and its numbers are the replay of this order; which is the one before, perhaps restarts, and what the
+-- snapshot's sections bring.
+abbrev pub IsSnapshotOf : Setting → ℕ → List Entry → List Entry → Snapshot → Type 0
+IsSnapshotOf st number before order snapshot =
+    (snapshot.number ≡ number)
+    × HaveSameNumbers st.graph (snapshot_numbers st snapshot) (replay st.graph st.program order)
+    × (missing : List Entry)
+    × AllByRecursion (λ entry. is_restart entry ≡ true) missing
+    × IsPermutation (before ++ (missing ++ entries_below st.machines snapshot)) order
 
--- each of these snapshots is of the order in its place, and they have the numbers behind this one, one after another
-abbrev pub AreSnapshotsOf : Setting → ℕ → List Snapshot → List (List Entry) → Type 0
-AreSnapshotsOf st number [] [] = ⊤
-AreSnapshotsOf st number [] (order ∷ orders) = ⊥
-AreSnapshotsOf st number (snapshot ∷ snapshots) [] = ⊥
-AreSnapshotsOf st number (snapshot ∷ snapshots) (order ∷ orders) = IsSnapshotOf st (suc number) order snapshot × AreSnapshotsOf st (suc number) snapshots orders
+-- each of these snapshots is of the order in its place, from this number and this order on
+abbrev pub AreSnapshotsOf : Setting → ℕ → List Entry → List Snapshot → List (List Entry) → Type 0
+AreSnapshotsOf st number before [] [] = ⊤
+AreSnapshotsOf st number before [] (order ∷ orders) = ⊥
+AreSnapshotsOf st number before (snapshot ∷ snapshots) [] = ⊥
+AreSnapshotsOf st number before (snapshot ∷ snapshots) (order ∷ orders) =
+    IsSnapshotOf st (suc number) before order snapshot × AreSnapshotsOf st (suc number) order snapshots orders

@@ -16,7 +16,7 @@ ghost use Rattle.whole_calls.specs.Telling.{TellsOfCall};
 
 /// Every list of events from the opening of a call on, with failures and recoveries among them, makes a call: attempts that failed, one
 /// after another, and a last one. Where snapshots are taken, each attempt keeps the window. The snapshots that were acknowledged are those
-/// of the call, with their numbers; and they are at most one more than halves of the window go into the budget. What waves and tickets
+/// of the call, each with its numbers and with what it has more than the one before; and they are at most one more than halves of the window go into the budget. What waves and tickets
 /// tell is so of the call.
 pub fn courses_are_calls()
     ensures { (st : Setting) (failures : List FailureAt) (kept : List Entry) (resumed : Bool) (base : BaseView) (first : Cluster) (events : List Event) (c : Cluster) →
@@ -24,7 +24,7 @@ pub fn courses_are_calls()
         (call : EngineCall)
         × IsCallOf st failures kept resumed c call
         × (st.stored ≡ true → KeepsWindows st failures call)
-        × AreSnapshotsOf st base.number (recorded_in (going_on st base.numbers base.number) (recovers st base first) events) (snapshots_of call)
+        × AreSnapshotsOf st base.number kept (recorded_in (going_on st base.numbers base.number) (recovers st base first) events) (snapshots_of call)
         × (0 < half_window st → length (snapshots_of call) ≤ first.left / half_window st + 1)
         × TellsOfCall st first.left c call }
 {}
