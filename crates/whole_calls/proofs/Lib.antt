@@ -9,3 +9,4 @@ pub mod Holding
 pub mod Acknowledged
 pub mod Ending
 pub mod Calling
+pub mod WorkedPair

@@ -3,3 +3,4 @@ pub mod Opened
 pub mod Called
 pub mod Saved
 pub mod Telling
+pub mod PairAgain
