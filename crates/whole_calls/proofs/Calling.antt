@@ -1,22 +1,22 @@
 -- What the events of a call make, part by part.
-use Rattle.std.proofs.Common.{◌≡◌, ◌⊎◌, ℕ, suc, ◌+◌, ◌/◌, ◌<◌, ◌≤◌, Bool, true, false, if◌then◌else◌, List, [], ◌∷◌, ◌++◌, length, sum_by, inl, inr, refl, sym, ◌∙◌, ap, ap₂, subst, ⊎_elim, arith}
+use Rattle.std.proofs.Common.{◌≡◌, ◌⊎◌, ℕ, suc, ◌+◌, ◌/◌, ◌<◌, ◌≤◌, Bool, true, false, if◌then◌else◌, List, [], ◌∷◌, ◌++◌, length, map, sum_by, inl, inr, refl, sym, ◌∙◌, ap, ap₂, subst, ⊎_elim, append-nil, arith}
 use Rattle.std.proofs.lemmas.Bool.{both_ways, cases_eq, cond-false, false_from_ne_true}
 use Rattle.std.specs.List.{AllByRecursion}
-use Rattle.std.proofs.lemmas.List.{length-append, length-map}
+use Rattle.std.proofs.lemmas.List.{append_cancel_left, length-append, length-map}
 use Rattle.gl_base.specs.declared.entries.Entry.{Entry}
 use Rattle.gl_base.specs.declared.entries.Entry.TheVariants.{Restart}
 use Rattle.gl_base.specs.declared.jobs.FailureAt.{FailureAt}
 use Rattle.graph_core.specs.DataGraph.{size}
-use Rattle.attempts.specs.Beginnings.{held_updates}
+use Rattle.attempts.specs.Beginnings.{held_updates, order_after, snapshot_order, unheld_updates}
 use Rattle.attempts.specs.EngineCalls.{EngineCall, IsOrderInTurn, begins_behind, call_order, made_of, ticket_above}
 use Rattle.attempts.specs.Entries.{is_restart}
 use Rattle.attempts.specs.Stores.{attempted_snapshots, last_order, snapshot_orders, snapshots_of}
+use Rattle.attempts.proofs.Prefixes.{last_order_append}
 use Rattle.attempts.proofs.Storing.{full_is}
 use Rattle.cluster_attempts.specs.CallsSoFar.{counts_of}
 use Rattle.cluster_attempts.specs.Failures.{done_before, done_now}
 use Rattle.cluster_attempts.proofs.Making.{held_is, struck_same}
 use Rattle.cluster_core.specs.Recovering.{going_on}
-use Rattle.cluster_core.specs.Replays.{IsTask}
 use Rattle.cluster_core.specs.Settings.{Setting}
 use Rattle.cluster_core.specs.Ways.{vertex_woken}
 use Rattle.cluster_core.specs.Worlds.{way}
@@ -26,8 +26,7 @@ use Rattle.cluster_ending.proofs.Finding.{no_task_left}
 use Rattle.cluster_ending.proofs.Leaving.{none_woken}
 use Rattle.cluster_model.specs.Clusters.{BaseView, Cluster}
 use Rattle.cluster_model.specs.Events.{Event, PutBegin, Record, after_event, recovers, setting_after}
-use Rattle.cluster_model.specs.Leading.{HasSeenTheEnd, HoldsAll, Snapshot, SnapshotIsDue, entries_in, updates_told}
-use Rattle.cluster_model.specs.Totals.{total}
+use Rattle.cluster_model.specs.Leading.{HasSeenTheEnd, HasStoreRoom, HoldsAll, RecordIsDue, Snapshot, SnapshotIsDue, entries_in, updates_told}
 use Rattle.cluster_model.specs.Working.{half_window}
 use Rattle.cluster_runs.specs.Attempts.{Attempt, Beginning}
 use Rattle.cluster_runs.specs.Recorded.{shared_of}
@@ -37,20 +36,23 @@ use Rattle.cluster_whole.specs.Whole.{setting_behind}
 use Rattle.cluster_whole.proofs.Flows.{total_from-none, total_from-same}
 use Rattle.cluster_records.specs.Few.{snapshot_at, snapshots_in_all, unasked_in}
 use Rattle.cluster_records.proofs.Fewness.{attempts_few, by_half}
+use Rattle.cluster_records.proofs.Outside.{many_outside}
 use Rattle.seq_run.specs.Orders.{tasks_after}
 use Rattle.seq_run.specs.States.{GraphState}
 use Rattle.whole_calls.specs.Called.{IsCallOf, KeepsWindows}
 use Rattle.whole_calls.specs.Following.{has_reached}
 use Rattle.whole_calls.specs.Opened.{IsCourseOfCall}
 use Rattle.whole_calls.specs.Saved.{AreSnapshotsOf, recorded_at, recorded_in}
-use Rattle.whole_calls.specs.Telling.{HasSavedTheEnd, TellsOfCall}
+use Rattle.whole_calls.specs.Telling.{HasSavedTheEnd, NeedsMoreStore, TellsOfCall, length_with}
 use Rattle.whole_calls.proofs.Acknowledged.{good_snapshots, snapshots_append, snapshots_long}
 use Rattle.whole_calls.proofs.Ending.{EndsBehind, HasAskedAll, IsEnding, IsPlain, courses_end, which}
 use Rattle.whole_calls.proofs.Going.{IsInCall}
 use Rattle.whole_calls.proofs.Holding.{holds_only, told_many}
 use Rattle.whole_calls.proofs.Leading.{behind_since, call_of, call_then, call_with, is_call, opened_at, opened_in, since, windows_are, windows_then}
 use Rattle.whole_calls.proofs.Reaching.{one_at, reached_many}
+use Rattle.whole_calls.proofs.Refusing.{made_none, newest_is, nil_of, refused_by}
 use Rattle.whole_calls.proofs.Waved.{end_unreached, recovered_late}
+use Rattle.whole_calls.proofs.Windowed.{unheld_many}
 
 -- ---- of the state where events lead
 
@@ -85,9 +87,8 @@ module _ (failures : List FailureAt) (kept : List Entry) (resumed : Bool) (numbe
       (subst (λ (n : ℕ). AreSnapshotsOf st n newest snapshots orders) e.numbered
       (good_snapshots st at.is c at.whole logged at.account at.based failures behind at.so.front at.so.tickets newest e.resumes)))
 
-  none_left : HasSeenTheEnd c.coordinator → (u : ℕ) → u < size st.graph → tasks_after st.graph st.program (call_order made_call) u ≡ false
-  none_left end u low =
-      let left : HasNoTaskLeft st (world_of c) = no_task_left st c e.watch e.watched end in
+  none_left : HasNoTaskLeft st (world_of c) → (u : ℕ) → u < size st.graph → tasks_after st.graph st.program (call_order made_call) u ≡ false
+  none_left left u low =
       false_from_ne_true (tasks_after st.graph st.program (call_order made_call) u) (λ task.
       ⊎_elim
       (λ (own : (c.machine (st.owner u)).part.task u ≡ true). both_ways ((c.machine (st.owner u)).part.task u) (left.tasks (st.owner u) (at.is.owner u low) u low) own)
@@ -125,13 +126,68 @@ module _ (failures : List FailureAt) (kept : List Entry) (resumed : Bool) (numbe
       (subst (λ (n : ℕ). 1 ≤ n) (sym (kept_long c.coordinator.snapshots)) (some_kept stored ended c.coordinator.snapshots refl))
       (held_is st at.is c at.whole logged at.account failures behind at.so.tickets ∙ holds_only st at.is c at.whole logged at.account e.watch e.watched ended.end full)
 
+  -- ---- where the store takes no record more
+
+  abbrev newest : List Entry
+  newest = last_order kept (attempted_snapshots (opened_at kept resumed) failed)
+
+  last_is : last_order kept (snapshots_of made_call) ≡ last_order newest (snapshot_orders behind made_call.last)
+  last_is = last_order_append kept (attempted_snapshots (opened_at kept resumed) failed) (snapshot_orders behind made_call.last)
+
+  abbrev LastIsOther : Type 0
+  LastIsOther = (snapshots_of made_call ≡ []) ⊎ (last_order kept (snapshots_of made_call) ≡ call_order made_call → ⊥)
+
+  -- no snapshot was acknowledged in the last attempt
+  none_last : c.coordinator.snapshots ≡ [] → LastIsOther
+  none_last none =
+      let orders : snapshot_orders behind made_call.last ≡ [] = ap (λ (ss : List Snapshot). map (snapshot_order behind made_call.last) (counts_of logged ss)) none in
+      ⊎_elim
+      (λ (first : failed ≡ []). inl (ap₂ (λ (xs ys : List (List Entry)). xs ++ ys) (ap (attempted_snapshots (opened_at kept resumed)) first) orders))
+      (λ (off : behind.front ≡ newest → ⊥).
+      inr (λ same.
+      let all : newest ≡ order_after behind made_call.last = sym (ap (last_order newest) orders) ∙ sym last_is ∙ same in
+      let nothing_made : made_call.last.made ≡ [] = made_none newest behind made_call.last e.resumes all in
+      off (sym (all ∙ ap (λ (es : List Entry). behind.front ++ es) nothing_made ∙ append-nil behind.front))))
+      e.behind
+
+  -- or the last one lacks something
+  other_last : (entries_to c.coordinator.acknowledged logged ≡ all_entries logged → ⊥) → LastIsOther
+  other_last not =
+      inr (λ same.
+      ⊎_elim
+      (λ (none : (made_call.last.kept ≡ []) × (last_order newest (snapshot_orders behind made_call.last) ≡ newest)).
+      let nothing_made : made_call.last.made ≡ [] = made_none newest behind made_call.last e.resumes (sym none.1 ∙ sym last_is ∙ same) in
+      let nothing_logged : logged ≡ [] = nil_of logged (sym (length-map logged (λ (l : Logged). l.entry)) ∙ ap (λ (es : List Entry). length es) nothing_made) in
+      not (ap (entries_to c.coordinator.acknowledged) nothing_logged ∙ sym (ap all_entries nothing_logged)))
+      (λ (held : last_order newest (snapshot_orders behind made_call.last) ≡ behind.front ++ held_updates made_call.last).
+      not (sym (held_is st at.is c at.whole logged at.account failures behind at.so.tickets)
+      ∙ append_cancel_left behind.front (held_updates made_call.last) made_call.last.made (sym held ∙ sym last_is ∙ same)))
+      (newest_is newest behind made_call.last))
+
+  needs_more : RecordIsDue st c.coordinator → (HasStoreRoom st c.coordinator → ⊥) → NeedsMoreStore st c.coordinator made_call
+  needs_more due refused =
+      ⊎_elim
+      (λ (many : 4096 ≤ c.coordinator.acknowledged).
+      inl (
+        many,
+        ⊎_elim
+            (λ (half : (m : ℕ) × (m < st.machines) × (half_window st ≤ many_outside m c.coordinator.acknowledged logged)).
+            inl (half.0, half.1, subst (λ (n : ℕ). half_window st ≤ n) (sym (unheld_many st at.is c at.whole logged at.account failures behind at.so.tickets half.0)) half.2))
+            (λ (done : HasNoTaskLeft st (world_of c) × ((c.coordinator.snapshots ≡ []) ⊎ (entries_to c.coordinator.acknowledged logged ≡ all_entries logged → ⊥))).
+            inr (none_left done.0, ⊎_elim none_last other_last done.1))
+            (e.reason due.under),
+      ))
+      (λ (long : 1073741824 < c.coordinator.store_end + length_with st (length (unheld_updates made_call.last))). inr long)
+      (refused_by st at.is c at.whole logged at.account failures behind at.so.tickets due refused)
+
   tells : TellsOfCall st budget c made_call
   tells =
       record {
-        tasks = none_left;
+        tasks = λ end. none_left (no_task_left st c e.watch e.watched end);
         unharmed = none_struck;
         told = λ end. told_many st at.is c at.whole logged at.account e.watch e.watched end ∙ sym (length-map logged (λ (l : Logged). l.entry));
         saved = saved_all;
+        full = needs_more;
         spent = of_budget c.next c.left (ticket_above kept) budget (length (made_of made_call)) e.tickets its_call.next;
       }
 
@@ -166,6 +222,9 @@ one_at_most n stored share few once = ⊎_elim (λ (none : 0 + n ≡ 0). with_no
 plus_none : (n : ℕ) → n ≡ n + 0
 plus_none n = omega arith
 
+not_less : (n : ℕ) → n < n → ⊥
+not_less n is = omega arith
+
 restart_alone : (b : Bool) (f : ℕ) → AllByRecursion (λ entry. is_restart entry ≡ true) (if b then Restart f ∷ [] else [])
 restart_alone true f = (refl, tt)
 restart_alone false f = tt
@@ -192,6 +251,8 @@ module _ (st : Setting) (failures : List FailureAt) (kept : List Entry) (resumed
         numbered = plus_none base.number;
         orders = tt;
         resumes = (if resumed then Restart (ticket_above kept) ∷ [] else [], refl, restart_alone resumed (ticket_above kept));
+        behind = inl refl;
+        reason = λ under. absurd (not_less base.number under);
         tickets = ap (λ (n : ℕ). n + first.left) course.opened.next;
       }
 
@@ -206,6 +267,12 @@ module _ (st : Setting) (failures : List FailureAt) (kept : List Entry) (resumed
   saved_then : (start : GraphState) (number : ℕ) → HasSavedTheEnd st c.coordinator → HasSavedTheEnd (since st start number) c.coordinator
   saved_then start number is =
       record { end = is.end; none = is.none; all = λ (due : SnapshotIsDue (since st start number) c.coordinator). is.all (record { stored = due.stored; none = due.none; wanted = due.wanted }) }
+
+  due_then : (start : GraphState) (number : ℕ) → RecordIsDue st c.coordinator → RecordIsDue (since st start number) c.coordinator
+  due_then start number is = record { under = is.under; sections = is.sections }
+
+  room_then : (start : GraphState) (number : ℕ) → (HasStoreRoom st c.coordinator → ⊥) → HasStoreRoom (since st start number) c.coordinator → ⊥
+  room_then start number refused room = refused (record { few = room.few; short = room.short })
 
   once_or : (st' : Setting) (logged : List Logged) (n : ℕ) → (n ≡ 0) ⊎ ((n ≡ 1) × HasAskedAll failures st' c logged) → (n ≡ 0) ⊎ (n ≡ 1)
   once_or st' logged n once = ⊎_elim (λ (none : n ≡ 0). inl none) (λ (one : (n ≡ 1) × HasAskedAll failures st' c logged). inr one.0) once
@@ -237,5 +304,5 @@ module _ (st : Setting) (failures : List FailureAt) (kept : List Entry) (resumed
             (one_at_most (unasked_in now begun events) (snapshots_in_all events) (first.left / half_window st)
             (by_half (half_window st) (snapshots_in_all events) (unasked_in now begun events) first.left half (attempts_few st course.is course.coloured base first events c course.course))
             (once_or last_st logged unasked e.once)),
-        record { tasks = told.tasks; unharmed = told.unharmed; told = told.told; saved = λ stored is. told.saved stored (saved_then last.start last.base is); spent = told.spent },
+        record { tasks = told.tasks; unharmed = told.unharmed; told = told.told; saved = λ stored is. told.saved stored (saved_then last.start last.base is); full = λ due refused. told.full (due_then last.start last.base due) (room_then last.start last.base refused); spent = told.spent },
       )

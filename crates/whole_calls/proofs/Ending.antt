@@ -1,19 +1,19 @@
 -- A cluster in the course of a call, with its waves, its snapshots and its tickets.
-use Rattle.std.proofs.Common.{◌≡◌, ◌≢◌, ◌⊎◌, ℕ, zero, suc, pred, ◌+◌, ◌<◌, ◌≤◌, Bool, true, false, if◌then◌else◌, Option, List, [], ◌∷◌, ◌++◌, length, inl, inr, refl, sym, ◌∙◌, ap, ap₂, subst, ⊎_elim, le_refl, append-nil, append_assoc, arith}
+use Rattle.std.proofs.Common.{◌≡◌, ◌⊎◌, ℕ, suc, pred, ◌+◌, ◌<◌, ◌≤◌, Bool, true, false, if◌then◌else◌, Option, List, [], ◌∷◌, ◌++◌, length, inl, inr, refl, sym, ◌∙◌, ap, ap₂, subst, subst₂, ⊎_elim, le_refl, append-nil, append_assoc, arith}
 use Rattle.std.specs.List.{AllByRecursion}
-use Rattle.std.proofs.lemmas.Bool.{both_ways, cases_Bool, cond-false, cond-true, false_from_ne_true}
+use Rattle.std.proofs.lemmas.Bool.{both_ways, cond-false, cond-true, false_from_ne_true}
 use Rattle.std.proofs.lemmas.List.{length-append}
 use Rattle.gl_base.specs.declared.entries.Entry.{Entry}
 use Rattle.gl_base.specs.declared.jobs.FailureAt.{FailureAt}
 use Rattle.gl_base.specs.declared.scopes.ScopeId.{ScopeId}
-use Rattle.graph_core.specs.DataGraph.{size}
-use Rattle.attempts.specs.EngineCalls.{begins_behind}
+use Rattle.attempts.specs.Beginnings.{again}
+use Rattle.attempts.specs.EngineCalls.{HaveFailed, begins_behind}
 use Rattle.attempts.specs.Stores.{ResumesFrom, attempted_snapshots, last_order, snapshot_orders}
 use Rattle.attempts.proofs.Prefixes.{last_order_append}
 use Rattle.attempts.proofs.Storing.{begins_push, goes_back}
 use Rattle.cluster_attempts.proofs.Joining.{made_now}
 use Rattle.cluster_core.specs.Messages.{Message}
-use Rattle.cluster_core.specs.Settings.{IsSetting, Setting}
+use Rattle.cluster_core.specs.Settings.{Setting}
 use Rattle.cluster_ending.specs.Watched.{HasNoTaskLeft, IsWatched, Watch}
 use Rattle.cluster_ending.specs.Ends.{IsNoBegin}
 use Rattle.cluster_ending.proofs.Courses.{event_kept, numbers_after, setting_same, watch_kept}
@@ -23,9 +23,10 @@ use Rattle.cluster_model.specs.Calls.{Call, Count, Report, Saved, Want}
 use Rattle.cluster_model.specs.Clusters.{BaseView, Cluster}
 use Rattle.cluster_model.specs.Events.{Event, Admit, DeliverCall, DeliverReport, Deliver, Fail, GoesBackTo, Grant, IsCourse, Mark, MayDo, PutBegin, PutStep, PutWave, Record, Recover, Section, Send, SendCall, SendReport, Stop, Update, after_event, delivers_call, delivers_message, delivers_report, failures_in, makes, recovers, saves, sends_call, sends_message, sends_report, setting_after}
 use Rattle.cluster_model.specs.Leading.{HasSeenTheEnd, HoldsAll, Snapshot}
-use Rattle.cluster_runs.specs.Attempts.{Attempt, Beginning}
+use Rattle.cluster_model.specs.Working.{half_window}
+use Rattle.cluster_runs.specs.Attempts.{Attempt, Beginning, Shared}
 use Rattle.cluster_runs.specs.Recorded.{shared_of}
-use Rattle.cluster_whole.specs.Logged.{Logged}
+use Rattle.cluster_whole.specs.Logged.{Logged, all_entries, entries_to}
 use Rattle.cluster_whole.specs.Views.{world_of}
 use Rattle.cluster_whole.specs.Whole.{IsNoRecovery, setting_behind}
 use Rattle.cluster_whole.proofs.Flows.{total_from-none, total_from-same}
@@ -34,13 +35,15 @@ use Rattle.cluster_whole.proofs.Wholeness.{is_exclusive}
 use Rattle.cluster_records.specs.Few.{snapshot_at, unasked_at, unasked_in}
 use Rattle.cluster_records.specs.Recorded.{GoOnByNumber, snapshot_due}
 use Rattle.cluster_records.proofs.Entering.{IsNoUpdate, draws_none, own_logged, update_logged}
+use Rattle.cluster_records.proofs.Outside.{many_outside, outside_more}
 use Rattle.cluster_records.proofs.Recording.{IsNoRecord, adds_none}
 use Rattle.whole_calls.specs.Following.{FollowJob, FollowsJob, has_reached}
 use Rattle.whole_calls.specs.Saved.{AreSnapshotsOf, recorded_at, recorded_in}
 use Rattle.whole_calls.proofs.Acknowledged.{attempted_push, good_snapshots, numbered_long, snapshots_append}
 use Rattle.whole_calls.proofs.EventKinds.{by_kind}
 use Rattle.whole_calls.proofs.Going.{IsInCall, now_made, quiet_in, reached_kept, recover_in, update_in}
-use Rattle.whole_calls.proofs.Holding.{holds_all}
+use Rattle.whole_calls.proofs.Holding.{holds_all, holds_if}
+use Rattle.whole_calls.proofs.Refusing.{again_longer}
 use Rattle.whole_calls.proofs.Waved.{IsLate, end_unreached, quiet_late, recovered_late, update_late}
 
 -- ---- what an event has to do with snapshots
@@ -116,6 +119,12 @@ pub record HasAskedAll (failures : List FailureAt) (st : Setting) (c : Cluster) 
 abbrev pub HasAskedOnce : List FailureAt → Setting → Cluster → List Logged → ℕ → Type 0
 HasAskedOnce failures st c logged unasked = (unasked ≡ 0) ⊎ ((unasked ≡ 1) × HasAskedAll failures st c logged)
 
+-- Half of a machine's window is outside the last snapshot; or no task is left, and the last snapshot lacks something or there is none.
+abbrev pub HasReason : Setting → Cluster → List Logged → Type 0
+HasReason st c logged =
+    ((m : ℕ) × (m < st.machines) × (half_window st ≤ many_outside m c.coordinator.acknowledged logged))
+    ⊎ (HasNoTaskLeft st (world_of c) × ((c.coordinator.snapshots ≡ []) ⊎ (entries_to c.coordinator.acknowledged logged ≡ all_entries logged → ⊥)))
+
 -- These snapshots were acknowledged, the last ones in this attempt, so many were begun that no machine asked for, and so many tickets
 -- were there.
 pub record IsEnding (failures : List FailureAt) (start : Beginning) (kept : List Entry) (number total : ℕ) (st : Setting) (c : Cluster) (logged : List Logged) (failed : List Attempt) (taken : List Snapshot) (unasked : ℕ) : Type 0 where
@@ -129,6 +138,9 @@ pub record IsEnding (failures : List FailureAt) (start : Beginning) (kept : List
   pub numbered : st.base ≡ number + length earlier
   pub orders : AreSnapshotsOf st number kept earlier (attempted_snapshots start failed)
   pub resumes : ResumesFrom (last_order kept (attempted_snapshots start failed)) (begins_behind start failed).front
+  -- who failed begins behind the last order, and a snapshot is under way for a reason
+  pub behind : (failed ≡ []) ⊎ ((begins_behind start failed).front ≡ last_order kept (attempted_snapshots start failed) → ⊥)
+  pub reason : c.coordinator.acknowledged < c.coordinator.begun → HasReason st c logged
   pub tickets : c.next + c.left ≡ total
 
 stays_zero : (n k : ℕ) → n ≡ 0 → k ≡ 0 → n + k ≡ 0
@@ -166,6 +178,14 @@ grows number a b long one other two = omega arith
 
 false_true : false ≡ true → ⊥
 false_true is = cc
+
+not_less : (n : ℕ) → n < n → ⊥
+not_less n is = omega arith
+
+-- a failure was reached in the last of those that failed
+have_last : (shared : Shared) (b : Beginning) (failed : List Attempt) (a : Attempt) → HaveFailed shared b (failed ++ a ∷ []) → 1 ≤ a.struck
+have_last shared b [] a have = have.1
+have_last shared b (one ∷ failed) a have = have_last shared (again b one) failed a have.2
 
 numbers_up : (low high : ℕ) (ls : List Logged) → low ≤ high → AllByRecursion (λ l. l.number ≤ low) ls → AllByRecursion (λ l. l.number ≤ high) ls
 numbers_up low high [] up all = tt
@@ -278,6 +298,60 @@ module _ (failures : List FailureAt) (start : Beginning) (kept : List Entry) (nu
       rest)
       (which event)
 
+  -- ---- why a snapshot is under way
+
+  abbrev ReasonBehind : Event → Type 0
+  ReasonBehind event = (after_event st c event).coordinator.acknowledged < (after_event st c event).coordinator.begun → HasReason st (after_event st c event) (logged ++ [])
+
+  plain_reason : (event : Event) → MayDo st c event → IsNoRecovery event → IsNoRecord event → IsNoBegin event → ReasonBehind event
+  plain_reason event may other records begins = λ under.
+      let later : Cluster = after_event st c event in
+      let same = adds_none st c event may other records in
+      let half : ℕ = half_window st in
+      ⊎_elim
+      (λ (some : (m : ℕ) × (m < st.machines) × (half ≤ many_outside m c.coordinator.acknowledged logged)).
+      inl (some.0, some.1, subst₂ (λ (k : ℕ) (ls : List Logged). half ≤ many_outside some.0 k ls) (sym same.1) (sym (append-nil logged)) some.2))
+      (λ (done : HasNoTaskLeft st (world_of c) × ((c.coordinator.snapshots ≡ []) ⊎ (entries_to c.coordinator.acknowledged logged ≡ all_entries logged → ⊥))).
+      inr (
+        (done_moved st in_call.is (world_of c) (world_of later) in_call.whole.consistent.copies (is_exclusive st in_call.is c in_call.whole) (event_leads st c event may other) done.0).left,
+        ⊎_elim
+            (λ (none : c.coordinator.snapshots ≡ []). inl (same.0 ∙ none))
+            (λ (not : entries_to c.coordinator.acknowledged logged ≡ all_entries logged → ⊥).
+            inr (λ full. not (subst₂ (λ (k : ℕ) (ls : List Logged). entries_to k ls ≡ all_entries ls) same.1 (append-nil logged) full)))
+            done.1,
+      ))
+      (e.reason (subst₂ (λ (n k : ℕ). n < k) same.1 (numbers_after st c event other begins).1 under))
+
+  begin_reason : MayDo st c PutBegin → ReasonBehind PutBegin
+  begin_reason may = λ under.
+      let half : ℕ = half_window st in
+      let now : ℕ = c.coordinator.acknowledged in
+      ⊎_elim
+      (λ (wanted : c.coordinator.wanted ≡ true).
+      let some = in_call.asking.wanted wanted in
+      inl (some.0, some.1, subst (λ (ls : List Logged). half ≤ many_outside some.0 now ls) (sym (append-nil logged)) some.2))
+      (λ (seen : HasSeenTheEnd c.coordinator × ((HoldsAll st c.coordinator → ⊥) ⊎ (c.coordinator.snapshots ≡ []))).
+      inr (
+        (asked_now may seen.0).left,
+        ⊎_elim
+            (λ (not : HoldsAll st c.coordinator → ⊥).
+            inr (λ full. not (holds_if st in_call.is c in_call.whole logged in_call.account e.watch e.watched seen.0
+            (subst (λ (ls : List Logged). entries_to now ls ≡ all_entries ls) (append-nil logged) full))))
+            (λ (none : c.coordinator.snapshots ≡ []). inl none)
+            seen.1,
+      ))
+      may.wanted
+
+  reason_on : (event : Event) → MayDo st c event → IsNoRecovery event → ReasonBehind event
+  reason_on event may other =
+      ⊎_elim
+      (λ (begins : event ≡ PutBegin). subst (λ (x : Event). MayDo st c x → ReasonBehind x) (sym begins) begin_reason may)
+      (λ (rest : (event ≡ Record) ⊎ IsPlain event). ⊎_elim
+      (λ (records : event ≡ Record). subst ReasonBehind (sym records) (λ under. absurd (not_less c.coordinator.begun under)))
+      (λ (plain : IsPlain event). plain_reason event may other plain.records plain.begins)
+      rest)
+      (which event)
+
   -- ---- each event
 
   pub quiet_ending : (event : Event) → MayDo st c event → IsNoRecovery event → IsNoUpdate event → FollowsJob st failures c event →
@@ -295,6 +369,8 @@ module _ (failures : List FailureAt) (start : Beginning) (kept : List Entry) (nu
         numbered = e.numbered;
         orders = e.orders;
         resumes = e.resumes;
+        behind = e.behind;
+        reason = reason_on event may other;
         tickets = ap₂ (λ (n k : ℕ). n + k) (draws_none st c event may none) (left_kept st c event may none) ∙ e.tickets;
       }
 
@@ -319,6 +395,24 @@ module _ (failures : List FailureAt) (start : Beginning) (kept : List Entry) (nu
         numbered = e.numbered;
         orders = e.orders;
         resumes = e.resumes;
+        behind = e.behind;
+        reason = λ under.
+            let later : Cluster = after_event st c (Update s) in
+            let same = adds_none st c (Update s) may other (λ same. cc) in
+            let half : ℕ = half_window st in
+            let l : Logged = update_logged st c s may.1.vertex in
+            ⊎_elim
+            (λ (some : (m : ℕ) × (m < st.machines) × (half ≤ many_outside m c.coordinator.acknowledged logged)).
+            inl (
+              some.0,
+              some.1,
+              subst (λ (k : ℕ). half ≤ many_outside some.0 k (logged ++ l ∷ [])) (sym same.1)
+                  (le_up half (many_outside some.0 c.coordinator.acknowledged logged) (many_outside some.0 c.coordinator.acknowledged (logged ++ l ∷ [])) some.2
+                  (outside_more some.0 c.coordinator.acknowledged logged l)),
+            ))
+            (λ (done : HasNoTaskLeft st (world_of c) × ((c.coordinator.snapshots ≡ []) ⊎ (entries_to c.coordinator.acknowledged logged ≡ all_entries logged → ⊥))).
+            absurd (both_ways ((c.machine s.home.0).part.task may.1.vertex) (done.0.tasks s.home.0 may.0.machine may.1.vertex own.1) may.1.task))
+            (e.reason (subst₂ (λ (n k : ℕ). n < k) same.1 (numbers_after st c (Update s) other (λ same. cc)).1 under));
         tickets = subst (λ (flight : Option ℕ). (makes st c s flight).next + (makes st c s flight).left ≡ total) (sym may.1.flight) (one_ticket c.next c.left total e.tickets may.1.ticket);
       }
 
@@ -341,9 +435,10 @@ module _ (failures : List FailureAt) (start : Beginning) (kept : List Entry) (nu
       let snapshots : List Snapshot = c.coordinator.snapshots in
       let behind : Beginning = begins_behind start failed in
       let newest : List Entry = last_order kept (attempted_snapshots start failed) in
+      let next_call : IsInCall failures start (setting_after st (Recover base)) (recovers st base c) [] (failed ++ a ∷ []) = recover_in failures start st c logged failed in_call base back follows in
       let long : c.coordinator.acknowledged ≡ st.base + length snapshots = numbered_long st.base c.coordinator.acknowledged snapshots in_call.account.records.numbered in
       record {
-        at = recover_in failures start st c logged failed in_call base back follows;
+        at = next_call;
         watch = seen.0;
         watched = seen.1;
         late = recovered_late failures st (setting_after st (Recover base)) base c;
@@ -365,6 +460,11 @@ module _ (failures : List FailureAt) (start : Beginning) (kept : List Entry) (nu
             (subst (λ (b : Beginning). ResumesFrom (last_order newest (snapshot_orders behind a)) b.front) (sym (begins_push start failed a))
             (goes_back (shared_of st failures) newest behind a
             (made_now failures start st in_call.is c in_call.whole logged in_call.account in_call.based failed in_call.so in_call.stops) e.resumes)));
+        behind = inr (λ is.
+            again_longer newest behind a e.resumes (have_last (shared_of st failures) start failed a next_call.so.have)
+            (sym (ap (λ (b : Beginning). b.front) (begins_push start failed a)) ∙ is ∙ ap (last_order kept) (attempted_push start failed a)
+            ∙ last_order_append kept (attempted_snapshots start failed) (snapshot_orders behind a)));
+        reason = λ under. absurd (not_less base.number under);
         tickets = e.tickets;
       }
 

@@ -1,5 +1,4 @@
 -- An event makes an update, or is a recovery, or neither.
-use Rattle.std.proofs.Common.{◌≡◌}
 use Rattle.gl_base.specs.declared.scopes.ScopeId.{ScopeId}
 use Rattle.cluster_model.specs.Clusters.{BaseView}
 use Rattle.cluster_model.specs.Events.{Event, Admit, DeliverCall, DeliverReport, Deliver, Fail, Grant, Mark, PutBegin, PutStep, PutWave, Record, Recover, Section, Send, SendCall, SendReport, Stop, Update}

@@ -1,5 +1,5 @@
 -- Where the waves have shown the end, the coordinator knows whether its snapshots have all updates.
-use Rattle.std.proofs.Common.{◌≡◌, ℕ, ◌+◌, ◌<◌, ◌≤◌, Option, None, Some, List, [], ◌∷◌, length, sum_by, slice_index_or, IsPermutation, refl, sym, ◌∙◌, ap, subst, arith}
+use Rattle.std.proofs.Common.{◌≡◌, ℕ, ◌+◌, ◌<◌, ◌≤◌, Option, None, Some, List, length, sum_by, slice_index_or, IsPermutation, refl, sym, ◌∙◌, ap, subst, arith}
 use Rattle.std.specs.List.{AllByRecursion}
 use Rattle.std.proofs.lemmas.List.{length-map}
 use Rattle.std.proofs.lemmas.List.Elements.{All-get_or}
@@ -60,10 +60,13 @@ module _ (st : Setting) (is : IsSetting st) (c : Cluster) (whole : IsWhole st c)
         ap updates_told some.1 ∙ sym (finding.updates_told st c watch was end a some.0 low some.1))
         ∙ logs_many
 
-    -- where each update is of an acknowledged snapshot, they have as many
+    -- where the snapshots have all, they have as many
+    pub holds_if : held ≡ all_entries logged → HoldsAll st c.coordinator
+    holds_if full = told_many ∙ sym (sym held_many ∙ ap (λ (es : List Entry). length es) full ∙ length-map logged (λ (l : Logged). l.entry))
+
+    -- so where each update is of an acknowledged snapshot
     pub holds_all : AllByRecursion (λ l. l.number ≤ c.coordinator.acknowledged) logged → HoldsAll st c.coordinator
-    holds_all all =
-        told_many ∙ sym (sym held_many ∙ ap (λ (es : List Entry). length es) (all_up_to c.coordinator.acknowledged logged all) ∙ length-map logged (λ (l : Logged). l.entry))
+    holds_all all = holds_if (all_up_to c.coordinator.acknowledged logged all)
 
     -- and where they have as many, they have all
     pub holds_only : HoldsAll st c.coordinator → held ≡ all_entries logged

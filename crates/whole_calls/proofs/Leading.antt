@@ -1,31 +1,30 @@
 -- What a list of events from the opening of a call on makes is a call.
-use Rattle.std.proofs.Common.{◌≡◌, ◌⊎◌, ◌↔◌, ℕ, ◌+◌, ◌<◌, Bool, true, false, if◌then◌else◌, List, [], ◌∷◌, ◌++◌, length, refl, sym, ◌∙◌, ap, ap₂, subst, ⊎_elim, zero-add, length-append, arith}
+use Rattle.std.proofs.Common.{◌≡◌, ◌⊎◌, ◌↔◌, ℕ, ◌+◌, Bool, true, false, if◌then◌else◌, List, [], ◌∷◌, ◌++◌, length, refl, sym, ◌∙◌, ap, ap₂, subst, ⊎_elim, zero-add, length-append, arith}
 use Rattle.std.proofs.lemmas.Bool.{lt-ltb}
 use Rattle.gl_base.specs.declared.entries.Entry.{Entry}
 use Rattle.gl_base.specs.declared.entries.Entry.TheVariants.{Restart}
 use Rattle.gl_base.specs.declared.jobs.FailureAt.{FailureAt}
 use Rattle.attempts.specs.Beginnings.{IsBeginning, again, nothing}
-use Rattle.attempts.specs.EngineCalls.{EngineCall, IsEngineCall, IsOrderInTurn, begins_behind, call_order, done_of, first_ticket, made_in, made_of, ticket_above}
+use Rattle.attempts.specs.EngineCalls.{EngineCall, IsEngineCall, IsOrderInTurn, begins_behind, call_order, done_of, made_in, ticket_above}
 use Rattle.attempts.proofs.Counting.{done_longer}
 use Rattle.attempts.proofs.Failing.{lost_within}
-use Rattle.attempts.proofs.Opening.{opens, plain_begins, resumed_begins}
+use Rattle.attempts.proofs.Opening.{plain_begins, resumed_begins}
 use Rattle.attempts.proofs.Storing.{attempts_end, call_window}
 use Rattle.cluster_attempts.specs.CallsSoFar.{attempt_of}
 use Rattle.cluster_attempts.specs.Failures.{done_before, done_now}
 use Rattle.cluster_attempts.proofs.Joining.{begins_so, made_now}
 use Rattle.cluster_attempts.proofs.Making.{done_is, logs_are}
 use Rattle.cluster_core.specs.Recovering.{going_on}
-use Rattle.cluster_core.specs.Replays.{IsTask, tasks_of}
+use Rattle.cluster_core.specs.Replays.{IsTask}
 use Rattle.cluster_core.specs.Settings.{IsSetting, Setting}
 use Rattle.cluster_model.specs.ByTicket.{StandByTicket}
 use Rattle.cluster_model.specs.Clusters.{BaseView, Cluster}
-use Rattle.cluster_model.specs.Events.{Event, Admit, DeliverCall, DeliverReport, Deliver, Fail, Grant, IsCourse, Mark, PutBegin, PutStep, PutWave, Record, Recover, Section, Send, SendCall, SendReport, Stop, Update, recovers, setting_after}
-use Rattle.cluster_model.specs.Machines.{completed}
-use Rattle.cluster_runs.specs.Attempts.{Attempt, Beginning, Shared, done_with, made_by}
+use Rattle.cluster_model.specs.Events.{Event, Admit, DeliverCall, DeliverReport, Deliver, Fail, Grant, Mark, PutBegin, PutStep, PutWave, Record, Recover, Section, Send, SendCall, SendReport, Stop, Update, recovers, setting_after}
+use Rattle.cluster_runs.specs.Attempts.{Attempt, Beginning, Shared, done_with}
 use Rattle.cluster_runs.specs.Recorded.{shared_of}
-use Rattle.cluster_whole.specs.Logged.{Logged, all_entries}
+use Rattle.cluster_whole.specs.Logged.{Logged}
 use Rattle.cluster_whole.specs.Views.{world_of}
-use Rattle.cluster_whole.specs.Whole.{AreColoured, IsWhole, setting_behind}
+use Rattle.cluster_whole.specs.Whole.{AreColoured, setting_behind}
 use Rattle.cluster_records.specs.Bases.{IsBase}
 use Rattle.cluster_records.proofs.Based.{call_numbers, call_tasks}
 use Rattle.cluster_records.proofs.Courses.{begun}

@@ -7,6 +7,7 @@ pub mod Leading
 pub mod Waved
 pub mod Holding
 pub mod Acknowledged
+pub mod Refusing
 pub mod Ending
 pub mod Calling
 pub mod WorkedPair

@@ -1,11 +1,11 @@
 -- A machine that has reached the count of a failure has made an update since it answered the wave before, or answers no more wave.
-use Rattle.std.proofs.Common.{◌≡◌, ◌≢◌, ◌⊎◌, ℕ, suc, pred, ◌+◌, ◌<◌, ◌≤◌, Bool, true, false, Option, None, Some, List, [], ◌∷◌, ◌++◌, length, slice_index_or, inl, inr, refl, sym, ◌∙◌, ap, subst, ⊎_elim, append-nil, append_assoc, arith}
+use Rattle.std.proofs.Common.{◌≡◌, ◌⊎◌, ℕ, suc, pred, ◌+◌, ◌<◌, ◌≤◌, true, false, Option, None, Some, List, [], ◌∷◌, ◌++◌, length, slice_index_or, inl, inr, refl, sym, ◌∙◌, ap, subst, ⊎_elim, append-nil, append_assoc, arith}
 use Rattle.std.proofs.lemmas.Bool.{both_ways, cases_eq, false_from_ne_true}
 use Rattle.std.proofs.lemmas.List.Elements.{All-get_or}
 use Rattle.gl_base.specs.declared.jobs.FailureAt.{FailureAt}
 use Rattle.gl_base.specs.declared.scopes.Counted.{Counted}
 use Rattle.gl_base.specs.declared.scopes.ScopeId.{ScopeId}
-use Rattle.cluster_attempts.specs.Failures.{done_before, done_now}
+use Rattle.cluster_attempts.specs.Failures.{done_before}
 use Rattle.cluster_core.specs.Messages.{Message}
 use Rattle.cluster_core.specs.Settings.{Setting}
 use Rattle.cluster_core.proofs.Basics.{set_at-other}

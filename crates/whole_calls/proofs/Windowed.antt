@@ -1,5 +1,5 @@
 -- An attempt of a cluster has at most a window of each machine's updates outside its last snapshot.
-use Rattle.std.proofs.Common.{◌≡◌, ◌⊎◌, ℕ, suc, ◌+◌, ◌<◌, ◌≤◌, ◌&&◌, Bool, true, false, if◌then◌else◌, List, [], ◌∷◌, ◌++◌, length, filter, sum_by, count_by, IsPermutation, refl, sym, ◌∙◌, ap, subst, ⊎_elim, le_trans, zero-add, arith}
+use Rattle.std.proofs.Common.{◌≡◌, ℕ, suc, ◌+◌, ◌<◌, ◌≤◌, ◌&&◌, Bool, true, false, if◌then◌else◌, List, [], ◌∷◌, ◌++◌, length, filter, sum_by, refl, sym, ◌∙◌, ap, subst, ⊎_elim, le_trans, arith}
 use Rattle.std.specs.List.{AllByRecursion}
 use Rattle.std.proofs.lemmas.Bool.{cases_Bool, cases_lt, cond-false, cond-true, false_from_ne_true}
 use Rattle.std.proofs.lemmas.List.Sorted.{sum_by-IsPermutation}
@@ -19,7 +19,7 @@ use Rattle.cluster_model.specs.Machines.{outside}
 use Rattle.cluster_runs.specs.Attempts.{Attempt, Beginning, made_by}
 use Rattle.cluster_whole.specs.Logged.{Logged, all_entries, entries_to, is_up_to}
 use Rattle.cluster_whole.specs.Whole.{IsWhole}
-use Rattle.cluster_records.specs.Recorded.{IsAccounted, IsSinceBase}
+use Rattle.cluster_records.specs.Recorded.{IsAccounted}
 use Rattle.cluster_records.specs.Wanting.{AreAsking, is_outside, sizes_from}
 use Rattle.cluster_records.proofs.Asking.{counted}
 use Rattle.cluster_records.proofs.Filtering.{passing-cons_in, passing-cons_out, passing-none, up_to_no, up_to_yes}
@@ -130,8 +130,9 @@ module _ (st : Setting) (is : IsSetting st) (c : Cluster) (whole : IsWhole st c)
       (λ (past : st.machines ≤ m). zero_below (many_outside m c.coordinator.acknowledged logged) st.window (none_outside st.machines m c.coordinator.acknowledged past logged (all_made st is logged account.since)))
       (cases_lt m st.machines)
 
-  pub unheld_few : (failures : List FailureAt) (b : Beginning) → AreUpdatesFrom b.next (all_entries logged) → AreAsking st c logged → st.stored ≡ true → KeepsWindow st.window (attempt_of failures b c logged)
-  unheld_few failures b tickets asking stored m =
+  -- what of a machine the last snapshot lacks
+  pub unheld_many : (failures : List FailureAt) (b : Beginning) → AreUpdatesFrom b.next (all_entries logged) → (m : ℕ) → made_by (unheld_updates (attempt_of failures b c logged)) m ≡ many_outside m c.coordinator.acknowledged logged
+  unheld_many failures b tickets m =
       let a : Attempt = attempt_of failures b c logged in
       let k : ℕ = c.coordinator.acknowledged in
       let one : made_by (all_entries logged) m ≡ made_by (held_updates a) m + made_by (unheld_updates a) m =
@@ -141,5 +142,7 @@ module _ (st : Setting) (is : IsSetting st) (c : Cluster) (whole : IsWhole st c)
       sym (length-filter (is_of m) (all_entries logged)) ∙ in_and_out m k logged
       ∙ ap (λ (n : ℕ). n + many_outside m k logged)
       (length-filter (is_of m) (entries_to k logged) ∙ ap (λ (es : List Entry). made_by es m) (sym (held_is st is c whole logged account failures b tickets))) in
-      subst (λ (n : ℕ). n ≤ st.window)
-      (sym (rest_is (made_by (all_entries logged) m) (made_by (held_updates a) m) (made_by (unheld_updates a) m) (many_outside m k logged) one two)) (few_outside asking stored m)
+      rest_is (made_by (all_entries logged) m) (made_by (held_updates a) m) (made_by (unheld_updates a) m) (many_outside m k logged) one two
+
+  pub unheld_few : (failures : List FailureAt) (b : Beginning) → AreUpdatesFrom b.next (all_entries logged) → AreAsking st c logged → st.stored ≡ true → KeepsWindow st.window (attempt_of failures b c logged)
+  unheld_few failures b tickets asking stored m = subst (λ (n : ℕ). n ≤ st.window) (sym (unheld_many failures b tickets m)) (few_outside asking stored m)

@@ -1,15 +1,11 @@
 -- The call that goes back is one, event by event.
-use Rattle.std.proofs.Common.{◌≡◌, ◌≢◌, ℕ, zero, suc, ◌<◌, ◌≤◌, Bool, true, false, if◌then◌else◌, None, Option, Some, List, [], ◌∷◌, ◌++◌, length, IsPermutation, All, inl, inr, refl, sym, subst, lit≤, arith}
+use Rattle.std.proofs.Common.{◌≡◌, ◌≢◌, ℕ, zero, suc, ◌<◌, ◌≤◌, true, false, List, [], ◌∷◌, ◌++◌, length, inr, refl, subst, lit≤, arith}
 use Rattle.std.proofs.lemmas.List.Sorted.{IsPermutation-refl}
-use Rattle.std.specs.List.{AllByRecursion}
 use Rattle.gl_base.specs.declared.jobs.FailureAt.{FailureAt}
-use Rattle.gl_base.specs.declared.scopes.ScopeId.{ScopeId}
 use Rattle.gl_base.specs.Lists.{Ascends}
 use Rattle.gl_base.specs.declared.limits.TheConstants.{MAX_ID}
 use Rattle.graph_core.specs.DataGraph.{DataEdge, IsDataGraph, IsEdge, size}
-use Rattle.attempts.specs.EngineCalls.{IsOrderInTurn}
 use Rattle.cluster_core.specs.Ranges.{first_passing}
-use Rattle.cluster_core.specs.Scopes.{is_scope, set_for}
 use Rattle.cluster_core.specs.Settings.{IsSetting, Setting}
 use Rattle.cluster_model.specs.Clusters.{Cluster}
 use Rattle.cluster_model.specs.Events.{DeliverCall, Event, Fail, GoesBackTo, IsCourse, Recover, after_event, setting_after}
@@ -17,11 +13,11 @@ use Rattle.cluster_model.specs.Machines.{completed}
 use Rattle.cluster_model.specs.Totals.{total_from}
 use Rattle.cluster_places.specs.Steps.{AreApart}
 use Rattle.cluster_records.specs.LineOfFour.{after_events}
-use Rattle.cluster_records.specs.LonePair.{lone_pair, pair_alone, pair_at_first, pair_base, pair_cluster, pair_entry, pair_saved, pair_saves, pair_scope, pair_updated, pair_updates}
+use Rattle.cluster_records.specs.LonePair.{lone_pair, pair_alone, pair_at_first, pair_base, pair_cluster, pair_entry, pair_saved, pair_saves, pair_updated, pair_updates}
 use Rattle.cluster_records.proofs.PairSaved.{again_may, saves_may, updates_may}
 use Rattle.cluster_whole.specs.Whole.{setting_behind}
 use Rattle.std.proofs.lemmas.List.Elements.{All-from_recursion}
-use Rattle.whole_calls.specs.Following.{AreJobFailures, FollowJob, FollowsJob, has_reached}
+use Rattle.whole_calls.specs.Following.{FollowJob, FollowsJob, has_reached}
 use Rattle.whole_calls.specs.Opened.{IsCourseOfCall, IsOpened}
 use Rattle.whole_calls.specs.PairAgain.{pair_again, pair_course, pair_failed, pair_failures, pair_kept, pair_second, pair_twice}
 use Rattle.whole_calls.specs.Saved.{recorded_in}
