@@ -34,6 +34,7 @@ use Rattle.cluster_whole.specs.Logged.{Logged, all_entries, entries_to}
 use Rattle.cluster_whole.specs.Views.{world_of}
 use Rattle.cluster_whole.specs.Whole.{setting_behind}
 use Rattle.cluster_whole.proofs.Flows.{total_from-none, total_from-same}
+use Rattle.cluster_records.specs.Recorded.{snapshot_due}
 use Rattle.cluster_records.specs.Few.{snapshot_at, snapshots_in_all, unasked_in}
 use Rattle.cluster_records.proofs.Fewness.{attempts_few, by_half}
 use Rattle.cluster_records.proofs.Outside.{many_outside}
@@ -42,9 +43,9 @@ use Rattle.seq_run.specs.States.{GraphState}
 use Rattle.whole_calls.specs.Called.{IsCallOf, KeepsWindows}
 use Rattle.whole_calls.specs.Following.{has_reached}
 use Rattle.whole_calls.specs.Opened.{IsCourseOfCall}
-use Rattle.whole_calls.specs.Saved.{AreSnapshotsOf, recorded_at, recorded_in}
+use Rattle.whole_calls.specs.Saved.{AreSnapshotsOf, IsSnapshotOf, recorded_at, recorded_in}
 use Rattle.whole_calls.specs.Telling.{HasSavedTheEnd, NeedsMoreStore, TellsOfCall, length_with}
-use Rattle.whole_calls.proofs.Acknowledged.{good_snapshots, snapshots_append, snapshots_long}
+use Rattle.whole_calls.proofs.Acknowledged.{good_snapshots, pending_is, snapshots_append, snapshots_long}
 use Rattle.whole_calls.proofs.Ending.{EndsBehind, HasAskedAll, IsEnding, IsPlain, courses_end, which}
 use Rattle.whole_calls.proofs.Going.{IsInCall}
 use Rattle.whole_calls.proofs.Holding.{holds_only, told_many}
@@ -187,6 +188,9 @@ module _ (failures : List FailureAt) (kept : List Entry) (resumed : Bool) (numbe
         unharmed = none_struck;
         told = λ end. told_many st at.is c at.whole logged at.account e.watch e.watched end ∙ sym (length-map logged (λ (l : Logged). l.entry));
         saved = saved_all;
+        pending = λ due.
+            let may = pending_is st at.is c at.whole logged at.account at.based failures behind at.so.front at.so.tickets newest e.resumes due in
+            (may.0, may.1, may.2, subst (λ (order : List Entry). IsSnapshotOf st c.coordinator.begun order (snapshot_order behind made_call.last may.0) (snapshot_due c.coordinator)) (sym last_is) may.3);
         full = needs_more;
         spent = of_budget c.next c.left (ticket_above kept) budget (length (made_of made_call)) e.tickets its_call.next;
       }
@@ -304,5 +308,5 @@ module _ (st : Setting) (failures : List FailureAt) (kept : List Entry) (resumed
             (one_at_most (unasked_in now begun events) (snapshots_in_all events) (first.left / half_window st)
             (by_half (half_window st) (snapshots_in_all events) (unasked_in now begun events) first.left half (attempts_few st course.is course.coloured base first events c course.course))
             (once_or last_st logged unasked e.once)),
-        record { tasks = told.tasks; unharmed = told.unharmed; told = told.told; saved = λ stored is. told.saved stored (saved_then last.start last.base is); full = λ due refused. told.full (due_then last.start last.base due) (room_then last.start last.base refused); spent = told.spent },
+        record { tasks = told.tasks; unharmed = told.unharmed; told = told.told; saved = λ stored is. told.saved stored (saved_then last.start last.base is); pending = λ due. told.pending (due_then last.start last.base due); full = λ due refused. told.full (due_then last.start last.base due) (room_then last.start last.base refused); spent = told.spent },
       )

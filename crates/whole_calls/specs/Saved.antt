@@ -1,15 +1,19 @@
 -- The snapshots that a list of events has acknowledged, and the orders that they stand for.
 use Rattle.std.specs.List.{AllByRecursion}
 use Rattle.std.specs.List.Sorted.{IsPermutation}
-use Rattle.std.specs.Prelude.{List, [], suc, true, ℕ, ⊤, ◌++◌, ◌∷◌, ◌≡◌}
+use Rattle.std.specs.Prelude.{List, [], suc, true, ℕ, ⊤, ◌++◌, ◌∷◌, ◌≡◌, ◌≤◌}
 use Rattle.gl_base.specs.declared.entries.Entry.{Entry}
+use Rattle.attempts.specs.Beginnings.{last_of, nothing, snapshot_order}
+use Rattle.attempts.specs.EngineCalls.{EngineCall, last_beginning}
 use Rattle.attempts.specs.Entries.{is_restart}
+use Rattle.attempts.specs.Stores.{last_order, snapshots_of}
+use Rattle.cluster_core.specs.Cuts.{cut_of}
 use Rattle.cluster_core.specs.Settings.{Setting}
 use Rattle.cluster_model.specs.Clusters.{Cluster}
 use Rattle.cluster_model.specs.Events.{Event, Record, after_event, entries_below, setting_after, snapshot_numbers}
-use Rattle.cluster_model.specs.Leading.{Snapshot}
+use Rattle.cluster_model.specs.Leading.{Coordinator, Snapshot}
 use Rattle.cluster_records.specs.Recorded.{HaveSameNumbers, snapshot_due}
-use Rattle.seq_run.specs.Orders.{replay}
+use Rattle.seq_run.specs.Orders.{IsValidFrom, all_tasks, replay}
 
 -- the snapshot that an event acknowledges
 abbrev pub recorded_at : Cluster → Event → List Snapshot
@@ -38,3 +42,12 @@ AreSnapshotsOf st number before [] (order ∷ orders) = ⊥
 AreSnapshotsOf st number before (snapshot ∷ snapshots) [] = ⊥
 AreSnapshotsOf st number before (snapshot ∷ snapshots) (order ∷ orders) =
     IsSnapshotOf st (suc number) before order snapshot × AreSnapshotsOf st (suc number) order snapshots orders
+
+-- The snapshot that is due may follow those of the call, also where it is recorded and never acknowledged: it is of a valid cut of what
+-- the last attempt made, which has what the last snapshot has.
+abbrev pub MayFollow : Setting → Coordinator → EngineCall → Type 0
+MayFollow st c call =
+    (later : ℕ → ℕ)
+    × ((v : ℕ) → last_of nothing call.last.kept v ≤ later v)
+    × IsValidFrom st.graph st.program (replay st.graph st.program (last_beginning call).front) (all_tasks st.graph) (cut_of later call.last.made)
+    × IsSnapshotOf st c.begun (last_order call.base (snapshots_of call)) (snapshot_order (last_beginning call) call.last later) (snapshot_due c)

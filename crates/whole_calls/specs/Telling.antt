@@ -10,6 +10,7 @@ use Rattle.cluster_model.specs.Working.{half_window}
 use Rattle.cluster_runs.specs.Attempts.{Attempt, made_by}
 use Rattle.graph_core.specs.DataGraph.{size}
 use Rattle.seq_run.specs.Orders.{tasks_after}
+use Rattle.whole_calls.specs.Saved.{MayFollow}
 
 -- The last two waves have shown the end, no snapshot is under way, and none is due.
 pub record HasSavedTheEnd (st : Setting) (c : Coordinator) : Type 0 where
@@ -51,6 +52,8 @@ pub record TellsOfCall (st : Setting) (budget : ℕ) (c : Cluster) (call : Engin
   pub told : HasSeenTheEnd c.coordinator → sum_by updates_told c.coordinator.rounds.counting.waves.wave ≡ length call.last.made
   -- where besides no snapshot is due, the order of the last one is the call's
   pub saved : st.stored ≡ true → HasSavedTheEnd st c.coordinator → last_order call.base (snapshots_of call) ≡ call_order call
+  -- where a record is due, its snapshot may follow those of the call
+  pub pending : RecordIsDue st c.coordinator → MayFollow st c.coordinator call
   -- where a record is due for which the store has no room, more of it was needed
   pub full : RecordIsDue st c.coordinator → (HasStoreRoom st c.coordinator → ⊥) → NeedsMoreStore st c.coordinator call
   -- the budget is the updates that were made, lost ones among them, and the tickets that are left
