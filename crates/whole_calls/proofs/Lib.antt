@@ -11,3 +11,4 @@ pub mod Refusing
 pub mod Ending
 pub mod Calling
 pub mod WorkedPair
+pub mod WorkedEnd

@@ -24,11 +24,11 @@ use Rattle.whole_calls.specs.Saved.{recorded_in}
 
 -- ---- one list of events behind another
 
-course_append : (xs ys : List Event) (st : Setting) (a b c : Cluster) → IsCourse st a xs b → IsCourse (setting_behind st xs) b ys c → IsCourse st a (xs ++ ys) c
+pub course_append : (xs ys : List Event) (st : Setting) (a b c : Cluster) → IsCourse st a xs b → IsCourse (setting_behind st xs) b ys c → IsCourse st a (xs ++ ys) c
 course_append [] ys st a b c one other = subst (λ (x : Cluster). IsCourse st x ys c) one other
 course_append (x ∷ xs) ys st a b c one other = (one.0, course_append xs ys (setting_after st x) (after_event st a x) b c one.1 other)
 
-follow_append : (failures : List FailureAt) (xs ys : List Event) (st : Setting) (a : Cluster) → FollowJob st failures a xs → FollowJob (setting_behind st xs) failures (after_events st xs a) ys → FollowJob st failures a (xs ++ ys)
+pub follow_append : (failures : List FailureAt) (xs ys : List Event) (st : Setting) (a : Cluster) → FollowJob st failures a xs → FollowJob (setting_behind st xs) failures (after_events st xs a) ys → FollowJob st failures a (xs ++ ys)
 follow_append failures [] ys st a one other = other
 follow_append failures (x ∷ xs) ys st a one other = (one.0, follow_append failures xs ys (setting_after st x) (after_event st a x) one.1 other)
 

@@ -4,3 +4,4 @@ pub mod Called
 pub mod Saved
 pub mod Telling
 pub mod PairAgain
+pub mod EndSaved

@@ -4,5 +4,5 @@
 mod examples;
 mod laws;
 
-pub use examples::a_call_that_goes_back;
+pub use examples::{a_call_that_goes_back, a_snapshot_for_the_end};
 pub use laws::courses_are_calls;
