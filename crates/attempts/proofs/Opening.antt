@@ -34,10 +34,10 @@ zero_low n = omega arith
 
 module _ (shared : Shared) where
   -- where a call with this base begins, resumed or not
-  abbrev opens : List Entry → Bool → Beginning
+  abbrev pub opens : List Entry → Bool → Beginning
   opens base resumed = record { front = base ++ (if resumed then Restart (ticket_above base) ∷ [] else []); next = ticket_above base; done = nothing }
 
-  resumed_begins : (base : List Entry) → IsOrderInTurn shared base → IsBeginning shared (opens base true)
+  pub resumed_begins : (base : List Entry) → IsOrderInTurn shared base → IsBeginning shared (opens base true)
   resumed_begins base is =
       record {
         valid = valid_append shared.graph shared.program (start_state shared.graph shared.program) (all_tasks shared.graph) base (Restart (ticket_above base) ∷ []) is.valid (tt, tt);
@@ -48,7 +48,7 @@ module _ (shared : Shared) where
         owners = each-append (IsByOwner shared.owner) base (Restart (ticket_above base) ∷ []) is.owners (tt, tt);
       }
 
-  plain_begins : IsBeginning shared (opens [] false)
+  pub plain_begins : IsBeginning shared (opens [] false)
   plain_begins = record { valid = tt; tasks = refl; by_ticket = le_refl 0; owners = tt }
 
   pub opening_begins : (call : EngineCall) → IsEngineCall shared call → IsBeginning shared (opening call)

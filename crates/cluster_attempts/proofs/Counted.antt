@@ -73,7 +73,7 @@ one_more : (v : ℕ) (e : Entry) (xs ys : List Entry) → updates_of v xs ≤ up
 one_more v (Restart ticket) xs ys is = is
 one_more v (Go m u t) xs ys is = if_more (u.0 == v) (updates_of v xs) (updates_of v ys) is
 
-count_rises : (k : ℕ) (logged : List Logged) (v : ℕ) → count_to logged k v ≤ count_to logged (suc k) v
+pub count_rises : (k : ℕ) (logged : List Logged) (v : ℕ) → count_to logged k v ≤ count_to logged (suc k) v
 count_rises k [] v = le_refl 0
 count_rises k (l ∷ logged) v =
     ⊎_elim

@@ -60,7 +60,7 @@ module _ (st : Setting) (c : Cluster) (b : ℕ) where
   reported a (Count k counts) behind = refl
   reported a (Want k) behind = refl
 
-  done_kept : (event : Event) → MayDo st c event → IsNoRecovery event → Keeps (after_event st c event)
+  pub done_kept : (event : Event) → MayDo st c event → IsNoRecovery event → Keeps (after_event st c event)
   done_kept (Admit a v) may other = one_machine a (prompt st a (admits st a v (c.machine a))) refl
   done_kept (Grant a x) may other = one_machine a (prompt st a (grants st a x (c.machine a))) refl
   done_kept (Send p q) may other = subst (λ (ms : List Message). Keeps (sends_message c p q ms)) (sym may.2.first) (one_machine p (hands q may.2.behind (c.machine p)) refl)
@@ -99,7 +99,7 @@ module _ (failures : List FailureAt) (start : Beginning) where
     abbrev here : Beginning
     here = begins_behind start failed
 
-    quiet_so : (event : Event) → MayDo st c event → IsNoRecovery event → IsNoUpdate event → IsCallSoFar (shared_of st failures) start (after_event st c event) (logged ++ []) failed
+    pub quiet_so : (event : Event) → MayDo st c event → IsNoRecovery event → IsNoUpdate event → IsCallSoFar (shared_of st failures) start (after_event st c event) (logged ++ []) failed
     quiet_so event may other none =
         subst (λ (ls : List Logged). IsCallSoFar (shared_of st failures) start (after_event st c event) ls failed) (sym (append-nil logged))
         (record {
@@ -110,7 +110,7 @@ module _ (failures : List FailureAt) (start : Beginning) where
           done = λ a. done_kept st c a event may other ∙ so.done a;
         })
 
-    update_so : (s : ScopeId) (may : MayDo st c (Update s)) → IsNoRecovery (Update s) →
+    pub update_so : (s : ScopeId) (may : MayDo st c (Update s)) → IsNoRecovery (Update s) →
         IsCallSoFar (shared_of st failures) start (after_event st c (Update s)) (logged ++ update_logged st c s may.1.vertex ∷ []) failed
     update_so s may other =
         let made : List Entry = all_entries logged in
@@ -131,7 +131,7 @@ module _ (failures : List FailureAt) (start : Beginning) where
     pub made_now : AllByRecursion (StopsAtCount c) failures → IsAttempt (shared_of st failures) here now_made
     made_now stops = attempt_is st is c whole logged account failures here based so.front so.tickets (stops_same st is c whole logged account failures here so.done stops)
 
-    recover_so : (base : BaseView) → GoesBackTo st c base → FailAsOrdered st failures c → IsCallSoFar (shared_of st failures) start (recovers st base c) [] (failed ++ now_made ∷ [])
+    pub recover_so : (base : BaseView) → GoesBackTo st c base → FailAsOrdered st failures c → IsCallSoFar (shared_of st failures) start (recovers st base c) [] (failed ++ now_made ∷ [])
     recover_so base back ordered =
         let struck : failures_in st c ≡ now_made.struck = ordered.struck ∙ struck_same st is c whole logged account failures here so.done in
         let push : begins_behind start (failed ++ now_made ∷ []) ≡ again here now_made = begins_push start failed now_made in
@@ -189,7 +189,7 @@ module _ (failures : List FailureAt) (start : Beginning) where
 
   -- ---- every list of events
 
-  shared_after : (st : Setting) (event : Event) → shared_of (setting_after st event) failures ≡ shared_of st failures
+  pub shared_after : (st : Setting) (event : Event) → shared_of (setting_after st event) failures ≡ shared_of st failures
   shared_after st (Admit a v) = refl
   shared_after st (Grant a x) = refl
   shared_after st (Send p q) = refl

@@ -39,7 +39,7 @@ module _ (st : Setting) (is : IsSetting st) (c : Cluster) (whole : IsWhole st c)
   none_to : entries_to st.base logged ≡ []
   none_to = nothing_up_to st.base logged (all_since st is logged account.since)
 
-  count_none : count_to logged st.base ≡ nothing
+  pub count_none : count_to logged st.base ≡ nothing
   count_none = ap (λ (es : List Entry). λ (v : ℕ). updates_of v es) none_to
 
   first_none : HasFirst logged st.base
@@ -56,7 +56,7 @@ module _ (st : Setting) (is : IsSetting st) (c : Cluster) (whole : IsWhole st c)
         subst (λ (es : List Entry). HaveSameNumbers st.graph st.start (replay st.graph st.program es)) front
         (subst (λ (s : GraphState). HaveSameNumbers st.graph s (replay st.graph st.program c.base.order)) based.start based.numbers)
 
-    valid_here : (es : List Entry) → AllByRecursion (IsOwnUpdate st) es → IsValidFrom st.graph st.program st.start (all_tasks st.graph) es →
+    pub valid_here : (es : List Entry) → AllByRecursion (IsOwnUpdate st) es → IsValidFrom st.graph st.program st.start (all_tasks st.graph) es →
         IsValidFrom st.graph st.program (replay st.graph st.program b.front) (all_tasks st.graph) es
     valid_here es own valid = valid_same st is st.start (replay st.graph st.program b.front) (all_tasks st.graph) (all_tasks st.graph) es own begins_same (λ u low. refl) valid
 

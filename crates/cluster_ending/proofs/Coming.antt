@@ -158,7 +158,7 @@ module _ (st : Setting) (begun : ℕ) (c : Cluster) (turn : ℕ → Turn) (befor
   long_now : length wave ≡ st.machines
   long_now = length-set (turned ws).wave a (Some counts) ∙ long
 
-  last_same : last_counts counted ≡ last_counts counting
+  pub last_same : last_counts counted ≡ last_counts counting
   last_same =
       ⊎_elim
       (λ (all : counted.waiting ≡ false). last_whole counted all)

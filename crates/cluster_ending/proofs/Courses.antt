@@ -20,7 +20,7 @@ use Rattle.cluster_ending.proofs.Watching.{event_watched}
 
 -- ---- the setting behind an event
 
-setting_same : (st : Setting) (event : Event) → IsNoRecovery event → setting_after st event ≡ st
+pub setting_same : (st : Setting) (event : Event) → IsNoRecovery event → setting_after st event ≡ st
 setting_same st (Admit a v) other = refl
 setting_same st (Grant a x) other = refl
 setting_same st (Send p q) other = refl
@@ -153,7 +153,7 @@ saves_same st c s (Some v) = (refl, refl)
 abbrev GoesOnTo : Event → Cluster → Cluster → Type 0
 GoesOnTo event c new = (put_of new ≡ (if puts_wave_out event then suc (put_of c) else put_of c)) × (new.coordinator.begun ≡ c.coordinator.begun)
 
-numbers_after : (st : Setting) (c : Cluster) (event : Event) → IsNoRecovery event → IsNoBegin event → GoesOnTo event c (after_event st c event)
+pub numbers_after : (st : Setting) (c : Cluster) (event : Event) → IsNoRecovery event → IsNoBegin event → GoesOnTo event c (after_event st c event)
 numbers_after st c (Admit a v) other no_begin = (refl, refl)
 numbers_after st c (Grant a x) other no_begin = (refl, refl)
 numbers_after st c (Send p q) other no_begin = sends_same c p q ((c.machine p).part.out q)

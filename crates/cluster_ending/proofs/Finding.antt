@@ -74,7 +74,7 @@ module _ (st : Setting) (c : Cluster) (watch : Watch) (was : IsWatched st c watc
   abbrev ws : TwoWaves
   ws = counting.waves
 
-  last_is : last_counts counting ≡ ws.before
+  pub last_is : last_counts counting ≡ ws.before
   last_is = last_whole counting end.whole
 
   some_put : (a : ℕ) → a < st.machines → 0 < counting.put_out
@@ -95,7 +95,7 @@ module _ (st : Setting) (c : Cluster) (watch : Watch) (was : IsWatched st c watc
       let low_is = (was.machines a low).later counts (ap (λ (xs : List (Option Counted)). slice_index_or xs a None) last_is ∙ is) in
       (subst (λ (o : Option Counted). counts.received ≤ received_of o) (sym (wave_slot a low)) low_is.received, subst (λ (o : Option Counted). counts.sent ≤ sent_of o) (sym (wave_slot a low)) low_is.sent)
 
-  summed : (f : Option Counted → ℕ) (xs : List (Option Counted)) → length xs ≡ st.machines → sum_by f xs ≡ total st.machines (λ a. f (slice_index_or xs a None))
+  pub summed : (f : Option Counted → ℕ) (xs : List (Option Counted)) → length xs ≡ st.machines → sum_by f xs ≡ total st.machines (λ a. f (slice_index_or xs a None))
   summed f xs long =
       sums_are f xs 0 (λ a. f (slice_index_or xs a None)) (λ i low. ap (λ (a : ℕ). f (slice_index_or xs a None)) (zero_more i))
       ∙ ap (λ (n : ℕ). total n (λ a. f (slice_index_or xs a None))) long
@@ -127,7 +127,7 @@ module _ (st : Setting) (c : Cluster) (watch : Watch) (was : IsWatched st c watc
   was_idle : IsIdleWave (last_counts counting)
   was_idle = subst IsIdleWave (sym last_is) (record { idle = end.shown.idle_before; even = end.shown.received_before })
 
-  done : IsDoneSince st c (last_counts counting)
+  pub done : IsDoneSince st c (last_counts counting)
   done = ⊎_elim (λ (is : IsDoneSince st c (last_counts counting)). is) (λ (some : SomeMoved st counting c watch). absurd (none_moved some)) (was.after_idle was_idle)
 
   pub no_task_left : HasNoTaskLeft st (world_of c)

@@ -113,7 +113,7 @@ total_last k zero f = ap (λ (x : ℕ). x + 0) (ap f (zero_plus k)) ∙ sym (zer
 total_last k (suc n) f =
     ap (λ (x : ℕ). f k + x) (total_last (suc k) n f ∙ ap (λ (x : ℕ). total_from (suc k) n f + f x) (plus_suc k n)) ∙ shift (f k) (total_from (suc k) n f) (f (k + suc n))
 
-below_long : (n : ℕ) (s : Snapshot) → length (entries_below n s) ≡ total n (λ a. length (s.sections a).entries)
+pub below_long : (n : ℕ) (s : Snapshot) → length (entries_below n s) ≡ total n (λ a. length (s.sections a).entries)
 unfolding total_from
 below_long zero s = refl
 below_long (suc n) s =

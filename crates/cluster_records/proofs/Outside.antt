@@ -105,7 +105,7 @@ add_sizes : (f s r t : ℕ) → f ≡ s + r → (u : ℕ) → r ≡ u + t → f 
 add_sizes f s r t one u two = omega arith
 
 -- the sizes of sections, and what is outside the last of them
-sizes_split : (a k many : ℕ) (ls : List Logged) → many_outside a k ls ≡ sum_by (λ n. n) (sizes_from a (suc k) many ls) + many_outside a (k + many) ls
+pub sizes_split : (a k many : ℕ) (ls : List Logged) → many_outside a k ls ≡ sum_by (λ n. n) (sizes_from a (suc k) many ls) + many_outside a (k + many) ls
 sizes_split a k zero ls = ap (λ (n : ℕ). many_outside a n ls) (zero_plus k) ∙ sym (zero-add (many_outside a (k + 0) ls))
 sizes_split a k (suc many) ls =
     let rest : many_outside a (suc k) ls ≡ sum_by (λ n. n) (sizes_from a (suc (suc k)) many ls) + many_outside a (k + suc many) ls =

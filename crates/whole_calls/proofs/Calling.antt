@@ -1,0 +1,312 @@
+-- What the events of a call make, part by part.
+use Rattle.std.proofs.Common.{◌≡◌, ◌⊎◌, ℕ, suc, ◌+◌, ◌/◌, ◌<◌, ◌≤◌, Bool, true, false, if◌then◌else◌, List, [], ◌∷◌, ◌++◌, length, map, sum_by, inl, inr, refl, sym, ◌∙◌, ap, ap₂, subst, ⊎_elim, append-nil, arith}
+use Rattle.std.proofs.lemmas.Bool.{both_ways, cases_eq, cond-false, false_from_ne_true}
+use Rattle.std.specs.List.{AllByRecursion}
+use Rattle.std.proofs.lemmas.List.{append_cancel_left, length-append, length-map}
+use Rattle.gl_base.specs.declared.entries.Entry.{Entry}
+use Rattle.gl_base.specs.declared.entries.Entry.TheVariants.{Restart}
+use Rattle.gl_base.specs.declared.jobs.FailureAt.{FailureAt}
+use Rattle.graph_core.specs.DataGraph.{size}
+use Rattle.attempts.specs.Beginnings.{held_updates, order_after, snapshot_order, unheld_updates}
+use Rattle.attempts.specs.EngineCalls.{EngineCall, IsOrderInTurn, begins_behind, call_order, made_of, ticket_above}
+use Rattle.attempts.specs.Entries.{is_restart}
+use Rattle.attempts.specs.Stores.{attempted_snapshots, last_order, snapshot_orders, snapshots_of}
+use Rattle.attempts.proofs.Prefixes.{last_order_append}
+use Rattle.attempts.proofs.Storing.{full_is}
+use Rattle.cluster_attempts.specs.CallsSoFar.{counts_of}
+use Rattle.cluster_attempts.specs.Failures.{done_before, done_now}
+use Rattle.cluster_attempts.proofs.Making.{held_is, struck_same}
+use Rattle.cluster_core.specs.Recovering.{going_on}
+use Rattle.cluster_core.specs.Settings.{Setting}
+use Rattle.cluster_core.specs.Ways.{vertex_woken}
+use Rattle.cluster_core.specs.Worlds.{way}
+use Rattle.cluster_ending.specs.Watched.{HasNoTaskLeft}
+use Rattle.cluster_ending.proofs.Courses.{start_followed}
+use Rattle.cluster_ending.proofs.Finding.{no_task_left}
+use Rattle.cluster_ending.proofs.Leaving.{none_woken}
+use Rattle.cluster_model.specs.Clusters.{BaseView, Cluster}
+use Rattle.cluster_model.specs.Events.{Event, PutBegin, Record, after_event, recovers, setting_after}
+use Rattle.cluster_model.specs.Leading.{HasSeenTheEnd, HasStoreRoom, HoldsAll, RecordIsDue, Snapshot, SnapshotIsDue, entries_in, updates_told}
+use Rattle.cluster_model.specs.Working.{half_window}
+use Rattle.cluster_runs.specs.Attempts.{Attempt, Beginning}
+use Rattle.cluster_runs.specs.Recorded.{shared_of}
+use Rattle.cluster_whole.specs.Logged.{Logged, all_entries, entries_to}
+use Rattle.cluster_whole.specs.Views.{world_of}
+use Rattle.cluster_whole.specs.Whole.{setting_behind}
+use Rattle.cluster_whole.proofs.Flows.{total_from-none, total_from-same}
+use Rattle.cluster_records.specs.Recorded.{snapshot_due}
+use Rattle.cluster_records.specs.Few.{snapshot_at, snapshots_in_all, unasked_in}
+use Rattle.cluster_records.proofs.Fewness.{attempts_few, by_half}
+use Rattle.cluster_records.proofs.Outside.{many_outside}
+use Rattle.seq_run.specs.Orders.{tasks_after}
+use Rattle.seq_run.specs.States.{GraphState}
+use Rattle.whole_calls.specs.Called.{IsCallOf, KeepsWindows}
+use Rattle.whole_calls.specs.Following.{has_reached}
+use Rattle.whole_calls.specs.Opened.{IsCourseOfCall}
+use Rattle.whole_calls.specs.Saved.{AreSnapshotsOf, IsSnapshotOf, recorded_at, recorded_in}
+use Rattle.whole_calls.specs.Telling.{HasSavedTheEnd, NeedsMoreStore, TellsOfCall, length_with}
+use Rattle.whole_calls.proofs.Acknowledged.{good_snapshots, pending_is, snapshots_append, snapshots_long}
+use Rattle.whole_calls.proofs.Ending.{EndsBehind, HasAskedAll, IsEnding, IsPlain, courses_end, which}
+use Rattle.whole_calls.proofs.Going.{IsInCall}
+use Rattle.whole_calls.proofs.Holding.{holds_only, told_many}
+use Rattle.whole_calls.proofs.Leading.{behind_since, call_of, call_then, call_with, is_call, opened_at, opened_in, since, windows_are, windows_then}
+use Rattle.whole_calls.proofs.Reaching.{one_at, reached_many}
+use Rattle.whole_calls.proofs.Refusing.{made_none, newest_is, nil_of, refused_by}
+use Rattle.whole_calls.proofs.Waved.{end_unreached, recovered_late}
+use Rattle.whole_calls.proofs.Windowed.{unheld_many}
+
+-- ---- of the state where events lead
+
+of_budget : (n left first budget made : ℕ) → n + left ≡ first + budget → n ≡ first + made → made + left ≡ budget
+of_budget n left first budget made one other = omega arith
+
+one_some : (n : ℕ) → 1 ≤ suc n
+one_some n = omega arith
+
+module _ (failures : List FailureAt) (kept : List Entry) (resumed : Bool) (number budget : ℕ) (st : Setting) (c : Cluster) (logged : List Logged) (failed : List Attempt) (taken : List Snapshot) (unasked : ℕ)
+    (e : IsEnding failures (opened_at kept resumed) kept number (ticket_above kept + budget) st c logged failed taken unasked)
+    (in_turn : IsOrderInTurn (shared_of st failures) kept) (begins_with : (resumed ≡ true) ⊎ ((resumed ≡ false) × (kept ≡ []))) where
+  abbrev at : IsInCall failures (opened_at kept resumed) st c logged failed
+  at = e.at
+
+  abbrev made_call : EngineCall
+  made_call = call_with failures kept resumed c logged failed
+
+  abbrev behind : Beginning
+  behind = begins_behind (opened_at kept resumed) failed
+
+  its_call : IsCallOf st failures kept resumed c made_call
+  its_call = call_of failures kept resumed st c logged failed at in_turn begins_with
+
+  orders_are : AreSnapshotsOf st number kept taken (snapshots_of made_call)
+  orders_are =
+      let snapshots : List Snapshot = c.coordinator.snapshots in
+      let orders : List (List Entry) = snapshot_orders behind made_call.last in
+      let newest : List Entry = last_order kept (attempted_snapshots (opened_at kept resumed) failed) in
+      subst (λ (ss : List Snapshot). AreSnapshotsOf st number kept ss (snapshots_of made_call)) (sym e.taken_are)
+      (snapshots_append st number kept e.earlier snapshots (attempted_snapshots (opened_at kept resumed) failed) orders e.orders
+      (subst (λ (n : ℕ). AreSnapshotsOf st n newest snapshots orders) e.numbered
+      (good_snapshots st at.is c at.whole logged at.account at.based failures behind at.so.front at.so.tickets newest e.resumes)))
+
+  none_left : HasNoTaskLeft st (world_of c) → (u : ℕ) → u < size st.graph → tasks_after st.graph st.program (call_order made_call) u ≡ false
+  none_left left u low =
+      false_from_ne_true (tasks_after st.graph st.program (call_order made_call) u) (λ task.
+      ⊎_elim
+      (λ (own : (c.machine (st.owner u)).part.task u ≡ true). both_ways ((c.machine (st.owner u)).part.task u) (left.tasks (st.owner u) (at.is.owner u low) u low) own)
+      (λ (woken : (p : ℕ) × (vertex_woken u (way (world_of c) p (st.owner u)) ≡ true)).
+      both_ways (vertex_woken u (way (world_of c) woken.0 (st.owner u))) (none_woken st at.is (world_of c) at.whole.consistent.copies.told left woken.0 (st.owner u) u) woken.1)
+      ((its_call.tasks u low).0 task))
+
+  none_struck : HasSeenTheEnd c.coordinator → made_call.last.struck ≡ 0
+  none_struck end =
+      sym (struck_same st at.is c at.whole logged at.account failures behind at.so.done)
+      ∙ sym (reached_many (done_before c) (done_now c) st.machines failures at.ordered.owned at.ordered.different at.stops)
+      ∙ total_from-same 0 st.machines (λ a. 0) (one_at (done_before c) (done_now c) failures)
+      (λ a from to. cond-false (has_reached failures c a) 1 0 (end_unreached failures (opened_at kept resumed) st c logged failed at e.watch e.watched e.late end a (in_range a st.machines to)))
+      ∙ total_from-none 0 st.machines (λ a. 0) (λ a. refl)
+    where
+      in_range : (a n : ℕ) → a < 0 + n → a < n
+      in_range a n low = omega arith
+
+  some_kept : st.stored ≡ true → HasSavedTheEnd st c.coordinator → (snapshots : List Snapshot) → c.coordinator.snapshots ≡ snapshots → 1 ≤ length snapshots
+  some_kept stored ended [] is = absurd (ended.all (record { stored = stored; none = ended.none; wanted = inr (ended.end, inr is) }))
+  some_kept stored ended (snapshot ∷ snapshots) is = one_some (length snapshots)
+
+  kept_long : (snapshots : List Snapshot) → length (counts_of logged snapshots) ≡ length snapshots
+  kept_long [] = refl
+  kept_long (snapshot ∷ snapshots) = ap suc (kept_long snapshots)
+
+  saved_all : st.stored ≡ true → HasSavedTheEnd st c.coordinator → last_order kept (snapshots_of made_call) ≡ call_order made_call
+  saved_all stored ended =
+      let full : HoldsAll st c.coordinator = ⊎_elim
+      (λ (yes_full : sum_by updates_told c.coordinator.rounds.counting.waves.wave ≡ entries_in st c.coordinator). yes_full)
+      (λ (no_full : sum_by updates_told c.coordinator.rounds.counting.waves.wave ≡ entries_in st c.coordinator → ⊥).
+      absurd (ended.all (record { stored = stored; none = ended.none; wanted = inr (ended.end, inl no_full) })))
+      (cases_eq (sum_by updates_told c.coordinator.rounds.counting.waves.wave) (entries_in st c.coordinator)) in
+      full_is (shared_of st failures) made_call (is_call failures kept resumed st c logged failed at in_turn begins_with)
+      (subst (λ (n : ℕ). 1 ≤ n) (sym (kept_long c.coordinator.snapshots)) (some_kept stored ended c.coordinator.snapshots refl))
+      (held_is st at.is c at.whole logged at.account failures behind at.so.tickets ∙ holds_only st at.is c at.whole logged at.account e.watch e.watched ended.end full)
+
+  -- ---- where the store takes no record more
+
+  abbrev newest : List Entry
+  newest = last_order kept (attempted_snapshots (opened_at kept resumed) failed)
+
+  last_is : last_order kept (snapshots_of made_call) ≡ last_order newest (snapshot_orders behind made_call.last)
+  last_is = last_order_append kept (attempted_snapshots (opened_at kept resumed) failed) (snapshot_orders behind made_call.last)
+
+  abbrev LastIsOther : Type 0
+  LastIsOther = (snapshots_of made_call ≡ []) ⊎ (last_order kept (snapshots_of made_call) ≡ call_order made_call → ⊥)
+
+  -- no snapshot was acknowledged in the last attempt
+  none_last : c.coordinator.snapshots ≡ [] → LastIsOther
+  none_last none =
+      let orders : snapshot_orders behind made_call.last ≡ [] = ap (λ (ss : List Snapshot). map (snapshot_order behind made_call.last) (counts_of logged ss)) none in
+      ⊎_elim
+      (λ (first : failed ≡ []). inl (ap₂ (λ (xs ys : List (List Entry)). xs ++ ys) (ap (attempted_snapshots (opened_at kept resumed)) first) orders))
+      (λ (off : behind.front ≡ newest → ⊥).
+      inr (λ same.
+      let all : newest ≡ order_after behind made_call.last = sym (ap (last_order newest) orders) ∙ sym last_is ∙ same in
+      let nothing_made : made_call.last.made ≡ [] = made_none newest behind made_call.last e.resumes all in
+      off (sym (all ∙ ap (λ (es : List Entry). behind.front ++ es) nothing_made ∙ append-nil behind.front))))
+      e.behind
+
+  -- or the last one lacks something
+  other_last : (entries_to c.coordinator.acknowledged logged ≡ all_entries logged → ⊥) → LastIsOther
+  other_last not =
+      inr (λ same.
+      ⊎_elim
+      (λ (none : (made_call.last.kept ≡ []) × (last_order newest (snapshot_orders behind made_call.last) ≡ newest)).
+      let nothing_made : made_call.last.made ≡ [] = made_none newest behind made_call.last e.resumes (sym none.1 ∙ sym last_is ∙ same) in
+      let nothing_logged : logged ≡ [] = nil_of logged (sym (length-map logged (λ (l : Logged). l.entry)) ∙ ap (λ (es : List Entry). length es) nothing_made) in
+      not (ap (entries_to c.coordinator.acknowledged) nothing_logged ∙ sym (ap all_entries nothing_logged)))
+      (λ (held : last_order newest (snapshot_orders behind made_call.last) ≡ behind.front ++ held_updates made_call.last).
+      not (sym (held_is st at.is c at.whole logged at.account failures behind at.so.tickets)
+      ∙ append_cancel_left behind.front (held_updates made_call.last) made_call.last.made (sym held ∙ sym last_is ∙ same)))
+      (newest_is newest behind made_call.last))
+
+  needs_more : RecordIsDue st c.coordinator → (HasStoreRoom st c.coordinator → ⊥) → NeedsMoreStore st c.coordinator made_call
+  needs_more due refused =
+      ⊎_elim
+      (λ (many : 4096 ≤ c.coordinator.acknowledged).
+      inl (
+        many,
+        ⊎_elim
+            (λ (half : (m : ℕ) × (m < st.machines) × (half_window st ≤ many_outside m c.coordinator.acknowledged logged)).
+            inl (half.0, half.1, subst (λ (n : ℕ). half_window st ≤ n) (sym (unheld_many st at.is c at.whole logged at.account failures behind at.so.tickets half.0)) half.2))
+            (λ (done : HasNoTaskLeft st (world_of c) × ((c.coordinator.snapshots ≡ []) ⊎ (entries_to c.coordinator.acknowledged logged ≡ all_entries logged → ⊥))).
+            inr (none_left done.0, ⊎_elim none_last other_last done.1))
+            (e.reason due.under),
+      ))
+      (λ (long : 1073741824 < c.coordinator.store_end + length_with st (length (unheld_updates made_call.last))). inr long)
+      (refused_by st at.is c at.whole logged at.account failures behind at.so.tickets due refused)
+
+  tells : TellsOfCall st budget c made_call
+  tells =
+      record {
+        tasks = λ end. none_left (no_task_left st c e.watch e.watched end);
+        unharmed = none_struck;
+        told = λ end. told_many st at.is c at.whole logged at.account e.watch e.watched end ∙ sym (length-map logged (λ (l : Logged). l.entry));
+        saved = saved_all;
+        pending = λ due.
+            let may = pending_is st at.is c at.whole logged at.account at.based failures behind at.so.front at.so.tickets newest e.resumes due in
+            (may.0, may.1, may.2, subst (λ (order : List Entry). IsSnapshotOf st c.coordinator.begun order (snapshot_order behind made_call.last may.0) (snapshot_due c.coordinator)) (sym last_is) may.3);
+        full = needs_more;
+        spent = of_budget c.next c.left (ticket_above kept) budget (length (made_of made_call)) e.tickets its_call.next;
+      }
+
+-- ---- of the events
+
+-- as many snapshots as records
+recorded_one : (c : Cluster) (event : Event) → length (recorded_at c event) ≡ snapshot_at event
+recorded_one c event =
+    ⊎_elim
+    (λ (begins : event ≡ PutBegin). subst (λ (x : Event). length (recorded_at c x) ≡ snapshot_at x) (sym begins) refl)
+    (λ (rest : (event ≡ Record) ⊎ IsPlain event). ⊎_elim
+    (λ (records : event ≡ Record). subst (λ (x : Event). length (recorded_at c x) ≡ snapshot_at x) (sym records) refl)
+    (λ (plain : IsPlain event). ap (λ (ss : List Snapshot). length ss) (plain.adds c) ∙ sym plain.counts)
+    rest)
+    (which event)
+
+recorded_many : (events : List Event) (st : Setting) (c : Cluster) → length (recorded_in st c events) ≡ snapshots_in_all events
+recorded_many [] st c = refl
+recorded_many (event ∷ events) st c =
+    length-append (recorded_at c event) (recorded_in (setting_after st event) (after_event st c event) events)
+    ∙ ap₂ (λ (n k : ℕ). n + k) (recorded_one c event) (recorded_many events (setting_after st event) (after_event st c event))
+
+one_at_most : (n stored share : ℕ) → stored ≤ share + n → (0 + n ≡ 0) ⊎ (0 + n ≡ 1) → stored ≤ share + 1
+one_at_most n stored share few once = ⊎_elim (λ (none : 0 + n ≡ 0). with_none n stored share few none) (λ (one : 0 + n ≡ 1). with_one n stored share few one) once
+  where
+    with_none : (n stored share : ℕ) → stored ≤ share + n → 0 + n ≡ 0 → stored ≤ share + 1
+    with_none n stored share few none = omega arith
+
+    with_one : (n stored share : ℕ) → stored ≤ share + n → 0 + n ≡ 1 → stored ≤ share + 1
+    with_one n stored share few one = omega arith
+
+plus_none : (n : ℕ) → n ≡ n + 0
+plus_none n = omega arith
+
+not_less : (n : ℕ) → n < n → ⊥
+not_less n is = omega arith
+
+restart_alone : (b : Bool) (f : ℕ) → AllByRecursion (λ entry. is_restart entry ≡ true) (if b then Restart f ∷ [] else [])
+restart_alone true f = (refl, tt)
+restart_alone false f = tt
+
+module _ (st : Setting) (failures : List FailureAt) (kept : List Entry) (resumed : Bool) (base : BaseView) (first : Cluster) (events : List Event) (c : Cluster)
+    (course : IsCourseOfCall st failures kept resumed base first events c) where
+  abbrev now : Setting
+  now = going_on st base.numbers base.number
+
+  abbrev begun : Cluster
+  begun = recovers st base first
+
+  opening : IsEnding failures (opened_at kept resumed) kept base.number (ticket_above kept + first.left) now begun [] [] [] 0
+  opening =
+      let followed = (start_followed st course.is course.coloured base first [] begun refl).followed in
+      record {
+        at = opened_in st failures kept resumed base first course.opened course.is course.coloured;
+        watch = followed.1;
+        watched = followed.2;
+        late = recovered_late failures st now base first;
+        once = inl refl;
+        earlier = [];
+        taken_are = refl;
+        numbered = plus_none base.number;
+        orders = tt;
+        resumes = (if resumed then Restart (ticket_above kept) ∷ [] else [], refl, restart_alone resumed (ticket_above kept));
+        behind = inl refl;
+        reason = λ under. absurd (not_less base.number under);
+        tickets = ap (λ (n : ℕ). n + first.left) course.opened.next;
+      }
+
+  abbrev last : Setting
+  last = setting_behind now events
+
+  ended : EndsBehind failures (opened_at kept resumed) kept base.number (ticket_above kept + first.left) (since st last.start last.base) c (recorded_in now begun events) (0 + unasked_in now begun events)
+  ended =
+      subst (λ (s : Setting). EndsBehind failures (opened_at kept resumed) kept base.number (ticket_above kept + first.left) s c (recorded_in now begun events) (0 + unasked_in now begun events)) (behind_since events now)
+      (courses_end failures (opened_at kept resumed) kept base.number (ticket_above kept + first.left) events now begun c [] [] [] 0 opening course.course course.follows)
+
+  saved_then : (start : GraphState) (number : ℕ) → HasSavedTheEnd st c.coordinator → HasSavedTheEnd (since st start number) c.coordinator
+  saved_then start number is =
+      record { end = is.end; none = is.none; all = λ (due : SnapshotIsDue (since st start number) c.coordinator). is.all (record { stored = due.stored; none = due.none; wanted = due.wanted }) }
+
+  due_then : (start : GraphState) (number : ℕ) → RecordIsDue st c.coordinator → RecordIsDue (since st start number) c.coordinator
+  due_then start number is = record { under = is.under; sections = is.sections }
+
+  room_then : (start : GraphState) (number : ℕ) → (HasStoreRoom st c.coordinator → ⊥) → HasStoreRoom (since st start number) c.coordinator → ⊥
+  room_then start number refused room = refused (record { few = room.few; short = room.short })
+
+  once_or : (st' : Setting) (logged : List Logged) (n : ℕ) → (n ≡ 0) ⊎ ((n ≡ 1) × HasAskedAll failures st' c logged) → (n ≡ 0) ⊎ (n ≡ 1)
+  once_or st' logged n once = ⊎_elim (λ (none : n ≡ 0). inl none) (λ (one : (n ≡ 1) × HasAskedAll failures st' c logged). inr one.0) once
+
+  pub the_call : (one : EngineCall)
+      × IsCallOf st failures kept resumed c one
+      × (st.stored ≡ true → KeepsWindows st failures one)
+      × AreSnapshotsOf st base.number kept (recorded_in (going_on st base.numbers base.number) (recovers st base first) events) (snapshots_of one)
+      × (0 < half_window st → length (snapshots_of one) ≤ first.left / half_window st + 1)
+      × TellsOfCall st first.left c one
+  the_call =
+      let last_st : Setting = since st last.start last.base in
+      let logged : List Logged = ended.0 in
+      let failed : List Attempt = ended.1 in
+      let taken : List Snapshot = recorded_in now begun events in
+      let unasked : ℕ = 0 + unasked_in now begun events in
+      let e : IsEnding failures (opened_at kept resumed) kept base.number (ticket_above kept + first.left) last_st c logged failed taken unasked = ended.2 in
+      let one : EngineCall = call_with failures kept resumed c logged failed in
+      let in_turn = course.opened.in_turn in
+      let begins = course.opened.begins in
+      let are : AreSnapshotsOf st base.number kept taken (snapshots_of one) = orders_are failures kept resumed base.number first.left last_st c logged failed taken unasked e in_turn begins in
+      let told : TellsOfCall last_st first.left c one = tells failures kept resumed base.number first.left last_st c logged failed taken unasked e in_turn begins in (
+        one,
+        call_then st last.start last.base failures kept resumed c one (call_of failures kept resumed last_st c logged failed e.at in_turn begins),
+        λ stored. windows_then st last.start last.base failures one (windows_are failures kept resumed last_st c logged failed e.at in_turn begins stored),
+        are,
+        λ half.
+            subst (λ (n : ℕ). n ≤ first.left / half_window st + 1) (sym (snapshots_long st base.number kept taken (snapshots_of one) are ∙ recorded_many events now begun))
+            (one_at_most (unasked_in now begun events) (snapshots_in_all events) (first.left / half_window st)
+            (by_half (half_window st) (snapshots_in_all events) (unasked_in now begun events) first.left half (attempts_few st course.is course.coloured base first events c course.course))
+            (once_or last_st logged unasked e.once)),
+        record { tasks = told.tasks; unharmed = told.unharmed; told = told.told; saved = λ stored is. told.saved stored (saved_then last.start last.base is); pending = λ due. told.pending (due_then last.start last.base due); full = λ due refused. told.full (due_then last.start last.base due) (room_then last.start last.base refused); spent = told.spent },
+      )

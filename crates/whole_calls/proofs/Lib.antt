@@ -1,0 +1,14 @@
+pub mod EventKinds
+pub mod Reaching
+pub mod Windowed
+pub mod Failed
+pub mod Going
+pub mod Leading
+pub mod Waved
+pub mod Holding
+pub mod Acknowledged
+pub mod Refusing
+pub mod Ending
+pub mod Calling
+pub mod WorkedPair
+pub mod WorkedEnd

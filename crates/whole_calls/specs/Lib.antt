@@ -1,0 +1,7 @@
+pub mod Following
+pub mod Opened
+pub mod Called
+pub mod Saved
+pub mod Telling
+pub mod PairAgain
+pub mod EndSaved

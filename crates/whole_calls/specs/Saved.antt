@@ -1,0 +1,53 @@
+-- The snapshots that a list of events has acknowledged, and the orders that they stand for.
+use Rattle.std.specs.List.{AllByRecursion}
+use Rattle.std.specs.List.Sorted.{IsPermutation}
+use Rattle.std.specs.Prelude.{List, [], suc, true, ℕ, ⊤, ◌++◌, ◌∷◌, ◌≡◌, ◌≤◌}
+use Rattle.gl_base.specs.declared.entries.Entry.{Entry}
+use Rattle.attempts.specs.Beginnings.{last_of, nothing, snapshot_order}
+use Rattle.attempts.specs.EngineCalls.{EngineCall, last_beginning}
+use Rattle.attempts.specs.Entries.{is_restart}
+use Rattle.attempts.specs.Stores.{last_order, snapshots_of}
+use Rattle.cluster_core.specs.Cuts.{cut_of}
+use Rattle.cluster_core.specs.Settings.{Setting}
+use Rattle.cluster_model.specs.Clusters.{Cluster}
+use Rattle.cluster_model.specs.Events.{Event, Record, after_event, entries_below, setting_after, snapshot_numbers}
+use Rattle.cluster_model.specs.Leading.{Coordinator, Snapshot}
+use Rattle.cluster_records.specs.Recorded.{HaveSameNumbers, snapshot_due}
+use Rattle.seq_run.specs.Orders.{IsValidFrom, all_tasks, replay}
+
+-- the snapshot that an event acknowledges
+abbrev pub recorded_at : Cluster → Event → List Snapshot
+recorded_at c Record = snapshot_due c.coordinator ∷ []
+recorded_at c event = []
+
+-- those of these events, the first first
+abbrev pub recorded_in : Setting → Cluster → List Event → List Snapshot
+recorded_in st c [] = []
+recorded_in st c (event ∷ events) = recorded_at c event ++ recorded_in (setting_after st event) (after_event st c event) events
+
+-- The snapshot has this number, and its numbers are the replay of this order; which is the one before, perhaps restarts, and what the
+-- snapshot's sections bring.
+abbrev pub IsSnapshotOf : Setting → ℕ → List Entry → List Entry → Snapshot → Type 0
+IsSnapshotOf st number before order snapshot =
+    (snapshot.number ≡ number)
+    × HaveSameNumbers st.graph (snapshot_numbers st snapshot) (replay st.graph st.program order)
+    × (missing : List Entry)
+    × AllByRecursion (λ entry. is_restart entry ≡ true) missing
+    × IsPermutation (before ++ (missing ++ entries_below st.machines snapshot)) order
+
+-- each of these snapshots is of the order in its place, from this number and this order on
+abbrev pub AreSnapshotsOf : Setting → ℕ → List Entry → List Snapshot → List (List Entry) → Type 0
+AreSnapshotsOf st number before [] [] = ⊤
+AreSnapshotsOf st number before [] (order ∷ orders) = ⊥
+AreSnapshotsOf st number before (snapshot ∷ snapshots) [] = ⊥
+AreSnapshotsOf st number before (snapshot ∷ snapshots) (order ∷ orders) =
+    IsSnapshotOf st (suc number) before order snapshot × AreSnapshotsOf st (suc number) order snapshots orders
+
+-- The snapshot that is due may follow those of the call, also where it is recorded and never acknowledged: it is of a valid cut of what
+-- the last attempt made, which has what the last snapshot has.
+abbrev pub MayFollow : Setting → Coordinator → EngineCall → Type 0
+MayFollow st c call =
+    (later : ℕ → ℕ)
+    × ((v : ℕ) → last_of nothing call.last.kept v ≤ later v)
+    × IsValidFrom st.graph st.program (replay st.graph st.program (last_beginning call).front) (all_tasks st.graph) (cut_of later call.last.made)
+    × IsSnapshotOf st c.begun (last_order call.base (snapshots_of call)) (snapshot_order (last_beginning call) call.last later) (snapshot_due c)
