@@ -1,0 +1,7 @@
+//! A graph on machines: the part of each machine, and the numbers with which it begins.
+#![tactic(auto)]
+
+mod owners;
+mod parts;
+
+pub use parts::{parts_by_owner, placed};
