@@ -1,5 +1,7 @@
 -- The numbers with which a machine begins.
 pub use Rattle.machine_numbers.specs.Views.{AreTasksOf, TasksView, datum_here, edge_here, task_here, ghost_datum, is_flagged}
+pub use Rattle.seq_run.specs.Runs.{AreNumbers}
+pub use Rattle.seq_run.specs.States.{start_state}
 use Rattle.std.specs.Prelude.{◌≡◌, ℕ, ◌<◌, ◌==◌, ◌&&◌, true, false, Option, is_some, List, [], length, nat_lt, slice_index}
 use Rattle.gl_base.specs.declared.scopes.Datum.{Datum}
 use Rattle.graph_core.specs.DataGraph.{IsDataGraph, size}

@@ -2,8 +2,13 @@
 #![tactic(auto)]
 
 mod beginning;
+mod cutting;
 mod owners;
 mod parts;
+mod starting;
+mod weighing;
 
 pub use beginning::first_numbers;
+pub use cutting::{PlacedGraph, placed_by_cut};
 pub use parts::{parts_by_owner, placed};
+pub use starting::start_values;
