@@ -2,13 +2,13 @@
 pub use Rattle.machine_numbers.specs.Views.{AreTasksOf, TasksView, datum_here, edge_here, task_here, ghost_datum, is_flagged}
 pub use Rattle.seq_run.specs.Runs.{AreNumbers}
 pub use Rattle.seq_run.specs.States.{start_state}
-use Rattle.std.specs.Prelude.{◌≡◌, ℕ, ◌<◌, ◌==◌, ◌&&◌, true, false, Option, is_some, List, [], length, nat_lt, slice_index}
+use Rattle.std.specs.Prelude.{◌≡◌, ℕ, ◌<◌, ◌==◌, ◌&&◌, true, false, Option, is_some, List, [], length, nat_lt, slice_index, slice_index_or}
 use Rattle.gl_base.specs.declared.scopes.Datum.{Datum}
 use Rattle.graph_core.specs.DataGraph.{IsDataGraph, size}
 use Rattle.cluster_core.specs.Scopes.{takes_part}
 use Rattle.local_parts.specs.Parts.{is_ghost_of}
 use Rattle.machine_numbers.specs.declared.keeping.Numbers.{Numbers}
-use Rattle.placed_graphs.specs.Placed.{AreIn, IsLocalOf, IsUnsetPart, LocalView, Setting}
+use Rattle.placed_graphs.specs.Placed.{AreIn, AreUnsetParts, IsLocalOf, IsUnsetPart, LocalView, Setting}
 
 -- the datum of a vertex as it begins: its number is in this list
 abbrev pub first_datum : List ℕ → ℕ → ℕ → Datum
@@ -53,3 +53,23 @@ pub record IsReadyPart (st : Setting) (a : ℕ) (n : Numbers) : Type 0 where
   pub rows : AreIn n.local
   pub tasks_of : AreTasksOf n.local n.tasks
   pub copies : (x : ℕ) → is_some (ghost_datum n.ghosts x) ≡ (nat_lt x (size st.graph) && is_ghost_of st a x)
+
+-- machine a begins as the run does, with its part of the graph
+pub record BeginsAt (st : Setting) (a : ℕ) (window : Option ℕ) (n : Numbers) : Type 0 where
+  pub numbers : AreFirstNumbers st a n
+  pub part : IsReadyPart st a n
+  pub fresh : AreFreshTasks window n.tasks
+
+-- ---- all machines
+
+-- these are the parts of a graph with so many vertices
+pub record CanAllBegin (parts : List LocalView) (many : ℕ) : Type 0 where
+  pub st : Setting
+  pub graph : IsDataGraph st.graph
+  pub are_parts : AreUnsetParts st parts
+  pub vertices : many ≡ size st.graph
+
+-- each machine begins so, in turn
+pub record AllBegin (st : Setting) (window : Option ℕ) (all : List Numbers) : Type 0 where
+  pub count : length all ≡ st.machines
+  pub each : (a : ℕ) (d : Numbers) → a < st.machines → BeginsAt st a window (slice_index_or all a d)

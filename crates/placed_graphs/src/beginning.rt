@@ -1,8 +1,8 @@
 //! The numbers with which a machine begins.
 ghost use Rattle.std.specs.Prelude.{◌≡◌, ℕ, ◌<◌, ◌==◌, true, Some, is_some, length, map, All, IfOk};
 ghost use Rattle.std.specs.List.{list_any};
-ghost use Rattle.placed_graphs.specs.Placed.{IsUnsetPart, Setting, is_own, own_datum};
-ghost use Rattle.placed_graphs.specs.Beginnings.{AreFirstNumbers, AreFreshTasks, BeginsWith, CanBegin, IsReadyPart, first_datum, ghost_datum};
+ghost use Rattle.placed_graphs.specs.Placed.{AreUnsetParts, IsUnsetPart, Setting, is_own, own_datum};
+ghost use Rattle.placed_graphs.specs.Beginnings.{AllBegin, AreFirstNumbers, AreFreshTasks, BeginsWith, CanAllBegin, CanBegin, IsReadyPart, first_datum, ghost_datum};
 
 use ghost_cache::GhostCache;
 use gl_base::{Datum, GhostLine, NoMemory, Vertex};
@@ -37,6 +37,24 @@ pub fn first_numbers(
         tasks,
         log: Vec::new(alloc),
     })
+}
+
+/// The same of each machine, in turn. The parts are moved into the numbers.
+pub fn first_numbers_of_all(
+    alloc: Global,
+    parts: Vec<LocalGraph>,
+    values: &[u64],
+    mark: u32,
+    window: Option<u32>,
+) -> Result<Vec<Numbers>, NoMemory>
+    requires { CanAllBegin parts.items (length values.now) }
+    ensures { (st : Setting) → AreUnsetParts st parts.items → BeginsWith st values.now mark → IfOk result (λ all. AllBegin st window all.items) }
+{
+    let mut all = Vec::with_capacity(alloc, parts.len())?;
+    for local in parts {
+        all.push(first_numbers(alloc, local, values, mark, window)?)?;
+    }
+    Ok(all)
 }
 
 /// Sets the datum of each own vertex.
