@@ -1,4 +1,4 @@
-use Rattle.std.proofs.Common.{◌≤◌, ◌∷◌, List, [], arith}
+use Rattle.std.proofs.Common.{◌≤◌, ◌∷◌, [], arith}
 use Rattle.std.proofs.lemmas.List.Sorted.{IsNonDecreasingBy-push, IsNonDecreasingBy-short}
 use Rattle.gl_base.specs.declared.entries.Entry.{Entry}
 use Rattle.merged_logs.specs.Merges.{IsByTicket, ticket_of}
