@@ -1,6 +1,5 @@
 //! The numbers with which a machine begins.
-ghost use Rattle.std.specs.Prelude.{◌≡◌, ℕ, ◌<◌, ◌==◌, true, Some, is_some, length, map, All, IfOk};
-ghost use Rattle.std.specs.List.{list_any};
+ghost use Rattle.std.specs.Prelude.{◌≡◌, ℕ, ◌<◌, true, Some, is_some, length, All, IfOk};
 ghost use Rattle.placed_graphs.specs.Placed.{AreUnsetParts, IsUnsetPart, Setting, is_own, own_datum};
 ghost use Rattle.placed_graphs.specs.Beginnings.{AllBegin, AreFirstNumbers, AreFreshTasks, BeginsWith, CanAllBegin, CanBegin, IsReadyPart, first_datum, ghost_datum};
 

@@ -1,6 +1,6 @@
 //! The part of the graph that each machine holds.
-ghost use Rattle.std.specs.Prelude.{◌≡◌, ℕ, ◌^◌, ◌≤◌, ◌<◌, length, slice_index, All, IfOk};
-ghost use Rattle.graph_core.specs.DataGraph.{IsDataGraph, size};
+ghost use Rattle.std.specs.Prelude.{◌≡◌, ◌^◌, ◌<◌, length, slice_index, All, IfOk};
+ghost use Rattle.graph_core.specs.DataGraph.{size};
 ghost use Rattle.placed_graphs.specs.Placed.{AreUnsetParts, IsOwnedBy, Setting, atom_numbers, placed_owner};
 ghost use Rattle.placed_graphs.specs.Inner.Playing.{ArePlayed, CanAllBePlayed};
 

@@ -1,5 +1,5 @@
 //! What atoms weigh.
-ghost use Rattle.std.specs.Prelude.{◌≡◌, ℕ, ◌+◌, ◌^◌, ◌<◌, ◌≤◌, ◌==◌, ◌||◌, length, slice_index, sum, if◌then◌else◌, All, IfOk};
+ghost use Rattle.std.specs.Prelude.{◌≡◌, ℕ, ◌+◌, ◌^◌, ◌<◌, ◌==◌, ◌||◌, length, slice_index, sum, if◌then◌else◌, All, IfOk};
 ghost use Rattle.graph_core.specs.DataGraph.{IsDataGraph, size};
 ghost use Rattle.placed_graphs.specs.Placed.{atom_numbers};
 ghost use Rattle.placed_graphs.specs.Weights.{atom_weights};
