@@ -1,0 +1,4 @@
+pub mod FrontLemmas
+pub mod SameLemmas
+pub mod MergeLemmas
+pub mod PartLemmas

@@ -1,0 +1,88 @@
+-- The numbers with which a machine begins are those with which the run begins.
+use Rattle.std.proofs.Common.{◌≡◌, ◌<◌, ℕ, ◌∙◌, ◌==◌, ◌&&◌, nat_lt, Bool, true, false, Option, Some, None, is_some, List, [], length, All, ap, ap₂, sym, subst, refl, inl, inr}
+use Rattle.std.specs.Prelude.{slice_get}
+use Rattle.std.specs.List.{list_any}
+use Rattle.std.proofs.lemmas.Bool.{cases_Bool, cases_lt, lt-ltb, le-ltb}
+use Rattle.std.proofs.lemmas.Option.{slice_get-get_or, slice_get_past}
+use Rattle.gl_base.specs.declared.atoms.GhostLine.{GhostLine}
+use Rattle.gl_base.specs.declared.numbers.Vertex.{Vertex}
+use Rattle.gl_base.specs.declared.scopes.Datum.{Datum}
+use Rattle.graph_core.specs.DataGraph.{size}
+use Rattle.cluster_core.specs.Scopes.{takes_part}
+use Rattle.local_graph.specs.Inner.Kept.{IsWellKept}
+use Rattle.local_graph.specs.Locals.{got_at, links_at, place_at}
+use Rattle.local_graph.specs.Played.{no_datum}
+use Rattle.machine_numbers.specs.Views.{flag_there, own_or_ghost}
+use Rattle.machine_numbers.specs.declared.keeping.Numbers.{Numbers}
+use Rattle.placed_graphs.specs.Placed.{IsLocalOf, IsUnsetPart, LocalView, Setting, edge_number_at, is_own, own_datum}
+use Rattle.placed_graphs.specs.Beginnings.{AreFirstNumbers, BeginsWith, IsReadyPart, datum_here, first_datum, ghost_datum, is_flagged}
+use Rattle.placed_graphs.proofs.BeginLemmas.{ghost_at, ghost_listed, none_there, own_at, part_is_ghost, with_data}
+
+some_there : {X : Type 0} (xs : List X) (k : ℕ) (d : X) → is_some (slice_get xs k) ≡ nat_lt k (length xs)
+some_there xs k d = elim (cases_lt k (length xs)) [
+  | inl low ↦ ap is_some (slice_get-get_or xs k d low) ∙ sym (lt-ltb k (length xs) low)
+  | inr past ↦ ap is_some (slice_get_past xs k past) ∙ sym (le-ltb k (length xs) past)
+]
+
+-- What the machine has after its data were set.
+pub record AreSet (l : LocalView) (values : List ℕ) (mark : ℕ) (n : Numbers) : Type 0 where
+  pub rest : n.local ≡ record l { kept = n.local.kept }
+  pub own : (x : ℕ) → is_own n.local x ≡ is_own l x
+  pub own_set : All (λ (v : Vertex). own_datum n.local v.0 ≡ Some (first_datum values mark v.0)) l.owned
+  pub copies : (x : ℕ) → is_some (ghost_datum n.ghosts x) ≡ list_any (λ (g : GhostLine). g.vertex.0 == x) l.ghosts
+  pub ghosts_set : All (λ (g : GhostLine). ghost_datum n.ghosts g.vertex.0 ≡ Some (first_datum values mark g.vertex.0)) l.ghosts
+  pub many : length n.tasks.task ≡ length l.owned
+  pub tasks : (u : ℕ) → is_flagged n.tasks.task u ≡ nat_lt u (length l.owned)
+  pub log : n.log.items ≡ []
+
+module _ (st : Setting) (l : LocalView) (part : IsUnsetPart st l.me.0 l) (values : List ℕ) (mark : ℕ) (n : Numbers) (set : AreSet l values mark n) where
+  place_is : (x : ℕ) → place_at n.local x ≡ place_at l x
+  place_is x = ap (λ (m : LocalView). place_at m x) set.rest
+
+  own_there : (x k : ℕ) → place_at l x ≡ Some k → is_own l x ≡ nat_lt k (length l.owned)
+  own_there x k at = ap (λ (o : Option ℕ). is_some (got_at l.kept o)) at ∙ some_there l.kept k no_datum ∙ ap (nat_lt k) part.places
+
+  pub part_ready : IsWellKept l → IsReadyPart st l.me.0 n
+  part_ready well =
+      record {
+        machine = ap (λ (m : LocalView). m.me.0) set.rest;
+        local =
+            subst (IsLocalOf st) (sym set.rest)
+            (with_data st l part.local n.local.kept (λ x. sym (ap (λ (m : LocalView). is_own m x) set.rest) ∙ set.own x));
+        rows = λ v own. ap (λ (m : LocalView). is_some (links_at m v)) set.rest ∙ part.rows v (sym (set.own v) ∙ own);
+        tasks_of =
+            record {
+              apart = λ x y k at_x at_y. well.apart x y k (sym (place_is x) ∙ at_x) (sym (place_is y) ∙ at_y);
+              own = λ x k at. set.own x ∙ own_there x k (sym (place_is x) ∙ at) ∙ ap (nat_lt k) (sym set.many);
+            };
+        copies = λ x. set.copies x ∙ ghost_listed st l part.local x;
+      }
+
+  task_there : (o : Option ℕ) → flag_there n.tasks.task o ≡ is_some (got_at l.kept o)
+  task_there None = refl
+  task_there (Some k) = set.tasks k ∙ ap (nat_lt k) (sym part.places) ∙ sym (some_there l.kept k no_datum)
+
+  datum_is : (v : ℕ) → v < size st.graph → takes_part st v l.me.0 ≡ true → datum_here n v ≡ first_datum values mark v
+  datum_is v low takes =
+      elim (cases_Bool (st.owner v == l.me.0)) [
+        | inl mine ↦
+            ap (λ (o : Option Datum). own_or_ghost o (ghost_datum n.ghosts v))
+            (own_at st l part.local (λ x. own_datum n.local x ≡ Some (first_datum values mark x)) v low mine set.own_set)
+        | inr off ↦
+            let ghost = part_is_ghost st v l.me.0 takes off in
+            let not_own : is_own n.local v ≡ false =
+            set.own v ∙ part.local.own v ∙ ap₂ (λ (a b : Bool). a && b) (lt-ltb v (size st.graph) low) off in
+            ap₂ (λ (o g : Option Datum). own_or_ghost o g) (none_there (own_datum n.local v) not_own)
+            (ghost_at st l part.local (λ x. ghost_datum n.ghosts x ≡ Some (first_datum values mark x)) v low ghost set.ghosts_set)
+      ]
+
+  pub numbers_first : BeginsWith st values mark → AreFirstNumbers st l.me.0 n
+  numbers_first begins =
+      record {
+        vertices = λ v low takes.
+            datum_is v low takes
+            ∙ ap₂ (λ (x k : ℕ). record { value = x; version = 0; mark = k }) (sym (begins.vertices v low)) (sym begins.base);
+        edges = λ e low. ap (λ (m : LocalView). edge_number_at m e) set.rest ∙ part.edges_unset e ∙ sym (begins.edges e low);
+        tasks = λ u. ap (flag_there n.tasks.task) (place_is u) ∙ task_there (place_at l u) ∙ part.local.own u;
+        log = set.log;
+      }

@@ -1,0 +1,78 @@
+use Rattle.std.proofs.Common.{◌≡◌, ◌<◌, ◌==◌, ℕ, ◌∙◌, List, length, sym, subst, ap, All, Some, true, is_some, nat_lt, arith}
+use Rattle.std.specs.List.{list_any}
+use Rattle.gl_base.specs.declared.atoms.GhostLine.{GhostLine}
+use Rattle.gl_base.specs.declared.numbers.Vertex.{Vertex}
+use Rattle.local_graph.specs.Inner.Kept.{IsWellKept}
+use Rattle.machine_numbers.specs.declared.keeping.Numbers.{Numbers}
+use Rattle.placed_graphs.specs.Placed.{LocalView}
+use Rattle.placed_graphs.specs.Beginnings.{first_datum, ghost_datum}
+use Rattle.placed_graphs.proofs.BeginLemmas.{ghosts_few, ghosts_known, ghosts_low, owned_few, owned_low, owned_own}
+use Rattle.placed_graphs.proofs.FirstLemmas.{AreSet, numbers_first, part_ready}
+use Rattle.placed_graphs.proofs.beginning.first_numbers.Goals as goal
+
+pub new-requires-clause-few : goal.new-requires-clause-few
+new-requires-clause-few c =
+    let few = ghosts_few c.requires.st c.args.local c.requires.part.local in
+    omega (arith, few, ap length c.ghosts.ensures, c.requires.vertices)
+
+pub new-requires-clause-below : goal.new-requires-clause-below
+new-requires-clause-below c =
+    let low : All (λ (g : GhostLine). g.vertex.0 < length c.args.values.now) c.args.local.ghosts =
+    subst (λ (n : ℕ). All (λ (g : GhostLine). g.vertex.0 < n) c.args.local.ghosts) (sym c.requires.vertices) (ghosts_low c.requires.st c.args.local c.requires.part.local) in
+    subst (All (λ (g : GhostLine). g.vertex.0 < length c.args.values.now)) (sym c.ghosts.ensures) low
+
+pub overflow_cast-owned : goal.overflow_cast-owned
+overflow_cast-owned c =
+    let few = owned_few c.requires.st c.args.local c.requires.part.local in
+    omega (arith, few, ap length c.owned.ensures, c.requires.graph.few)
+
+pub set_own-requires-clause-own : goal.set_own-requires-clause-own
+set_own-requires-clause-own c = owned_own c.requires.st c.args.local c.requires.part.local
+
+pub set_own-requires-clause-below : goal.set_own-requires-clause-below
+set_own-requires-clause-below c =
+    subst (λ (n : ℕ). All (λ (v : Vertex). v.0 < n) c.args.local.owned) (sym c.requires.vertices) (owned_low c.requires.st c.args.local c.requires.part.local)
+
+pub set_ghosts-requires-clause-known : goal.set_ghosts-requires-clause-known
+set_ghosts-requires-clause-known c =
+    let same = c.ghosts-3.ensures ∙ ap (λ (m : LocalView). m.ghosts) c.set_own.ensures.rest in
+    let known : All (λ (g : GhostLine). is_some (ghost_datum c.in_ok-ghosts.ghosts g.vertex.0) ≡ true) c.args.local.ghosts = λ k d low.
+    c.in_ok-ghosts.ensures _ ∙ ap (list_any _) c.ghosts.ensures ∙ ghosts_known c.requires.st c.args.local c.requires.part.local k d low in
+    subst (All (λ (g : GhostLine). is_some (ghost_datum c.in_ok-ghosts.ghosts g.vertex.0) ≡ true)) (sym same) known
+
+pub set_ghosts-requires-clause-below : goal.set_ghosts-requires-clause-below
+set_ghosts-requires-clause-below c =
+    let same = c.ghosts-3.ensures ∙ ap (λ (m : LocalView). m.ghosts) c.set_own.ensures.rest in
+    let low : All (λ (g : GhostLine). g.vertex.0 < length c.args.values.now) c.args.local.ghosts =
+    subst (λ (n : ℕ). All (λ (g : GhostLine). g.vertex.0 < n) c.args.local.ghosts) (sym c.requires.vertices) (ghosts_low c.requires.st c.args.local c.requires.part.local) in
+    subst (All (λ (g : GhostLine). g.vertex.0 < length c.args.values.now)) (sym same) low
+
+pub returns : goal.returns
+returns c =
+    let n : Numbers = record { local = c.set_own.new.local; ghosts = c.set_ghosts.new.cache; tasks = c.in_ok-tasks.tasks; log = c.new-3.result } in
+    let same = c.ghosts-3.ensures ∙ ap (λ (m : LocalView). m.ghosts) c.set_own.ensures.rest in
+    let set : AreSet c.args.local c.args.values.now c.args.mark n =
+    record {
+      rest = c.set_own.ensures.rest;
+      own = c.set_own.ensures.own;
+      own_set = c.set_own.ensures.set;
+      copies = λ x. c.set_ghosts.ensures.known x ∙ c.in_ok-ghosts.ensures x ∙ ap (list_any (λ (g : GhostLine). g.vertex.0 == x)) c.ghosts.ensures;
+      ghosts_set = subst (All (λ (g : GhostLine). ghost_datum c.set_ghosts.new.cache g.vertex.0 ≡ Some (first_datum c.args.values.now c.args.mark g.vertex.0))) same c.set_ghosts.ensures.set;
+      many = c.in_ok-tasks.ensures.count ∙ ap length c.owned.ensures;
+      tasks = λ u. c.in_ok-tasks.ensures.tasks u ∙ ap (λ (vs : List Vertex). nat_lt u (length vs)) c.owned.ensures;
+      log = c.new-3.ensures.items;
+    } in
+    record {
+      numbers = λ st part begins. numbers_first st c.args.local part c.args.values.now c.args.mark n set begins;
+      part = λ st part. part_ready st c.args.local part c.args.values.now c.args.mark n set (subst IsWellKept c.local.view_is c.local.invariant);
+      tasks =
+          record {
+            pending = λ u. (c.in_ok-tasks.ensures.none u).0;
+            admitted = λ u. (c.in_ok-tasks.ensures.none u).1;
+            planned = λ u. (c.in_ok-tasks.ensures.none u).2;
+            asked = c.in_ok-tasks.ensures.asked;
+            plans = c.in_ok-tasks.ensures.counts.0;
+            outside = c.in_ok-tasks.ensures.counts.1;
+            bound = c.in_ok-tasks.ensures.counts.2;
+          };
+    }

@@ -1,0 +1,10 @@
+use Rattle.std.proofs.Common.{◌≡◌, length}
+use Rattle.placed_graphs.proofs.AllLemmas.{BeginSoFar}
+use Rattle.placed_graphs.proofs.beginning.first_numbers_of_all.Given as goal
+
+abbrev pub invariant-loop-local : goal.invariant-loop-local
+invariant-loop-local l =
+    record {
+      count : length l.all.items ≡ length l.yielded;
+      begun : BeginSoFar l.fn.parts.items l.values l.mark l.window l.all.items;
+    }

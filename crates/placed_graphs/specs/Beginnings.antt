@@ -1,0 +1,75 @@
+-- The numbers with which a machine begins.
+pub use Rattle.machine_numbers.specs.Views.{AreTasksOf, TasksView, datum_here, edge_here, task_here, ghost_datum, is_flagged}
+pub use Rattle.seq_run.specs.Runs.{AreNumbers}
+pub use Rattle.seq_run.specs.States.{start_state}
+use Rattle.std.specs.Prelude.{◌≡◌, ℕ, ◌<◌, ◌==◌, ◌&&◌, true, false, Option, is_some, List, [], length, nat_lt, slice_index, slice_index_or}
+use Rattle.gl_base.specs.declared.scopes.Datum.{Datum}
+use Rattle.graph_core.specs.DataGraph.{IsDataGraph, size}
+use Rattle.cluster_core.specs.Scopes.{takes_part}
+use Rattle.local_parts.specs.Parts.{is_ghost_of}
+use Rattle.machine_numbers.specs.declared.keeping.Numbers.{Numbers}
+use Rattle.placed_graphs.specs.Placed.{AreIn, AreUnsetParts, IsLocalOf, IsUnsetPart, LocalView, Setting}
+
+-- the datum of a vertex as it begins: its number is in this list
+abbrev pub first_datum : List ℕ → ℕ → ℕ → Datum
+first_datum values mark v = record { value = slice_index values v; version = 0; mark = mark }
+
+-- the machine holds its part of a graph with so many vertices
+pub record CanBegin (l : LocalView) (many : ℕ) : Type 0 where
+  pub st : Setting
+  pub graph : IsDataGraph st.graph
+  pub part : IsUnsetPart st l.me.0 l
+  pub vertices : many ≡ size st.graph
+
+-- the run begins with these numbers of vertices, with 0 at each edge, and with this snapshot
+pub record BeginsWith (st : Setting) (values : List ℕ) (mark : ℕ) : Type 0 where
+  pub vertices : (v : ℕ) → v < size st.graph → st.start.vertex v ≡ slice_index values v
+  pub edges : (e : ℕ) → e < length st.graph.edges → st.start.edge e ≡ 0
+  pub base : st.base ≡ mark
+
+-- nothing is pending or admitted, and no update was made
+pub record AreFreshTasks (window : Option ℕ) (t : TasksView) : Type 0 where
+  pub pending : (u : ℕ) → is_flagged t.pending u ≡ false
+  pub admitted : (u : ℕ) → is_flagged t.admitted u ≡ false
+  pub planned : (u : ℕ) → is_flagged t.planned u ≡ false
+  pub asked : t.asked ≡ []
+  pub plans : t.plans ≡ 0
+  pub outside : t.outside ≡ 0
+  pub bound : t.window ≡ window
+
+-- The numbers, the tasks and the log of machine a are those with which the run begins: of each vertex of which it keeps a datum,
+-- of each edge, its own vertices are the tasks, and no update was made.
+pub record AreFirstNumbers (st : Setting) (a : ℕ) (n : Numbers) : Type 0 where
+  pub vertices : (v : ℕ) → v < size st.graph → takes_part st v a ≡ true → datum_here n v ≡ record { value = st.start.vertex v; version = 0; mark = st.base }
+  pub edges : (e : ℕ) → e < length st.graph.edges → edge_here n e ≡ st.start.edge e
+  pub tasks : (u : ℕ) → task_here n u ≡ (nat_lt u (size st.graph) && st.owner u == a)
+  pub log : n.log.items ≡ []
+
+-- What machine a holds is its part of the graph with each row in, its tasks have the places of its own vertices, and it keeps a
+-- copy of the datum of each of its ghosts.
+pub record IsReadyPart (st : Setting) (a : ℕ) (n : Numbers) : Type 0 where
+  pub machine : n.local.me.0 ≡ a
+  pub local : IsLocalOf st n.local
+  pub rows : AreIn n.local
+  pub tasks_of : AreTasksOf n.local n.tasks
+  pub copies : (x : ℕ) → is_some (ghost_datum n.ghosts x) ≡ (nat_lt x (size st.graph) && is_ghost_of st a x)
+
+-- machine a begins as the run does, with its part of the graph
+pub record BeginsAt (st : Setting) (a : ℕ) (window : Option ℕ) (n : Numbers) : Type 0 where
+  pub numbers : AreFirstNumbers st a n
+  pub part : IsReadyPart st a n
+  pub fresh : AreFreshTasks window n.tasks
+
+-- ---- all machines
+
+-- these are the parts of a graph with so many vertices
+pub record CanAllBegin (parts : List LocalView) (many : ℕ) : Type 0 where
+  pub st : Setting
+  pub graph : IsDataGraph st.graph
+  pub are_parts : AreUnsetParts st parts
+  pub vertices : many ≡ size st.graph
+
+-- each machine begins so, in turn
+pub record AllBegin (st : Setting) (window : Option ℕ) (all : List Numbers) : Type 0 where
+  pub count : length all ≡ st.machines
+  pub each : (a : ℕ) (d : Numbers) → a < st.machines → BeginsAt st a window (slice_index_or all a d)

@@ -1,0 +1,4 @@
+pub mod Placed
+pub mod Beginnings
+pub mod Weights
+pub mod Inner

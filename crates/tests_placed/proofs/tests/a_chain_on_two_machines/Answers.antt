@@ -1,0 +1,15 @@
+use Rattle.std.proofs.Common.{◌∙◌, ap, length, refl}
+use Rattle.placed_graphs.specs.Placed.{placed_owner}
+use Rattle.placed_graphs.proofs.PartLemmas.{setting_with}
+use Rattle.tests_placed.proofs.tests.a_chain_on_two_machines.Goals as goal
+
+pub first_numbers_of_all-requires : goal.first_numbers_of_all-requires
+first_numbers_of_all-requires g c =
+    let made = c.in_ok-made.made in
+    let st = setting_with c.in_ok-graph.graph 2 (placed_owner made.of.items made.owner.items) in
+    record {
+      st = st;
+      graph = c.n.ensures.graph;
+      are_parts = c.in_ok-made.ensures.parts st (record { graph = refl; machines = refl; owners = λ v low. refl });
+      vertices = ap length c.deref.ensures.value ∙ c.in_ok-values.ensures.numbers.count;
+    }
