@@ -11,7 +11,7 @@ use Rattle.cluster_model.specs.Leading.{IsWaveTime}
 use Rattle.outboxes.specs.Outboxes.{left_behind, without_first}
 use Rattle.wire_msgs.specs.declared.messages.Message.{Message}
 use Rattle.coord_core.specs.Calls.{HasHandedOver, HasPutWave, IsFirstOf, MayNotPutWave, MayPutWave, StaysCoordinator}
-use Rattle.coord_core.specs.Coordinators.{AreCalls, Call, CoordinatorView, Counting, IsCall, MessageView, OutboxView, OutboxesView, count_wave, first_counting, message_view, messages_for, no_outbox}
+use Rattle.coord_core.specs.Coordinators.{AreCalls, Call, CoordinatorView, Counting, TellsCall, MessageView, OutboxView, OutboxesView, count_wave, first_counting, message_view, messages_for, no_outbox}
 use Rattle.coord_core.specs.Inner.Asking.{SameMessages, wave_message}
 use Rattle.coord_core.proofs.BoxLemmas.{box_set}
 
@@ -62,7 +62,7 @@ may_not_put view missing st c part may =
     cc
 
 -- one message more is one call more
-pub calls_push : (messages : List MessageView) (calls : List Call) (m : MessageView) (call : Call) → AreCalls messages calls → IsCall m call →
+pub calls_push : (messages : List MessageView) (calls : List Call) (m : MessageView) (call : Call) → AreCalls messages calls → TellsCall m call →
     AreCalls (messages ++ m ∷ []) (calls ++ call ∷ [])
 calls_push [] [] m call are is = (is, tt)
 calls_push [] (first ∷ calls) m call are is = absurd are
@@ -93,7 +93,7 @@ pub record FirstCall (m : MessageView) (messages : List MessageView) (calls : Li
   pub call : Call
   pub behind : List Call
   pub first : calls ≡ call ∷ behind
-  pub told : IsCall m call
+  pub told : TellsCall m call
   pub rest : AreCalls messages behind
 
 pub first_call : (m : MessageView) (messages : List MessageView) (calls : List Call) → AreCalls (m ∷ messages) calls → FirstCall m messages calls

@@ -7,7 +7,7 @@ use Rattle.wire_msgs.specs.declared.messages.Message.{Message}
 use Rattle.wire_msgs.specs.Views as wire
 use Rattle.coord_core.specs.declared.leading.Due.{Due}
 use Rattle.coord_core.specs.declared.leading.Due.TheVariants as due
-use Rattle.coord_core.specs.Coordinators.{Call, Coordinator, CoordinatorView, HasSeenTheEnd, IsCall, IsCoordinatorOf, Locking, MayBeCounted, MessageView, Report, Setting, first_coordinator, hands_call, message_view, puts_wave, takes_report}
+use Rattle.coord_core.specs.Coordinators.{Call, Coordinator, CoordinatorView, HasSeenTheEnd, TellsCall, IsCoordinatorOf, Locking, MayBeCounted, MessageView, Report, Setting, first_coordinator, hands_call, message_view, puts_wave, takes_report}
 
 -- it is the coordinator that an attempt with so many machines begins with
 abbrev pub IsFirstOf : ℕ → CoordinatorView → Type 0
@@ -71,7 +71,7 @@ pub record IsHandedOver (st : Setting) (new : CoordinatorView) (c : Coordinator)
   pub call : Call
   pub behind : List Call
   pub first : c.out a ≡ call ∷ behind
-  pub told : IsCall m call
+  pub told : TellsCall m call
   pub rest : IsCoordinatorOf st new (hands_call a behind c)
 
 -- a message for machine a was handed over; or none waits, and nothing has changed

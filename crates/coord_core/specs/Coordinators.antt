@@ -18,19 +18,19 @@ abbrev pub messages_for : OutboxesView → ℕ → List MessageView
 messages_for out a = (slice_index_or out.machines a no_outbox).messages
 
 -- the message is this call
-abbrev pub IsCall : MessageView → Call → Type 0
-IsCall (wire.Begin k) (Begin j) = k ≡ j
-IsCall (wire.Committed k) (Committed j) = k ≡ j
-IsCall (wire.Wave k) (Wave j) = k ≡ j
-IsCall (wire.Step k) (Step j) = k ≡ j
-IsCall _ _ = ⊥
+abbrev pub TellsCall : MessageView → Call → Type 0
+TellsCall (wire.Begin k) (Begin j) = k ≡ j
+TellsCall (wire.Committed k) (Committed j) = k ≡ j
+TellsCall (wire.Wave k) (Wave j) = k ≡ j
+TellsCall (wire.Step k) (Step j) = k ≡ j
+TellsCall _ _ = ⊥
 
 -- the messages are these calls, one by one
 abbrev pub AreCalls : List MessageView → List Call → Type 0
 AreCalls [] [] = ⊤
 AreCalls [] (call ∷ calls) = ⊥
 AreCalls (m ∷ messages) [] = ⊥
-AreCalls (m ∷ messages) (call ∷ calls) = IsCall m call × AreCalls messages calls
+AreCalls (m ∷ messages) (call ∷ calls) = TellsCall m call × AreCalls messages calls
 
 -- In a cluster with locks that takes no snapshots the coordinator has counted this, and these calls wait.
 pub record IsCoordinatorOf (st : Setting) (view : CoordinatorView) (c : Coordinator) : Type 0 where
