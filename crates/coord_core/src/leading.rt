@@ -1,6 +1,6 @@
 //! The coordinator.
-ghost use Rattle.std.specs.Prelude.{◌≡◌, IfOk, IfErr, IsOk, IsErrOf, OnOk, OnErr};
-ghost use Rattle.coord_core.specs.Coordinators.{message_view};
+ghost use Rattle.std.specs.Prelude.{◌≡◌, ◌↔◌, true, IfOk, IfErr, IsOk, IsErrOf, OnOk, OnErr};
+ghost use Rattle.coord_core.specs.Coordinators.{MayBeCounted, message_view};
 ghost use Rattle.coord_core.specs.Calls.{HasHandedOver, HasPutWave, HasTakenReport, IsDueOf, IsFirstOf, MayNotPutWave, MayPutWave, MayReport, StaysCoordinator, TellsCounts};
 
 use crate::asking::{ask_each, reserve_each};
@@ -105,6 +105,13 @@ impl Coordinator {
         self.put_out += 1;
         self.waiting = true;
         Ok(())
+    }
+
+    /// Whether counts of this machine for this wave may be received: it is the newest one, and they are missing.
+    pub fn awaits(&self, from: MachineNo, wave: u64) -> bool
+        ensures { (result ≡ true) ↔ MayBeCounted self.now.counting from.0 wave }
+    {
+        self.waiting && wave < self.put_out && self.put_out - 1 == wave && self.waves.awaits(from)
     }
 
     /// A message of a machine has come. Counts take no memory.

@@ -1,5 +1,5 @@
 //! The answers to one wave.
-ghost use Rattle.std.specs.Prelude.{◌≡◌, ◌<◌, None, Some, length, slice_index_or, slice_set, IfOk};
+ghost use Rattle.std.specs.Prelude.{◌≡◌, ◌<◌, ◌↔◌, true, None, Some, length, slice_index_or, slice_set, IfOk};
 ghost use Rattle.quiet_waves.specs.Waves.{no_counts};
 ghost use Rattle.quiet_waves.specs.Inner.Sums.{AreSums};
 
@@ -69,6 +69,21 @@ impl Answers {
         ensures { AreSums self.now result }
     {
         self.sums
+    }
+
+    /// How many machines may answer.
+    pub fn machines(&self) -> usize
+        ensures { result ≡ length self.now }
+    {
+        self.counts.len()
+    }
+
+    /// Whether machine `m` has not answered.
+    pub fn is_missing(&self, m: MachineNo) -> bool
+        requires { m.0 < length self.now }
+        ensures { (result ≡ true) ↔ (slice_index_or self.now m.0 None ≡ None) }
+    {
+        self.counts[m.0 as usize].is_none()
     }
 
     /// Machine `m` answers.

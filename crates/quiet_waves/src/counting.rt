@@ -1,6 +1,6 @@
 //! The last two waves, and whether they show the end.
-ghost use Rattle.std.specs.Prelude.{◌≡◌, ◌<◌, ◌↔◌, true, None, length, slice_index_or, sum_by, IfOk};
-ghost use Rattle.quiet_waves.specs.Waves.{ShowTheEnd, all_answered, answered, no_waves, turned, updates_told};
+ghost use Rattle.std.specs.Prelude.{◌≡◌, ◌↔◌, true, sum_by, IfOk};
+ghost use Rattle.quiet_waves.specs.Waves.{MayAnswer, ShowTheEnd, all_answered, answered, no_waves, turned, updates_told};
 
 use crate::answering::Answers;
 use gl_base::{Counted, MachineNo, NoMemory};
@@ -53,10 +53,16 @@ impl Waves {
         self.wave.sums().missing == 0
     }
 
+    /// Whether machine `m` has not answered this wave yet, or the next one where each machine has answered this one.
+    pub fn awaits(&self, m: MachineNo) -> bool
+        ensures { (result ≡ true) ↔ MayAnswer self.now m.0 }
+    {
+        (m.0 as usize) < self.wave.machines() && (self.is_whole() || self.wave.is_missing(m))
+    }
+
     /// Machine `m` answers this wave, or the next one where each machine has answered this one.
     pub fn count(&mut self, m: MachineNo, counted: Counted)
-        requires machine { m.0 < length self.old.wave }
-        requires missing { slice_index_or (turned self.old).wave m.0 None ≡ None }
+        requires { MayAnswer self.old m.0 }
         ensures { self.new ≡ answered self.old m.0 counted }
     {
         if self.is_whole() {
