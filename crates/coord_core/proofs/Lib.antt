@@ -1,2 +1,3 @@
 pub mod BoxLemmas
 pub mod LeadLemmas
+pub mod CallLemmas

@@ -40,3 +40,7 @@ pub record IsCoordinatorOf (st : Setting) (view : CoordinatorView) (c : Coordina
   pub none : c.acknowledged ≡ c.begun
   pub counting : c.rounds.counting ≡ view.counting
   pub out : (a : ℕ) → a < st.machines → AreCalls (messages_for view.out a) (c.out a)
+
+-- there is such a cluster
+abbrev pub HasCluster : CoordinatorView → Type 0
+HasCluster view = (st : Setting) × (c : Coordinator) × IsCoordinatorOf st view c

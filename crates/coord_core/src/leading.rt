@@ -1,6 +1,6 @@
 //! The coordinator.
 ghost use Rattle.std.specs.Prelude.{◌≡◌, ◌↔◌, true, IfOk, IfErr, IsOk, IsErrOf, OnOk, OnErr};
-ghost use Rattle.coord_core.specs.Coordinators.{MayBeCounted, message_view};
+ghost use Rattle.coord_core.specs.Coordinators.{HasCluster, MayBeCounted, message_view};
 ghost use Rattle.coord_core.specs.Calls.{HasHandedOver, HasPutWave, HasTakenReport, IsDueOf, IsFirstOf, MayNotPutWave, MayPutWave, MayReport, StaysCoordinator, TellsCounts};
 
 use crate::asking::{ask_each, reserve_each};
@@ -51,14 +51,14 @@ pub struct Coordinator {
 }
 
 impl Model for Coordinator {
-    ghost use Rattle.std.specs.Prelude.{◌≡◌, length};
     ghost use Rattle.coord_core.specs.Coordinators.{CoordinatorView};
+    ghost use Rattle.coord_core.specs.Inner.Asking.{AreOutboxesOf};
 
     ghost Value = { CoordinatorView };
 
     ghost view = { λ c. record { counting = record { put_out = c.put_out; waiting = c.waiting; waves = c.waves }; out = c.out } };
 
-    ghost invariant = { λ c. length c.out.machines ≡ c.machines };
+    ghost invariant = { λ c. AreOutboxesOf c.out c.machines };
 }
 
 impl Coordinator {
@@ -76,8 +76,10 @@ impl Coordinator {
     }
 
     /// What is due: the end where all answers have come and the last two waves showed it, else a wave where one may be put out.
+    /// It is the part of some cluster of which all this is said.
     pub fn due(&self) -> Due
-        ensures { IsDueOf self.now result }
+        ensures due { IsDueOf self.now result }
+        ensures cluster { HasCluster self.now }
     {
         match (self.waiting, self.waves.verdict()) {
             (true, _) => Due::Nothing,

@@ -24,9 +24,9 @@ returns-clause-put_out c =
     let may : MayPutWave old = may_put old whole in
     let counting : ℕ → Counting = λ n. record { put_out = n; waiting = true; waves = c.self.inside.waves } in
     let put : HasPutWave old new =
-    has_put old new (ap counting (add-one c.self.inside.put_out)) (c.ask_each.ensures.many ∙ sym c.self.invariant)
+    has_put old new (ap counting (add-one c.self.inside.put_out)) (c.ask_each.ensures.many ∙ sym c.self.invariant.many)
     (λ b inside.
-    let below : b < c.self.inside.machines = subst (λ (n : ℕ). b < n) c.self.invariant inside in
+    let below : b < c.self.inside.machines = subst (λ (n : ℕ). b < n) c.self.invariant.many inside in
     c.ask_each.ensures.asked b below
     ∙ ap (λ (messages : List MessageView). messages ++ wave_message c.self.inside.put_out ∷ []) (c.in_ok-reserve_each.ensures.same.each b))
     in
