@@ -1,12 +1,14 @@
 -- Outboxes in which calls alone wait, and whose they are.
-use Rattle.std.proofs.Common.{◌≡◌, ℕ, true, false, List, [], ◌∷◌, length, refl, ap}
+use Rattle.std.proofs.Common.{◌≡◌, ℕ, true, false, None, List, [], ◌∷◌, length, refl, ap}
 use Rattle.std.specs.Prelude.{map}
 use Rattle.std.specs.List.{list_all}
 use Rattle.std.proofs.lemmas.Bool.{and_parts}
 use Rattle.update_api.specs.declared.woken.Woken.TheVariants.{Nobody}
+use Rattle.cluster_core.specs.Parts.{Part}
 use Rattle.cluster_model.specs.Calls.{Begin, Committed, Wave, Step}
+use Rattle.cluster_model.specs.Machines.{Machine}
 use Rattle.wire_msgs.specs.Views as wire
-use Rattle.coord_core.specs.Coordinators.{AreCalls, Call, Coordinator, CoordinatorView, HasCluster, Locking, MessageView, OutboxesView, Setting, TellsCall, first_coordinator, messages_for}
+use Rattle.coord_core.specs.Coordinators.{AreCalls, Call, Cluster, Coordinator, CoordinatorView, HasCluster, Locking, MessageView, OutboxesView, Setting, TellsCall, first_coordinator, messages_for}
 use Rattle.coord_core.specs.Inner.Asking.{AreOutboxesOf, is_call}
 
 -- ---- as events change them
@@ -58,10 +60,67 @@ some_coordinator view machines =
       out = λ a. map call_of (messages_for view.out a);
     }
 
+-- a machine that has nothing
+abbrev some_part : Part
+some_part =
+    record {
+      datum = λ v. record { value = 0; version = 0; mark = 0 };
+      edge = λ e. 0;
+      task = λ v. false;
+      log = [];
+      serial = 0;
+      flying = 0;
+      flight = λ s. None;
+      stand = λ s. None;
+      ready = λ s. false;
+      holder = λ x s. None;
+      queue = λ x. [];
+      pending = λ v. false;
+      known = 0;
+      saved = record { vertices = λ v. None; edges = λ e. None };
+      sent = 0;
+      colour = 0;
+      closed = false;
+      out = λ q. [];
+    }
+
+abbrev some_machine : Machine
+some_machine =
+    record {
+      part = some_part;
+      sent = 0;
+      received = 0;
+      held = None;
+      planned = λ s. false;
+      plans = 0;
+      before = [];
+      behind = [];
+      unsure = [];
+      acknowledged = 0;
+      wanted = false;
+      done = 0;
+      failed = false;
+      out = [];
+    }
+
+abbrev some_cluster : CoordinatorView → ℕ → Cluster
+some_cluster view machines =
+    record {
+      machine = λ a. some_machine;
+      link = λ p q. [];
+      calls = λ a. [];
+      reports = λ a. [];
+      coordinator = some_coordinator view machines;
+      next = 0;
+      left = 0;
+      base = record { number = 0; order = []; numbers = record { vertex = λ v. 0; edge = λ e. 0 } };
+      stopped = false;
+    }
+
 pub has_cluster : (view : CoordinatorView) (machines : ℕ) → AreOutboxesOf view.out machines → HasCluster view
 has_cluster view machines are = (
   some_setting machines,
-  some_coordinator view machines,
+  some_cluster view machines,
   record {
     machines = are.many;
     engine = refl;

@@ -1,13 +1,12 @@
 -- What the coordinator's calls ask and leave: for every setting, and every coordinator of a cluster whose part this one is.
 use Rattle.std.specs.Prelude.{◌≡◌, ℕ, ◌<◌, ◌↔◌, false, Option, Some, None, List, [], ◌∷◌, ⊤}
 use Rattle.cluster_model.specs.Calls.{Count}
-use Rattle.cluster_model.specs.Clusters.{Cluster}
 use Rattle.cluster_model.specs.Events.{MayDo, PutWave}
 use Rattle.wire_msgs.specs.declared.messages.Message.{Message}
 use Rattle.wire_msgs.specs.Views as wire
 use Rattle.coord_core.specs.declared.leading.Due.{Due}
 use Rattle.coord_core.specs.declared.leading.Due.TheVariants as due
-use Rattle.coord_core.specs.Coordinators.{Call, Coordinator, CoordinatorView, HasSeenTheEnd, TellsCall, IsCoordinatorOf, Locking, MayBeCounted, MessageView, Report, Setting, first_coordinator, hands_call, message_view, puts_wave, takes_report}
+use Rattle.coord_core.specs.Coordinators.{Call, Cluster, Coordinator, CoordinatorView, HasSeenTheEnd, IsCoordinatorOf, Locking, MayBeCounted, MessageView, Report, Setting, TellsCall, first_coordinator, hands_call, message_view, puts_wave, takes_report}
 
 -- it is the coordinator that an attempt with so many machines begins with
 abbrev pub IsFirstOf : ℕ → CoordinatorView → Type 0

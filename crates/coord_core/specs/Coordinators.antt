@@ -2,6 +2,7 @@
 pub use Rattle.outboxes.specs.Outboxes.{OutboxView, OutboxesView, MessageView, no_outbox, message_view}
 pub use Rattle.cluster_core.specs.Settings.{Setting, Locking}
 pub use Rattle.cluster_model.specs.Calls.{Call, Report}
+pub use Rattle.cluster_model.specs.Clusters.{Cluster}
 pub use Rattle.cluster_model.specs.Counting.{Counting, MayBeCounted, count_answer, count_wave, first_counting}
 pub use Rattle.cluster_model.specs.Leading.{Coordinator, HasSeenTheEnd, first_coordinator, hands_call, puts_wave, takes_report}
 use Rattle.std.specs.Prelude.{◌≡◌, ℕ, ◌<◌, false, List, [], ◌∷◌, length, slice_index_or, ⊤}
@@ -43,4 +44,4 @@ pub record IsCoordinatorOf (st : Setting) (view : CoordinatorView) (c : Coordina
 
 -- there is such a cluster
 abbrev pub HasCluster : CoordinatorView → Type 0
-HasCluster view = (st : Setting) × (c : Coordinator) × IsCoordinatorOf st view c
+HasCluster view = (st : Setting) × (c : Cluster) × IsCoordinatorOf st view c.coordinator

@@ -76,7 +76,7 @@ impl Coordinator {
     }
 
     /// What is due: the end where all answers have come and the last two waves showed it, else a wave where one may be put out.
-    /// It is the part of some cluster of which all this is said.
+    /// Some cluster has this coordinator, so that what is said of all of them says something.
     pub fn due(&self) -> Due
         ensures due { IsDueOf self.now result }
         ensures cluster { HasCluster self.now }

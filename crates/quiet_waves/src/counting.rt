@@ -11,9 +11,9 @@ use std::mem;
 /// What the last two waves show.
 #[derive(Clone, Copy, Debug, PartialEq, Eq, Hash)]
 pub enum Verdict {
-    /// The end: nothing is left to be updated.
+    /// The end.
     Quiet,
-    /// There may be something left, or an answer is missing.
+    /// Not the end, or an answer is missing.
     NotYet,
 }
 
