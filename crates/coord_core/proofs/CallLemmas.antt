@@ -8,12 +8,12 @@ use Rattle.cluster_core.specs.Parts.{Part}
 use Rattle.cluster_model.specs.Calls.{Begin, Committed, Wave, Step}
 use Rattle.cluster_model.specs.Machines.{Machine}
 use Rattle.wire_msgs.specs.Views as wire
-use Rattle.coord_core.specs.Coordinators.{AreCalls, Call, Cluster, Coordinator, CoordinatorView, HasCluster, Locking, MessageView, OutboxesView, Setting, TellsCall, first_coordinator, messages_for}
+use Rattle.coord_core.specs.Coordinators.{AreCalls, Call, Cluster, Coordinator, CoordinatorView, HasCluster, Locking, MessageView, OutboxesView, Setting, TellsCall, first_coordinator, waiting_at}
 use Rattle.coord_core.specs.Inner.Asking.{AreOutboxesOf, is_call}
 
 -- ---- as events change them
 
-pub none_wait : (out : OutboxesView) (machines : ℕ) → length out.machines ≡ machines → ((a : ℕ) → messages_for out a ≡ []) → AreOutboxesOf out machines
+pub none_wait : (out : OutboxesView) (machines : ℕ) → length out.machines ≡ machines → ((a : ℕ) → waiting_at out a ≡ []) → AreOutboxesOf out machines
 none_wait out machines many none = record { many = many; calls = λ a. ap (λ (messages : List MessageView). list_all is_call messages) (none a) }
 
 -- ---- a cluster of which they are
@@ -57,7 +57,7 @@ abbrev some_coordinator : CoordinatorView → ℕ → Coordinator
 some_coordinator view machines =
     record (first_coordinator (some_setting machines) 0 0) {
       rounds = record { counting = view.counting; steps = 0; colour = 0; since = 0 };
-      out = λ a. map call_of (messages_for view.out a);
+      out = λ a. map call_of (waiting_at view.out a);
     }
 
 -- a machine that has nothing
@@ -127,6 +127,6 @@ has_cluster view machines are = (
     stored = refl;
     none = refl;
     counting = refl;
-    out = λ a _. all_told (messages_for view.out a) (are.calls a);
+    out = λ a _. all_told (waiting_at view.out a) (are.calls a);
   },
 )

@@ -11,14 +11,14 @@ use Rattle.cluster_model.specs.Leading.{IsWaveTime}
 use Rattle.outboxes.specs.Outboxes.{left_behind, without_first}
 use Rattle.wire_msgs.specs.declared.messages.Message.{Message}
 use Rattle.coord_core.specs.Calls.{HasHandedOver, HasPutWave, IsFirstOf, MayNotPutWave, MayPutWave, StaysCoordinator}
-use Rattle.coord_core.specs.Coordinators.{AreCalls, Call, CoordinatorView, Counting, TellsCall, MessageView, OutboxView, OutboxesView, count_wave, first_counting, message_view, messages_for, no_outbox}
+use Rattle.coord_core.specs.Coordinators.{AreCalls, Call, CoordinatorView, Counting, TellsCall, MessageView, OutboxView, OutboxesView, count_wave, first_counting, message_view, waiting_at, no_outbox}
 use Rattle.coord_core.specs.Inner.Asking.{SameMessages, wave_message}
 use Rattle.coord_core.proofs.BoxLemmas.{box_set}
 
 -- ---- at first
 
 pub first_part : (machines : ℕ) (view : CoordinatorView) → view.counting ≡ first_counting machines → length view.out.machines ≡ machines →
-    ((a : ℕ) → messages_for view.out a ≡ []) → IsFirstOf machines view
+    ((a : ℕ) → waiting_at view.out a ≡ []) → IsFirstOf machines view
 first_part machines view counting many none st base long same engine stored =
     record {
       machines = many ∙ sym same;
@@ -71,7 +71,7 @@ calls_push (first ∷ messages) (one ∷ calls) m call are is = (are.0, calls_pu
 
 -- each machine is asked
 pub has_put : (old new : CoordinatorView) → new.counting ≡ count_wave old.counting → length new.out.machines ≡ length old.out.machines →
-    ((b : ℕ) → b < length old.out.machines → messages_for new.out b ≡ messages_for old.out b ++ wave_message old.counting.put_out ∷ []) → HasPutWave old new
+    ((b : ℕ) → b < length old.out.machines → waiting_at new.out b ≡ waiting_at old.out b ++ wave_message old.counting.put_out ∷ []) → HasPutWave old new
 has_put old new counting many asked st c part =
     record {
       machines = many ∙ part.machines;
@@ -82,7 +82,7 @@ has_put old new counting many asked st c part =
       out = λ a below.
           let inside : a < length old.out.machines = subst (λ (n : ℕ). a < n) (sym part.machines) below in
           subst (λ (messages : List MessageView). AreCalls messages (c.out a ++ Wave c.rounds.counting.put_out ∷ [])) (sym (asked a inside))
-          (calls_push (messages_for old.out a) (c.out a) (wave_message old.counting.put_out) (Wave c.rounds.counting.put_out) (part.out a below)
+          (calls_push (waiting_at old.out a) (c.out a) (wave_message old.counting.put_out) (Wave c.rounds.counting.put_out) (part.out a below)
           (ap (λ (counting : Counting). counting.put_out) (sym part.counting)));
     }
 
@@ -117,10 +117,10 @@ none_first (m ∷ messages) is = absurd (cc)
 none_left : (box : OutboxView) → box.messages ≡ [] → without_first box ≡ box
 none_left box none = ap (λ (messages : List MessageView). left_behind messages box.room) none ∙ ap (λ (messages : List MessageView). record box { messages = messages }) (sym none)
 
-pub none_taken : (counting : Counting) (out : OutboxesView) (a : ℕ) → slice_get (messages_for out a) 0 ≡ None →
+pub none_taken : (counting : Counting) (out : OutboxesView) (a : ℕ) → slice_get (waiting_at out a) 0 ≡ None →
     HasHandedOver (record { counting = counting; out = out }) (record { counting = counting; out = taken_from out a }) a None
 none_taken counting out a is =
-    let none : messages_for out a ≡ [] = none_first (messages_for out a) is in
+    let none : waiting_at out a ≡ [] = none_first (waiting_at out a) is in
     let same : slice_set out.machines a (without_first (slice_index_or out.machines a no_outbox)) ≡ out.machines =
     ap (λ (box : OutboxView). slice_set out.machines a box) (none_left (slice_index_or out.machines a no_outbox) none) ∙ set-get_or out.machines a no_outbox
     in (
@@ -138,16 +138,16 @@ has_behind m [] is = absurd (cc)
 has_behind m (one ∷ messages) is = record { behind = messages; first = ap (λ (x : MessageView). x ∷ messages) (sym (let e : m ≡ one = cc in e)) }
 
 -- a message waits at the outbox of a machine alone
-is_inside : (out : OutboxesView) (a : ℕ) (m : MessageView) (behind : List MessageView) → messages_for out a ≡ m ∷ behind → a < length out.machines
+is_inside : (out : OutboxesView) (a : ℕ) (m : MessageView) (behind : List MessageView) → waiting_at out a ≡ m ∷ behind → a < length out.machines
 is_inside out a m behind is = elim (cases_lt a (length out.machines)) [
   | inl inside ↦ inside
   | inr outside ↦ absurd (let none = ap (λ (box : OutboxView). box.messages) (get_or_past out.machines a no_outbox outside) in cc)
 ]
 
-pub one_taken : (counting : Counting) (out : OutboxesView) (a : ℕ) (m : Message) → Some (message_view m) ≡ slice_get (messages_for out a) 0 →
+pub one_taken : (counting : Counting) (out : OutboxesView) (a : ℕ) (m : Message) → Some (message_view m) ≡ slice_get (waiting_at out a) 0 →
     HasHandedOver (record { counting = counting; out = out }) (record { counting = counting; out = taken_from out a }) a (Some m)
 one_taken counting out a m is st c part =
-    let has : HasBehind (message_view m) (messages_for out a) = has_behind (message_view m) (messages_for out a) is in
+    let has : HasBehind (message_view m) (waiting_at out a) = has_behind (message_view m) (waiting_at out a) is in
     let inside : a < length out.machines = is_inside out a (message_view m) has.behind has.first in
     let below : a < st.machines = subst (λ (n : ℕ). a < n) part.machines inside in
     let first : FirstCall (message_view m) has.behind (c.out a) =
@@ -172,12 +172,12 @@ one_taken counting out a m is st c part =
             box_set (λ k one. k < st.machines → AreCalls one.messages (set_at c.out a first.behind k)) out.machines a b box inside
             (λ _. subst (λ (calls : List Call). AreCalls box.messages calls) (sym (set_at-same c.out a first.behind))
             (subst (λ (messages : List MessageView). AreCalls messages first.behind) (sym left) first.rest))
-            (λ other below_k. subst (λ (calls : List Call). AreCalls (messages_for out b) calls) (sym (set_at-other c.out a first.behind b other)) (part.out b below_k))
+            (λ other below_k. subst (λ (calls : List Call). AreCalls (waiting_at out b) calls) (sym (set_at-other c.out a first.behind b other)) (part.out b below_k))
             below_b;
       };
     }
 
-pub handed_over : (counting : Counting) (out : OutboxesView) (a : ℕ) (result : Option Message) → option_map message_view result ≡ slice_get (messages_for out a) 0 →
+pub handed_over : (counting : Counting) (out : OutboxesView) (a : ℕ) (result : Option Message) → option_map message_view result ≡ slice_get (waiting_at out a) 0 →
     HasHandedOver (record { counting = counting; out = out }) (record { counting = counting; out = taken_from out a }) a result
 handed_over counting out a None is = none_taken counting out a (sym is)
 handed_over counting out a (Some m) is = one_taken counting out a m is

@@ -15,8 +15,8 @@ pub record CoordinatorView : Type 0 where
   pub out : OutboxesView
 
 -- what waits for machine a, the first first
-abbrev pub messages_for : OutboxesView → ℕ → List MessageView
-messages_for out a = (slice_index_or out.machines a no_outbox).messages
+abbrev pub waiting_at : OutboxesView → ℕ → List MessageView
+waiting_at out a = (slice_index_or out.machines a no_outbox).messages
 
 -- the message is this call
 abbrev pub TellsCall : MessageView → Call → Type 0
@@ -40,7 +40,7 @@ pub record IsCoordinatorOf (st : Setting) (view : CoordinatorView) (c : Coordina
   pub stored : st.stored ≡ false
   pub none : c.acknowledged ≡ c.begun
   pub counting : c.rounds.counting ≡ view.counting
-  pub out : (a : ℕ) → a < st.machines → AreCalls (messages_for view.out a) (c.out a)
+  pub out : (a : ℕ) → a < st.machines → AreCalls (waiting_at view.out a) (c.out a)
 
 -- there is such a cluster
 abbrev pub HasCluster : CoordinatorView → Type 0

@@ -1,6 +1,6 @@
 //! A wave for each machine.
 ghost use Rattle.std.specs.Prelude.{◌≡◌, ℕ, ◌<◌, [], ◌∷◌, ◌++◌, length, OnOk};
-ghost use Rattle.coord_core.specs.Coordinators.{MessageView, messages_for};
+ghost use Rattle.coord_core.specs.Coordinators.{MessageView, waiting_at};
 ghost use Rattle.coord_core.specs.Inner.Asking.{SameMessages, room_for, wave_message};
 
 use gl_base::{MachineNo, NoMemory, Peer};
@@ -24,7 +24,7 @@ pub fn ask_each(out: &mut Outboxes, machines: u16, wave: u64)
     requires many { length out.old.machines ≡ machines }
     requires room { (b : ℕ) → b < machines → 0 < room_for out.old b }
     ensures many { length out.new.machines ≡ machines }
-    ensures asked { (b : ℕ) → b < machines → messages_for out.new b ≡ messages_for out.old b ++ wave_message wave ∷ [] }
+    ensures asked { (b : ℕ) → b < machines → waiting_at out.new b ≡ waiting_at out.old b ++ wave_message wave ∷ [] }
 {
     for machine in 0..machines {
         out.put(Peer::Machine(MachineNo(machine)), Message::Wave { wave });

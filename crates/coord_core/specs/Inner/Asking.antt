@@ -2,7 +2,7 @@
 use Rattle.std.specs.Prelude.{◌≡◌, ℕ, Bool, true, false, length, slice_index_or}
 use Rattle.std.specs.List.{list_all}
 use Rattle.wire_msgs.specs.Views as wire
-use Rattle.coord_core.specs.Coordinators.{MessageView, OutboxesView, messages_for, no_outbox}
+use Rattle.coord_core.specs.Coordinators.{MessageView, OutboxesView, waiting_at, no_outbox}
 
 -- a wave
 abbrev pub wave_message : ℕ → MessageView
@@ -15,7 +15,7 @@ room_for out a = (slice_index_or out.machines a no_outbox).room
 -- the same messages wait
 pub record SameMessages (old new : OutboxesView) : Type 0 where
   pub many : length new.machines ≡ length old.machines
-  pub each : (a : ℕ) → messages_for new a ≡ messages_for old a
+  pub each : (a : ℕ) → waiting_at new a ≡ waiting_at old a
 
 -- the message is a call
 abbrev pub is_call : MessageView → Bool
@@ -28,4 +28,4 @@ is_call _ = false
 -- these are the outboxes to so many machines, and calls alone wait for them
 pub record AreOutboxesOf (out : OutboxesView) (machines : ℕ) : Type 0 where
   pub many : length out.machines ≡ machines
-  pub calls : (a : ℕ) → list_all is_call (messages_for out a) ≡ true
+  pub calls : (a : ℕ) → list_all is_call (waiting_at out a) ≡ true
