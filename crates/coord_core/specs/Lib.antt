@@ -1,0 +1,3 @@
+pub mod Coordinators
+pub mod Calls
+pub mod Inner

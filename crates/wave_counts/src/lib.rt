@@ -1,0 +1,10 @@
+//! A machine's part of waves: what it counts, whether it is idle, and its answer.
+#![tactic(auto)]
+
+mod answers;
+mod idling;
+mod laws;
+
+pub use answers::WaveCounts;
+pub use idling::is_at_rest;
+pub use laws::{answers_are_prompt, counts_follow_events, machines_at_rest_are_idle};
