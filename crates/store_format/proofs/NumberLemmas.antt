@@ -7,7 +7,8 @@ use Rattle.std.proofs.lemmas.List.{append-nil, drop_all, take_all}
 use Rattle.store_format.specs.declared.header.Header.{Header}
 use Rattle.store_format.specs.Fields.{field, bad_outside}
 use Rattle.store_format.specs.Sections.{keys_fault, row_end, row_taken, row_fault, sections_fault}
-use Rattle.store_format.specs.Bodies.{HasSections, sections_place}
+use Rattle.store_format.specs.Entries.{entries_fault}
+use Rattle.store_format.specs.Bodies.{IsBody, HasSections, entry_count, number_fault, sections_place}
 use Rattle.store_format.specs.StoredNumbers.{saved_at, saved_in_row, saved_vertices_from, saved_edges_from, saved_or}
 use Rattle.store_format.proofs.KeyLemmas.{length-keys_taken}
 
@@ -36,6 +37,13 @@ numbers_back part items len same is =
     let all : length part ≤ len = omega arith in
     ap (λ (l : List ℕ). take len (part ++ l)) (drop_all (length part) items none)
     ∙ ap (take len) (append-nil part) ∙ take_all len part all
+
+-- a body in form has sections that are right
+pub body_sections : (header : Header) (number : ℕ) (body : List ℕ) → IsBody header number body → HasSections header body
+body_sections header number body is =
+    let sections = sections_fault header header.machines [] [] body (sections_place body) in
+    let entries = entries_fault header number 0 (entry_count body) body 8 in
+    record { size = is.size; rows = (both_none entries sections (both_none (number_fault number body) (option_or entries sections) is.fields).1).1 }
 
 -- so many sections from this place on have no fault, and hold the keys that are left
 pub record AreLeft (header : Header) (body : List ℕ) (more at : ℕ) : Type 0 where
