@@ -2,6 +2,7 @@
 use Rattle.std.proofs.Common.{◌≡◌, inl, inr, ℕ, ◌<◌, List, [], ◌∷◌, ◌++◌, length, refl, sym, ap, ◌∙◌, subst, arith}
 use Rattle.gl_base.specs.declared.entries.Entry.{Entry}
 use Rattle.gl_base.specs.declared.snapshots.Base.{Base}
+use Rattle.gl_base.specs.declared.snapshots.Record.{Record}
 use Rattle.graph_core.specs.DataGraph.{DataGraph, size}
 use Rattle.update_api.specs.Updates.{Update}
 use Rattle.seq_run.specs.Orders.{replay}
@@ -13,9 +14,12 @@ use Rattle.attempts.proofs.Storing.{last_in_turn}
 use Rattle.store_format.specs.declared.header.Header.{Header}
 use Rattle.store_format.specs.Stores.{stored_in, IsBeforeOrAfter}
 use Rattle.store_format.specs.StoredOrders.{body_entries, with_entries, order_behind, stored_order}
+use Rattle.store_format.specs.Encoding.{body_bytes, RecordFits}
+use Rattle.store_format.specs.ReadBack.{NumbersFit}
 use Rattle.store_format.proofs.StoreLemmas.{stored_are}
+use Rattle.store_format.proofs.ReadBackLemmas.{entries_of_record, vertices_of_record, edges_of_record}
 use Rattle.snap_journal.specs.Last.{last_body, last_body_or, IsLastSnapshot}
-use Rattle.recovery.specs.GoodStores.{orders_behind, stored_orders, IsReplayed, AreReplayed, IsGoodStore, GoesBehind, IsGoodBase}
+use Rattle.recovery.specs.GoodStores.{orders_behind, stored_orders, IsReplayed, AreReplayed, IsGoodStore, GoesBehind, GoesWith, IsGoodBase}
 use Rattle.recovery.specs.Recovered.{IsStartBase, IsRecovered, IsHeaderOf}
 
 -- the order of a snapshot is the last of those up to it
@@ -51,6 +55,23 @@ good_more shared header bodies body good behind = record {
 pub images_good : (shared : Shared) (header : Header) (bodies : List (List ℕ)) (body image : List ℕ) → IsGoodStore shared header bodies → GoesBehind shared header bodies body → IsBeforeOrAfter header bodies body image → IsGoodStore shared header (stored_in header image)
 images_good shared header bodies body image good behind (inl stands) = subst (IsGoodStore shared header) (sym (stored_are header image bodies stands)) good
 images_good shared header bodies body image good behind (inr stands) = subst (IsGoodStore shared header) (sym (stored_are header image (bodies ++ body ∷ []) stands)) (good_more shared header bodies body good behind)
+
+-- a record that goes with a store, by its body
+behind_record : (shared : Shared) (header : Header) (bodies : List (List ℕ)) (next : Record) → RecordFits next → NumbersFit next → length next.sections.items ≡ header.machines → GoesWith shared bodies next → GoesBehind shared header bodies (body_bytes next)
+behind_record shared header bodies next small fits machines goes =
+    let own : next.entries.items ≡ body_entries (body_bytes next) = sym (entries_of_record next small fits) in
+    record {
+      orders = subst (λ (entries : List Entry). AreGoodOrders shared (stored_orders bodies ++ with_entries (stored_order bodies) entries ∷ [])) own goes.orders;
+      numbers = subst (λ (entries : List Entry). IsReplayed shared header (with_entries (stored_order bodies) entries) (body_bytes next)) own (record {
+        vertex = λ v inside. vertices_of_record header next v small fits machines ∙ goes.vertex v inside;
+        edge = λ e inside. edges_of_record header next e small fits machines ∙ goes.edge e inside;
+      });
+    }
+
+pub records_good : (shared : Shared) (header : Header) (bodies : List (List ℕ)) (next : Record) (image : List ℕ) → IsGoodStore shared header bodies → RecordFits next → NumbersFit next → length next.sections.items ≡ header.machines → GoesWith shared bodies next
+    → IsBeforeOrAfter header bodies (body_bytes next) image → IsGoodStore shared header (stored_in header image)
+records_good shared header bodies next image good small fits machines goes either =
+    images_good shared header bodies (body_bytes next) image good (behind_record shared header bodies next small fits machines goes) either
 
 -- the start is a good base
 start_good : (shared : Shared) (base : Base) → AreGoodOrders shared [] → IsStartBase shared.graph shared.program base → IsGoodBase shared base

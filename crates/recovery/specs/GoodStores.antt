@@ -2,9 +2,10 @@
 use Rattle.std.specs.Prelude.{◌≡◌, ℕ, ◌<◌, List, [], ◌∷◌, ◌++◌, length, ⊤}
 use Rattle.gl_base.specs.declared.entries.Entry.{Entry}
 use Rattle.gl_base.specs.declared.snapshots.Base.{Base}
+use Rattle.gl_base.specs.declared.snapshots.Record.{Record}
 use Rattle.store_format.specs.declared.header.Header.{Header}
 use Rattle.recovery.specs.Orders.{size, replay, AreNumbers, Shared, IsOrderInTurn, AreGoodOrders}
-use Rattle.recovery.specs.Journals.{body_entries, with_entries, stored_order, vertex_number, edge_number}
+use Rattle.recovery.specs.Journals.{body_entries, with_entries, stored_order, vertex_number, edge_number, saved_or, record_vertices, record_edges}
 
 -- the orders of the snapshots of these records, one after another, where this is the order before them
 abbrev pub orders_behind : List Entry → List (List ℕ) → List (List Entry)
@@ -37,6 +38,13 @@ pub record IsGoodStore (shared : Shared) (header : Header) (bodies : List (List 
 pub record GoesBehind (shared : Shared) (header : Header) (bodies : List (List ℕ)) (body : List ℕ) : Type 0 where
   pub orders : AreGoodOrders shared (stored_orders bodies ++ with_entries (stored_order bodies) (body_entries body) ∷ [])
   pub numbers : IsReplayed shared header (with_entries (stored_order bodies) (body_entries body)) body
+
+-- The record goes with the store of these: with its entries the orders are those of a good store, and it holds for each vertex and
+-- each edge the number of the replay.
+pub record GoesWith (shared : Shared) (bodies : List (List ℕ)) (next : Record) : Type 0 where
+  pub orders : AreGoodOrders shared (stored_orders bodies ++ with_entries (stored_order bodies) next.entries.items ∷ [])
+  pub vertex : (v : ℕ) → v < size shared.graph → saved_or 0 (record_vertices next) v ≡ (replay shared.graph shared.program (with_entries (stored_order bodies) next.entries.items)).vertex v
+  pub edge : (e : ℕ) → e < length shared.graph.edges → saved_or 0 (record_edges next) e ≡ (replay shared.graph shared.program (with_entries (stored_order bodies) next.entries.items)).edge e
 
 -- A good base: its order is in turn, and its numbers are the replay of its order.
 pub record IsGoodBase (shared : Shared) (base : Base) : Type 0 where

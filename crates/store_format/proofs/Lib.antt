@@ -5,3 +5,4 @@ pub mod ReadLemmas
 pub mod StoreLemmas
 pub mod OrderLemmas
 pub mod NumberLemmas
+pub mod ReadBackLemmas

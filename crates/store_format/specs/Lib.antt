@@ -8,4 +8,5 @@ pub mod Stores
 pub mod Encoding
 pub mod StoredOrders
 pub mod StoredNumbers
+pub mod ReadBack
 pub mod Inner
