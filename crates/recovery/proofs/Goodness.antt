@@ -37,6 +37,10 @@ some_replayed : (shared : Shared) (header : Header) (bodies : List (List ℕ)) �
 some_replayed shared header [] some are = absurd (omega arith)
 some_replayed shared header (body ∷ bodies) some are = last_replayed shared header [] [] body bodies are
 
+-- a store without snapshots is good
+pub none_good : (shared : Shared) (header : Header) → IsGoodStore shared header []
+none_good shared header = record { orders = record { in_turn = tt; earlier_first = tt }; numbers = tt }
+
 -- one more record
 orders_more : (order : List Entry) (bodies : List (List ℕ)) (body : List ℕ) → orders_behind order (bodies ++ body ∷ []) ≡ orders_behind order bodies ++ with_entries (order_behind order bodies) (body_entries body) ∷ []
 orders_more order [] body = refl
