@@ -6,10 +6,18 @@ use gl_base::NoMemory;
 use std::alloc::Global;
 
 /// A store has 65 bytes without snapshots, 134 with one and 251 with both, which are those of the format. It takes three calls
-/// to make it, four to open it and four for each record.
+/// to make it, of which the second writes, four to open it and four for each record.
 pub fn sizes(alloc: Global) -> Result<Tally, NoMemory> {
     let mut tally = Tally::new("sizes");
-    for (stop, size) in [(3, 65), (7, 65), (11, 134), (15, 251)] {
+    for (stop, size) in [
+        (0, 0),
+        (1, 0),
+        (2, 65),
+        (3, 65),
+        (7, 65),
+        (11, 134),
+        (15, 251),
+    ] {
         let Filled { bytes, .. } = filled_store(alloc, Vec::new(alloc), stop)?;
         tally.count(bytes.len() == size);
     }
