@@ -2,4 +2,5 @@ pub mod Disks
 pub mod Formats
 pub mod Journals
 pub mod Answers
+pub mod Last
 pub mod Inner

@@ -4,6 +4,7 @@
 mod disk_reads;
 mod faults;
 mod journal;
+mod last;
 mod making;
 mod opening;
 mod records_read;

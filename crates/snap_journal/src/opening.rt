@@ -1,29 +1,54 @@
 //! How a store is opened.
-ghost use Rattle.std.specs.Prelude.{◌≡◌, ◌+◌, ◌^◌, ◌<◌, ◌≤◌, false, length, IsTrue, IfOk, IfErr};
+ghost use Rattle.std.specs.Prelude.{◌≡◌, ◌+◌, ◌^◌, ◌<◌, ◌≤◌, ◌++◌, [], ◌∷◌, false, length, IsTrue, IfOk, IfErr, OnOk};
 ghost use Rattle.snap_journal.specs.Disks.{LeavesOnly, IsImage};
-ghost use Rattle.snap_journal.specs.Formats.{StandsFor, records_size};
+ghost use Rattle.snap_journal.specs.Formats.{StandsFor, records_size, stored_in, HasSections, sections_place};
 ghost use Rattle.snap_journal.specs.Journals.{snapshots_in, AllStandFor};
 ghost use Rattle.snap_journal.specs.Answers.{IsWhyNotOpened};
-ghost use Rattle.snap_journal.specs.Inner.Found.{IsFound};
+ghost use Rattle.snap_journal.specs.Last.{last_body};
+ghost use Rattle.snap_journal.specs.Inner.Found.{IsFound, entries_kept};
 ghost use Rattle.snap_journal.specs.Inner.Settled.{IsAtRest};
 
 use crate::disk_reads::read_front;
 use crate::records_read::next_body;
 use crate::{Journal, JournalFault};
+use gl_base::{Entry, NoMemory};
 use gl_outside::Disk;
 use std::alloc::Global;
-use store_format::{HEADER, Header, StoreFault, check_header};
+use store_format::{HEADER, Header, StoreFault, check_header, push_entries_of};
 
-/// What a store is found to have: so many snapshots, and the gate behind them at this place.
-#[derive(Clone, Copy)]
+/// What a store is found to have: so many snapshots, the gate behind them at this place, the entries of all records where they
+/// were to be kept, and the body of the last one.
+#[derive(Drop)]
 pub struct Found {
     pub count: u32,
     pub gate: u64,
+    pub entries: Vec<Entry>,
+    pub body: Vec<u8>,
 }
 
-/// Reads a store from front to back. The first fault is answered.
-pub fn survey<D: Disk>(alloc: Global, disk: &mut D, header: &Header) -> Result<Found, JournalFault>
+/// Adds the entries of a body where they are to be kept.
+fn keep_entries(entries: &mut Vec<Entry>, body: &[u8], keep: bool) -> Result<(), NoMemory>
+    requires head { 8 ≤ length body.now }
+    requires whole { sections_place body.now ≤ length body.now }
+    ensures { OnOk result (entries.new.items ≡ entries.old.items ++ entries_kept keep (body.now ∷ [])) }
+{
+    if keep {
+        push_entries_of(entries, body)?;
+    }
+    Ok(())
+}
+
+/// Reads a store from front to back, with one body in memory at a time. The first fault is answered.
+pub fn survey<D: Disk>(
+    alloc: Global,
+    disk: &mut D,
+    header: &Header,
+    keep: bool,
+) -> Result<Found, JournalFault>
     ensures found { IsTrue D.told → IfOk result (λ found. IsFound header.now (D.past disk.old).now.seen found.count found.gate) }
+    ensures entries { IsTrue D.told → IfOk result (λ found. found.entries.items ≡ entries_kept keep (stored_in header.now (D.past disk.old).now.seen)) }
+    ensures body { IsTrue D.told → IfOk result (λ found. found.body.items ≡ last_body (stored_in header.now (D.past disk.old).now.seen)) }
+    ensures form { IfOk result (λ found. 0 < found.count → HasSections header.now found.body.items) }
     ensures within { IfOk result (λ found. found.gate + 1 < 2 ^ 64) }
     ensures fault { IfErr result (IsWhyNotOpened (IsTrue D.told) header.now (D.past disk.old).now.seen (D.faults disk.old) (D.faults disk.new)) }
     ensures past { IsTrue D.told → D.past disk.new ≡ D.past disk.old }
@@ -35,14 +60,21 @@ pub fn survey<D: Disk>(alloc: Global, disk: &mut D, header: &Header) -> Result<F
     check_header(header, &front)?;
     let mut count = 0;
     let mut gate = 64;
+    let mut entries = Vec::new(alloc);
+    let mut body = Vec::new(alloc);
     'records: while gate <= len {
-        match next_body(alloc, disk, header, count + 1, gate, len)? {
-            None => return Ok(Found { count, gate }),
-            Some(body) => {
-                count += 1;
-                gate += 9 + body.len() as u64;
-            }
+        let more = next_body(alloc, disk, header, count + 1, gate, len, &mut body)?;
+        if !more {
+            return Ok(Found {
+                count,
+                gate,
+                entries,
+                body,
+            });
         }
+        keep_entries(&mut entries, &body, keep)?;
+        count += 1;
+        gate += 9 + body.len() as u64;
     }
     Err(JournalFault::BadStore(StoreFault::Torn(len)))
 }
@@ -100,5 +132,5 @@ fn synced_and_read<D: Disk>(
     ensures later { D.faults disk.old ≤ D.faults disk.new }
 {
     disk.sync()?;
-    survey(alloc, disk, header)
+    survey(alloc, disk, header, false)
 }

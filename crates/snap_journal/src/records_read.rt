@@ -1,5 +1,5 @@
 //! Records, read one after another.
-ghost use Rattle.std.specs.Prelude.{◌≡◌, ◌+◌, ◌^◌, ◌<◌, ◌≤◌, length, drop, IsTrue, IfOk, IfErr, IfSome};
+ghost use Rattle.std.specs.Prelude.{◌≡◌, ◌+◌, ◌^◌, ◌<◌, ◌≤◌, true, false, length, drop, IsTrue, IfOk, IfErr, IfSome};
 ghost use Rattle.snap_journal.specs.Formats.{IsBody};
 ghost use Rattle.snap_journal.specs.Inner.Reads.{IsNextLength, IsNextBody, IsWhyNot};
 
@@ -57,7 +57,8 @@ fn next_length<D: Disk>(
     Ok(Some(size))
 }
 
-/// Reads what stands at a gate: nothing where it isn't open, and else the body of a record.
+/// Reads what stands at a gate, and tells whether that is a record. Its body takes the place of the one that was read before, whose
+/// memory is given back first; where there is none, that one stays.
 pub fn next_body<D: Disk>(
     alloc: Global,
     disk: &mut D,
@@ -65,31 +66,35 @@ pub fn next_body<D: Disk>(
     number: u32,
     at: u64,
     len: u64,
-) -> Result<Option<Vec<u8>>, JournalFault>
+    body: &mut Vec<u8>,
+) -> Result<bool, JournalFault>
     requires inside { at ≤ len }
     requires len { IsTrue D.told → len ≡ length (D.past disk.old).now.seen }
-    ensures next { IsTrue D.told → IfOk result (IsNextBody header.now number at (D.past disk.old).now.seen) }
-    ensures here { IfOk result (λ next. at < len) }
-    ensures ascends { IfOk result (λ next. IfSome next (λ body. at + 10 + length body.items ≤ len)) }
-    ensures numbers { IfOk result (λ next. IfSome next (λ body. number < 4294967295)) }
-    ensures form { IfOk result (λ next. IfSome next (λ body. IsBody header.now number body.items)) }
+    ensures next { IsTrue D.told → IfOk result (λ more. IsNextBody header.now number at (D.past disk.old).now.seen body.new.items more) }
+    ensures kept { IfOk result (λ more. more ≡ false → body.new ≡ body.old) }
+    ensures here { IfOk result (λ more. at < len) }
+    ensures ascends { IfOk result (λ more. more ≡ true → at + 10 + length body.new.items ≤ len) }
+    ensures numbers { IfOk result (λ more. more ≡ true → number < 4294967295) }
+    ensures form { IfOk result (λ more. more ≡ true → IsBody header.now number body.new.items) }
     ensures fault { IfErr result (IsWhyNot (IsTrue D.told) header.now number at (D.past disk.old).now.seen (D.faults disk.old) (D.faults disk.new)) }
     ensures past { IsTrue D.told → D.past disk.new ≡ D.past disk.old }
     ensures same { D.same disk.old disk.new }
     ensures later { D.faults disk.old ≤ D.faults disk.new }
 {
     let Some(size) = next_length(alloc, disk, header, number, at, len)? else {
-        return Ok(None);
+        return Ok(false);
     };
-    let body = read_front(alloc, disk, at + 9, size as usize)?;
-    if (body.len() as u64) < size {
-        return Err(JournalFault::BadStore(StoreFault::Torn(at + 9 + body.len() as u64)));
+    *body = Vec::new(alloc);
+    let read = read_front(alloc, disk, at + 9, size as usize)?;
+    if (read.len() as u64) < size {
+        return Err(JournalFault::BadStore(StoreFault::Torn(at + 9 + read.len() as u64)));
     }
-    if size != body_size(header, u32_at(&body, 4)) {
+    if size != body_size(header, u32_at(&read, 4)) {
         return Err(JournalFault::BadStore(StoreFault::BadByte(at + 1)));
     }
-    match fault_of_body(alloc, header, number, &body)? {
-        Some(place) => Err(JournalFault::BadStore(StoreFault::BadByte(at + 9 + place as u64))),
-        None => Ok(Some(body)),
+    if let Some(place) = fault_of_body(alloc, header, number, &read)? {
+        return Err(JournalFault::BadStore(StoreFault::BadByte(at + 9 + place as u64)));
     }
+    *body = read;
+    Ok(true)
 }

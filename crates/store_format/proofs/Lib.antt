@@ -1,5 +1,8 @@
 pub mod EntryLemmas
-pub mod ReadLemmas
 pub mod KeyLemmas
-pub mod StoreLemmas
 pub mod NewLemmas
+pub mod ReadLemmas
+pub mod StoreLemmas
+pub mod OrderLemmas
+pub mod NumberLemmas
+pub mod ReadBackLemmas

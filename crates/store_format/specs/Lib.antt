@@ -6,4 +6,7 @@ pub mod Bodies
 pub mod Records
 pub mod Stores
 pub mod Encoding
+pub mod StoredOrders
+pub mod StoredNumbers
+pub mod ReadBack
 pub mod Inner

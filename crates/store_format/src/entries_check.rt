@@ -7,7 +7,7 @@ use crate::fields::{check_within, u64_at};
 use atom_file::{u16_at, u32_at};
 
 /// The kind of a Go, and one below it that of a Restart, which no machine makes and which has no vertex.
-const GO: u8 = 1;
+pub const GO: u8 = 1;
 
 /// The tickets of a snapshot are below so many times its number.
 const TICKETS: u64 = 33_554_432;

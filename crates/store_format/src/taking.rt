@@ -1,5 +1,5 @@
 //! Whether a record may stand in a store.
-ghost use Rattle.std.specs.Prelude.{◌≡◌, ◌+◌, ◌^◌, ◌<◌, length, IsTrue, All, IfOk};
+ghost use Rattle.std.specs.Prelude.{◌≡◌, ◌↔◌, ◌+◌, ◌^◌, ◌<◌, length, false, IsTrue, All, IfOk};
 ghost use Rattle.store_format.specs.Bodies.{IsBody};
 ghost use Rattle.store_format.specs.Encoding.{body_bytes, PartFits, RecordFits};
 
@@ -15,14 +15,14 @@ const COUNTS: usize = 1 << 32;
 
 /// Whether the counts of a part fit their fields.
 fn part_fits(part: &SavedPart) -> bool
-    ensures { IsTrue result → PartFits part.now }
+    ensures { IsTrue result ↔ PartFits part.now }
 {
     part.vertices.len() < COUNTS && part.edges.len() < COUNTS
 }
 
 /// Whether the counts of parts fit.
 fn parts_fit(parts: &[SavedPart]) -> bool
-    ensures { IsTrue result → All PartFits parts.now }
+    ensures { IsTrue result ↔ All PartFits parts.now }
 {
     for part in parts {
         if !part_fits(part) {
@@ -34,14 +34,14 @@ fn parts_fit(parts: &[SavedPart]) -> bool
 
 /// Whether the counts of a record fit their fields.
 fn record_fits(next: &Record) -> bool
-    ensures { IsTrue result → RecordFits next.now }
+    ensures { IsTrue result ↔ RecordFits next.now }
 {
     next.entries.len() < COUNTS && parts_fit(&next.sections)
 }
 
 /// Whether bytes are the body of the snapshot with this number.
 fn is_body(alloc: Global, header: &Header, number: u32, body: &[u8]) -> Result<bool, NoMemory>
-    ensures { IfOk result (λ yes. IsTrue yes → IsBody header.now number body.now) }
+    ensures { IfOk result (λ yes. IsTrue yes ↔ IsBody header.now number body.now) }
 {
     if body.len() < 8 || body.len() as u64 != body_size(header, u32_at(body, 4)) {
         return Ok(false);
@@ -52,7 +52,8 @@ fn is_body(alloc: Global, header: &Header, number: u32, body: &[u8]) -> Result<b
     }
 }
 
-/// Whether the record of a snapshot is in the form of a store for this header, as that with this number.
+/// Whether the record of a snapshot is in the form of a store for this header, as that with this number. Want of memory is no
+/// answer to that.
 pub fn is_record(
     alloc: Global,
     header: &Header,
@@ -61,6 +62,7 @@ pub fn is_record(
 ) -> Result<bool, NoMemory>
     ensures fits { IfOk result (λ yes. IsTrue yes → RecordFits next.now) }
     ensures form { IfOk result (λ yes. IsTrue yes → IsBody header.now number (body_bytes next.now)) }
+    ensures taken { IfOk result (λ yes. RecordFits next.now → IsBody header.now number (body_bytes next.now) → IsTrue yes) }
 {
     if !record_fits(next) {
         return Ok(false);

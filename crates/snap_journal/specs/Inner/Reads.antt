@@ -1,7 +1,5 @@
 -- What is read of a disk.
-use Rattle.std.specs.Prelude.{◌≡◌, ℕ, ◌+◌, ◌-◌, ◌≤◌, min, List, [], length, take, drop, slice_index, Option, Some, None, Ok, Err, ⊤}
-use Rattle.std.specs.declared.vec.Vec.{Vec}
-use Rattle.std.specs.declared.alloc.Global.{Global}
+use Rattle.std.specs.Prelude.{◌≡◌, ℕ, ◌+◌, ◌-◌, ◌≤◌, min, Bool, true, false, List, [], length, take, drop, slice_index, Option, Some, None, Ok, Err, ⊤}
 use Rattle.store_format.specs.declared.header.Header.{Header}
 use Rattle.store_format.specs.Fields.{field}
 use Rattle.store_format.specs.Bodies.{body_size}
@@ -36,12 +34,12 @@ abbrev pub IsNextLength : Header → ℕ → ℕ → List ℕ → Option ℕ →
 IsNextLength header number at bytes None = bodies_from header number at 0 bytes ≡ Ok []
 IsNextLength header number at bytes (Some size) = HasLength header bytes size
 
--- what stands at a gate at this place: no record, or one with this body
-abbrev pub IsNextBody : Header → ℕ → ℕ → List ℕ → Option (Vec ℕ Global) → Type 0
-IsNextBody header number at seen None = bodies_from header number at 0 (drop at seen) ≡ Ok []
-IsNextBody header number at seen (Some body) =
+-- what stands at a gate at this place: one more record, with this body, or none
+abbrev pub IsNextBody : Header → ℕ → ℕ → List ℕ → List ℕ → Bool → Type 0
+IsNextBody header number at seen body false = bodies_from header number at 0 (drop at seen) ≡ Ok []
+IsNextBody header number at seen body true =
     bodies_from header number at 0 (drop at seen)
-    ≡ with_body body.items (bodies_from header (number + 1) (at + (9 + length body.items)) 0 (drop (at + (9 + length body.items)) seen))
+    ≡ with_body body (bodies_from header (number + 1) (at + (9 + length body)) 0 (drop (at + (9 + length body)) seen))
 
 -- why a store was not read on from this place
 abbrev pub IsWhyNot : Type 0 → Header → ℕ → ℕ → List ℕ → ℕ → ℕ → JournalFault → Type 0

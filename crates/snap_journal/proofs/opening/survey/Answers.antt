@@ -1,10 +1,13 @@
-use Rattle.std.proofs.Common.{rules, ◌≡◌, ℕ, ◌+◌, ◌<◌, ◌≤◌, [], length, take, drop, None, Some, Ok, sym, ap, ◌∙◌, subst, arith, length-take}
+use Rattle.std.proofs.Common.{rules, true, false, List, ◌∷◌, ◌++◌, ◌≡◌, ℕ, ◌+◌, ◌<◌, ◌≤◌, [], length, take, None, sym, ap, ◌∙◌, subst, arith, length-take}
 use Rattle.std.proofs.lemmas.Result.{err_from_is_err_and}
+use Rattle.gl_base.specs.declared.entries.Entry.{Entry}
 use Rattle.gl_outside.specs.Disk.{DiskPast}
 use Rattle.store_format.specs.Headers.{store_header_fault}
-use Rattle.store_format.specs.Records.{bodies_from}
-use Rattle.snap_journal.specs.Inner.Reads.{IsNextBody}
-use Rattle.snap_journal.proofs.SurveyLemmas.{read_none, read_more, read_all, why_not_opened}
+use Rattle.std.specs.declared.vec.Vec.{Vec}
+use Rattle.std.specs.declared.alloc.Global.{Global}
+use Rattle.store_format.proofs.NumberLemmas.{body_sections}
+use Rattle.snap_journal.specs.Inner.Found.{entries_kept}
+use Rattle.snap_journal.proofs.SurveyLemmas.{ReadSoFar, read_none, read_more, read_all, entries_all, last_of_all, ends_here, goes_on_here, why_not_opened}
 use Rattle.snap_journal.proofs.opening.survey.Goals as goal
 
 pub records-init : goal.records-init
@@ -17,7 +20,10 @@ records-init g c =
           let seen = (past c.args.disk.now).now.seen in
           let bytes : front ≡ take 64 seen = c.in_ok-front.ensures.bytes told ∙ ap (λ (p : DiskPast). take 64 p.now.seen) (c.in_ok-len.ensures.past told) in
           let none : store_header_fault c.args.header.now front ≡ None = search rules in
-          read_none c.args.header.now seen (ap (store_header_fault c.args.header.now) (sym bytes) ∙ none);
+          subst (λ (e : List Entry). ReadSoFar c.args.header.now seen 0 64 c.args.keep e c.new-body.result.items) (sym c.new-entries.ensures.items)
+          (subst (λ (b : List ℕ). ReadSoFar c.args.header.now seen 0 64 c.args.keep [] b) (sym c.new-body.ensures.items)
+          (read_none c.args.header.now seen c.args.keep (ap (store_header_fault c.args.header.now) (sym bytes) ∙ none)));
+      form = λ some. absurd (omega arith);
       len = c.in_ok-len.ensures.length;
       past = λ told. c.in_ok-front.ensures.past told ∙ c.in_ok-len.ensures.past told;
       same = g.met.D.Disk.same_trans _ _ _ c.in_ok-len.ensures.same c.in_ok-front.ensures.same;
@@ -29,28 +35,58 @@ records-init g c =
           omega (arith, whole, ap (length {A = ℕ}) bytes, length-take 64 seen, c.in_ok-len.ensures.length told);
     }
 
-pub returns-in_err-next_body-clause-fault : goal.returns-in_err-next_body-clause-fault
-returns-in_err-next_body-clause-fault g c =
+pub returns-in_err-more-clause-fault : goal.returns-in_err-more-clause-fault
+returns-in_err-more-clause-fault g c =
     let so_far = c.records.invariant in
-    let exit = err_from_is_err_and c.from_residual-in_err-next_body.result c.from_residual-in_err-next_body.ensures.1 in
-    rw (exit.1, exit.2) (why_not_opened _ c.args.header.now (g.D.Disk.past c.args.disk.now).now.seen (g.D.Disk.past c.records.disk).now.seen c.records.count c.records.gate _ _ _ _
-    (λ told. ap (λ (p : DiskPast). p.now.seen) (so_far.past told)) so_far.read so_far.later c.in_err-next_body.ensures.fault)
+    let exit = err_from_is_err_and c.from_residual-in_err-more.result c.from_residual-in_err-more.ensures.1 in
+    rw (exit.1, exit.2) (why_not_opened _ c.args.header.now (g.D.Disk.past c.args.disk.now).now.seen (g.D.Disk.past c.records.disk).now.seen c.records.count c.records.gate _ _ _ c.args.keep c.records.entries.items c.records.body.items _
+    (λ told. ap (λ (p : DiskPast). p.now.seen) (so_far.past told)) so_far.read so_far.later c.in_err-more.ensures.fault)
 
-pub returns-in_err-next_body-clause-same : goal.returns-in_err-next_body-clause-same
-returns-in_err-next_body-clause-same g c = g.met.D.Disk.same_trans _ _ _ c.records.invariant.same c.in_err-next_body.ensures.same
+pub returns-in_err-more-clause-same : goal.returns-in_err-more-clause-same
+returns-in_err-more-clause-same g c = g.met.D.Disk.same_trans _ _ _ c.records.invariant.same c.in_err-more.ensures.same
 
-pub returns-in-None-clause-found : goal.returns-in-None-clause-found
-returns-in-None-clause-found g c = λ told.
+pub returns-then-not-more-clause-found : goal.returns-then-not-more-clause-found
+returns-then-not-more-clause-found g c = λ told.
     let so_far = c.records.invariant in
     let header = c.args.header.now in
     let count = c.records.count in
     let gate = c.records.gate in
     let seen = (g.D.Disk.past c.args.disk.now).now.seen in
-    let next : IsNextBody header (count + 1) gate (g.D.Disk.past c.records.disk).now.seen None = subst (IsNextBody header (count + 1) gate (g.D.Disk.past c.records.disk).now.seen) c.in-None.is (c.in_ok-next_body.ensures.next told) in
-    read_all header seen count gate (so_far.read told) (subst (λ (p : DiskPast). bodies_from header (count + 1) gate 0 (drop gate p.now.seen) ≡ Ok []) (so_far.past told) next)
+    let here = (g.D.Disk.past c.records.disk).now.seen in
+    let closed : c.in_ok-more.more ≡ false = search rules in
+    let ends = ends_here header (count + 1) gate seen here c.next_body.new.body.items c.in_ok-more.more (ap (λ (p : DiskPast). p.now.seen) (so_far.past told)) (c.in_ok-more.ensures.next told) closed in
+    read_all header seen count gate c.args.keep c.records.entries.items c.records.body.items (so_far.read told) ends
 
-pub returns-in-None-clause-same : goal.returns-in-None-clause-same
-returns-in-None-clause-same g c = g.met.D.Disk.same_trans _ _ _ c.records.invariant.same c.in_ok-next_body.ensures.same
+pub returns-then-not-more-clause-entries : goal.returns-then-not-more-clause-entries
+returns-then-not-more-clause-entries g c = λ told.
+    let so_far = c.records.invariant in
+    let header = c.args.header.now in
+    let count = c.records.count in
+    let gate = c.records.gate in
+    let seen = (g.D.Disk.past c.args.disk.now).now.seen in
+    let here = (g.D.Disk.past c.records.disk).now.seen in
+    let closed : c.in_ok-more.more ≡ false = search rules in
+    let ends = ends_here header (count + 1) gate seen here c.next_body.new.body.items c.in_ok-more.more (ap (λ (p : DiskPast). p.now.seen) (so_far.past told)) (c.in_ok-more.ensures.next told) closed in
+    entries_all header seen count gate c.args.keep c.records.entries.items c.records.body.items (so_far.read told) ends
+
+pub returns-then-not-more-clause-body : goal.returns-then-not-more-clause-body
+returns-then-not-more-clause-body g c = λ told.
+    let so_far = c.records.invariant in
+    let header = c.args.header.now in
+    let count = c.records.count in
+    let gate = c.records.gate in
+    let seen = (g.D.Disk.past c.args.disk.now).now.seen in
+    let here = (g.D.Disk.past c.records.disk).now.seen in
+    let closed : c.in_ok-more.more ≡ false = search rules in
+    let ends = ends_here header (count + 1) gate seen here c.next_body.new.body.items c.in_ok-more.more (ap (λ (p : DiskPast). p.now.seen) (so_far.past told)) (c.in_ok-more.ensures.next told) closed in
+    ap (λ (v : Vec ℕ Global). v.items) (c.in_ok-more.ensures.kept closed)
+    ∙ last_of_all header seen count gate c.args.keep c.records.entries.items c.records.body.items (so_far.read told) ends
+
+pub returns-then-not-more-clause-same : goal.returns-then-not-more-clause-same
+returns-then-not-more-clause-same g c = g.met.D.Disk.same_trans _ _ _ c.records.invariant.same c.in_ok-more.ensures.same
+
+pub returns-in_err-keep_entries-clause-same : goal.returns-in_err-keep_entries-clause-same
+returns-in_err-keep_entries-clause-same g c = g.met.D.Disk.same_trans _ _ _ c.records.invariant.same c.in_ok-more.ensures.same
 
 pub records-preserved : goal.records-preserved
 records-preserved g c =
@@ -58,21 +94,24 @@ records-preserved g c =
     let header = c.args.header.now in
     let count = c.records.count in
     let gate = c.records.gate in
-    let body = c.in-Some.body in
-    let size : c.len-in-Some.result ≡ length body.items = search rules in
-    let numbers : count + 1 < 4294967295 = search rules in
-    let ascends : gate + 10 + length body.items ≤ c.in_ok-len.len = search rules in
+    let body = c.next_body.new.body.items in
+    let opened : c.in_ok-more.more ≡ true = search rules in
+    let size : c.len-in-records.result ≡ length body = search rules in
+    let numbers : count + 1 < 4294967295 = c.in_ok-more.ensures.numbers opened in
+    let ascends : gate + 10 + length body ≤ c.in_ok-len.len = c.in_ok-more.ensures.ascends opened in
     record {
       read = λ told.
           let seen = (g.D.Disk.past c.args.disk.now).now.seen in
           let here = (g.D.Disk.past c.records.disk).now.seen in
-          let next : IsNextBody header (count + 1) gate here (Some body) = subst (IsNextBody header (count + 1) gate here) c.in-Some.is (c.in_ok-next_body.ensures.next told) in
-          let next_seen : IsNextBody header (count + 1) gate seen (Some body) = subst (λ (p : DiskPast). IsNextBody header (count + 1) gate p.now.seen (Some body)) (so_far.past told) next in
-          rw (size) (read_more header seen count gate (so_far.read told) body next_seen);
+          let next = goes_on_here header (count + 1) gate seen here body c.in_ok-more.more (ap (λ (p : DiskPast). p.now.seen) (so_far.past told)) (c.in_ok-more.ensures.next told) opened in
+          let added : c.keep_entries.new.entries.items ≡ c.records.entries.items ++ entries_kept c.args.keep (body ∷ []) =
+          c.in_ok-keep_entries.ensures ∙ ap (λ (l : List ℕ). c.records.entries.items ++ entries_kept c.args.keep (l ∷ [])) c.deref-in-records.ensures.value in
+          rw (size) (read_more header seen count gate c.args.keep c.records.entries.items c.records.body.items (so_far.read told) c.keep_entries.new.entries.items body next added);
+      form = λ some. body_sections header (count + 1) body (c.in_ok-more.ensures.form opened);
       len = so_far.len;
-      past = λ told. c.in_ok-next_body.ensures.past told ∙ so_far.past told;
-      same = g.met.D.Disk.same_trans _ _ _ so_far.same c.in_ok-next_body.ensures.same;
-      later = omega (arith, so_far.later, c.in_ok-next_body.ensures.later);
+      past = λ told. c.in_ok-more.ensures.past told ∙ so_far.past told;
+      same = g.met.D.Disk.same_trans _ _ _ so_far.same c.in_ok-more.ensures.same;
+      later = omega (arith, so_far.later, c.in_ok-more.ensures.later);
       numbers = numbers;
       inside = λ told. omega (arith, ascends, size);
     }

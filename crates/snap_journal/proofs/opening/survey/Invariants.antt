@@ -1,12 +1,14 @@
 use Rattle.std.proofs.Common.{◌≡◌, ◌-◌, ◌+◌, ◌<◌, ◌≤◌, length}
 use Rattle.std.specs.Prelude.{IsTrue}
+use Rattle.store_format.specs.Bodies.{HasSections}
 use Rattle.snap_journal.proofs.SurveyLemmas.{ReadSoFar}
 use Rattle.snap_journal.proofs.opening.survey.Given as goal
 
 abbrev pub invariant-records : goal.invariant-records
 invariant-records g l =
     record {
-      read : IsTrue g.D.Disk.told → ReadSoFar l.header (g.D.Disk.past l.fn.disk).now.seen l.count l.gate;
+      read : IsTrue g.D.Disk.told → ReadSoFar l.header (g.D.Disk.past l.fn.disk).now.seen l.count l.gate l.keep l.entries.items l.body.items;
+      form : 0 < l.count → HasSections l.header l.body.items;
       len : IsTrue g.D.Disk.told → l.len ≡ length (g.D.Disk.past l.fn.disk).now.seen;
       past : IsTrue g.D.Disk.told → g.D.Disk.past l.disk ≡ g.D.Disk.past l.fn.disk;
       same : g.D.Disk.same l.fn.disk l.disk;

@@ -1,0 +1,4 @@
+pub mod Orders
+pub mod Journals
+pub mod GoodStores
+pub mod Recovered

@@ -1,0 +1,9 @@
+-- What is said of graphs, programs and orders.
+pub use Rattle.graph_core.specs.DataGraph.{DataGraph, size}
+pub use Rattle.update_api.specs.Updates.{Update}
+pub use Rattle.seq_run.specs.States.{start_state}
+pub use Rattle.seq_run.specs.Orders.{replay}
+pub use Rattle.seq_run.specs.Runs.{AreNumbers}
+pub use Rattle.cluster_runs.specs.Attempts.{Shared}
+pub use Rattle.attempts.specs.EngineCalls.{IsOrderInTurn}
+pub use Rattle.attempts.specs.Stores.{AreGoodOrders}

@@ -1,0 +1,52 @@
+//! Stores in memory, case by case: their sizes, what is refused where, and what each image of them is read as.
+//!
+//! Each line tells of one table how many of its cases are as they have to be, and how many are not.
+#![tactic(auto)]
+
+mod edits;
+mod images;
+mod reading;
+mod samples;
+mod sizes;
+mod starts;
+mod stops;
+mod tally;
+
+use gl_base::NoMemory;
+use std::alloc::Global;
+use std::io;
+use std::process::ExitCode;
+use tally::Tally;
+
+fn main(rt: HostRuntime) -> io::Result<ExitCode> {
+    let Ok(tables) = all_tables(rt.alloc()) else {
+        return Ok(ExitCode::from(11));
+    };
+    let mut wrong = false;
+    for table in &tables {
+        println!(rt;
+            "{}: {} right, {} wrong",
+            table.name, table.right, table.wrong
+        )?;
+        wrong = wrong || table.wrong > 0;
+    }
+    Ok(if wrong {
+        ExitCode::FAILURE
+    } else {
+        ExitCode::SUCCESS
+    })
+}
+
+/// Every table, played.
+fn all_tables(alloc: Global) -> Result<Vec<Tally>, NoMemory> {
+    let mut tables = Vec::new(alloc);
+    tables.push(sizes::sizes(alloc)?)?;
+    tables.push(starts::starts(alloc)?)?;
+    tables.push(edits::cuts(alloc)?)?;
+    tables.push(edits::raised_header_bytes(alloc)?)?;
+    tables.push(edits::edited_records(alloc)?)?;
+    tables.push(edits::closed_gates(alloc)?)?;
+    tables.push(stops::failing_calls(alloc)?)?;
+    tables.push(stops::stopped_calls(alloc)?)?;
+    Ok(tables)
+}
