@@ -60,6 +60,7 @@ impl TaskSet {
     /// outside the last acknowledged snapshot or admitted.
     pub fn new(alloc: Global, count: u32, window: Option<u32>) -> Result<TaskSet, NoMemory>
         ensures count { IfOk result (λ t. length t.task ≡ count) }
+        ensures admissions { IfOk result (λ t. length t.admitted ≡ count) }
         ensures tasks { IfOk result (λ t. (u : ℕ) → is_flagged t.task u ≡ nat_lt u count) }
         ensures none { IfOk result (λ t. (u : ℕ) → (is_flagged t.pending u ≡ false) × (is_flagged t.admitted u ≡ false) × (is_flagged t.planned u ≡ false)) }
         ensures asked { IfOk result (λ t. t.asked ≡ []) }
@@ -252,6 +253,7 @@ impl TaskSet {
     /// As after `new`: every vertex is a task, none is pending or admitted, and no update is outside.
     pub fn reset(&mut self)
         ensures count { length self.new.task ≡ length self.old.task }
+        ensures admissions { length self.new.admitted ≡ length self.old.task }
         ensures tasks { (u : ℕ) → is_flagged self.new.task u ≡ nat_lt u (length self.old.task) }
         ensures none { (u : ℕ) → (is_flagged self.new.pending u ≡ false) × (is_flagged self.new.admitted u ≡ false) × (is_flagged self.new.planned u ≡ false) }
         ensures asked { self.new.asked ≡ [] }
