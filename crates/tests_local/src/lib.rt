@@ -1,7 +1,9 @@
-//! Tests of what a machine holds of a graph: its rows, the machines of scopes, and its own vertices of scopes.
+//! Tests of what a machine holds of a graph: its rows, the machines of scopes, its own vertices of scopes, and an update.
 #![tactic(auto)]
 
 #[cfg(test)]
 mod graphs;
 #[cfg(test)]
-mod tests;
+mod parts;
+#[cfg(test)]
+mod updates;

@@ -1,7 +1,19 @@
 //! What a crash may leave of a small history, worked out by hand.
-ghost use Rattle.std.specs.Prelude.{◌≡◌, ℕ, List, [], ◌∷◌};
-ghost use Rattle.gl_outside.specs.Disk.{images_now, images_since};
+ghost use Rattle.std.specs.Prelude.{◌≡◌, ℕ, List, [], ◌∷◌, OnOk};
+ghost use Rattle.gl_outside.specs.Disk.{at_rest, images_now, images_since};
+ghost use Rattle.gl_outside.specs.MemDisk.{past_of};
 ghost use Rattle.tests_outside.specs.History.{synced, written_over};
+
+use gl_outside::{Disk, Failed, MemDisk};
+
+/// A disk in memory has this history, where it held 1, 2, 3.
+pub fn write_and_sync(disk: &mut MemDisk) -> Result<(), Failed>
+    requires { past_of disk.old.kept ≡ at_rest (1 ∷ 2 ∷ 3 ∷ []) }
+    ensures { OnOk result (past_of disk.new.kept ≡ synced) }
+{
+    disk.write_at(1, &[9])?;
+    disk.sync()
+}
 
 /// Of the bytes 1, 2, 3 the one at place 1 is written over by 9. Until a sync a crash may leave any byte there and any bytes
 /// behind the old end, and nothing else; behind the sync it leaves 1, 9, 3, and before it may have left what it might then.

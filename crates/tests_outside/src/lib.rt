@@ -3,9 +3,13 @@
 
 mod images;
 
-pub use images::images_of_a_write;
+pub use images::{images_of_a_write, write_and_sync};
 
 #[cfg(test)]
+mod disks;
+#[cfg(test)]
 mod memory;
+#[cfg(test)]
+mod names;
 #[cfg(test)]
 mod system;

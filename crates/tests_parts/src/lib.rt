@@ -1,17 +1,13 @@
-//! Tests of the parts of a machine: worked rows, played from tables, and random calls beside plain lists.
+//! Tests of the parts of a machine: each call where it has what it asks for, played from lists of calls.
 #![tactic(auto)]
 
 #[cfg(test)]
-mod chances;
+mod ghosts;
 #[cfg(test)]
 mod locks;
 #[cfg(test)]
+mod messages;
+#[cfg(test)]
 mod pipes;
-#[cfg(test)]
-mod plain_locks;
-#[cfg(test)]
-mod plain_pipes;
-#[cfg(test)]
-mod plain_tasks;
 #[cfg(test)]
 mod tasks;

@@ -12,6 +12,8 @@ enum Call {
     Reset,
 }
 
+const X: Vertex = Vertex(5);
+
 fn scope(serial: u64) -> ScopeId {
     ScopeId {
         home: MachineNo(1),
@@ -20,79 +22,65 @@ fn scope(serial: u64) -> ScopeId {
 }
 
 /// Makes the call, and tells whether its answer is the wanted one.
-fn make(table: &mut LockTable, call: &Call) -> Result<bool, Fail> {
-    let x = Vertex(5);
-    if !table.owns(x) {
-        return Ok(false);
-    }
+fn make(table: &mut LockTable, call: Call) -> bool {
     match call {
-        Call::Ask(serial, mode) => {
-            let scope = scope(*serial);
-            table.reserve(x)?;
-            if !table.owns(x) || table.holds(x, scope) || table.waits(x, scope) {
-                return Ok(false);
-            }
-            table.request(x, Claim { scope, mode: *mode });
-            Ok(true)
-        }
-        Call::Grant(wanted) => {
-            let looked = table.look(x);
-            let turn = table.grant(x);
-            let serial = match turn {
-                Turn::Granted(claim) => Some(claim.scope.serial),
-                Turn::Waiting => None,
-            };
-            Ok(looked == turn && serial == *wanted)
-        }
-        Call::Release(serial) => {
-            let scope = scope(*serial);
-            if !table.holds(x, scope) {
-                return Ok(false);
-            }
-            table.release(x, scope);
-            Ok(true)
-        }
+        Call::Ask(serial, mode) => asks(table, scope(serial), mode),
+        Call::Grant(wanted) => grants(table, wanted),
+        Call::Release(serial) => releases(table, scope(serial)),
         Call::Reset => {
             table.reset();
-            Ok(true)
+            true
         }
     }
+}
+
+fn asks(table: &mut LockTable, scope: ScopeId, mode: Mode) -> bool {
+    if !table.owns(X) || table.reserve(X).is_err() || !table.owns(X) {
+        return false;
+    }
+    if table.holds(X, scope) || table.waits(X, scope) {
+        return false;
+    }
+    table.request(X, Claim { scope, mode });
+    true
+}
+
+fn grants(table: &mut LockTable, wanted: Option<u64>) -> bool {
+    if !table.owns(X) {
+        return false;
+    }
+    let looked = table.look(X);
+    let turn = table.grant(X);
+    let serial = match turn {
+        Turn::Granted(claim) => Some(claim.scope.serial),
+        Turn::Waiting => None,
+    };
+    looked == turn && serial == wanted
+}
+
+fn releases(table: &mut LockTable, scope: ScopeId) -> bool {
+    if !table.owns(X) || !table.holds(X, scope) {
+        return false;
+    }
+    table.release(X, scope);
+    true
 }
 
 #[test]
 fn in_turn(rt: HostRuntime) -> Result<(), Fail> {
     let calls = [
-        Call::Grant(None),
         Call::Ask(0, Mode::Reader),
         Call::Ask(1, Mode::Writer),
-        Call::Ask(2, Mode::Reader),
         Call::Grant(Some(0)),
         Call::Grant(None),
         Call::Release(0),
         Call::Grant(Some(1)),
-        Call::Grant(None),
-        Call::Release(1),
-        Call::Grant(Some(2)),
-        Call::Grant(None),
-        Call::Ask(3, Mode::Reader),
-        Call::Grant(Some(3)),
-        Call::Ask(4, Mode::Writer),
-        Call::Release(2),
-        Call::Grant(None),
-        Call::Release(3),
-        Call::Grant(Some(4)),
-        Call::Ask(5, Mode::Reader),
         Call::Reset,
         Call::Grant(None),
-        Call::Ask(4, Mode::Reader),
-        Call::Grant(Some(4)),
     ];
-    let owned = [Vertex(5), Vertex(2)];
-    let mut table = LockTable::new(rt.alloc(), &owned, 6)?;
-    for call in &calls {
-        assert!(rt; make(&mut table, call)?);
+    let mut table = LockTable::new(rt.alloc(), &[Vertex(5), Vertex(2)], 6)?;
+    for call in calls {
+        assert!(rt; make(&mut table, call));
     }
-    let none = LockTable::new(rt.alloc(), &[], 0)?;
-    assert!(rt; !none.owns(Vertex(0)));
     Ok(())
 }

@@ -46,7 +46,7 @@ fn gives(set: &mut TaskSet, wanted: Option<(u32, bool)>) -> bool {
     looked == wanted && next == wanted
 }
 
-pub fn wake(set: &mut TaskSet, v: Vertex, key: u64) -> bool {
+fn wake(set: &mut TaskSet, v: Vertex, key: u64) -> bool {
     if v.0 >= set.count() {
         return false;
     }
@@ -54,7 +54,7 @@ pub fn wake(set: &mut TaskSet, v: Vertex, key: u64) -> bool {
     set.is_task(v)
 }
 
-pub fn pend(set: &mut TaskSet, v: Vertex) -> bool {
+fn pend(set: &mut TaskSet, v: Vertex) -> bool {
     if v.0 >= set.count() {
         return false;
     }
@@ -62,7 +62,7 @@ pub fn pend(set: &mut TaskSet, v: Vertex) -> bool {
     set.is_pending(v)
 }
 
-pub fn ran(set: &mut TaskSet, v: Vertex) -> bool {
+fn ran(set: &mut TaskSet, v: Vertex) -> bool {
     if !set.is_admitted(v) || !set.is_task(v) || set.is_pending(v) || set.outside() == u64::MAX {
         return false;
     }
@@ -70,7 +70,7 @@ pub fn ran(set: &mut TaskSet, v: Vertex) -> bool {
     !set.is_admitted(v)
 }
 
-pub fn marked(set: &mut TaskSet, v: Vertex) -> bool {
+fn marked(set: &mut TaskSet, v: Vertex) -> bool {
     if !set.is_admitted(v) || !set.is_pending(v) {
         return false;
     }
@@ -78,7 +78,7 @@ pub fn marked(set: &mut TaskSet, v: Vertex) -> bool {
     !set.is_pending(v)
 }
 
-pub fn acknowledged(set: &mut TaskSet, count: u64) -> bool {
+fn acknowledged(set: &mut TaskSet, count: u64) -> bool {
     if count > set.outside() {
         return false;
     }
@@ -86,56 +86,47 @@ pub fn acknowledged(set: &mut TaskSet, count: u64) -> bool {
     true
 }
 
-#[test]
-fn within_the_window(rt: HostRuntime) -> Result<(), Fail> {
-    let calls = [
-        Call::Update(0),
-        Call::Nothing,
-        Call::Ran(0),
-        Call::Nothing,
-        Call::Acknowledged(1),
-        Call::Update(1),
-        Call::Nothing,
-        Call::Pend(1),
-        Call::Nothing,
-        Call::Marked(1),
-        Call::Update(1),
-        Call::Reset,
-        Call::Update(0),
-    ];
-    let mut set = TaskSet::new(rt.alloc(), 2, Some(1))?;
-    for call in calls {
-        assert!(rt; make(&mut set, call));
-    }
-    Ok(())
-}
+// Updates within a window, snapshots first, and of tasks those with near keys first.
+const CALLS: [Call; 16] = [
+    Call::Update(0),
+    Call::Nothing,
+    Call::Ran(0),
+    Call::Nothing,
+    Call::Acknowledged(1),
+    Call::Update(1),
+    Call::Pend(1),
+    Call::Marked(1),
+    Call::Update(1),
+    Call::Ran(1),
+    Call::Acknowledged(1),
+    Call::Pend(1),
+    Call::Snapshot(1),
+    Call::Marked(1),
+    Call::Reset,
+    Call::Update(0),
+];
+
+// Which task is next is told by no clause.
+const NEAR: [Call; 10] = [
+    Call::Nothing,
+    Call::Wake(4, 100),
+    Call::Wake(3, 90),
+    Call::Wake(2, 10),
+    Call::Wake(1, 12),
+    Call::Update(4),
+    Call::Update(2),
+    Call::Update(1),
+    Call::Update(3),
+    Call::Nothing,
+];
 
 #[test]
-fn pending_ones_first(rt: HostRuntime) -> Result<(), Fail> {
-    let calls = [
-        Call::Update(0),
-        Call::Pend(2),
-        Call::Pend(1),
-        Call::Pend(2),
-        Call::Pend(0),
-        Call::Snapshot(2),
-        Call::Snapshot(1),
-        Call::Nothing,
-        Call::Marked(0),
-        Call::Update(0),
-        Call::Marked(2),
-        Call::Update(2),
-        Call::Nothing,
-    ];
-    let mut set = TaskSet::new(rt.alloc(), 3, None)?;
-    for call in calls {
+fn within_the_window(rt: HostRuntime) -> Result<(), Fail> {
+    let mut set = TaskSet::new(rt.alloc(), 2, Some(1))?;
+    for call in CALLS {
         assert!(rt; make(&mut set, call));
     }
-    assert_eq!(rt; set.some_pending(), Some(Vertex(1)));
-    assert!(rt; set.some_task().is_some());
-    let none = TaskSet::new(rt.alloc(), 0, None)?;
-    assert_eq!(rt; none.look(), None);
-    assert_eq!(rt; none.some_task(), None);
+    assert!(rt; set.some_task().is_some() && set.some_pending().is_none());
     Ok(())
 }
 
@@ -143,22 +134,9 @@ fn pending_ones_first(rt: HostRuntime) -> Result<(), Fail> {
 fn near_ones_first(rt: HostRuntime) -> Result<(), Fail> {
     let mut set = TaskSet::new(rt.alloc(), 5, None)?;
     for v in 0..5 {
-        assert!(rt; make(&mut set, Call::Update(v)));
-        assert!(rt; make(&mut set, Call::Ran(v)));
+        assert!(rt; make(&mut set, Call::Update(v)) && make(&mut set, Call::Ran(v)));
     }
-    let calls = [
-        Call::Nothing,
-        Call::Wake(4, 100),
-        Call::Wake(3, 90),
-        Call::Wake(2, 10),
-        Call::Wake(1, 12),
-        Call::Update(4),
-        Call::Update(2),
-        Call::Update(1),
-        Call::Update(3),
-        Call::Nothing,
-    ];
-    for call in calls {
+    for call in NEAR {
         assert!(rt; make(&mut set, call));
     }
     Ok(())

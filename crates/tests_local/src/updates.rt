@@ -1,0 +1,69 @@
+//! The update of a vertex: its row is taken out, and put back with what the update made of its edges.
+ghost use Rattle.std.specs.Prelude.{◌≡◌, true, IfOk, length};
+ghost use Rattle.local_graph.specs.Locals.{is_own};
+ghost use Rattle.local_graph.specs.Works.{IsRow};
+ghost use Rattle.tests_local.specs.Rows.{HasRow};
+
+use crate::graphs::graph_of;
+use crate::parts::{lines_by_owner, outline_of, played};
+use gl_base::{MachineNo, NoMemory, ScopeId, Vertex};
+use local_graph::{LocalGraph, Outcome, Row, Work};
+use prog_labels::Components;
+use std::alloc::Global;
+use std::test::Fail;
+
+/// The number of a vertex after its update, where it had 9 and its neighbours this one.
+fn update(alloc: Global, local: &mut LocalGraph, v: Vertex, number: u64) -> Result<u64, NoMemory>
+    requires own { is_own local.old v.0 ≡ true }
+    requires row { HasRow local.old v.0 }
+{
+    let degree = local.sides(v).len();
+    let spare = Vec::with_capacity(alloc, degree)?;
+    let near = Vec::from_elem(alloc, number, degree)?;
+    let row = local.take_row(v, spare);
+    let Ok(Outcome { work, value, .. }) = outcome(alloc, work_of(v, row, near)) else {
+        return Err(NoMemory);
+    };
+    let Work { row, .. } = work;
+    local.put_row(v, row);
+    Ok(value)
+}
+
+fn work_of(vertex: Vertex, row: Row, near: Vec<u64>) -> Work
+    ensures row { result.row ≡ row }
+    ensures near { result.near ≡ near }
+{
+    let home = MachineNo(0);
+    Work {
+        scope: ScopeId { home, serial: 0 },
+        vertex,
+        id: 9,
+        value: 9,
+        row,
+        near,
+    }
+}
+
+/// Makes the update of a work.
+fn outcome(alloc: Global, work: Work) -> Result<Outcome, Work>
+    requires links { IsRow work.row.links.items (length work.near.items) }
+    requires numbers { length work.row.numbers.items ≡ length work.near.items }
+    ensures { IfOk result (λ made. made.work ≡ work) }
+{
+    let mut made = Outcome::of(alloc, work)?;
+    made.update(&Components);
+    Ok(made)
+}
+
+#[test]
+fn a_row_goes_out_and_back(rt: HostRuntime) -> Result<(), Fail> {
+    let alloc = rt.alloc();
+    let graph = graph_of(&rt, alloc, 1, 4, &[(1, 2), (2, 3)], false)?;
+    let lines = lines_by_owner(&rt, alloc, &graph, &[0, 0, 1])?;
+    let v = Vertex(1);
+    assert!(rt; !lines.is_empty());
+    let mut local = played(&rt, alloc, MachineNo(0), &lines[0], outline_of(&graph))?;
+    assert!(rt; local.owns(v));
+    assert!(rt; update(alloc, &mut local, v, 4)? == 4);
+    Ok(())
+}
