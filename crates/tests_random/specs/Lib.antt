@@ -1,0 +1,2 @@
+-- What holds of the plain lists beside a pipe.
+pub mod Flying

@@ -1,0 +1,102 @@
+//! Random calls of a lock table, beside plain lists of those that hold and those that wait.
+use crate::chances::Chances;
+use gl_base::{Claim, MachineNo, Mode, NoMemory, ScopeId, Vertex};
+use std::alloc::Global;
+use vertex_locks::{LockTable, Turn};
+
+/// Who holds a lock, and who waits for it, the first first.
+#[derive(Drop)]
+struct Plain {
+    holders: Vec<Claim>,
+    queue: Vec<Claim>,
+}
+
+impl Plain {
+    /// The first that waits holds the lock, where no writer is beside another.
+    fn grant(&mut self) -> Result<Turn, NoMemory> {
+        let Some(first) = self.queue.first().copied() else {
+            return Ok(Turn::Waiting);
+        };
+        let reads = |claim: &Claim| claim.mode == Mode::Reader;
+        let alone = self.holders.is_empty();
+        if !alone && !(reads(&first) && self.holders.iter().all(reads)) {
+            return Ok(Turn::Waiting);
+        }
+        self.queue.remove(0);
+        self.holders.push(first)?;
+        Ok(Turn::Granted(first))
+    }
+}
+
+fn is_among(claims: &[Claim], scope: ScopeId) -> bool {
+    claims.iter().any(|claim| claim.scope == scope)
+}
+
+/// One random call of both, and whether they answered alike.
+fn call(
+    table: &mut LockTable,
+    plain: &mut [Plain],
+    chances: &mut Chances,
+) -> Result<bool, NoMemory> {
+    let place = chances.below(4);
+    let x = Vertex(place);
+    let scope = ScopeId {
+        home: MachineNo(chances.below(2) as u16),
+        serial: chances.below(4) as u64,
+    };
+    if !table.owns(x) || place as usize >= plain.len() {
+        return Ok(false);
+    }
+    let lock = &mut plain[place as usize];
+    table.reserve(x)?;
+    let waits = table.waits(x, scope);
+    let holds = table.holds(x, scope);
+    if waits != is_among(&lock.queue, scope) || holds != is_among(&lock.holders, scope) {
+        return Ok(false);
+    }
+    if holds {
+        table.release(x, scope);
+        lock.holders.retain(|claim| claim.scope != scope);
+    } else if waits {
+        let looked = table.look(x);
+        let turn = table.grant(x);
+        return Ok(looked == turn && turn == lock.grant()?);
+    } else {
+        let mode = [Mode::Reader, Mode::Writer][chances.below(2) as usize];
+        let claim = Claim { scope, mode };
+        table.request(x, claim);
+        lock.queue.push(claim)?;
+    }
+    Ok(true)
+}
+
+/// Plays random calls of both, from locks that nobody claims.
+fn play(table: &mut LockTable, seed: u64, alloc: Global) -> Result<bool, NoMemory> {
+    let mut plain = Vec::new(alloc);
+    for _ in 0..4 {
+        plain.push(Plain {
+            holders: Vec::new(alloc),
+            queue: Vec::new(alloc),
+        })?;
+    }
+    let mut chances = Chances::new(seed);
+    for _ in 0..1000 {
+        if !call(table, &mut plain, &mut chances)? {
+            return Ok(false);
+        }
+    }
+    Ok(true)
+}
+
+/// Whether a table answers as plain lists do, at 1,000 calls each of 8 seeds.
+pub fn locks_are_alike(alloc: Global) -> Result<bool, NoMemory> {
+    let owned = [Vertex(3), Vertex(0), Vertex(2), Vertex(1)];
+    let mut table = LockTable::new(alloc, &owned, 4)?;
+    for seed in 0..8 {
+        if !play(&mut table, seed, alloc)? {
+            return Ok(false);
+        }
+        table.reset();
+    }
+    Ok(true)
+}
