@@ -121,6 +121,7 @@ nobody s = false
 abbrev pub IsOrderly : Core → Type 0
 IsOrderly m = IsOrderlyBut nobody m
 
--- it knows the own vertex at each place of its tasks
-abbrev pub KnowsPlaces : Core → Type 0
-KnowsPlaces m = StandByPlace m.numbers.local (length m.numbers.tasks.task) m.by_place.items
+-- It knows the own vertex at each place of its tasks, and there each is marked as admitted or not.
+pub record KnowsPlaces (m : Core) : Type 0 where
+  pub vertices : StandByPlace m.numbers.local (length m.numbers.tasks.task) m.by_place.items
+  pub flags : length m.numbers.tasks.admitted ≡ length m.numbers.tasks.task
