@@ -8,7 +8,7 @@ use Rattle.gl_base.specs.declared.scopes.ScopeId.{ScopeId}
 use Rattle.scope_lists.specs.Scopes.{is_scope}
 use Rattle.scope_lists.proofs.SameScope.{same_scope, one_or_two, set_for-there}
 use Rattle.cluster_core.specs.Effects.{asks_for, received}
-use Rattle.cluster_core.specs.Messages.{Ask, Message, Ready}
+use Rattle.cluster_core.specs.Messages.{Ask, Message}
 use Rattle.lock_release.specs.Released.{is_one_of}
 use Rattle.scope_pipe.specs.Entered.{EnteredView, comes}
 use Rattle.scope_pipe.specs.Pipes.{PipeView, HasCome, HasReadied, entered_at, flight_at, is_ready}
@@ -20,7 +20,6 @@ use Rattle.machine_parts.specs.Rooms.{HasOnlyMadeRoom}
 use Rattle.machine_parts.proofs.RoomLemmas.{part_room, settings_room}
 use Rattle.machine_scopes.specs.Asking.{IsNewAt, AreMachinesFor, CanBecomeReady, HasReceivedMessage}
 use Rattle.machine_scopes.specs.Inner.Going.{HasGoneOn}
-use Rattle.machine_scopes.proofs.EffectLemmas.{readied_part}
 use Rattle.machine_scopes.proofs.HeldLemmas.{last_is, one_of, some_of}
 use Rattle.machine_scopes.proofs.KeepLemmas.{come_keeps, flights_keep}
 use Rattle.machine_scopes.proofs.MoveLemmas.{is_this, entered_here, entered_there, entered_is, home_same, flight_same, ready_same, flights_same, stands_keep}
@@ -132,12 +131,6 @@ pub new_room : (m now : Core) (s : ScopeId) (v : Vertex) → HasOnlyMadeRoom m n
 new_room m now s v room is = subst (λ (n : Core). IsNewAt n s v) (sym room.rest)
     (record { come_not = is.come_not; holds_not = λ x. room.locks.holder x s ∙ is.holds_not x; flight = is.flight; placed = is.placed })
 
-pub machines_room : (m now : Core) (s : ScopeId) (rest : List MachineNo) → HasOnlyMadeRoom m now → AreMachinesFor m s rest → AreMachinesFor now s rest
-machines_room m now s rest room are = record {
-  machines = λ i b at. subst (λ (k : ℕ). b.0 < k) (sym room.out.machines) (are.machines i b at);
-  home = subst (λ (k : ℕ). s.home.0 < k) (sym room.out.machines) are.home;
-}
-
 -- ---- a scope that becomes ready
 
 pub orderly_readied : (m : Core) (pipe : PipeView) (s : ScopeId) (c : Vertex) → IsOrderly m → entered_at m.pipe s ≡ None → flight_at m.pipe s ≡ Some c
@@ -183,9 +176,6 @@ orderly_readied m pipe s c is gone flies all readied kept =
     still : (b old : Bool) → old ≡ true → (if b then true else old) ≡ true
     still true old was = refl
     still false old was = was
-
-pub ready_received : (m : Core) (pipe : PipeView) (s : ScopeId) → HasReadied m.pipe pipe s → pipe ≡ record m.pipe { waiting = pipe.waiting; ready = pipe.ready } → HasReceivedMessage m (record m { pipe = pipe }) (Ready s)
-ready_received m pipe s readied kept st part = readied_part m pipe s readied kept
 
 -- a scope that holds all its locks here waits for none
 pub ready_gone : (m : Core) (s : ScopeId) → IsOrderly m → CanBecomeReady m s → entered_at m.pipe s ≡ None

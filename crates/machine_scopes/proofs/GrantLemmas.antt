@@ -1,5 +1,5 @@
 -- A lock that is granted, at the machine and as the cluster sees it.
-use Rattle.std.proofs.Common.{Result, Ok, Err, OnErr, ◌≡◌, ◌≢◌, ℕ, suc, pred, ◌<◌, Bool, true, false, if◌then◌else◌, Option, None, Some, is_some, List, ◌∷◌, length, drop, get_or, slice_get, nat_lt, refl, sym, ap, ◌∙◌, subst, All, arith, inl, inr, true≢false}
+use Rattle.std.proofs.Common.{Result, Ok, Err, OnErr, ◌≡◌, ◌≢◌, ℕ, suc, pred, ◌<◌, Bool, true, false, if◌then◌else◌, Option, None, Some, is_some, List, ◌∷◌, length, drop, get_or, slice_get, nat_lt, refl, sym, ap, ◌∙◌, subst, All, arith, inl, inr}
 use Rattle.std.specs.List.{AllPairs}
 use Rattle.std.proofs.lemmas.Bool.{cases_eq, cases_lt, eq-eqb, ne_eqb, lt-ltb, le-ltb}
 use Rattle.std.proofs.lemmas.List.Elements.{All-tail}
@@ -19,18 +19,18 @@ use Rattle.lock_release.specs.Released.{is_one_of}
 use Rattle.scope_pipe.specs.Entered.{EnteredView}
 use Rattle.scope_pipe.specs.Pipes.{PipeView, entered_at, flight_at}
 use Rattle.vertex_locks.specs.Locks.{LockView, IsNext, WaitOnce, claimant}
-use Rattle.vertex_locks.specs.Tables.{HasTaken, is_owned, holder_at, queue_at}
+use Rattle.vertex_locks.specs.Tables.{HasTaken, holder_at, queue_at}
 use Rattle.machine_parts.specs.declared.cores.Core.{Core}
 use Rattle.machine_parts.specs.Parts.{part_of, part_at, stand_at, lock_asked, machine_numbers, number_of}
 use Rattle.machine_parts.specs.Order.{HasComeRight, StandsAtLock, IsOrderly, IsOrderlyBut, got, nobody}
 use Rattle.machine_parts.specs.Rooms.{HasOnlyMadeRoom}
 use Rattle.machine_parts.proofs.RoomLemmas.{part_room, settings_room}
-use Rattle.machine_scopes.specs.Granting.{MayGrantLock, MayNotGrantLock, HasGrantedLock}
+use Rattle.machine_scopes.specs.Granting.{MayNotGrantLock, HasGrantedLock}
 use Rattle.machine_scopes.specs.Inner.Going.{HasGoneOn}
 use Rattle.machine_scopes.proofs.EffectLemmas.{taken_part}
 use Rattle.machine_scopes.proofs.MoveLemmas.{is_this, stands_keep}
 use Rattle.machine_scopes.proofs.OwnLemmas.{next_own}
-use Rattle.machine_scopes.proofs.HeldLemmas.{own_in, own_from_setting, one_of, last_is, first_stands, holds_here, holds_there, holds_as, holds_still, held_or}
+use Rattle.machine_scopes.proofs.HeldLemmas.{one_of, last_is, first_stands, holds_here, holds_there, holds_as, holds_still, held_or}
 
 -- ---- the machine once the lock is granted
 
@@ -170,16 +170,7 @@ module _ (m : Core) (x : ℕ) (c : Claim) (is : IsOrderly m) (first : IsNext (ho
       standing v rest None = None
       standing v rest (Some y) = Some (record { centre = v; lock = y.0; rest = rest })
 
--- ---- when it may be granted
-
-pub may_grant : (m : Core) (x : ℕ) (c : Claim) → IsOrderly m → is_owned m.locks x ≡ true → IsNext (holder_at m.locks x) (queue_at m.locks x) c → MayGrantLock m x
-may_grant m x c is owned first st part =
-    let own = own_in st m.numbers.local x part.local (sym (is.locks.owned x) ∙ owned) in
-    record { vertex = own.0; owned = own.1; claim = c; behind = first.behind; first = first.first; together = first.together }
-
-pub may_not_own : (m : Core) (x : ℕ) → IsOrderly m → is_owned m.locks x ≡ false → MayNotGrantLock m x
-may_not_own m x is unowned st part may =
-    true≢false (sym (is.locks.owned x ∙ own_from_setting st m.numbers.local x part.local may.vertex may.owned) ∙ unowned)
+-- ---- when it may not be granted
 
 pub may_not_grant : (m : Core) (x : ℕ) → ((c : Claim) → IsNext (holder_at m.locks x) (queue_at m.locks x) c → ⊥) → MayNotGrantLock m x
 may_not_grant m x none st part may = none may.claim (record { behind = may.behind; first = may.first; together = may.together })

@@ -7,10 +7,8 @@ use Rattle.scope_pipe.specs.Entered.{EnteredView}
 use Rattle.scope_pipe.specs.Pipes.{PipeView, Flies, flight_at, is_ready}
 use Rattle.machine_numbers.specs.declared.keeping.Numbers.{Numbers}
 use Rattle.machine_parts.specs.declared.cores.Core.{Core}
-use Rattle.machine_parts.specs.declared.cores.Terms.{Terms}
 use Rattle.machine_parts.specs.Parts.{LocalView}
 use Rattle.machine_parts.specs.Order.{IsGraphInOrder, HasComeRight, AreFlightsInOrder, IsReadyAt, IsOrderlyBut}
-use Rattle.machine_parts.specs.Settings.{IsLocalOf, SameSettings}
 use Rattle.machine_parts.specs.declared.spare.SpareParts.{SpareParts}
 
 -- two pipes have the same scopes of this home; those that were ready are
@@ -53,16 +51,4 @@ orderly_out moving m out spare many is = record {
   locks = is.locks;
   flights = is.flights;
   width = is.width;
-}
-
--- ---- settings
-
-pub settings_keep : (old new : Core) → new.numbers ≡ old.numbers → new.terms ≡ old.terms → length new.out.machines ≡ length old.out.machines → SameSettings old new
-settings_keep old new numbers terms many st is = record {
-  local = subst (λ (n : Numbers). IsLocalOf st n.local) (sym numbers) is.local;
-  machines = many ∙ is.machines;
-  engine = is.engine;
-  pipeline = ap (λ (t : Terms). t.pipeline) terms ∙ is.pipeline;
-  base = ap (λ (t : Terms). t.base) terms ∙ is.base;
-  window = ap (λ (n : Numbers). n.tasks.window) numbers ∙ is.window;
 }

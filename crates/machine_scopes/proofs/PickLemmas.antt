@@ -1,8 +1,8 @@
 -- What the tasks pick, and when a scope may be admitted.
-use Rattle.std.proofs.Common.{◌≡◌, ℕ, zero, suc, ◌<◌, ◌≤◌, ◌==◌, Bool, true, false, not, if◌then◌else◌, Option, None, Some, is_some, IfSome, List, [], ◌∷◌, length, slice_get, slice_set, refl, sym, ap, ◌∙◌, subst, ⊎_elim, arith, inl, inr, true≢false}
+use Rattle.std.proofs.Common.{◌≡◌, ℕ, zero, suc, ◌<◌, ◌==◌, Bool, true, false, not, Option, None, Some, is_some, IfSome, List, [], ◌∷◌, length, slice_get, slice_set, refl, sym, ap, ◌∙◌, subst, ⊎_elim, arith, inl, inr, true≢false}
 use Rattle.std.specs.List.{list_any}
-use Rattle.std.proofs.lemmas.Bool.{cases_Bool, cases_eq, cases_lt, eq-eqb, ne_eqb, lt-ltb, and_parts, and_from}
-use Rattle.std.proofs.lemmas.List.{get_or-set_same, get_or-set_other, length-set}
+use Rattle.std.proofs.lemmas.Bool.{cases_Bool, cases_eq, lt-ltb, and_parts, and_from}
+use Rattle.std.proofs.lemmas.List.{get_or-set_same, get_or-set_other}
 use Rattle.std.proofs.lemmas.Option.{same_Some}
 use Rattle.gl_base.specs.declared.numbers.Vertex.{Vertex}
 use Rattle.cluster_core.specs.Actions.{IsItsTurn}
@@ -27,33 +27,6 @@ pub flag_inside : (flags : List Bool) (u : ℕ) → is_flagged flags u ≡ true 
 flag_inside [] u set = absurd (true≢false (sym set))
 flag_inside (f ∷ flags) zero set = omega arith
 flag_inside (f ∷ flags) (suc u) set = omega (arith, flag_inside flags u set)
-
-flag_past : (flags : List Bool) (u : ℕ) → length flags ≤ u → is_flagged flags u ≡ false
-flag_past flags u past = ⊎_elim
-    (λ (set : is_flagged flags u ≡ true). let inside = flag_inside flags u set in absurd (omega arith))
-    (λ (clear : is_flagged flags u ≡ false). clear)
-    (cases_Bool (is_flagged flags u))
-
-pub flag_cleared : (flags : List Bool) (v u : ℕ) → is_flagged (slice_set flags v false) u ≡ (if u == v then false else is_flagged flags u)
-flag_cleared flags v u = elim (cases_eq u v) [
-  | inl same ↦
-      ap (is_flagged (slice_set flags v false)) same
-      ∙ elim (cases_lt v (length flags)) [
-        | inl inside ↦ get_or-set_same flags v false false inside
-        | inr past ↦ flag_past (slice_set flags v false) v (omega (arith, length-set flags v false))
-      ]
-      ∙ sym (ap (λ (b : Bool). if b then false else is_flagged flags u) (eq-eqb u v same))
-  | inr other ↦ get_or-set_other flags v u false false other ∙ sym (ap (λ (b : Bool). if b then false else is_flagged flags u) (ne_eqb u v other))
-]
-
--- a flag that was set, cleared and set again
-pub flag_again : (flags : List Bool) (v u : ℕ) → is_flagged flags v ≡ true → is_flagged (slice_set (slice_set flags v false) v true) u ≡ is_flagged flags u
-flag_again flags v u set = elim (cases_eq u v) [
-  | inl same ↦
-      let inside = flag_inside flags v set in
-      ap (is_flagged (slice_set (slice_set flags v false) v true)) same ∙ get_or-set_same (slice_set flags v false) v true false (omega (arith, length-set flags v false)) ∙ sym set ∙ sym (ap (is_flagged flags) same)
-  | inr other ↦ get_or-set_other (slice_set flags v false) v u true false other ∙ get_or-set_other flags v u false false other
-]
 
 -- a flag that is set anew
 pub flag_set : (flags : List Bool) (v u : ℕ) → is_flagged flags u ≡ true → is_flagged (slice_set flags v true) u ≡ true

@@ -1,5 +1,5 @@
 -- What is there for a scope that goes on, and what stays where room is made for it.
-use Rattle.std.proofs.Common.{◌≡◌, ℕ, suc, ◌<◌, ◌==◌, Bool, true, false, Option, None, Some, List, [], ◌∷◌, length, slice_get, refl, sym, ap, ◌∙◌, subst}
+use Rattle.std.proofs.Common.{◌≡◌, ℕ, suc, ◌<◌, true, Option, None, Some, List, [], ◌∷◌, length, slice_get, refl, sym, ap, ◌∙◌, subst}
 use Rattle.gl_base.specs.declared.numbers.MachineNo.{MachineNo}
 use Rattle.gl_base.specs.declared.numbers.Vertex.{Vertex}
 use Rattle.gl_base.specs.declared.scopes.Claim.{Claim}
@@ -7,7 +7,6 @@ use Rattle.gl_base.specs.declared.scopes.ScopeId.{ScopeId}
 use Rattle.scope_pipe.specs.Entered.{EnteredView, next_at, next_of}
 use Rattle.scope_pipe.specs.Pipes.{entered_at}
 use Rattle.scope_pipe.specs.declared.next.Next.{Next}
-use Rattle.scope_pipe.specs.declared.next.Next.TheVariants.{Lock, Forward, Home}
 use Rattle.vertex_locks.specs.Locks.{LockView, IsNext}
 use Rattle.vertex_locks.specs.Tables.{HasGranted, HasTaken, IsTurn, is_owned, holder_at, queue_at}
 use Rattle.vertex_locks.specs.declared.turns.Turn.{Turn}
@@ -18,7 +17,7 @@ use Rattle.machine_parts.specs.Parts.{is_own, part_at, parts_at}
 use Rattle.machine_parts.specs.Order.{IsGraphInOrder, IsOrderly}
 use Rattle.machine_parts.specs.Rooms.{HasOnlyMadeRoom}
 use Rattle.machine_scopes.specs.Asking.{AreMachinesFor}
-use Rattle.machine_scopes.specs.Inner.Going.{LeadsWithin, HasNextRoom, HasReturnRoom, Wants}
+use Rattle.machine_scopes.specs.Inner.Going.{LeadsWithin}
 
 -- ---- what is wanted is here, or at a machine of the cluster
 
@@ -45,6 +44,14 @@ within_next m s e next is at wants =
     (λ x there. is.locks.owned x.0 ∙ is.graph.own e.centre.0 e.place x (ap (λ (p : List Vertex). slice_get p e.place) (sym right.part) ∙ there))
     (right.rest 0) right.home)
 
+-- the machines behind the first of an own vertex's scope
+pub rest_machines : (m : Core) (s : ScopeId) (v : ℕ) (a : MachineNo) (rest : List MachineNo) → IsGraphInOrder m.numbers.local (length m.out.machines) → is_own m.numbers.local v ≡ true → s.home.0 < length m.out.machines
+    → parts_at m.numbers.local v ≡ a ∷ rest → AreMachinesFor m s rest
+rest_machines m s v a rest graph own home parts = record {
+  machines = λ i b at. graph.within v (suc i) b own (ap (λ (ps : List MachineNo). slice_get ps (suc i)) parts ∙ at);
+  home = home;
+}
+
 -- ---- what stays
 
 pub room_spare : (m now : Core) (spare : SpareParts) → HasOnlyMadeRoom (record m { spare = spare }) now → HasOnlyMadeRoom m now
@@ -52,9 +59,6 @@ room_spare m now spare room = record { log = room.log; locks = room.locks; out =
 
 pub entered_room : (m now : Core) (s : ScopeId) (o : Option EnteredView) → HasOnlyMadeRoom m now → entered_at m.pipe s ≡ o → entered_at now.pipe s ≡ o
 entered_room m now s o room at = ap (λ (n : Core). entered_at n.pipe s) room.rest ∙ at
-
-pub wants_room : (m now : Core) (s : ScopeId) (next : Next) → HasOnlyMadeRoom m now → Wants m s next → Wants now s next
-wants_room m now s next room wants e at = wants e (sym (ap (λ (n : Core). entered_at n.pipe s) room.rest) ∙ at)
 
 -- ---- the claim that is granted is the first one
 
@@ -64,21 +68,3 @@ taken_is old new x (Granted d) c next turn has =
     let one : d ≡ c = cc in
     subst (HasTaken old new x) one has
 taken_is old new x Waiting c next turn has = absurd (turn c next)
-
--- the room for what comes next isn't used up by a grant
-pub room_taken : (m : Core) (locks : List (Option LockView)) (x : ℕ) (c : Claim) (s : ScopeId) (next : Next) → HasTaken m.locks locks x c → HasNextRoom m s next → HasNextRoom (record m { locks = locks }) s next
-room_taken m locks x c s (Lock y mode) taken room = subst (λ (k : ℕ). 0 < k) (sym (taken.room y.0)) room
-room_taken m locks x c s (Forward b) taken room = room
-room_taken m locks x c s Home taken room = home (s.home.0 == m.numbers.local.me.0) room
-  where
-    home : (b : Bool) → HasReturnRoom m s.home b → HasReturnRoom (record m { locks = locks }) s.home b
-    home true there = there
-    home false there = there
-
--- the machines behind the first of an own vertex's scope
-pub rest_machines : (m : Core) (s : ScopeId) (v : ℕ) (a : MachineNo) (rest : List MachineNo) → IsGraphInOrder m.numbers.local (length m.out.machines) → is_own m.numbers.local v ≡ true → s.home.0 < length m.out.machines
-    → parts_at m.numbers.local v ≡ a ∷ rest → AreMachinesFor m s rest
-rest_machines m s v a rest graph own home parts = record {
-  machines = λ i b at. graph.within v (suc i) b own (ap (λ (ps : List MachineNo). slice_get ps (suc i)) parts ∙ at);
-  home = home;
-}

@@ -1,6 +1,6 @@
 -- A new scope that sets out.
-use Rattle.std.proofs.Common.{◌≡◌, ◌≢◌, ◌<◌, Bool, if◌then◌else◌, List, ◌∷◌, length, refl, sym, ap, ◌∙◌}
-use Rattle.std.proofs.lemmas.Bool.{eq-eqb, ne_eqb}
+use Rattle.std.proofs.Common.{◌≡◌, ◌≢◌, ◌<◌, Bool, if◌then◌else◌, List, ◌∷◌, length, sym, ap, ◌∙◌}
+use Rattle.std.proofs.lemmas.Bool.{ne_eqb}
 use Rattle.gl_base.specs.declared.numbers.MachineNo.{MachineNo}
 use Rattle.gl_base.specs.declared.numbers.Vertex.{Vertex}
 use Rattle.gl_base.specs.declared.scopes.Peer.TheVariants.{Machine}
@@ -11,16 +11,8 @@ use Rattle.outboxes.specs.Outboxes.{OutboxesView, outbox_to, with_outbox, with_m
 use Rattle.wire_msgs.specs.Views as told
 use Rattle.machine_parts.specs.declared.cores.Core.{Core}
 use Rattle.machine_parts.specs.Parts.{part_of, parts_at, machine_numbers}
-use Rattle.machine_scopes.specs.Asking.{HasReceivedMessage}
 use Rattle.machine_scopes.specs.Inner.Setting.{HasSetOut}
 use Rattle.machine_scopes.proofs.EffectLemmas.{posted_part}
-
-pub set_out_here : (m new : Core) (s : ScopeId) (v : Vertex) (rest : List MachineNo) → parts_at m.numbers.local v.0 ≡ m.numbers.local.me ∷ rest → HasReceivedMessage m new (law.Ask s v.0 (machine_numbers rest)) → HasSetOut m new s v
-set_out_here m new s v rest parts received st part =
-    let a = m.numbers.local.me.0 in
-    received st part
-    ∙ sym (ap (λ (b : Bool). if b then goes_on st a s v.0 0 (machine_numbers rest) (part_of m) else posts a (law.Ask s v.0 (machine_numbers rest)) (part_of m)) (eq-eqb a a refl))
-    ∙ sym (ap (λ (ps : List MachineNo). sets_out st a s v.0 (machine_numbers ps) (part_of m)) parts)
 
 pub set_out_away : (m : Core) (out : OutboxesView) (s : ScopeId) (v : Vertex) (first : MachineNo) (rest : List MachineNo) → parts_at m.numbers.local v.0 ≡ first ∷ rest → first.0 ≢ m.numbers.local.me.0 → first.0 < length m.out.machines
     → out ≡ with_outbox m.out (Machine first) (with_message (told.Ask s v rest) (outbox_to m.out (Machine first))) → HasSetOut m (record m { out = out }) s v

@@ -20,7 +20,7 @@ pub returns-clause-orderly : goal.returns-clause-orderly
 returns-clause-orderly c =
     let m = c.args.core.now in
     let e = some_of (entered_at m.pipe c.args.scope) c.requires.come in
-    orderly_asked m c.args.scope e.0 c.args.y c.requires.orderly e.1 (lock_next e.0 c.args.y c.args.mode (c.requires.wants e.0 e.1)).at c.advance.new.self c.request.new.self c.args.mode
+    orderly_asked m c.args.scope e.0 c.args.y c.requires.orderly e.1 (lock_next e.0 c.args.y c.args.mode (c.requires.wants e.0 e.1)).at c.advance.new.self c.request.new.self _
     (c.advance.ensures.moved e.0 e.1) c.advance.ensures.rest c.request.ensures
 
 pub returns-clause-went : goal.returns-clause-went

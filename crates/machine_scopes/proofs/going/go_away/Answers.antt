@@ -18,7 +18,7 @@ remove-requires c =
 pub returns-clause-orderly : goal.returns-clause-orderly
 returns-clause-orderly c =
     let m = c.args.core.now in
-    orderly_out nobody (record m { pipe = c.leave-part.new.self }) c.put.new.self c.keep.new.self (put_many m.out c.put.new.self c.args.to _ c.put.ensures)
+    orderly_out nobody (record m { pipe = c.leave-part.new.self }) c.put.new.self c.keep.new.self (put_many m.out c.put.new.self _ _ c.put.ensures)
     (orderly_left m c.args.scope c.leave-part.new.self c.requires.orderly c.leave-part.ensures.gone c.leave-part.ensures.rest)
 
 pub returns-clause-went : goal.returns-clause-went
