@@ -15,6 +15,11 @@ use Rattle.machine_parts.specs.Parts.{is_own, is_owned, datum_here}
 use Rattle.scope_pipe.specs.Pipes.{IsEmpty}
 use Rattle.vertex_locks.specs.Tables.{IsUnclaimed}
 
+-- its parts go together, and it knows the vertices at the places of its tasks: so a machine is between its calls
+pub record IsMachine (m : Core) : Type 0 where
+  pub orderly : IsOrderly m
+  pub places : KnowsPlaces m
+
 -- Nothing has happened at the machine: each row is in, tasks have the places of own vertices and none is admitted, each ghost has a
 -- copy, own data have version 0 and the mark of the snapshot that the run began with; no scope is in flight or has come; and each
 -- own vertex has a lock that nobody claims.

@@ -15,19 +15,20 @@ pub struct Machine {
 
 impl Model for Machine {
     ghost use Rattle.machine_parts.specs.declared.cores.Core.{Core};
-    ghost use Rattle.machine_core.specs.Machines.{IsOrderly};
+    ghost use Rattle.machine_core.specs.Machines.{IsMachine};
 
     ghost Value = { Core };
 
     ghost view = { λ m. m.core };
 
-    ghost invariant = { λ m. IsOrderly m.core };
+    ghost invariant = { λ m. IsMachine m.core };
 }
 
 impl Machine {
     /// A machine of these parts.
     pub fn new(core: Core) -> Machine
-        requires { IsOrderly core }
+        requires orderly { IsOrderly core }
+        requires places { KnowsPlaces core }
         ensures { result ≡ core }
     {
         Machine { core }
@@ -36,10 +37,8 @@ impl Machine {
     /// Admits a scope of the vertex that the tasks pick, where fewer scopes are in flight than may be: it asks for its first lock
     /// here, or sets out to the first machine of its scope.
     pub fn admit(&mut self, alloc: Global) -> Result<ScopeId, Refused>
-        requires places { KnowsPlaces self.old }
         requires serial { self.old.pipe.serial < 18446744073709551615 }
         requires few { come self.old.pipe < 4096 }
-        ensures places { KnowsPlaces self.new }
         ensures settings { SameSettings self.old self.new }
         ensures scope { IfOk result (λ s. s ≡ next_id self.old.pipe) }
         ensures admitted { IfOk result (λ s. HasAdmittedPick self.old self.new) }
