@@ -1,4 +1,10 @@
 -- A machine and its calls, and a new machine.
+pub use Rattle.cluster_core.specs.Messages.{Message, News, Done}
+pub use Rattle.cluster_core.specs.Places.{ArePlaces}
+pub use Rattle.cluster_core.specs.Receiving.{MayAsk, MayBecomeReady}
+pub use Rattle.cluster_core.specs.Settings.{is_in_scope}
+pub use Rattle.cluster_core.specs.Stages.{Stage}
+pub use Rattle.cluster_core.specs.Worlds.{World}
 pub use Rattle.machine_parts.specs.Order.{IsOrderly, KnowsPlaces}
 pub use Rattle.machine_parts.specs.Parts.{part_of, machine_numbers}
 pub use Rattle.machine_parts.specs.Rooms.{HasOnlyMadeRoom}

@@ -4,5 +4,5 @@
 mod laws;
 mod machines;
 
-pub use laws::new_machines_are_in_order;
+pub use laws::{fronts_fit_the_machine, new_machines_are_in_order};
 pub use machines::Machine;

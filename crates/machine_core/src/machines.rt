@@ -34,6 +34,13 @@ impl Machine {
         Machine { core }
     }
 
+    /// Its parts.
+    pub fn core(&self) -> &Core
+        ensures { result.now ≡ self.now }
+    {
+        &self.core
+    }
+
     /// Admits a scope of the vertex that the tasks pick, where fewer scopes are in flight than may be: it asks for its first lock
     /// here, or sets out to the first machine of its scope.
     pub fn admit(&mut self, alloc: Global) -> Result<ScopeId, Refused>
