@@ -1,9 +1,10 @@
 //! A machine.
 ghost use Rattle.std.specs.Prelude.{◌≡◌, ◌<◌, IfOk, IfErr, OnOk, OnErr, IsErrOf};
-ghost use Rattle.machine_core.specs.Machines.{IsOrderly, KnowsPlaces, SameSettings, HasOnlyMadeRoom, part_of, come, next_id, machine_numbers, MayGrantLock, MayNotGrantLock, HasGrantedLock, WaitsFirst, IsNewAt, AreMachinesFor, CanBecomeReady, HasReceivedMessage, Ask, Ready, CanAdmitPick, MayAdmitNone, HasAdmittedPick};
+ghost use Rattle.machine_core.specs.Machines.{IsOrderly, KnowsPlaces, SameSettings, HasOnlyMadeRoom, part_of, come, next_id, machine_numbers, MayGrantLock, MayNotGrantLock, HasGrantedLock, WaitsFirst, WantedNext, IsNewAt, AreMachinesFor, CanBecomeReady, HasReceivedMessage, Ask, Ready, CanAdmitPick, MayAdmitNone, HasAdmittedPick};
 
 use gl_base::{MachineNo, ScopeId, Vertex};
 use machine_parts::{Core, Refused};
+use machine_scopes::Moved;
 use std::alloc::Global;
 use std::marker::Model;
 
@@ -57,11 +58,12 @@ impl Machine {
     }
 
     /// The first that waits for the lock of x holds it and goes on, where it goes together with each holder: it asks for the next
-    /// lock of its scope here, or leaves. Hands out its scope.
-    pub fn grant(&mut self, x: Vertex) -> Result<ScopeId, Refused>
+    /// lock of its scope here, or leaves.
+    pub fn grant(&mut self, x: Vertex) -> Result<Moved, Refused>
         ensures settings { SameSettings self.old self.new }
-        ensures granted { IfOk result (λ s. MayGrantLock self.old x.0 × HasGrantedLock self.old self.new x.0) }
-        ensures scope { IfOk result (λ s. WaitsFirst self.old x.0 s) }
+        ensures granted { IfOk result (λ moved. MayGrantLock self.old x.0 × HasGrantedLock self.old self.new x.0) }
+        ensures scope { IfOk result (λ moved. WaitsFirst self.old x.0 moved.scope) }
+        ensures next { IfOk result (λ moved. WantedNext self.old moved.scope moved.next) }
         ensures not_now { IsErrOf result Refused.NotNow → MayNotGrantLock self.old x.0 }
         ensures no_memory { IsErrOf result Refused.NoMemory → MayGrantLock self.old x.0 }
         ensures unchanged { OnErr result (HasOnlyMadeRoom self.old self.new × (part_of self.new ≡ part_of self.old)) }

@@ -6,10 +6,13 @@ pub use Rattle.machine_parts.specs.Parts.{part_of, is_owned, holder_at, queue_at
 pub use Rattle.machine_parts.specs.Rooms.{HasOnlyMadeRoom}
 pub use Rattle.machine_parts.specs.Settings.{IsPartOf, SameSettings}
 pub use Rattle.vertex_locks.specs.Locks.{IsNext, WaitOnce}
-use Rattle.std.specs.Prelude.{◌≡◌, ℕ, List, ◌∷◌}
+use Rattle.std.specs.Prelude.{◌≡◌, ℕ, Some, List, ◌∷◌}
 use Rattle.gl_base.specs.declared.scopes.Claim.{Claim}
 use Rattle.gl_base.specs.declared.scopes.ScopeId.{ScopeId}
 use Rattle.cluster_core.specs.Settings.{Setting}
+use Rattle.scope_pipe.specs.Entered.{EnteredView, next_of}
+use Rattle.scope_pipe.specs.Pipes.{entered_at}
+use Rattle.scope_pipe.specs.declared.next.Next.{Next}
 use Rattle.machine_parts.specs.declared.cores.Core.{Core}
 
 -- the lock of x may be granted to the first that waits for it
@@ -27,3 +30,7 @@ HasGrantedLock old new x = (st : Setting) → IsPartOf st old → part_of new �
 -- of those that wait for the lock of x the first is of this scope
 abbrev pub WaitsFirst : Core → ℕ → ScopeId → Type 0
 WaitsFirst m x s = (c : Claim) (behind : List Claim) → queue_at m.locks x ≡ c ∷ behind → s ≡ c.scope
+
+-- what the scope, which has come, wanted next
+abbrev pub WantedNext : Core → ScopeId → Next → Type 0
+WantedNext m s next = (e : EnteredView) → entered_at m.pipe s ≡ Some e → next ≡ next_of e
