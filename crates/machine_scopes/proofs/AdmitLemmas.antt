@@ -26,7 +26,7 @@ use Rattle.machine_scopes.specs.Inner.Picking.{CanTake, IsPutBack}
 use Rattle.machine_scopes.specs.Inner.Setting.{HasSetOut}
 use Rattle.machine_scopes.proofs.ComeLemmas.{new_room}
 use Rattle.machine_scopes.proofs.FlownLemmas.{admitted_is, numbers_picked, orderly_flown, outside_stays, part_flown, pending_stays, scope_is_new, task_stays, window_stays}
-use Rattle.machine_scopes.proofs.PickLemmas.{may_pick, pick_own}
+use Rattle.machine_scopes.proofs.PickLemmas.{may_pick, pick_own, pick_room}
 
 -- ---- what stays of places
 
@@ -83,7 +83,7 @@ module _ (m : Core) (pick : Pick) (v : Vertex) (tasks : TasksView) (now : Core) 
   pub admit_done : (new : Core) (s : ScopeId) → s ≡ next_id m.pipe → IsNextPick m.numbers.tasks (Some pick) → flight_count m.pipe < m.terms.pipeline → now.numbers ≡ record m.numbers { tasks = tasks } → new.numbers ≡ now.numbers
       → HasSetOut flown new s v → HasAdmittedPick m new
   admit_done new s same next few now_numbers new_numbers out = record {
-    can = record { pick = pick; next = next; vertex = v; place = at; may = may_pick m pick v is knows can at few };
+    can = record { pick = pick; next = next; vertex = v; place = at; may = may_pick m pick v is knows can at few; room = pick_room m pick v is knows can at };
     numbers = new_numbers ∙ now_numbers ∙ ap (λ (ts : TasksView). record m.numbers { tasks = ts }) picked;
     admitted = λ st part.
         let a = m.numbers.local.me.0 in
@@ -178,7 +178,7 @@ module _ (m : Core) (tasks new : TasksView) (now : Core) (is : IsOrderly m) (roo
       })
 
 pub can_admit : (m : Core) (pick : Pick) (v : Vertex) → IsOrderly m → KnowsPlaces m → CanTake m.numbers.tasks pick → slice_get m.by_place.items pick.vertex.0 ≡ Some v → IsNextPick m.numbers.tasks (Some pick) → flight_count m.pipe < m.terms.pipeline → CanAdmitPick m
-can_admit m pick v is knows can at next few = record { pick = pick; next = next; vertex = v; place = at; may = may_pick m pick v is knows can at few }
+can_admit m pick v is knows can at next few = record { pick = pick; next = next; vertex = v; place = at; may = may_pick m pick v is knows can at few; room = pick_room m pick v is knows can at }
 
 -- the vertex that was read at the place of the pick
 pub picked_at : (m : Core) (pick : Pick) (v : Vertex) → KnowsPlaces m → CanTake m.numbers.tasks pick → v ≡ get_or m.by_place.items pick.vertex.0 v → slice_get m.by_place.items pick.vertex.0 ≡ Some v

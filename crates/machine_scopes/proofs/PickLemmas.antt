@@ -1,5 +1,5 @@
 -- What the tasks pick, and when a scope may be admitted.
-use Rattle.std.proofs.Common.{◌≡◌, ℕ, zero, suc, ◌<◌, ◌==◌, Bool, true, false, not, Option, None, Some, is_some, IfSome, List, [], ◌∷◌, length, slice_get, slice_set, refl, sym, ap, ◌∙◌, subst, ⊎_elim, arith, inl, inr, true≢false}
+use Rattle.std.proofs.Common.{◌≡◌, ◌⊎◌, ℕ, zero, suc, ◌<◌, ◌==◌, Bool, true, false, not, Option, None, Some, is_some, IfSome, List, [], ◌∷◌, length, slice_get, slice_set, refl, sym, ap, ◌∙◌, subst, ⊎_elim, arith, inl, inr, true≢false}
 use Rattle.std.specs.List.{list_any}
 use Rattle.std.proofs.lemmas.Bool.{cases_Bool, cases_eq, lt-ltb, and_parts, and_from}
 use Rattle.std.proofs.lemmas.List.{get_or-set_same, get_or-set_other}
@@ -68,7 +68,7 @@ can_take t looked pick seen low line next = by pick.snapshot next
     by true first =
         let v = pick.vertex in
         let parts = free_parts t.pending t.admitted v.0 (sym (line v.0) ∙ one_of t.asked 0 v first) in
-        record { within = pending_within t looked v seen low first; free = parts.1; due = inl parts.0; kind = parts.0 }
+        record { within = pending_within t looked v seen low first; free = parts.1; due = inl parts.0; kind = parts.0; room = inl parts.0 }
     by false is =
         let v = pick.vertex in
         let parts = free_parts t.task t.admitted v.0 is.2 in
@@ -77,6 +77,7 @@ can_take t looked pick seen low line next = by pick.snapshot next
           within = flag_inside t.task v.0 parts.0;
           free = parts.1;
           due = inr parts.0;
+          room = inr is.1;
           kind = ⊎_elim
               (λ (set : is_flagged t.pending v.0 ≡ true). absurd (true≢false (sym (free_from t.pending t.admitted v.0 set parts.1) ∙ not_free)))
               (λ (clear : is_flagged t.pending v.0 ≡ false). clear)
@@ -143,3 +144,9 @@ module _ (m : Core) (pick : Pick) (v : Vertex) (is : IsOrderly m) (knows : Knows
         fresh = λ s flies. true≢false (sym (is.flights.admitted s v (some_number (flight_at m.pipe s) v.0 flies)) ∙ pick_free);
         turn = subst (λ (engine : Engine). IsItsTurn engine st.pipeline v.0 (part_of m)) (sym part.engine) (subst (λ (k : ℕ). flight_count m.pipe < k) part.pipeline few);
       }
+
+  pub pick_room : (pending_here m.numbers v.0 ≡ true) ⊎ (is_open m.numbers.tasks ≡ true)
+  pick_room = ⊎_elim
+      (λ (set : is_flagged m.numbers.tasks.pending pick.vertex.0 ≡ true). inl (ap (flag_there m.numbers.tasks.pending) pick_place ∙ set))
+      (λ (opened : is_open m.numbers.tasks ≡ true). inr opened)
+      can.room

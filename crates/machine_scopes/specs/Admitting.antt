@@ -16,13 +16,14 @@ use Rattle.task_sched.specs.declared.task_sets.Pick.{Pick}
 abbrev pub MayAdmitVertex : Core → ℕ → Type 0
 MayAdmitVertex m v = (st : Setting) → IsPartOf st m → MayAdmit st m.numbers.local.me.0 v (part_of m)
 
--- what the tasks admit next, the vertex at that place, and that a scope of it may be admitted
+-- What the tasks admit next, the vertex at that place, and that a scope of it may be admitted: it is pending, or the window has room.
 pub record CanAdmitPick (m : Core) : Type 0 where
   pub pick : Pick
   pub next : IsNextPick m.numbers.tasks (Some pick)
   pub vertex : Vertex
   pub place : slice_get m.by_place.items pick.vertex.0 ≡ Some vertex
   pub may : MayAdmitVertex m vertex.0
+  pub room : (pending_here m.numbers vertex.0 ≡ true) ⊎ (is_open m.numbers.tasks ≡ true)
 
 -- of no vertex that is pending, or any where the window has room, a scope may be admitted
 abbrev pub MayAdmitNone : Core → Type 0
