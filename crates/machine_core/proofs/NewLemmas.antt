@@ -1,0 +1,53 @@
+-- A new machine is in order.
+use Rattle.std.proofs.Common.{◌≡◌, ℕ, ◌≤◌, Bool, true, false, Option, None, Some, is_some, List, length, refl, sym, ap, ◌∙◌, subst, All, arith, true≢false}
+use Rattle.cluster_core.specs.Settings.{Setting, IsSetting}
+use Rattle.local_graph.specs.Locals.{place_at}
+use Rattle.machine_numbers.specs.Views.{flag_there, is_flagged}
+use Rattle.machine_numbers.proofs.PartLemmas.{sides_are}
+use Rattle.machine_parts.specs.declared.cores.Core.{Core}
+use Rattle.machine_parts.specs.Order.{IsGraphInOrder, IsOrderly, StandsAtLock, nobody}
+use Rattle.machine_parts.specs.Settings.{IsPartOf}
+use Rattle.machine_core.specs.Machines.{IsNewMachine}
+use Rattle.machine_core.proofs.GraphLemmas.{graph_in_order}
+
+nothing : {X : Type 0} (e : X) (o : Option X) → o ≡ None → o ≡ Some e → ⊥
+nothing e o none some = true≢false (sym (ap is_some some) ∙ ap is_some none)
+
+unheld : {X : Type 0} (o : Option X) → o ≡ None → is_some o ≡ true → ⊥
+unheld o none some = true≢false (sym some ∙ ap is_some none)
+
+never : (flags : List Bool) → ((u : ℕ) → is_flagged flags u ≡ false) → (o : Option ℕ) → flag_there flags o ≡ false
+never flags clear None = refl
+never flags clear (Some k) = clear k
+
+pub new_is : (st : Setting) (m : Core) → IsSetting st → IsPartOf st m → IsNewMachine m → IsOrderly m
+new_is st m setting part new = record {
+  graph = subst (IsGraphInOrder m.numbers.local) (sym part.machines) (graph_in_order st m.numbers.local setting part.local);
+  numbers = record {
+    tasks = new.tasks;
+    sides = λ v own. sides_are st m.numbers.local v part.local own;
+    ghosts = new.ghosts;
+    versions = λ v own. subst (λ (k : ℕ). k ≤ length m.numbers.log.items) (sym (new.versions v own)) (omega arith);
+    marks = λ v own. subst (λ (k : ℕ). m.terms.base ≤ k) (sym (new.marks v own)) (omega arith);
+    outside = subst (λ (k : ℕ). k ≤ length m.numbers.log.items) (sym new.outside) (omega arith);
+  };
+  entered = λ s e at. absurd (nothing e _ (new.empty.entered s) at);
+  locks = record {
+    owned = new.owned;
+    queues = λ x. subst (All (StandsAtLock m.pipe nobody x)) (sym (new.unclaimed.queue x)) (λ k d low. absurd (omega arith));
+    holds = λ s e j y at. absurd (nothing e _ (new.empty.entered s) at);
+    only = λ s c x flies. absurd (nothing c _ (new.empty.flight s) flies);
+    ready = λ s c x flies. absurd (nothing c _ (new.empty.flight s) flies);
+    admitted = λ s x home holds. absurd (unheld _ (new.unclaimed.holder x s) holds);
+  };
+  flights = record {
+    home = new.home;
+    given = λ s c flies. absurd (nothing c _ (new.empty.flight s) flies);
+    own = λ s c flies. absurd (nothing c _ (new.empty.flight s) flies);
+    single = λ s t c flies. absurd (nothing c _ (new.empty.flight s) flies);
+    admitted = λ s c flies. absurd (nothing c _ (new.empty.flight s) flies);
+    flies = λ v own admitted. absurd (true≢false (sym admitted ∙ never m.numbers.tasks.admitted new.admitted (place_at m.numbers.local v.0)));
+    rows = λ v own out. absurd (true≢false (sym (new.rows v.0 own) ∙ out));
+  };
+  width = new.width;
+}

@@ -1,0 +1,44 @@
+-- A machine and its calls, and a new machine.
+pub use Rattle.cluster_core.specs.Messages.{Message, News, Done}
+pub use Rattle.cluster_core.specs.Places.{ArePlaces}
+pub use Rattle.cluster_core.specs.Receiving.{MayAsk, MayBecomeReady}
+pub use Rattle.cluster_core.specs.Settings.{is_in_scope}
+pub use Rattle.cluster_core.specs.Stages.{Stage}
+pub use Rattle.cluster_core.specs.Worlds.{World}
+pub use Rattle.machine_parts.specs.Order.{IsOrderly, KnowsPlaces}
+pub use Rattle.machine_parts.specs.Parts.{part_of, machine_numbers}
+pub use Rattle.machine_parts.specs.Rooms.{HasOnlyMadeRoom}
+pub use Rattle.machine_parts.specs.Settings.{Setting, IsPartOf, SameSettings}
+pub use Rattle.machine_scopes.specs.Granting.{MayGrantLock, MayNotGrantLock, HasGrantedLock, WaitsFirst, WantedNext}
+pub use Rattle.machine_scopes.specs.Asking.{IsSetting, IsNewAt, AreMachinesFor, CanBecomeReady, HasReceivedMessage, Ask, Ready, come}
+pub use Rattle.machine_scopes.specs.Admitting.{CanAdmitPick, MayAdmitNone, HasAdmittedPick, next_id}
+use Rattle.std.specs.Prelude.{◌≡◌, ℕ, ◌==◌, true, false, is_some}
+use Rattle.std.specs.List.{list_any}
+use Rattle.local_parts.specs.Parts.{AreIn}
+use Rattle.machine_numbers.specs.Views.{AreTasksOf, ghost_datum, is_flagged}
+use Rattle.machine_parts.specs.declared.cores.Core.{Core}
+use Rattle.machine_parts.specs.Parts.{is_own, is_owned, datum_here}
+use Rattle.scope_pipe.specs.Pipes.{IsEmpty}
+use Rattle.vertex_locks.specs.Tables.{IsUnclaimed}
+
+-- its parts go together, and it knows the vertices at the places of its tasks: so a machine is between its calls
+pub record IsMachine (m : Core) : Type 0 where
+  pub orderly : IsOrderly m
+  pub places : KnowsPlaces m
+
+-- Nothing has happened at the machine: each row is in, tasks have the places of own vertices and none is admitted, each ghost has a
+-- copy, own data have version 0 and the mark of the snapshot that the run began with; no scope is in flight or has come; and each
+-- own vertex has a lock that nobody claims.
+pub record IsNewMachine (m : Core) : Type 0 where
+  pub rows : AreIn m.numbers.local
+  pub tasks : AreTasksOf m.numbers.local m.numbers.tasks
+  pub admitted : (u : ℕ) → is_flagged m.numbers.tasks.admitted u ≡ false
+  pub outside : m.numbers.tasks.outside ≡ 0
+  pub ghosts : (x : ℕ) → is_some (ghost_datum m.numbers.ghosts x) ≡ list_any (λ g. g.vertex.0 == x) m.numbers.local.ghosts
+  pub versions : (v : ℕ) → is_own m.numbers.local v ≡ true → (datum_here m.numbers v).version ≡ 0
+  pub marks : (v : ℕ) → is_own m.numbers.local v ≡ true → (datum_here m.numbers v).mark ≡ m.terms.base
+  pub home : m.pipe.home ≡ m.numbers.local.me
+  pub width : m.pipe.width ≡ m.terms.pipeline
+  pub empty : IsEmpty m.pipe
+  pub owned : (x : ℕ) → is_owned m.locks x ≡ is_own m.numbers.local x
+  pub unclaimed : IsUnclaimed m.locks

@@ -1,0 +1,102 @@
+//! A machine.
+ghost use Rattle.std.specs.Prelude.{◌≡◌, ◌<◌, IfOk, IfErr, OnOk, OnErr, IsErrOf};
+ghost use Rattle.machine_core.specs.Machines.{IsOrderly, KnowsPlaces, SameSettings, HasOnlyMadeRoom, part_of, come, next_id, machine_numbers, MayGrantLock, MayNotGrantLock, HasGrantedLock, WaitsFirst, WantedNext, IsNewAt, AreMachinesFor, CanBecomeReady, HasReceivedMessage, Ask, Ready, CanAdmitPick, MayAdmitNone, HasAdmittedPick};
+
+use gl_base::{MachineNo, ScopeId, Vertex};
+use machine_parts::{Core, Refused};
+use machine_scopes::Moved;
+use std::alloc::Global;
+use std::marker::Model;
+
+/// A machine, whose parts go together. Contracts see the parts.
+#[derive(Drop)]
+pub struct Machine {
+    core: Core,
+}
+
+impl Model for Machine {
+    ghost use Rattle.machine_parts.specs.declared.cores.Core.{Core};
+    ghost use Rattle.machine_core.specs.Machines.{IsMachine};
+
+    ghost Value = { Core };
+
+    ghost view = { λ m. m.core };
+
+    ghost invariant = { λ m. IsMachine m.core };
+}
+
+impl Machine {
+    /// A machine of these parts.
+    pub fn new(core: Core) -> Machine
+        requires orderly { IsOrderly core }
+        requires places { KnowsPlaces core }
+        ensures { result ≡ core }
+    {
+        Machine { core }
+    }
+
+    /// Its parts.
+    pub fn core(&self) -> &Core
+        ensures { result.now ≡ self.now }
+    {
+        &self.core
+    }
+
+    /// Admits a scope of the vertex that the tasks pick, where fewer scopes are in flight than may be: it asks for its first lock
+    /// here, or sets out to the first machine of its scope.
+    pub fn admit(&mut self, alloc: Global) -> Result<ScopeId, Refused>
+        requires serial { self.old.pipe.serial < 18446744073709551615 }
+        requires few { come self.old.pipe < 4096 }
+        ensures settings { SameSettings self.old self.new }
+        ensures scope { IfOk result (λ s. s ≡ next_id self.old.pipe) }
+        ensures admitted { IfOk result (λ s. HasAdmittedPick self.old self.new) }
+        ensures not_now { IsErrOf result Refused.NotNow → MayAdmitNone self.old }
+        ensures no_memory { IsErrOf result Refused.NoMemory → CanAdmitPick self.old }
+        ensures unchanged { OnErr result (part_of self.new ≡ part_of self.old) }
+    {
+        machine_scopes::admit(alloc, &mut self.core)
+    }
+
+    /// The first that waits for the lock of x holds it and goes on, where it goes together with each holder: it asks for the next
+    /// lock of its scope here, or leaves.
+    pub fn grant(&mut self, x: Vertex) -> Result<Moved, Refused>
+        ensures settings { SameSettings self.old self.new }
+        ensures granted { IfOk result (λ moved. MayGrantLock self.old x.0 × HasGrantedLock self.old self.new x.0) }
+        ensures scope { IfOk result (λ moved. WaitsFirst self.old x.0 moved.scope) }
+        ensures next { IfOk result (λ moved. WantedNext self.old moved.scope moved.next) }
+        ensures not_now { IsErrOf result Refused.NotNow → MayNotGrantLock self.old x.0 }
+        ensures no_memory { IsErrOf result Refused.NoMemory → MayGrantLock self.old x.0 }
+        ensures unchanged { OnErr result (HasOnlyMadeRoom self.old self.new × (part_of self.new ≡ part_of self.old)) }
+    {
+        machine_scopes::grant(&mut self.core, x)
+    }
+
+    /// The scope of this centre has come, and has the machines `rest` still to come: it asks for its locks here, or goes on at once
+    /// where there is none. Want of memory hands `rest` back.
+    pub fn receive_ask(
+        &mut self,
+        alloc: Global,
+        scope: ScopeId,
+        centre: Vertex,
+        rest: Vec<MachineNo>,
+    ) -> Result<(), Vec<MachineNo>>
+        requires is_new { IsNewAt self.old scope centre }
+        requires machines { AreMachinesFor self.old scope rest.items }
+        requires few { come self.old.pipe < 4096 }
+        ensures settings { SameSettings self.old self.new }
+        ensures received { OnOk result (HasReceivedMessage self.old self.new (Ask scope centre.0 (machine_numbers rest.items))) }
+        ensures back { IfErr result (λ same. same ≡ rest) }
+        ensures unchanged { OnErr result (HasOnlyMadeRoom self.old self.new × (part_of self.new ≡ part_of self.old)) }
+    {
+        machine_scopes::receive_ask(alloc, &mut self.core, scope, centre, rest)
+    }
+
+    /// Word has come that a scope of this home has all its locks: it is ready. It takes no memory.
+    pub fn receive_ready(&mut self, scope: ScopeId)
+        requires { CanBecomeReady self.old scope }
+        ensures settings { SameSettings self.old self.new }
+        ensures received { HasReceivedMessage self.old self.new (Ready scope) }
+    {
+        machine_scopes::receive_ready(&mut self.core, scope);
+    }
+}
