@@ -1,0 +1,4 @@
+pub mod Works
+pub mod Reserving
+pub mod Committing
+pub mod Inner

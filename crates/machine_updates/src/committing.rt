@@ -1,0 +1,44 @@
+//! Commits.
+ghost use Rattle.std.specs.Prelude.{◌≡◌, ℕ, ◌<◌, ◌++◌, ◌∷◌, [], length};
+ghost use Rattle.local_graph.specs.declared.works.Work.{Work};
+ghost use Rattle.machine_parts.specs.Parts.{sides_at};
+ghost use Rattle.machine_parts.specs.Order.{IsOrderly};
+ghost use Rattle.machine_parts.specs.Settings.{Setting, IsPartOf};
+ghost use Rattle.machine_updates.specs.Works.{IsOut, HasItsRow, HasSameLengths};
+ghost use Rattle.machine_updates.specs.Reserving.{IsReserved};
+ghost use Rattle.machine_updates.specs.Committing.{HasCommitted, done_told, after_told, entry_logged};
+
+use crate::reserving::Prepared;
+use crate::telling::tell_all;
+use gl_base::Entry;
+use local_graph::Outcome;
+use lock_release::release_all;
+use machine_numbers::Spare;
+use machine_parts::Core;
+
+/// Commits an update that was made: the other machines of the scope are told, its locks here are released, it is in flight no
+/// more, and its numbers are kept under this ticket. It takes no memory, and hands back the lists of the work's numbers.
+pub fn commit(core: &mut Core, outcome: Outcome, prepared: Vec<Prepared>, ticket: u64) -> Spare
+    requires orderly { IsOrderly core.old }
+    requires out { IsOut core.old outcome.work }
+    requires edges { length outcome.edges.items ≡ length (sides_at core.old.numbers.local outcome.work.vertex.0) }
+    requires reserved { IsReserved core.old outcome.work.scope outcome.work.vertex prepared.items }
+    ensures committed { HasCommitted core.old core.new outcome ticket }
+    ensures log { core.new.numbers.log.items ≡ core.old.numbers.log.items ++ entry_logged outcome ticket ∷ [] }
+    ensures told { core.new.out ≡ after_told (done_told core.old.numbers outcome) prepared.items core.old.out }
+    ensures orderly { HasSameLengths core.old.numbers core.new.numbers → IsOrderly core.new }
+    ensures settings { HasSameLengths core.old.numbers core.new.numbers → (st : Setting) → IsPartOf st core.old → HasItsRow st core.old outcome.work → IsPartOf st core.new }
+    ensures spare { (result.edges ≡ outcome.work.row.numbers) × (result.near ≡ outcome.work.near) }
+{
+    let scope = outcome.work.scope;
+    let vertex = outcome.work.vertex;
+    tell_all(&mut core.out, &core.numbers, &outcome, prepared);
+    release_all(&mut core.locks, core.numbers.local.part(vertex), scope);
+    core.pipe.finish(scope);
+    let entry = Entry::Go {
+        ticket,
+        machine: scope.home,
+        vertex,
+    };
+    core.numbers.finish(outcome, entry)
+}
