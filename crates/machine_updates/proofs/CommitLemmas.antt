@@ -137,7 +137,7 @@ module _ (old new : Core) (o : Outcome) (ps : List Prepared) (ticket : ℕ) (ord
       ∙ by (is_to_be_told ps q) refl
       ∙ ap (λ (b : Bool). if b then waited ++ word ∷ [] else waited) who
 
-  pending_kept : (u : ℕ) → pending_here new.numbers u ≡ pending_here old.numbers u
+  pub pending_kept : (u : ℕ) → pending_here new.numbers u ≡ pending_here old.numbers u
   pending_kept u =
       let at = placed old.numbers.local o.work.vertex.0 own in
       let run = done.run at.0 at.1 in

@@ -6,3 +6,6 @@ pub mod LeaveLemmas
 pub mod ToldLemmas
 pub mod CommitLemmas
 pub mod OrderLemmas
+pub mod StayLemmas
+pub mod ReceiveLemmas
+pub mod WorkLemmas

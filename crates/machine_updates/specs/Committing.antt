@@ -1,9 +1,12 @@
 -- What a commit asks and leaves.
-use Rattle.std.specs.Prelude.{◌≡◌, ℕ, Bool, true, List, [], ◌∷◌, length}
+use Rattle.std.specs.Prelude.{◌≡◌, ℕ, Bool, true, Option, None, List, [], ◌∷◌, length}
 use Rattle.gl_base.specs.declared.entries.Entry.{Entry}
 use Rattle.gl_base.specs.declared.entries.Entry.TheVariants.{Go}
 use Rattle.gl_base.specs.declared.numbers.MachineNo.{MachineNo}
 use Rattle.gl_base.specs.declared.scopes.Peer.TheVariants.{Machine}
+use Rattle.gl_base.specs.declared.scopes.ScopeId.{ScopeId}
+use Rattle.scope_lists.specs.Scopes.{set_for}
+use Rattle.vertex_locks.specs.Locks.{LockView}
 use Rattle.local_graph.specs.declared.works.Outcome.{Outcome}
 use Rattle.wire_msgs.specs.Views.{MessageView, DoneView}
 use Rattle.wire_msgs.specs.Views as told
@@ -14,7 +17,7 @@ use Rattle.machine_numbers.specs.declared.keeping.Numbers.{Numbers}
 use Rattle.machine_numbers.specs.Steps.{told_datum, told_edges, told_wakes}
 use Rattle.machine_numbers.specs.Settings.{IsMadeOfWork}
 use Rattle.machine_parts.specs.declared.cores.Core.{Core}
-use Rattle.machine_parts.specs.Parts.{datum_here, sides_at, part_of}
+use Rattle.machine_parts.specs.Parts.{datum_here, sides_at, is_owned, holder_at, queue_at, part_of}
 use Rattle.machine_parts.specs.Settings.{Setting, IsPartOf}
 use Rattle.machine_updates.specs.declared.reserving.Prepared.{Prepared}
 use Rattle.machine_updates.specs.Works.{HasItsRow}
@@ -44,6 +47,12 @@ after_told done [] out = out
 after_told done (p ∷ ps) out = after_told done ps (posted p.to (told.Done (done p.to)) out)
 
 -- ---- the commit
+
+-- the scope holds no lock any more
+pub record HasNoLock (old new : List (Option LockView)) (s : ScopeId) : Type 0 where
+  pub owned : (x : ℕ) → is_owned new x ≡ is_owned old x
+  pub holder : (x : ℕ) (t : ScopeId) → holder_at new x t ≡ set_for (holder_at old x) s None t
+  pub queue : (x : ℕ) → queue_at new x ≡ queue_at old x
 
 -- the entry of the update in the log
 abbrev pub entry_logged : Outcome → ℕ → Entry

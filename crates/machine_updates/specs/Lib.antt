@@ -1,4 +1,5 @@
 pub mod Works
 pub mod Reserving
 pub mod Committing
+pub mod Learning
 pub mod Inner

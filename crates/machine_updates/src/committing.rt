@@ -1,12 +1,14 @@
 //! Commits.
-ghost use Rattle.std.specs.Prelude.{◌≡◌, ℕ, ◌<◌, ◌++◌, ◌∷◌, [], length};
+ghost use Rattle.std.specs.Prelude.{◌≡◌, ℕ, ◌==◌, Some, length, if◌then◌else◌};
 ghost use Rattle.local_graph.specs.declared.works.Work.{Work};
-ghost use Rattle.machine_parts.specs.Parts.{sides_at};
+ghost use Rattle.scope_pipe.specs.Pipes.{HasFinished};
+ghost use Rattle.machine_numbers.specs.Steps.{HasUpdated};
+ghost use Rattle.machine_parts.specs.Parts.{links_at, sides_at};
 ghost use Rattle.machine_parts.specs.Order.{IsOrderly};
 ghost use Rattle.machine_parts.specs.Settings.{Setting, IsPartOf};
-ghost use Rattle.machine_updates.specs.Works.{IsOut, HasItsRow, HasSameLengths};
+ghost use Rattle.machine_updates.specs.Works.{IsOut, IsApartFrom, HasItsRow, HasSameLengths};
 ghost use Rattle.machine_updates.specs.Reserving.{IsReserved};
-ghost use Rattle.machine_updates.specs.Committing.{HasCommitted, done_told, after_told, entry_logged};
+ghost use Rattle.machine_updates.specs.Committing.{HasNoLock, HasCommitted, done_told, after_told, entry_logged};
 
 use crate::reserving::Prepared;
 use crate::telling::tell_all;
@@ -24,8 +26,16 @@ pub fn commit(core: &mut Core, outcome: Outcome, prepared: Vec<Prepared>, ticket
     requires edges { length outcome.edges.items ≡ length (sides_at core.old.numbers.local outcome.work.vertex.0) }
     requires reserved { IsReserved core.old outcome.work.scope outcome.work.vertex prepared.items }
     ensures committed { HasCommitted core.old core.new outcome ticket }
-    ensures log { core.new.numbers.log.items ≡ core.old.numbers.log.items ++ entry_logged outcome ticket ∷ [] }
+    ensures numbers { HasUpdated core.old.numbers core.new.numbers outcome (entry_logged outcome ticket) }
+    ensures finished { HasFinished core.old.pipe core.new.pipe outcome.work.scope }
+    ensures released { HasNoLock core.old.locks core.new.locks outcome.work.scope }
     ensures told { core.new.out ≡ after_told (done_told core.old.numbers outcome) prepared.items core.old.out }
+    ensures rows { (x : ℕ) → links_at core.new.numbers.local x ≡ (if x == outcome.work.vertex.0 then Some outcome.work.row.links.items else links_at core.old.numbers.local x) }
+    ensures others { (w : Work) → IsOut core.old w → IsApartFrom core.old outcome.work.vertex.0 w → IsOut core.new w }
+    ensures local { let old = core.old.numbers.local in let new = core.new.numbers.local in new ≡ record old { kept = new.kept; rows = new.rows; numbers = new.numbers } }
+    ensures ghosts { core.new.numbers.ghosts ≡ core.old.numbers.ghosts }
+    ensures pipe { core.new.pipe ≡ record core.old.pipe { waiting = core.new.pipe.waiting; ready = core.new.pipe.ready } }
+    ensures rest { core.new ≡ record core.old { numbers = core.new.numbers; pipe = core.new.pipe; locks = core.new.locks; out = core.new.out } }
     ensures orderly { HasSameLengths core.old.numbers core.new.numbers → IsOrderly core.new }
     ensures settings { HasSameLengths core.old.numbers core.new.numbers → (st : Setting) → IsPartOf st core.old → HasItsRow st core.old outcome.work → IsPartOf st core.new }
     ensures spare { (result.edges ≡ outcome.work.row.numbers) × (result.near ≡ outcome.work.near) }

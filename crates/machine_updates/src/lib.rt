@@ -3,8 +3,12 @@
 #![tactic(auto)]
 
 mod committing;
+mod receiving;
 mod reserving;
 mod telling;
+mod works;
 
 pub use committing::commit;
+pub use receiving::receive_done;
 pub use reserving::{Prepared, reserve_commit};
+pub use works::{put_back, take_work};

@@ -2,6 +2,7 @@
 use Rattle.std.proofs.Common.{refl}
 use Rattle.machine_updates.proofs.CommitLemmas.{HasDone, committed}
 use Rattle.machine_updates.proofs.OrderLemmas.{ordered, settled}
+use Rattle.machine_updates.proofs.StayLemmas.{stays_out}
 use Rattle.machine_updates.proofs.committing.commit.Goals as goal
 
 has_done : (c : goal.After-finish-2) → HasDone c.args.core.now (record { terms = c.args.core.now.terms; numbers = c.finish-2.new.self; by_place = c.args.core.now.by_place; pipe = c.finish.new.self; locks = c.release_all.new.locks; out = c.tell_all.new.out; spare = c.args.core.now.spare }) c.args.outcome c.args.prepared.items c.args.ticket
@@ -33,3 +34,6 @@ returns-clause-orderly c = ordered c.args.core.now _ c.args.outcome c.args.prepa
 
 pub returns-clause-settings : goal.returns-clause-settings
 returns-clause-settings c = settled c.args.core.now _ c.args.outcome c.args.prepared.items c.args.ticket c.requires.orderly c.requires.out c.requires.reserved (has_done c)
+
+pub returns-clause-others : goal.returns-clause-others
+returns-clause-others c = stays_out c.args.core.now _ c.args.outcome c.args.prepared.items c.args.ticket c.requires.orderly c.requires.out c.requires.reserved (has_done c)
