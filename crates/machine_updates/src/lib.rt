@@ -5,10 +5,12 @@
 mod committing;
 mod receiving;
 mod reserving;
+mod spares;
 mod telling;
 mod works;
 
 pub use committing::commit;
 pub use receiving::receive_done;
 pub use reserving::{Prepared, reserve_commit};
+pub use spares::Spares;
 pub use works::{put_back, take_work};
