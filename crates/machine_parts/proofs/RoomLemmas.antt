@@ -62,7 +62,6 @@ orderly_room moving old new room is = subst (IsOrderlyBut moving) (sym room.rest
     (record {
       graph = subst (IsGraphInOrder old.numbers.local) (sym room.out.machines) is.graph;
       numbers = numbers_same old.numbers (record old.numbers { log = new.numbers.log }) old.terms.base refl room.log is.numbers;
-      by_place = is.by_place;
       entered = λ s e come. subst (λ (k : ℕ). HasComeRight old.numbers.local old.pipe k (moving s) s e) (sym room.out.machines) (is.entered s e come);
       locks = locks_same old.numbers.local old.locks new.locks old.pipe moving room.locks is.locks;
       flights = record {

@@ -108,7 +108,6 @@ pub record AreFlightsInOrder (n : Numbers) (pipe : PipeView) : Type 0 where
 pub record IsOrderlyBut (moving : ScopeId → Bool) (m : Core) : Type 0 where
   pub graph : IsGraphInOrder m.numbers.local (length m.out.machines)
   pub numbers : AreNumbersInOrder m.numbers m.terms.base
-  pub by_place : StandByPlace m.numbers.local (length m.numbers.tasks.task) m.by_place.items
   pub entered : (s : ScopeId) (e : EnteredView) → entered_at m.pipe s ≡ Some e → HasComeRight m.numbers.local m.pipe (length m.out.machines) (moving s) s e
   pub locks : AreLocksInOrder m.numbers.local m.locks m.pipe moving
   pub flights : AreFlightsInOrder m.numbers m.pipe
@@ -121,3 +120,8 @@ nobody s = false
 -- the machine is in order: so it is between its calls
 abbrev pub IsOrderly : Core → Type 0
 IsOrderly m = IsOrderlyBut nobody m
+
+-- It knows the own vertex at each place of its tasks, and there each is marked as admitted or not.
+pub record KnowsPlaces (m : Core) : Type 0 where
+  pub vertices : StandByPlace m.numbers.local (length m.numbers.tasks.task) m.by_place.items
+  pub flags : length m.numbers.tasks.admitted ≡ length m.numbers.tasks.task

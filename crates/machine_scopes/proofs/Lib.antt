@@ -1,0 +1,14 @@
+pub mod OwnLemmas
+pub mod EffectLemmas
+pub mod KeepLemmas
+pub mod MoveLemmas
+pub mod HeldLemmas
+pub mod GrantLemmas
+pub mod ComeLemmas
+pub mod WantLemmas
+pub mod RoomForNext
+pub mod LawLemmas
+pub mod PickLemmas
+pub mod StartLemmas
+pub mod FlownLemmas
+pub mod AdmitLemmas

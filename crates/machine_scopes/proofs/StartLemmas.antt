@@ -1,0 +1,31 @@
+-- A new scope that sets out.
+use Rattle.std.proofs.Common.{◌≡◌, ◌≢◌, ◌<◌, Bool, if◌then◌else◌, List, ◌∷◌, length, refl, sym, ap, ◌∙◌}
+use Rattle.std.proofs.lemmas.Bool.{eq-eqb, ne_eqb}
+use Rattle.gl_base.specs.declared.numbers.MachineNo.{MachineNo}
+use Rattle.gl_base.specs.declared.numbers.Vertex.{Vertex}
+use Rattle.gl_base.specs.declared.scopes.Peer.TheVariants.{Machine}
+use Rattle.gl_base.specs.declared.scopes.ScopeId.{ScopeId}
+use Rattle.cluster_core.specs.Effects.{goes_on, posts, sets_out}
+use Rattle.cluster_core.specs.Messages as law
+use Rattle.outboxes.specs.Outboxes.{OutboxesView, outbox_to, with_outbox, with_message}
+use Rattle.wire_msgs.specs.Views as told
+use Rattle.machine_parts.specs.declared.cores.Core.{Core}
+use Rattle.machine_parts.specs.Parts.{part_of, parts_at, machine_numbers}
+use Rattle.machine_scopes.specs.Asking.{HasReceivedMessage}
+use Rattle.machine_scopes.specs.Inner.Setting.{HasSetOut}
+use Rattle.machine_scopes.proofs.EffectLemmas.{posted_part}
+
+pub set_out_here : (m new : Core) (s : ScopeId) (v : Vertex) (rest : List MachineNo) → parts_at m.numbers.local v.0 ≡ m.numbers.local.me ∷ rest → HasReceivedMessage m new (law.Ask s v.0 (machine_numbers rest)) → HasSetOut m new s v
+set_out_here m new s v rest parts received st part =
+    let a = m.numbers.local.me.0 in
+    received st part
+    ∙ sym (ap (λ (b : Bool). if b then goes_on st a s v.0 0 (machine_numbers rest) (part_of m) else posts a (law.Ask s v.0 (machine_numbers rest)) (part_of m)) (eq-eqb a a refl))
+    ∙ sym (ap (λ (ps : List MachineNo). sets_out st a s v.0 (machine_numbers ps) (part_of m)) parts)
+
+pub set_out_away : (m : Core) (out : OutboxesView) (s : ScopeId) (v : Vertex) (first : MachineNo) (rest : List MachineNo) → parts_at m.numbers.local v.0 ≡ first ∷ rest → first.0 ≢ m.numbers.local.me.0 → first.0 < length m.out.machines
+    → out ≡ with_outbox m.out (Machine first) (with_message (told.Ask s v rest) (outbox_to m.out (Machine first))) → HasSetOut m (record m { out = out }) s v
+set_out_away m out s v first rest parts other low put st part =
+    let a = m.numbers.local.me.0 in
+    posted_part m out first (told.Ask s v rest) low put
+    ∙ sym (ap (λ (b : Bool). if b then goes_on st a s v.0 0 (machine_numbers rest) (part_of m) else posts first.0 (law.Ask s v.0 (machine_numbers rest)) (part_of m)) (ne_eqb first.0 a other))
+    ∙ sym (ap (λ (ps : List MachineNo). sets_out st a s v.0 (machine_numbers ps) (part_of m)) parts)

@@ -1,0 +1,43 @@
+-- What an admission promises, for each setting of which the machine is a part.
+pub use Rattle.cluster_core.specs.Actions.{MayAdmit}
+pub use Rattle.cluster_core.specs.Effects.{admitted}
+pub use Rattle.machine_parts.specs.Order.{IsOrderly, KnowsPlaces}
+pub use Rattle.machine_parts.specs.Parts.{part_of, pending_here}
+pub use Rattle.machine_parts.specs.Settings.{IsPartOf, SameSettings}
+pub use Rattle.scope_pipe.specs.Pipes.{come, next_id}
+pub use Rattle.task_sched.specs.Tasks.{TasksView, is_open, IsNextPick}
+use Rattle.std.specs.Prelude.{◌≡◌, ◌⊎◌, ℕ, ◌+◌, true, Some, if◌then◌else◌, drop, slice_get, slice_set}
+use Rattle.gl_base.specs.declared.numbers.Vertex.{Vertex}
+use Rattle.cluster_core.specs.Settings.{Setting}
+use Rattle.machine_parts.specs.declared.cores.Core.{Core}
+use Rattle.task_sched.specs.declared.task_sets.Pick.{Pick}
+
+-- a scope of v may be admitted
+abbrev pub MayAdmitVertex : Core → ℕ → Type 0
+MayAdmitVertex m v = (st : Setting) → IsPartOf st m → MayAdmit st m.numbers.local.me.0 v (part_of m)
+
+-- what the tasks admit next, the vertex at that place, and that a scope of it may be admitted
+pub record CanAdmitPick (m : Core) : Type 0 where
+  pub pick : Pick
+  pub next : IsNextPick m.numbers.tasks (Some pick)
+  pub vertex : Vertex
+  pub place : slice_get m.by_place.items pick.vertex.0 ≡ Some vertex
+  pub may : MayAdmitVertex m vertex.0
+
+-- of no vertex that is pending, or any where the window has room, a scope may be admitted
+abbrev pub MayAdmitNone : Core → Type 0
+MayAdmitNone m =
+    (st : Setting) → IsPartOf st m → (v : ℕ) → (pending_here m.numbers v ≡ true) ⊎ (is_open m.numbers.tasks ≡ true) → MayAdmit st m.numbers.local.me.0 v (part_of m) → ⊥
+
+-- the pick is admitted in the tasks
+abbrev pub with_pick : TasksView → Pick → TasksView
+with_pick t pick =
+    if pick.snapshot
+    then record t { admitted = slice_set t.admitted pick.vertex.0 true; asked = drop 1 t.asked }
+    else record t { admitted = slice_set t.admitted pick.vertex.0 true; planned = slice_set t.planned pick.vertex.0 true; plans = t.plans + 1 }
+
+-- what the tasks pick was admitted, and all is as the cluster has it then
+pub record HasAdmittedPick (old new : Core) : Type 0 where
+  pub can : CanAdmitPick old
+  pub numbers : new.numbers ≡ record old.numbers { tasks = with_pick old.numbers.tasks can.pick }
+  pub admitted : (st : Setting) → IsPartOf st old → part_of new ≡ admitted st old.numbers.local.me.0 can.vertex.0 (part_of old)

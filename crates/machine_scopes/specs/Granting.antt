@@ -1,0 +1,29 @@
+-- What a grant promises, for each setting of which the machine is a part.
+pub use Rattle.cluster_core.specs.Actions.{MayGrant}
+pub use Rattle.cluster_core.specs.Effects.{granted}
+pub use Rattle.machine_parts.specs.Order.{IsOrderly}
+pub use Rattle.machine_parts.specs.Parts.{part_of, is_owned, holder_at, queue_at}
+pub use Rattle.machine_parts.specs.Rooms.{HasOnlyMadeRoom}
+pub use Rattle.machine_parts.specs.Settings.{IsPartOf, SameSettings}
+pub use Rattle.vertex_locks.specs.Locks.{IsNext, WaitOnce}
+use Rattle.std.specs.Prelude.{◌≡◌, ℕ, List, ◌∷◌}
+use Rattle.gl_base.specs.declared.scopes.Claim.{Claim}
+use Rattle.gl_base.specs.declared.scopes.ScopeId.{ScopeId}
+use Rattle.cluster_core.specs.Settings.{Setting}
+use Rattle.machine_parts.specs.declared.cores.Core.{Core}
+
+-- the lock of x may be granted to the first that waits for it
+abbrev pub MayGrantLock : Core → ℕ → Type 0
+MayGrantLock m x = (st : Setting) → IsPartOf st m → MayGrant st m.numbers.local.me.0 x (part_of m)
+
+-- it may not
+abbrev pub MayNotGrantLock : Core → ℕ → Type 0
+MayNotGrantLock m x = (st : Setting) → IsPartOf st m → MayGrant st m.numbers.local.me.0 x (part_of m) → ⊥
+
+-- it was, and all is as the cluster has it then
+abbrev pub HasGrantedLock : Core → Core → ℕ → Type 0
+HasGrantedLock old new x = (st : Setting) → IsPartOf st old → part_of new ≡ granted st old.numbers.local.me.0 x (part_of old)
+
+-- of those that wait for the lock of x the first is of this scope
+abbrev pub WaitsFirst : Core → ℕ → ScopeId → Type 0
+WaitsFirst m x s = (c : Claim) (behind : List Claim) → queue_at m.locks x ≡ c ∷ behind → s ≡ c.scope

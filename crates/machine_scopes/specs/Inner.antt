@@ -1,0 +1,4 @@
+-- What the clauses of private functions cite. Who reads the public clauses need not read it.
+pub mod Going
+pub mod Setting
+pub mod Picking

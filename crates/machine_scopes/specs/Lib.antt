@@ -1,0 +1,4 @@
+pub mod Granting
+pub mod Asking
+pub mod Admitting
+pub mod Inner

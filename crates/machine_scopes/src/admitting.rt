@@ -1,0 +1,46 @@
+//! Admitting scopes.
+ghost use Rattle.std.specs.Prelude.{◌≡◌, ◌<◌, IfOk, OnErr, IsErrOf};
+ghost use Rattle.machine_scopes.specs.Admitting.{IsOrderly, KnowsPlaces, SameSettings, CanAdmitPick, MayAdmitNone, HasAdmittedPick, come, next_id, part_of};
+
+use crate::picking::{put_back, take_pick};
+use crate::starting::{prepare, set_out};
+use gl_base::{NoMemory, ScopeId};
+use machine_parts::{Core, Refused};
+use std::alloc::Global;
+
+/// Admits a scope of the vertex that the tasks pick, where fewer scopes are in flight than may be: it asks for its first lock here,
+/// or sets out to the first machine of its scope.
+pub fn admit(alloc: Global, core: &mut Core) -> Result<ScopeId, Refused>
+    requires orderly { IsOrderly core.old }
+    requires places { KnowsPlaces core.old }
+    requires serial { core.old.pipe.serial < 18446744073709551615 }
+    requires few { come core.old.pipe < 4096 }
+    ensures orderly { IsOrderly core.new }
+    ensures places { KnowsPlaces core.new }
+    ensures settings { SameSettings core.old core.new }
+    ensures scope { IfOk result (λ s. s ≡ next_id core.old.pipe) }
+    ensures admitted { IfOk result (λ s. HasAdmittedPick core.old core.new) }
+    ensures not_now { IsErrOf result Refused.NotNow → MayAdmitNone core.old }
+    ensures no_memory { IsErrOf result Refused.NoMemory → CanAdmitPick core.old }
+    ensures unchanged { OnErr result (part_of core.new ≡ part_of core.old) }
+{
+    if core.pipe.flight_count() >= core.terms.pipeline as usize {
+        return Err(Refused::NotNow);
+    }
+    let Some(pick) = take_pick(&mut core.numbers.tasks) else {
+        return Err(Refused::NotNow);
+    };
+    let v = core.by_place[pick.vertex.0 as usize];
+    let scope = core.pipe.next_id();
+    match prepare(alloc, core, scope, v) {
+        Ok(start) => {
+            core.pipe.admit_now(v);
+            set_out(core, scope, v, start);
+            Ok(scope)
+        }
+        Err(NoMemory) => {
+            put_back(&mut core.numbers.tasks, pick);
+            Err(Refused::NoMemory)
+        }
+    }
+}

@@ -1,0 +1,17 @@
+//! Scopes at a machine: they are admitted, take their locks one after another, and go from machine to machine and home.
+#![tactic(auto)]
+
+mod admitting;
+mod asking;
+mod going;
+mod granting;
+mod laws;
+mod picking;
+mod readying;
+mod starting;
+
+pub use admitting::admit;
+pub use asking::receive_ask;
+pub use granting::grant;
+pub use laws::{asks_are_new, words_come_home};
+pub use readying::receive_ready;
