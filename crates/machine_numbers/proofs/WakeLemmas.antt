@@ -47,6 +47,7 @@ end_woken l old new woken s link here are wakes is u =
 pub record IsWaking (l : LocalView) (all left : ℕ → Bool) (old now : TasksView) : Type 0 where
   pub each : (u : ℕ) → (all u || flag_there old.task (place_at l u)) ≡ (left u || flag_there now.task (place_at l u))
   pub rest : now ≡ record old { task = now.task }
+  pub many : length now.task ≡ length old.task
   pub tasks : AreTasksOf l now
 
 or_swap : (a b c : Bool) → ((a || b) || c) ≡ (b || (a || c))
@@ -55,14 +56,15 @@ or_swap true false c = refl
 or_swap false b c = refl
 
 pub waking_more : (l : LocalView) (all left left_then one : ℕ → Bool) (old now new : TasksView) → IsWaking l all left old now → ((u : ℕ) → left u ≡ (one u || left_then u))
-    → ((u : ℕ) → flag_there new.task (place_at l u) ≡ (one u || flag_there now.task (place_at l u))) → new ≡ record now { task = new.task } → AreTasksOf l new
+    → ((u : ℕ) → flag_there new.task (place_at l u) ≡ (one u || flag_there now.task (place_at l u))) → new ≡ record now { task = new.task } → length new.task ≡ length now.task → AreTasksOf l new
     → IsWaking l all left_then old new
-waking_more l all left left_then one old now new is step each rest tasks =
+waking_more l all left left_then one old now new is step each rest many tasks =
     record {
       each = λ u.
           is.each u ∙ ap (λ b. b || flag_there now.task (place_at l u)) (step u) ∙ or_swap (one u) (left_then u) (flag_there now.task (place_at l u))
           ∙ sym (ap (λ b. left_then u || b) (each u));
       rest = rest ∙ ap (λ (t : TasksView). record t { task = new.task }) is.rest;
+      many = many ∙ is.many;
       tasks = tasks;
     }
 

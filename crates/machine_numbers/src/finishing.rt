@@ -1,5 +1,5 @@
 //! Updates that were made, kept.
-ghost use Rattle.std.specs.Prelude.{◌≡◌, ℕ, ◌+◌, ◌<◌, ◌==◌, ◌&&◌, true, false, not, Some, is_some, if◌then◌else◌};
+ghost use Rattle.std.specs.Prelude.{◌≡◌, ℕ, ◌+◌, ◌<◌, ◌==◌, ◌&&◌, true, false, not, Some, is_some, length, if◌then◌else◌};
 ghost use Rattle.machine_numbers.specs.Views.{AreTasksOf, HasEdge, is_own, own_datum, links_at, place_at, flag_there, datum_or};
 ghost use Rattle.machine_numbers.specs.Steps.{CanFinish, HasUpdated, HasRun, renewed};
 
@@ -88,6 +88,7 @@ fn end_task(tasks: &mut TaskSet, local: &LocalGraph, v: Vertex)
     requires outside { tasks.old.outside < 18446744073709551615 }
     ensures each { (u : ℕ) → flag_there tasks.new.task (place_at local.now u) ≡ (flag_there tasks.old.task (place_at local.now u) && not (u == v.0)) }
     ensures run { (k : ℕ) → place_at local.now v.0 ≡ Some k → HasRun tasks.old tasks.new k }
+    ensures many { length tasks.new.task ≡ length tasks.old.task }
     ensures tasks { AreTasksOf local.now tasks.new }
 {
     let count = tasks.count() as usize;

@@ -1,5 +1,5 @@
 //! What a machine learns of updates elsewhere.
-ghost use Rattle.std.specs.Prelude.{◌≡◌, ℕ, ◌==◌, true, false, Some, is_some, if◌then◌else◌};
+ghost use Rattle.std.specs.Prelude.{◌≡◌, ℕ, ◌==◌, true, false, Some, is_some, length, if◌then◌else◌};
 ghost use Rattle.std.specs.List.{All};
 ghost use Rattle.machine_numbers.specs.Views.{is_own, HasEdge, AreTasksOf, ghost_datum, edge_number_at, datum_or, number_told, news_of};
 ghost use Rattle.machine_numbers.specs.Steps.{HasLearned, newer_datum, edge_after};
@@ -25,6 +25,7 @@ impl Numbers {
         ensures edges { (e : ℕ) → HasEdge self.old.local e → HasEdge self.new.local e }
         ensures ghosts { (x : ℕ) → is_some (ghost_datum self.new.ghosts x) ≡ is_some (ghost_datum self.old.ghosts x) }
         ensures tasks { self.new.tasks ≡ record self.old.tasks { task = self.new.tasks.task } }
+        ensures many_tasks { length self.new.tasks.task ≡ length self.old.tasks.task }
         ensures tasks_kept { AreTasksOf self.new.local self.new.tasks }
     {
         keep(&mut self.ghosts, done.centre, done.datum);

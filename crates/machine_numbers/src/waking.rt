@@ -15,6 +15,7 @@ pub fn wake_named(tasks: &mut TaskSet, local: &LocalGraph, wakes: &[Vertex], key
     requires tasks { AreTasksOf local.now tasks.old }
     ensures each { (u : ℕ) → flag_there tasks.new.task (place_at local.now u) ≡ (is_named wakes.now u || flag_there tasks.old.task (place_at local.now u)) }
     ensures rest { tasks.new ≡ record tasks.old { task = tasks.new.task } }
+    ensures many { length tasks.new.task ≡ length tasks.old.task }
     ensures tasks { AreTasksOf local.now tasks.new }
 {
     for place in 0..wakes.len() {
@@ -36,6 +37,7 @@ pub fn wake_along(
     requires tasks { AreTasksOf local.now tasks.old }
     ensures each { (u : ℕ) → flag_there tasks.new.task (place_at local.now u) ≡ (wakes_of local.now.me.0 woken sides.now links.now u || flag_there tasks.old.task (place_at local.now u)) }
     ensures rest { tasks.new ≡ record tasks.old { task = tasks.new.task } }
+    ensures many { length tasks.new.task ≡ length tasks.old.task }
     ensures tasks { AreTasksOf local.now tasks.new }
 {
     for place in 0..sides.len() {
@@ -49,6 +51,7 @@ fn wake_one(tasks: &mut TaskSet, local: &LocalGraph, v: Vertex, key: u64)
     requires tasks { AreTasksOf local.now tasks.old }
     ensures each { (u : ℕ) → flag_there tasks.new.task (place_at local.now u) ≡ ((v.0 == u) || flag_there tasks.old.task (place_at local.now u)) }
     ensures rest { tasks.new ≡ record tasks.old { task = tasks.new.task } }
+    ensures many { length tasks.new.task ≡ length tasks.old.task }
     ensures tasks { AreTasksOf local.now tasks.new }
 {
     match local.place(v) {
@@ -70,6 +73,7 @@ fn wake_end(
     requires tasks { AreTasksOf local.now tasks.old }
     ensures each { (u : ℕ) → flag_there tasks.new.task (place_at local.now u) ≡ ((wakes_there local.now.me.0 woken side.now link.now && side.now.other.0 == u) || flag_there tasks.old.task (place_at local.now u)) }
     ensures rest { tasks.new ≡ record tasks.old { task = tasks.new.task } }
+    ensures many { length tasks.new.task ≡ length tasks.old.task }
     ensures tasks { AreTasksOf local.now tasks.new }
 {
     if wakes_at(local.me(), woken, side, link) {
