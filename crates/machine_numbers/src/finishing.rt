@@ -24,6 +24,7 @@ impl Numbers {
         ensures edges { (e : ℕ) → HasEdge self.old.local e → HasEdge self.new.local e }
         ensures run { (k : ℕ) → place_at self.old.local outcome.work.vertex.0 ≡ Some k → HasRun self.old.tasks self.new.tasks k }
         ensures tasks_kept { AreTasksOf self.new.local self.new.tasks }
+        ensures many_tasks { length self.new.tasks.task ≡ length self.old.tasks.task }
         ensures spare { (result.edges ≡ outcome.work.row.numbers) × (result.near ≡ outcome.work.near) }
     {
         let Outcome {

@@ -1,5 +1,5 @@
 -- A machine stays in order as it commits, and a part of the same settings.
-use Rattle.std.proofs.Common.{◌≡◌, ◌≢◌, ℕ, suc, ◌+◌, ◌<◌, ◌≤◌, ◌==◌, ◌++◌, Bool, true, false, true≢false, if◌then◌else◌, Option, Some, None, List, [], ◌∷◌, length, get_or, set, refl, sym, ap, ◌∙◌, subst, arith, inl, inr, All, Vec, Global, length-append}
+use Rattle.std.proofs.Common.{◌≡◌, ◌≢◌, ℕ, suc, ◌+◌, ◌<◌, ◌≤◌, ◌==◌, ◌++◌, Bool, true, false, true≢false, if◌then◌else◌, Option, Some, None, List, [], ◌∷◌, length, get_or, set, refl, sym, ap, ◌∙◌, subst, arith, inl, inr, All, Vec, Global, length-append, length-set}
 use Rattle.std.specs.Prelude.{is_some, slice_get}
 use Rattle.std.specs.List.{list_any}
 use Rattle.std.proofs.lemmas.Bool.{cases_eq, cases_Bool, eq-eqb, ne_eqb}
@@ -23,10 +23,10 @@ use Rattle.outboxes.specs.Outboxes.{OutboxesView}
 use Rattle.machine_parts.specs.declared.cores.Core.{Core}
 use Rattle.machine_parts.specs.declared.cores.Terms.{Terms}
 use Rattle.machine_parts.specs.Parts.{LocalView, PipeView, EnteredView, place_at, is_placed, is_own, links_at, sides_at, parts_at, part_at, machine_numbers, datum_here, flight_at, is_ready, entered_at}
-use Rattle.machine_parts.specs.Order.{IsOrderly, AreNumbersInOrder, HasComeRight, IsGraphInOrder, StandByPlace, nobody}
+use Rattle.machine_parts.specs.Order.{IsOrderly, AreNumbersInOrder, HasComeRight, IsGraphInOrder, StandByPlace, KnowsPlaces, nobody}
 use Rattle.machine_parts.specs.Settings.{Setting, IsPartOf, IsLocalOf, window_of}
 use Rattle.machine_updates.specs.declared.reserving.Prepared.{Prepared}
-use Rattle.machine_updates.specs.Works.{IsOut, HasItsRow, HasSameLengths}
+use Rattle.machine_updates.specs.Works.{IsOut, HasItsRow, HasSameEdges}
 use Rattle.machine_updates.specs.Reserving.{IsReserved}
 use Rattle.machine_updates.specs.Committing.{done_told, after_told, entry_logged}
 use Rattle.machine_updates.proofs.ToldLemmas.{told_many}
@@ -161,8 +161,8 @@ module _ (old new : Core) (o : Outcome) (ps : List Prepared) (ticket : ℕ) (ord
             omega arith;
       }
 
-  pub ordered : HasSameLengths old.numbers new.numbers → IsOrderly new
-  ordered lengths =
+  pub ordered : IsOrderly new
+  ordered =
       let s = o.work.scope in
       let v = o.work.vertex in
       let graph = done.graph in
@@ -171,12 +171,6 @@ module _ (old new : Core) (o : Outcome) (ps : List Prepared) (ticket : ℕ) (ord
       record {
         graph = graph_kept old.numbers.local new.numbers.local graph (length new.out.machines) (subst (IsGraphInOrder old.numbers.local) (sym boxes) order.graph);
         numbers = subst (λ (t : Terms). AreNumbersInOrder new.numbers t.base) (sym done.terms) numbers_kept;
-        by_place =
-            record {
-              many = ap (λ (vs : Vec Vertex Global). length vs.items) done.by_place ∙ order.by_place.many ∙ sym lengths.tasks;
-              place = λ k u stands.
-                  place_kept old.numbers.local new.numbers.local graph u.0 ∙ order.by_place.place k u (ap (λ (vs : Vec Vertex Global). slice_get vs.items k) (sym done.by_place) ∙ stands);
-            };
         entered = λ t e come.
             let was = was_entered old.pipe new.pipe s without t e come in
             let other = other_entered old.pipe new.pipe s without t e gone was in
@@ -187,16 +181,32 @@ module _ (old new : Core) (o : Outcome) (ps : List Prepared) (ticket : ℕ) (ord
         width = ap (λ (p : PipeView). p.width) done.pipe ∙ order.width ∙ ap (λ (t : Terms). t.pipeline) (sym done.terms);
       }
 
-  pub settled : HasSameLengths old.numbers new.numbers → (st : Setting) → IsPartOf st old → HasItsRow st old o.work → IsPartOf st new
-  settled lengths st part row =
+  pub settled : HasSameEdges old new → (st : Setting) → IsPartOf st old → HasItsRow st old o.work → IsPartOf st new
+  settled edges st part row =
       let at = placed old.numbers.local o.work.vertex.0 own in
       let run = done.run at.0 at.1 in
       record {
-        local = local_kept st old.numbers.local new.numbers.local done.graph lengths.edges
+        local = local_kept st old.numbers.local new.numbers.local done.graph edges
             (rows_back st old.numbers.local new.numbers.local o.work.vertex.0 o.work.row.links.items done.graph done.back row part.local) part.local;
         machines = boxes ∙ part.machines;
         engine = part.engine;
         pipeline = ap (λ (t : Terms). t.pipeline) done.terms ∙ part.pipeline;
         base = ap (λ (t : Terms). t.base) done.terms ∙ part.base;
         window = ap (λ (t : TasksView). t.window) run.rest ∙ part.window;
+      }
+
+  pub places_known : length new.numbers.tasks.task ≡ length old.numbers.tasks.task → KnowsPlaces old → KnowsPlaces new
+  places_known many knows =
+      let graph = done.graph in
+      let at = placed old.numbers.local o.work.vertex.0 own in
+      let run = done.run at.0 at.1 in
+      let flags : length new.numbers.tasks.admitted ≡ length old.numbers.tasks.admitted = ap (λ (t : TasksView). length t.admitted) run.rest ∙ length-set old.numbers.tasks.admitted at.0 false in
+      record {
+        vertices =
+            record {
+              many = ap (λ (vs : Vec Vertex Global). length vs.items) done.by_place ∙ knows.vertices.many ∙ sym many;
+              place = λ k u stands.
+                  place_kept old.numbers.local new.numbers.local graph u.0 ∙ knows.vertices.place k u (ap (λ (vs : Vec Vertex Global). slice_get vs.items k) (sym done.by_place) ∙ stands);
+            };
+        flags = flags ∙ knows.flags ∙ sym many;
       }

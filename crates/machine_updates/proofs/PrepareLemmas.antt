@@ -15,7 +15,7 @@ use Rattle.outboxes.specs.Outboxes.{OutboxView, OutboxesView, outbox_to, waiting
 use Rattle.machine_numbers.specs.Steps.{IsBlank}
 use Rattle.machine_updates.specs.declared.reserving.Prepared.{Prepared}
 use Rattle.machine_parts.specs.Rooms.{HaveSameMessages}
-use Rattle.machine_updates.specs.Reserving.{CanTell, HasPlaceFor, is_to_be_told}
+use Rattle.machine_updates.specs.Reserving.{CanTell, HasRoomToTell, is_to_be_told}
 
 abbrev pub is_among : List MachineNo → ℕ → Bool
 is_among bs q = list_any (λ b. b.0 == q) bs
@@ -103,14 +103,14 @@ one_more false b q me other = elim (cases_eq b q) [
 -- room that was there for others is there still
 pub one_prepared : (old now next : OutboxesView) (scope : ScopeId) (v : Vertex) (many me : ℕ) (bs : List MachineNo) (i : ℕ) (d : MachineNo) (ps : List Prepared) (p : Prepared) → i < length bs
     → AllPairs (λ (one other : MachineNo). one.0 ≢ other.0) bs → ((get_or bs i d).0 ≡ me → ⊥) → IsPreparing old now scope v many me (take i bs) ps → p.to ≡ get_or bs i d → IsBlank p.done scope v many → (get_or bs i d).0 < length now.machines
-    → HasPlaceFor next (get_or bs i d) → HaveSameMessages now next → ((c : MachineNo) → c.0 ≢ (get_or bs i d).0 → outbox_to next (Machine c) ≡ outbox_to now (Machine c)) → IsPreparing old next scope v many me (take (i + 1) bs) (ps ++ p ∷ [])
+    → HasRoomToTell next (get_or bs i d) → HaveSameMessages now next → ((c : MachineNo) → c.0 ≢ (get_or bs i d).0 → outbox_to next (Machine c) ≡ outbox_to now (Machine c)) → IsPreparing old next scope v many me (take (i + 1) bs) (ps ++ p ∷ [])
 one_prepared old now next scope v many me bs i d ps p inside apart other are to blank machine room same others =
     let b = get_or bs i d in
     let to_b : p.to.0 ≡ b.0 = ap (λ (c : MachineNo). c.0) to in
     let none : is_among (take i bs) b.0 ≡ false = none_up_to bs i i d (omega arith) inside apart in
     let untold : is_to_be_told ps b.0 ≡ false = are.told b.0 ∙ ap (λ (c : Bool). c && not (b.0 == me)) none in
     let P : Prepared → Type 0 = λ r. r.to.0 < length next.machines in
-    let Q : Prepared → Type 0 = λ r. HasPlaceFor next r.to in
+    let Q : Prepared → Type 0 = λ r. HasRoomToTell next r.to in
     let S : Prepared → Type 0 = λ r. IsBlank r.done scope v many in
     let R : Prepared → Prepared → Type 0 = λ one two. one.to.0 ≢ two.to.0 in
     record {
@@ -121,7 +121,7 @@ one_prepared old now next scope v many me bs i d ps p inside apart other are to 
                 (subst (λ (n : ℕ). p.to.0 < n) (sym same.machines) (subst (λ (n : ℕ). n < length now.machines) (sym to_b) machine));
             room = All-push Q ps p
                 (λ k d low. subst (λ (box : OutboxView). 0 < box.room) (sym (others (get_or ps k d).to (not_told ps b.0 untold k d low))) (are.can.room k d low))
-                (subst (HasPlaceFor next) (sym to) room);
+                (subst (HasRoomToTell next) (sym to) room);
             blank = All-push S ps p are.can.blank blank;
             apart = all_pairs_push R ps p are.can.apart (λ k d low same_to. not_told ps b.0 untold k d low (same_to ∙ to_b));
           };

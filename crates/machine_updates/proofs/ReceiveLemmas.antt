@@ -28,9 +28,9 @@ use Rattle.machine_numbers.specs.Settings.{with_numbers, IsRowOf}
 use Rattle.local_graph.specs.declared.sides.Side.{Side}
 use Rattle.machine_parts.specs.declared.cores.Core.{Core}
 use Rattle.machine_parts.specs.Parts.{LocalView, PipeView, EnteredView, Part, place_at, is_own, links_at, sides_at, datum_here, flag_there, pending_here, admitted_here, flight_at, is_ready, entered_at, is_owned, holder_at, queue_at, part_of}
-use Rattle.machine_parts.specs.Order.{IsOrderly, AreNumbersInOrder, AreFlightsInOrder, IsReadyAt, HasComeRight, IsGraphInOrder, StandByPlace}
+use Rattle.machine_parts.specs.Order.{IsOrderly, AreNumbersInOrder, AreFlightsInOrder, IsReadyAt, HasComeRight, IsGraphInOrder, StandByPlace, KnowsPlaces}
 use Rattle.machine_parts.specs.Settings.{Setting, IsPartOf, IsLocalOf, SameSettings}
-use Rattle.machine_updates.specs.Works.{HasSameLengths}
+use Rattle.machine_updates.specs.Works.{HasSameEdges}
 use Rattle.machine_updates.specs.Learning.{CanLearn, HasReceivedDone}
 use Rattle.machine_updates.proofs.GraphLemmas.{SameGraph, place_kept, me_kept, sides_kept, ghosts_kept, graph_kept, sides_here}
 use Rattle.machine_updates.proofs.LeaveLemmas.{IsWithout, none_or, some_none, come_kept, other_entered, was_entered, locks_left}
@@ -199,14 +199,13 @@ module _ (old new : Core) (done : Done) (order : IsOrderly old) (can : CanLearn 
   row_same : (v : ℕ) → links_at new.numbers.local v ≡ links_at old.numbers.local v
   row_same v = ap (λ (l : LocalView). links_at l v) heard.local
 
-  order_of : HasSameLengths old.numbers new.numbers → IsOrderly (record old { numbers = new.numbers; locks = new.locks })
-  order_of lengths =
+  order_of : IsOrderly (record old { numbers = new.numbers; locks = new.locks })
+  order_of =
       let o = old.numbers.local in
       let l = new.numbers.local in
       record {
         graph = graph_kept o l graph (length old.out.machines) order.graph;
         numbers = numbers_kept;
-        by_place = record { many = order.by_place.many ∙ sym lengths.tasks; place = λ k u stands. place_kept o l graph u.0 ∙ order.by_place.place k u stands };
         entered = λ t e come. come_kept old.pipe old.pipe done.scope without o l (length old.out.machines) t e graph (other_entered old.pipe old.pipe done.scope without t e can.gone come) (order.entered t e come);
         locks = locks_left old.pipe old.pipe done.scope without o l old.locks new.locks graph can.gone heard.owned heard.holder heard.queue order.locks;
         flights = flights_stay old.numbers new.numbers old.pipe graph (ap (λ (t : TasksView). t.admitted) heard.tasks)
@@ -214,13 +213,13 @@ module _ (old new : Core) (done : Done) (order : IsOrderly old) (can : CanLearn 
         width = order.width;
       }
 
-  pub order_heard : HasSameLengths old.numbers new.numbers → IsOrderly new
-  order_heard lengths = subst IsOrderly (sym heard.rest) (order_of lengths)
+  pub order_heard : IsOrderly new
+  order_heard = subst IsOrderly (sym heard.rest) order_of
 
-  pub settings_heard : HasSameLengths old.numbers new.numbers → SameSettings old new
-  settings_heard lengths = λ st part. subst (IsPartOf st) (sym heard.rest)
+  pub settings_heard : HasSameEdges old new → SameSettings old new
+  settings_heard edges = λ st part. subst (IsPartOf st) (sym heard.rest)
       (record {
-        local = local_kept st old.numbers.local new.numbers.local graph lengths.edges
+        local = local_kept st old.numbers.local new.numbers.local graph edges
             (λ v links own at.
             subst (λ (ss : List Side). IsRowOf st v ss links) (sym (sides_kept old.numbers.local new.numbers.local graph v)) (part.local.rows v links (sym (graph.own v) ∙ own) (sym (row_same v) ∙ at))) part.local;
         machines = part.machines;
@@ -228,4 +227,16 @@ module _ (old new : Core) (done : Done) (order : IsOrderly old) (can : CanLearn 
         pipeline = part.pipeline;
         base = part.base;
         window = ap (λ (t : TasksView). t.window) heard.tasks ∙ part.window;
+      })
+
+  pub places_heard : length new.numbers.tasks.task ≡ length old.numbers.tasks.task → KnowsPlaces old → KnowsPlaces new
+  places_heard many knows =
+      subst KnowsPlaces (sym heard.rest)
+      (record {
+        vertices =
+            record {
+              many = knows.vertices.many ∙ sym many;
+              place = λ k u stands. place_kept old.numbers.local new.numbers.local graph u.0 ∙ knows.vertices.place k u stands;
+            };
+        flags = ap (λ (t : TasksView). length t.admitted) heard.tasks ∙ knows.flags ∙ sym many;
       })

@@ -14,7 +14,7 @@ use Rattle.machine_numbers.specs.declared.keeping.Numbers.{Numbers}
 use Rattle.machine_numbers.specs.Steps.{TellsOf, IsBlank}
 use Rattle.machine_parts.specs.Parts.{sides_at}
 use Rattle.machine_updates.specs.declared.reserving.Prepared.{Prepared}
-use Rattle.machine_updates.specs.Reserving.{CanTell, HasPlaceFor, is_to_be_told}
+use Rattle.machine_updates.specs.Reserving.{CanTell, HasRoomToTell, is_to_be_told}
 use Rattle.machine_updates.specs.Committing.{done_told, posted, after_told}
 use Rattle.machine_updates.specs.Inner.Telling.{HasWord}
 

@@ -14,9 +14,9 @@ use Rattle.machine_numbers.specs.Steps.{HasTakenOut}
 use Rattle.machine_numbers.specs.Settings.{IsRowOf}
 use Rattle.machine_parts.specs.declared.cores.Core.{Core}
 use Rattle.machine_parts.specs.Parts.{LocalView, place_at, is_own, links_at, sides_at, edge_here, task_here, pending_here, flight_at, is_ready, part_of}
-use Rattle.machine_parts.specs.Order.{IsOrderly, IsReadyAt}
+use Rattle.machine_parts.specs.Order.{IsOrderly, IsReadyAt, KnowsPlaces}
 use Rattle.machine_parts.specs.Settings.{Setting, IsPartOf, IsLocalOf, SameSettings}
-use Rattle.machine_updates.specs.Works.{IsOut, CanTake, HasItsRow}
+use Rattle.machine_updates.specs.Works.{IsOut, CanBeTaken, HasItsRow}
 use Rattle.machine_updates.proofs.GraphLemmas.{SameGraph}
 use Rattle.machine_updates.proofs.LeaveLemmas.{some_none}
 use Rattle.machine_updates.proofs.ReceiveLemmas.{flights_stay}
@@ -54,7 +54,6 @@ order_with m rows numbers ready order =
             marks = order.numbers.marks;
             outside = order.numbers.outside;
           };
-      by_place = record { many = order.by_place.many; place = order.by_place.place };
       entered = λ s e come.
           let is = order.entered s e come in
           record {
@@ -78,6 +77,9 @@ order_with m rows numbers ready order =
       flights = flights_stay m.numbers (with_rows m rows numbers).numbers m.pipe (graph_with m rows numbers) refl ready order.flights;
       width = order.width;
     }
+
+pub places_with : (m : Core) (rows : List (Option (List Link))) (numbers : List ℕ) → KnowsPlaces m → KnowsPlaces (with_rows m rows numbers)
+places_with m rows numbers knows = record { vertices = record { many = knows.vertices.many; place = knows.vertices.place }; flags = knows.flags }
 
 pub settings_with : (st : Setting) (m : Core) (rows : List (Option (List Link))) (numbers : List ℕ) → length numbers ≡ length m.numbers.local.numbers → HaveTheirRows st (with_rows m rows numbers).numbers.local → IsPartOf st m
     → IsPartOf st (with_rows m rows numbers)
@@ -112,7 +114,7 @@ out_with m rows numbers w edge row out =
 
 -- ---- a work that is taken
 
-module _ (old : Core) (rows : List (Option (List Link))) (s : ScopeId) (v : Vertex) (w : Work) (order : IsOrderly old) (can : CanTake old s v) (taken : HasTakenOut old.numbers (with_rows old rows old.numbers.local.numbers).numbers s v w) where
+module _ (old : Core) (rows : List (Option (List Link))) (s : ScopeId) (v : Vertex) (w : Work) (order : IsOrderly old) (can : CanBeTaken old s v) (taken : HasTakenOut old.numbers (with_rows old rows old.numbers.local.numbers).numbers s v w) where
   pub taken_ready : (u : Vertex) → is_own old.numbers.local u.0 ≡ true → is_some (links_at (with_rows old rows old.numbers.local.numbers).numbers.local u.0) ≡ false → IsReadyAt old.pipe u
   taken_ready u own out = elim (cases_eq u.0 v.0) [
     | inl here ↦ record { scope = s; centre = can.flight ∙ ap Some (λ i. record { 0 = sym here i }); ready = can.ready }

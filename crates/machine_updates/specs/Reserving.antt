@@ -12,8 +12,8 @@ use Rattle.machine_parts.specs.Parts.{sides_at, parts_at}
 use Rattle.machine_updates.specs.declared.reserving.Prepared.{Prepared}
 
 -- there is room for a message to machine b
-abbrev pub HasPlaceFor : OutboxesView → MachineNo → Type 0
-HasPlaceFor out b = 0 < (outbox_to out (Machine b)).room
+abbrev pub HasRoomToTell : OutboxesView → MachineNo → Type 0
+HasRoomToTell out b = 0 < (outbox_to out (Machine b)).room
 
 -- machine q is one of those that are to be told
 abbrev pub is_to_be_told : List Prepared → ℕ → Bool
@@ -22,7 +22,7 @@ is_to_be_told ps q = list_any (λ p. p.to.0 == q) ps
 -- Each is a machine, with room for a message and a blank one of this scope for it, and none stands twice.
 pub record CanTell (out : OutboxesView) (scope : ScopeId) (centre : Vertex) (many : ℕ) (ps : List Prepared) : Type 0 where
   pub machines : All (λ p. p.to.0 < length out.machines) ps
-  pub room : All (λ p. HasPlaceFor out p.to) ps
+  pub room : All (λ p. HasRoomToTell out p.to) ps
   pub blank : All (λ p. IsBlank p.done scope centre many) ps
   pub apart : AllPairs (λ one other. one.to.0 ≢ other.to.0) ps
 

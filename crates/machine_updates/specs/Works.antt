@@ -4,7 +4,6 @@ use Rattle.std.specs.List.{All}
 use Rattle.gl_base.specs.declared.numbers.Vertex.{Vertex}
 use Rattle.gl_base.specs.declared.scopes.ScopeId.{ScopeId}
 use Rattle.local_graph.specs.declared.works.Work.{Work}
-use Rattle.machine_numbers.specs.declared.keeping.Numbers.{Numbers}
 use Rattle.machine_numbers.specs.Views.{numbers_along, near_along, value_here}
 use Rattle.machine_numbers.specs.Settings.{IsRowOf}
 use Rattle.machine_parts.specs.declared.cores.Core.{Core}
@@ -24,7 +23,7 @@ pub record IsOut (m : Core) (w : Work) : Type 0 where
   pub near : w.near.items ≡ near_along (value_here m.numbers) (sides_at m.numbers.local w.vertex.0)
 
 -- The scope of v can be taken: it is ready for an ordinary update of v, and isn't taken yet.
-pub record CanTake (m : Core) (s : ScopeId) (v : Vertex) : Type 0 where
+pub record CanBeTaken (m : Core) (s : ScopeId) (v : Vertex) : Type 0 where
   pub flight : flight_at m.pipe s ≡ Some v
   pub ready : is_ready m.pipe s ≡ true
   pub task : task_here m.numbers v.0 ≡ true
@@ -41,7 +40,6 @@ pub record IsApartFrom (m : Core) (v : ℕ) (w : Work) : Type 0 where
 abbrev pub HasItsRow : Setting → Core → Work → Type 0
 HasItsRow st m w = IsRowOf st w.vertex.0 (sides_at m.numbers.local w.vertex.0) w.row.links.items
 
--- there are as many flags of tasks and as many numbers of edges
-pub record HasSameLengths (old new : Numbers) : Type 0 where
-  pub tasks : length new.tasks.task ≡ length old.tasks.task
-  pub edges : length new.local.numbers ≡ length old.local.numbers
+-- there are as many numbers of edges
+abbrev pub HasSameEdges : Core → Core → Type 0
+HasSameEdges old new = length new.numbers.local.numbers ≡ length old.numbers.local.numbers

@@ -1,8 +1,8 @@
 //! Word of updates elsewhere.
 ghost use Rattle.std.specs.Prelude.{◌≡◌};
-ghost use Rattle.machine_parts.specs.Order.{IsOrderly};
+ghost use Rattle.machine_parts.specs.Order.{IsOrderly, KnowsPlaces};
 ghost use Rattle.machine_parts.specs.Settings.{SameSettings};
-ghost use Rattle.machine_updates.specs.Works.{HasSameLengths};
+ghost use Rattle.machine_updates.specs.Works.{HasSameEdges};
 ghost use Rattle.machine_updates.specs.Learning.{CanLearn, HasReceivedDone};
 
 use lock_release::release_all;
@@ -15,8 +15,9 @@ pub fn receive_done(core: &mut Core, done: &Done)
     requires orderly { IsOrderly core.old }
     requires can { CanLearn core.old done.now }
     ensures received { HasReceivedDone core.old core.new done.now }
-    ensures orderly { HasSameLengths core.old.numbers core.new.numbers → IsOrderly core.new }
-    ensures settings { HasSameLengths core.old.numbers core.new.numbers → SameSettings core.old core.new }
+    ensures orderly { IsOrderly core.new }
+    ensures places { KnowsPlaces core.old → KnowsPlaces core.new }
+    ensures settings { HasSameEdges core.old core.new → SameSettings core.old core.new }
     ensures rest { core.new ≡ record core.old { numbers = core.new.numbers; locks = core.new.locks } }
 {
     core.numbers.learn(done);

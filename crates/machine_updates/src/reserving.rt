@@ -5,10 +5,10 @@ ghost use Rattle.gl_base.specs.declared.scopes.Peer.TheVariants.{Machine};
 ghost use Rattle.machine_numbers.specs.Steps.{IsBlank};
 ghost use Rattle.outboxes.specs.Outboxes.{outbox_to};
 ghost use Rattle.machine_parts.specs.Parts.{flight_at, sides_at, part_of};
-ghost use Rattle.machine_parts.specs.Order.{IsOrderly};
+ghost use Rattle.machine_parts.specs.Order.{IsOrderly, KnowsPlaces};
 ghost use Rattle.machine_parts.specs.Settings.{SameSettings};
 ghost use Rattle.machine_parts.specs.Rooms.{HasOnlyMadeRoom, HaveSameMessages};
-ghost use Rattle.machine_updates.specs.Reserving.{CanTell, is_to_be_told, HasPlaceFor, IsReserved};
+ghost use Rattle.machine_updates.specs.Reserving.{CanTell, is_to_be_told, HasRoomToTell, IsReserved};
 
 use gl_base::{Entry, MachineNo, NoMemory, Peer, ScopeId, Vertex};
 use machine_numbers::blank_done;
@@ -40,6 +40,7 @@ pub fn reserve_commit(
     ensures same { HasOnlyMadeRoom core.old core.new }
     ensures part { part_of core.new ≡ part_of core.old }
     ensures orderly { IsOrderly core.new }
+    ensures places { KnowsPlaces core.old → KnowsPlaces core.new }
     ensures settings { SameSettings core.old core.new }
 {
     reserve_log(&mut core.numbers.log)?;
@@ -107,7 +108,7 @@ fn prepare_one(
     requires { to.0 < length out.old.machines }
     ensures to { IfOk result (λ p. p.to ≡ to) }
     ensures blank { IfOk result (λ p. IsBlank p.done scope v degree) }
-    ensures room { OnOk result (HasPlaceFor out.new to) }
+    ensures room { OnOk result (HasRoomToTell out.new to) }
     ensures same { HaveSameMessages out.old out.new }
     ensures others { (b : MachineNo) → b.0 ≢ to.0 → outbox_to out.new (Machine b) ≡ outbox_to out.old (Machine b) }
 {

@@ -3,9 +3,9 @@ ghost use Rattle.std.specs.Prelude.{◌≡◌, ◌≢◌, ℕ, ◌==◌, None, S
 ghost use Rattle.local_graph.specs.declared.works.Work.{Work};
 ghost use Rattle.machine_numbers.specs.Steps.{HasRoom};
 ghost use Rattle.machine_parts.specs.Parts.{links_at, sides_at, part_of};
-ghost use Rattle.machine_parts.specs.Order.{IsOrderly};
+ghost use Rattle.machine_parts.specs.Order.{IsOrderly, KnowsPlaces};
 ghost use Rattle.machine_parts.specs.Settings.{Setting, IsPartOf, SameSettings};
-ghost use Rattle.machine_updates.specs.Works.{IsOut, CanTake, HasItsRow};
+ghost use Rattle.machine_updates.specs.Works.{IsOut, CanBeTaken, HasItsRow, HasSameEdges};
 
 use local_graph::Work;
 use machine_numbers::Spare;
@@ -16,7 +16,7 @@ use scope_pipe::Flight;
 /// room for them, so it takes no memory.
 pub fn take_work(core: &mut Core, flight: Flight, spare: Spare) -> Work
     requires orderly { IsOrderly core.old }
-    requires can { CanTake core.old flight.scope flight.centre }
+    requires can { CanBeTaken core.old flight.scope flight.centre }
     requires room { HasRoom spare (length (sides_at core.old.numbers.local flight.centre.0)) }
     ensures scope { (result.scope ≡ flight.scope) × (result.vertex ≡ flight.centre) }
     ensures out { IsOut core.new result }
@@ -25,6 +25,7 @@ pub fn take_work(core: &mut Core, flight: Flight, spare: Spare) -> Work
     ensures rows { (x : ℕ) → links_at core.new.numbers.local x ≡ (if x == flight.centre.0 then None else links_at core.old.numbers.local x) }
     ensures part { part_of core.new ≡ part_of core.old }
     ensures orderly { IsOrderly core.new }
+    ensures places { KnowsPlaces core.old → KnowsPlaces core.new }
     ensures settings { SameSettings core.old core.new }
     ensures rest { core.new ≡ record core.old { numbers = record core.old.numbers { local = record core.old.numbers.local { rows = core.new.numbers.local.rows } } } }
 {
@@ -40,7 +41,8 @@ pub fn put_back(core: &mut Core, work: Work) -> Spare
     ensures others { (w : Work) → IsOut core.old w → w.vertex.0 ≢ work.vertex.0 → IsOut core.new w }
     ensures part { part_of core.new ≡ part_of core.old }
     ensures orderly { IsOrderly core.new }
-    ensures settings { length core.new.numbers.local.numbers ≡ length core.old.numbers.local.numbers → (st : Setting) → IsPartOf st core.old → HasItsRow st core.old work → IsPartOf st core.new }
+    ensures places { KnowsPlaces core.old → KnowsPlaces core.new }
+    ensures settings { HasSameEdges core.old core.new → (st : Setting) → IsPartOf st core.old → HasItsRow st core.old work → IsPartOf st core.new }
     ensures rest { core.new ≡ record core.old { numbers = record core.old.numbers { local = record core.old.numbers.local { rows = core.new.numbers.local.rows; numbers = core.new.numbers.local.numbers } } } }
     ensures spare { (result.edges ≡ work.row.numbers) × (result.near ≡ work.near) }
 {

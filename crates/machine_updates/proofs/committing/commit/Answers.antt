@@ -1,7 +1,7 @@
 -- What the calls leave makes up the commit.
 use Rattle.std.proofs.Common.{refl}
 use Rattle.machine_updates.proofs.CommitLemmas.{HasDone, committed}
-use Rattle.machine_updates.proofs.OrderLemmas.{ordered, settled}
+use Rattle.machine_updates.proofs.OrderLemmas.{ordered, settled, places_known}
 use Rattle.machine_updates.proofs.StayLemmas.{stays_out}
 use Rattle.machine_updates.proofs.committing.commit.Goals as goal
 
@@ -37,3 +37,6 @@ returns-clause-settings c = settled c.args.core.now _ c.args.outcome c.args.prep
 
 pub returns-clause-others : goal.returns-clause-others
 returns-clause-others c = stays_out c.args.core.now _ c.args.outcome c.args.prepared.items c.args.ticket c.requires.orderly c.requires.out c.requires.reserved (has_done c)
+
+pub returns-clause-places : goal.returns-clause-places
+returns-clause-places c = places_known c.args.core.now _ c.args.outcome c.args.prepared.items c.args.ticket c.requires.orderly c.requires.out c.requires.reserved (has_done c) c.finish-2.ensures.many_tasks

@@ -1,6 +1,6 @@
 -- What the calls leave makes up the receipt.
 use Rattle.std.proofs.Common.{refl}
-use Rattle.machine_updates.proofs.ReceiveLemmas.{HasHeard, received_is, order_heard, settings_heard}
+use Rattle.machine_updates.proofs.ReceiveLemmas.{HasHeard, received_is, order_heard, settings_heard, places_heard}
 use Rattle.machine_updates.proofs.receiving.receive_done.Goals as goal
 
 has_heard : (c : goal.After-release_all) → HasHeard c.args.core.now (record c.args.core.now { numbers = c.learn.new.self; locks = c.release_all.new.locks }) c.args.done.now
@@ -26,3 +26,6 @@ returns-clause-orderly c = order_heard c.args.core.now _ c.args.done.now c.requi
 
 pub returns-clause-settings : goal.returns-clause-settings
 returns-clause-settings c = settings_heard c.args.core.now _ c.args.done.now c.requires.orderly c.requires.can (has_heard c)
+
+pub returns-clause-places : goal.returns-clause-places
+returns-clause-places c = places_heard c.args.core.now _ c.args.done.now c.requires.orderly c.requires.can (has_heard c) c.learn.ensures.many_tasks

@@ -4,10 +4,10 @@ use Rattle.local_graph.specs.declared.works.Work.{Work}
 use Rattle.machine_numbers.specs.declared.keeping.Numbers.{Numbers}
 use Rattle.machine_parts.specs.declared.cores.Core.{Core}
 use Rattle.machine_parts.specs.Parts.{links_at, part_of}
-use Rattle.machine_parts.specs.Order.{IsOrderly}
+use Rattle.machine_parts.specs.Order.{IsOrderly, KnowsPlaces}
 use Rattle.machine_parts.specs.Settings.{IsPartOf}
 use Rattle.machine_updates.specs.Works.{IsOut}
-use Rattle.machine_updates.proofs.WorkLemmas.{with_rows, order_with, part_with, put_ready, put_others, put_settings}
+use Rattle.machine_updates.proofs.WorkLemmas.{with_rows, order_with, places_with, part_with, put_ready, put_others, put_settings}
 use Rattle.machine_updates.proofs.works.put_back.Goals as goal
 
 now_is : (m : Core) (n : Numbers) → n ≡ record m.numbers { local = record m.numbers.local { rows = n.local.rows; numbers = n.local.numbers } } → record m { numbers = n } ≡ with_rows m n.local.rows n.local.numbers
@@ -47,3 +47,9 @@ returns-clause-others c w out off =
     let n = c.put_back.new.self in
     let back = back_is m n c.args.work c.put_back.ensures.rest c.put_back.ensures.back in
     subst (λ (k : Core). IsOut k w) (sym (now_is m n c.put_back.ensures.rest)) (put_others m n.local.rows n.local.numbers c.args.work.vertex.0 c.args.work.row.links.items back c.put_back.ensures.edge w out off)
+
+pub returns-clause-places : goal.returns-clause-places
+returns-clause-places c knows =
+    let m = c.args.core.now in
+    let n = c.put_back.new.self in
+    subst KnowsPlaces (sym (now_is m n c.put_back.ensures.rest)) (places_with m n.local.rows n.local.numbers knows)

@@ -7,10 +7,10 @@ use Rattle.machine_numbers.specs.declared.keeping.Numbers.{Numbers}
 use Rattle.machine_numbers.specs.Steps.{HasTakenOut}
 use Rattle.machine_parts.specs.declared.cores.Core.{Core}
 use Rattle.machine_parts.specs.Parts.{part_of}
-use Rattle.machine_parts.specs.Order.{IsOrderly}
+use Rattle.machine_parts.specs.Order.{IsOrderly, KnowsPlaces}
 use Rattle.machine_parts.specs.Settings.{IsPartOf, SameSettings}
 use Rattle.machine_updates.specs.Works.{IsOut, HasItsRow}
-use Rattle.machine_updates.proofs.WorkLemmas.{with_rows, order_with, part_with, taken_ready, taken_out, taken_row, taken_others, taken_settings}
+use Rattle.machine_updates.proofs.WorkLemmas.{with_rows, order_with, places_with, part_with, taken_ready, taken_out, taken_row, taken_others, taken_settings}
 use Rattle.machine_updates.proofs.works.take_work.Goals as goal
 
 now_is : (m : Core) (n : Numbers) → n ≡ record m.numbers { local = record m.numbers.local { rows = n.local.rows } } → record m { numbers = n } ≡ with_rows m n.local.rows m.numbers.local.numbers
@@ -68,3 +68,9 @@ returns-clause-others c w out =
     let f = c.args.flight in
     subst (λ (k : Core). IsOut k w) (sym (now_is m n c.take_work.ensures.rest))
     (taken_others m n.local.rows f.scope f.centre c.take_work.result c.requires.orderly c.requires.can (taken_is m n f.scope f.centre c.take_work.result c.take_work.ensures) w out)
+
+pub returns-clause-places : goal.returns-clause-places
+returns-clause-places c knows =
+    let m = c.args.core.now in
+    let n = c.take_work.new.self in
+    subst KnowsPlaces (sym (now_is m n c.take_work.ensures.rest)) (places_with m n.local.rows m.numbers.local.numbers knows)
