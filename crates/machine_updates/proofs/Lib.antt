@@ -9,3 +9,4 @@ pub mod OrderLemmas
 pub mod StayLemmas
 pub mod ReceiveLemmas
 pub mod WorkLemmas
+pub mod ApartLemmas

@@ -3,6 +3,7 @@
 #![tactic(auto)]
 
 mod committing;
+mod laws;
 mod receiving;
 mod reserving;
 mod spares;
@@ -10,6 +11,7 @@ mod telling;
 mod works;
 
 pub use committing::commit;
+pub use laws::works_of_strangers_are_apart;
 pub use receiving::receive_done;
 pub use reserving::{Prepared, reserve_commit};
 pub use spares::Spares;
