@@ -159,6 +159,7 @@ impl LocalGraph {
         requires { HasEdge self.old edge.0 }
         ensures number { (e : ℕ) → edge_number_at self.new e ≡ (if e == edge.0 then number else edge_number_at self.old e) }
         ensures edges { (e : ℕ) → HasEdge self.old e → HasEdge self.new e }
+        ensures many { length self.new.numbers ≡ length self.old.numbers }
         ensures rest { self.new ≡ record self.old { numbers = self.new.numbers } }
     {
         self.numbers[edge.0 as usize] = number;
@@ -193,6 +194,7 @@ impl LocalGraph {
         ensures back { (x : ℕ) → links_at self.new x ≡ (if x == v.0 then Some row.links.items else links_at self.old x) }
         ensures numbers { (e : ℕ) → edge_number_at self.new e ≡ written (sides_at self.old v.0) row.numbers.items (edge_number_at self.old) e }
         ensures edges { (e : ℕ) → HasEdge self.old e → HasEdge self.new e }
+        ensures many { length self.new.numbers ≡ length self.old.numbers }
         ensures rest { self.new ≡ record self.old { rows = self.new.rows; numbers = self.new.numbers } }
     {
         let Row { links, numbers } = row;

@@ -11,6 +11,7 @@ pub record AreLearned (old now : LocalView) (edges : List (EdgeNo × ℕ)) (i : 
   pub inside : i ≤ length edges
   pub each : (e : ℕ) → edge_number_at now e ≡ edge_after (number_told (drop i edges) e) (edge_number_at old e)
   pub held : (e : ℕ) → HasEdge old e → HasEdge now e
+  pub many : length now.numbers ≡ length old.numbers
   pub rest : now ≡ record old { numbers = now.numbers }
 
 pub learned_none : (old : LocalView) (edges : List (EdgeNo × ℕ)) (i : ℕ) → i ≡ length edges → AreLearned old old edges i
@@ -19,13 +20,14 @@ learned_none old edges i all =
       inside = omega arith;
       each = λ e. sym (ap (λ (es : List (EdgeNo × ℕ)). edge_after (number_told es e) (edge_number_at old e)) (drop_all i edges (omega arith)));
       held = λ e has. has;
+      many = refl;
       rest = refl;
     }
 
 pub learned_more : (old now new : LocalView) (edges : List (EdgeNo × ℕ)) (i : ℕ) (d : EdgeNo × ℕ) → i < length edges → d ≡ get_or edges i d → AreLearned old now edges (i + 1)
-    → ((e : ℕ) → edge_number_at new e ≡ (if e == d.0.0 then d.1 else edge_number_at now e)) → ((e : ℕ) → HasEdge now e → HasEdge new e) → new ≡ record now { numbers = new.numbers }
+    → ((e : ℕ) → edge_number_at new e ≡ (if e == d.0.0 then d.1 else edge_number_at now e)) → ((e : ℕ) → HasEdge now e → HasEdge new e) → length new.numbers ≡ length now.numbers → new ≡ record now { numbers = new.numbers }
     → AreLearned old new edges i
-learned_more old now new edges i d inside is_d are each held rest =
+learned_more old now new edges i d inside is_d are each held many rest =
     record {
       inside = omega arith;
       each = λ e.
@@ -42,5 +44,6 @@ learned_more old now new edges i d inside is_d are each held rest =
                 ∙ sym (unfolds ∙ ap (λ b. edge_after (if b then Some d.1 else later) was) (ne_eqb e d.0.0 other))
           ];
       held = λ e has. held e (are.held e has);
+      many = many ∙ are.many;
       rest = rest ∙ ap (λ (l : LocalView). record l { numbers = new.numbers }) are.rest;
     }

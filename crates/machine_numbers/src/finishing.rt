@@ -22,6 +22,7 @@ impl Numbers {
         ensures ghosts { self.new.ghosts ≡ self.old.ghosts }
         ensures own { (x : ℕ) → is_own self.new.local x ≡ is_own self.old.local x }
         ensures edges { (e : ℕ) → HasEdge self.old.local e → HasEdge self.new.local e }
+        ensures many_edges { length self.new.local.numbers ≡ length self.old.local.numbers }
         ensures run { (k : ℕ) → place_at self.old.local outcome.work.vertex.0 ≡ Some k → HasRun self.old.tasks self.new.tasks k }
         ensures tasks_kept { AreTasksOf self.new.local self.new.tasks }
         ensures many_tasks { length self.new.tasks.task ≡ length self.old.tasks.task }

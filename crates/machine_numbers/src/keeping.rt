@@ -87,6 +87,7 @@ impl Numbers {
         ensures back { (x : ℕ) → links_at self.new.local x ≡ (if x == work.vertex.0 then Some work.row.links.items else links_at self.old.local x) }
         ensures edge { (e : ℕ) → edge_here self.new e ≡ edge_here self.old e }
         ensures edges { (e : ℕ) → HasEdge self.old.local e → HasEdge self.new.local e }
+        ensures many_edges { length self.new.local.numbers ≡ length self.old.local.numbers }
         ensures rest { self.new ≡ record self.old { local = record self.old.local { rows = self.new.local.rows; numbers = self.new.local.numbers } } }
         ensures spare { (result.edges ≡ work.row.numbers) × (result.near ≡ work.near) }
     {

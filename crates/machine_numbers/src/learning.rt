@@ -23,6 +23,7 @@ impl Numbers {
         ensures learned { HasLearned self.old self.new (news_of done.now) }
         ensures local { self.new.local ≡ record self.old.local { numbers = self.new.local.numbers } }
         ensures edges { (e : ℕ) → HasEdge self.old.local e → HasEdge self.new.local e }
+        ensures many_edges { length self.new.local.numbers ≡ length self.old.local.numbers }
         ensures ghosts { (x : ℕ) → is_some (ghost_datum self.new.ghosts x) ≡ is_some (ghost_datum self.old.ghosts x) }
         ensures tasks { self.new.tasks ≡ record self.old.tasks { task = self.new.tasks.task } }
         ensures many_tasks { length self.new.tasks.task ≡ length self.old.tasks.task }
@@ -50,6 +51,7 @@ fn write_edges(local: &mut LocalGraph, edges: &[(EdgeNo, u64)])
     requires { All (λ e. HasEdge local.old e.0.0) edges.now }
     ensures each { (e : ℕ) → edge_number_at local.new e ≡ edge_after (number_told edges.now e) (edge_number_at local.old e) }
     ensures edges { (e : ℕ) → HasEdge local.old e → HasEdge local.new e }
+    ensures many { length local.new.numbers ≡ length local.old.numbers }
     ensures rest { local.new ≡ record local.old { numbers = local.new.numbers } }
 {
     for place in (0..edges.len()).rev() {

@@ -12,4 +12,4 @@ loop-place-preserved c =
     let inside : p - 1 < length edges = omega arith in
     let whole : p ≡ p - 1 + 1 = omega arith in
     let are : AreLearned c.args.local.now c.loop-place.local edges (p - 1 + 1) = subst (λ (n : ℕ). AreLearned c.args.local.now c.loop-place.local edges n) whole c.loop-place.invariant in
-    learned_more c.args.local.now c.loop-place.local c.set_number.new.self edges (p - 1) _ inside (get_or_default edges (p - 1) _ _ inside) are c.set_number.ensures.number c.set_number.ensures.edges c.set_number.ensures.rest
+    learned_more c.args.local.now c.loop-place.local c.set_number.new.self edges (p - 1) _ inside (get_or_default edges (p - 1) _ _ inside) are c.set_number.ensures.number c.set_number.ensures.edges c.set_number.ensures.many c.set_number.ensures.rest
