@@ -6,8 +6,13 @@ use Rattle.gl_base.specs.declared.numbers.MachineNo.{MachineNo}
 use Rattle.gl_base.specs.declared.numbers.Vertex.{Vertex}
 use Rattle.local_graph.specs.declared.sides.Side.{Side}
 use Rattle.machine_numbers.specs.Steps.{IsSideHere}
+use Rattle.machine_parts.specs.declared.cores.Core.{Core}
 use Rattle.machine_parts.specs.Parts.{LocalView, place_at, is_own, sides_at, parts_at, part_at}
 use Rattle.machine_parts.specs.Order.{IsGraphInOrder, is_one_of}
+
+-- there are as many numbers of edges
+abbrev pub HasSameEdges : Core → Core → Type 0
+HasSameEdges old new = length new.numbers.local.numbers ≡ length old.numbers.local.numbers
 
 pub record SameGraph (old new : LocalView) : Type 0 where
   pub own : (x : ℕ) → is_own new x ≡ is_own old x

@@ -26,11 +26,11 @@ use Rattle.machine_parts.specs.Parts.{LocalView, PipeView, EnteredView, place_at
 use Rattle.machine_parts.specs.Order.{IsOrderly, AreNumbersInOrder, HasComeRight, IsGraphInOrder, StandByPlace, KnowsPlaces, nobody}
 use Rattle.machine_parts.specs.Settings.{Setting, IsPartOf, IsLocalOf, window_of}
 use Rattle.machine_updates.specs.declared.reserving.Prepared.{Prepared}
-use Rattle.machine_updates.specs.Works.{IsOut, HasItsRow, HasSameEdges}
+use Rattle.machine_updates.specs.Works.{IsOut, HasItsRow}
 use Rattle.machine_updates.specs.Reserving.{IsReserved}
 use Rattle.machine_updates.specs.Committing.{done_told, after_told, entry_logged}
 use Rattle.machine_updates.proofs.ToldLemmas.{told_many}
-use Rattle.machine_updates.proofs.GraphLemmas.{SameGraph, place_kept, sides_kept, parts_kept, part_kept, me_kept, ghosts_kept, graph_kept, sides_here}
+use Rattle.machine_updates.proofs.GraphLemmas.{HasSameEdges, SameGraph, place_kept, sides_kept, parts_kept, part_kept, me_kept, ghosts_kept, graph_kept, sides_here}
 use Rattle.machine_updates.proofs.LeaveLemmas.{IsWithout, none_or, some_none, come_kept, other_entered, was_entered, locks_left, flights_left}
 use Rattle.machine_updates.proofs.CommitLemmas.{HasDone, placed}
 

@@ -30,9 +30,8 @@ use Rattle.machine_parts.specs.declared.cores.Core.{Core}
 use Rattle.machine_parts.specs.Parts.{LocalView, PipeView, EnteredView, Part, place_at, is_own, links_at, sides_at, datum_here, flag_there, pending_here, admitted_here, flight_at, is_ready, entered_at, is_owned, holder_at, queue_at, part_of}
 use Rattle.machine_parts.specs.Order.{IsOrderly, AreNumbersInOrder, AreFlightsInOrder, IsReadyAt, HasComeRight, IsGraphInOrder, StandByPlace, KnowsPlaces}
 use Rattle.machine_parts.specs.Settings.{Setting, IsPartOf, IsLocalOf, SameSettings}
-use Rattle.machine_updates.specs.Works.{HasSameEdges}
 use Rattle.machine_updates.specs.Learning.{CanLearn, HasReceivedDone}
-use Rattle.machine_updates.proofs.GraphLemmas.{SameGraph, place_kept, me_kept, sides_kept, ghosts_kept, graph_kept, sides_here}
+use Rattle.machine_updates.proofs.GraphLemmas.{HasSameEdges, SameGraph, place_kept, me_kept, sides_kept, ghosts_kept, graph_kept, sides_here}
 use Rattle.machine_updates.proofs.LeaveLemmas.{IsWithout, none_or, some_none, come_kept, other_entered, was_entered, locks_left}
 use Rattle.machine_updates.proofs.OrderLemmas.{local_kept, HaveTheirRows}
 

@@ -39,7 +39,3 @@ pub record IsApartFrom (m : Core) (v : ℕ) (w : Work) : Type 0 where
 -- its row is that of its vertex in the setting's graph
 abbrev pub HasItsRow : Setting → Core → Work → Type 0
 HasItsRow st m w = IsRowOf st w.vertex.0 (sides_at m.numbers.local w.vertex.0) w.row.links.items
-
--- there are as many numbers of edges
-abbrev pub HasSameEdges : Core → Core → Type 0
-HasSameEdges old new = length new.numbers.local.numbers ≡ length old.numbers.local.numbers

@@ -6,7 +6,7 @@ ghost use Rattle.machine_numbers.specs.Steps.{HasUpdated};
 ghost use Rattle.machine_parts.specs.Parts.{links_at, sides_at};
 ghost use Rattle.machine_parts.specs.Order.{IsOrderly, KnowsPlaces};
 ghost use Rattle.machine_parts.specs.Settings.{Setting, IsPartOf};
-ghost use Rattle.machine_updates.specs.Works.{IsOut, IsApartFrom, HasItsRow, HasSameEdges};
+ghost use Rattle.machine_updates.specs.Works.{IsOut, IsApartFrom, HasItsRow};
 ghost use Rattle.machine_updates.specs.Reserving.{IsReserved};
 ghost use Rattle.machine_updates.specs.Committing.{HasNoLock, HasCommitted, done_told, after_told, entry_logged};
 
@@ -38,7 +38,7 @@ pub fn commit(core: &mut Core, outcome: Outcome, prepared: Vec<Prepared>, ticket
     ensures rest { core.new ≡ record core.old { numbers = core.new.numbers; pipe = core.new.pipe; locks = core.new.locks; out = core.new.out } }
     ensures orderly { IsOrderly core.new }
     ensures places { KnowsPlaces core.old → KnowsPlaces core.new }
-    ensures settings { HasSameEdges core.old core.new → (st : Setting) → IsPartOf st core.old → HasItsRow st core.old outcome.work → IsPartOf st core.new }
+    ensures settings { (st : Setting) → IsPartOf st core.old → HasItsRow st core.old outcome.work → IsPartOf st core.new }
     ensures spare { (result.edges ≡ outcome.work.row.numbers) × (result.near ≡ outcome.work.near) }
 {
     let scope = outcome.work.scope;

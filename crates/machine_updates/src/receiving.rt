@@ -2,7 +2,6 @@
 ghost use Rattle.std.specs.Prelude.{◌≡◌};
 ghost use Rattle.machine_parts.specs.Order.{IsOrderly, KnowsPlaces};
 ghost use Rattle.machine_parts.specs.Settings.{SameSettings};
-ghost use Rattle.machine_updates.specs.Works.{HasSameEdges};
 ghost use Rattle.machine_updates.specs.Learning.{CanLearn, HasReceivedDone};
 
 use lock_release::release_all;
@@ -17,7 +16,7 @@ pub fn receive_done(core: &mut Core, done: &Done)
     ensures received { HasReceivedDone core.old core.new done.now }
     ensures orderly { IsOrderly core.new }
     ensures places { KnowsPlaces core.old → KnowsPlaces core.new }
-    ensures settings { HasSameEdges core.old core.new → SameSettings core.old core.new }
+    ensures settings { SameSettings core.old core.new }
     ensures rest { core.new ≡ record core.old { numbers = core.new.numbers; locks = core.new.locks } }
 {
     core.numbers.learn(done);

@@ -5,7 +5,7 @@ ghost use Rattle.machine_numbers.specs.Steps.{HasRoom};
 ghost use Rattle.machine_parts.specs.Parts.{links_at, sides_at, part_of};
 ghost use Rattle.machine_parts.specs.Order.{IsOrderly, KnowsPlaces};
 ghost use Rattle.machine_parts.specs.Settings.{Setting, IsPartOf, SameSettings};
-ghost use Rattle.machine_updates.specs.Works.{IsOut, CanBeTaken, HasItsRow, HasSameEdges};
+ghost use Rattle.machine_updates.specs.Works.{IsOut, CanBeTaken, HasItsRow};
 
 use local_graph::Work;
 use machine_numbers::Spare;
@@ -42,7 +42,7 @@ pub fn put_back(core: &mut Core, work: Work) -> Spare
     ensures part { part_of core.new ≡ part_of core.old }
     ensures orderly { IsOrderly core.new }
     ensures places { KnowsPlaces core.old → KnowsPlaces core.new }
-    ensures settings { HasSameEdges core.old core.new → (st : Setting) → IsPartOf st core.old → HasItsRow st core.old work → IsPartOf st core.new }
+    ensures settings { (st : Setting) → IsPartOf st core.old → HasItsRow st core.old work → IsPartOf st core.new }
     ensures rest { core.new ≡ record core.old { numbers = record core.old.numbers { local = record core.old.numbers.local { rows = core.new.numbers.local.rows; numbers = core.new.numbers.local.numbers } } } }
     ensures spare { (result.edges ≡ work.row.numbers) × (result.near ≡ work.near) }
 {

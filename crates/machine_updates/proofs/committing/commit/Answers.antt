@@ -33,7 +33,7 @@ pub returns-clause-orderly : goal.returns-clause-orderly
 returns-clause-orderly c = ordered c.args.core.now _ c.args.outcome c.args.prepared.items c.args.ticket c.requires.orderly c.requires.out c.requires.reserved (has_done c)
 
 pub returns-clause-settings : goal.returns-clause-settings
-returns-clause-settings c = settled c.args.core.now _ c.args.outcome c.args.prepared.items c.args.ticket c.requires.orderly c.requires.out c.requires.reserved (has_done c)
+returns-clause-settings c = settled c.args.core.now _ c.args.outcome c.args.prepared.items c.args.ticket c.requires.orderly c.requires.out c.requires.reserved (has_done c) c.finish-2.ensures.many_edges
 
 pub returns-clause-others : goal.returns-clause-others
 returns-clause-others c = stays_out c.args.core.now _ c.args.outcome c.args.prepared.items c.args.ticket c.requires.orderly c.requires.out c.requires.reserved (has_done c)

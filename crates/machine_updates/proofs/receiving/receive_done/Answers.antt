@@ -25,7 +25,7 @@ pub returns-clause-orderly : goal.returns-clause-orderly
 returns-clause-orderly c = order_heard c.args.core.now _ c.args.done.now c.requires.orderly c.requires.can (has_heard c)
 
 pub returns-clause-settings : goal.returns-clause-settings
-returns-clause-settings c = settings_heard c.args.core.now _ c.args.done.now c.requires.orderly c.requires.can (has_heard c)
+returns-clause-settings c = settings_heard c.args.core.now _ c.args.done.now c.requires.orderly c.requires.can (has_heard c) c.learn.ensures.many_edges
 
 pub returns-clause-places : goal.returns-clause-places
 returns-clause-places c = places_heard c.args.core.now _ c.args.done.now c.requires.orderly c.requires.can (has_heard c) c.learn.ensures.many_tasks

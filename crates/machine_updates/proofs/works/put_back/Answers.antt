@@ -35,11 +35,11 @@ returns-clause-orderly c =
     (order_with m n.local.rows n.local.numbers (put_ready m n.local.rows n.local.numbers c.args.work.vertex.0 c.args.work.row.links.items back c.requires.orderly) c.requires.orderly)
 
 pub returns-clause-settings : goal.returns-clause-settings
-returns-clause-settings c many st part row =
+returns-clause-settings c st part row =
     let m = c.args.core.now in
     let n = c.put_back.new.self in
     let back = back_is m n c.args.work c.put_back.ensures.rest c.put_back.ensures.back in
-    subst (IsPartOf st) (sym (now_is m n c.put_back.ensures.rest)) (put_settings m n.local.rows n.local.numbers c.args.work.vertex.0 c.args.work.row.links.items back many st part row)
+    subst (IsPartOf st) (sym (now_is m n c.put_back.ensures.rest)) (put_settings m n.local.rows n.local.numbers c.args.work.vertex.0 c.args.work.row.links.items back c.put_back.ensures.many_edges st part row)
 
 pub returns-clause-others : goal.returns-clause-others
 returns-clause-others c w out off =
