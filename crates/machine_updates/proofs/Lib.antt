@@ -9,4 +9,7 @@ pub mod OrderLemmas
 pub mod StayLemmas
 pub mod ReceiveLemmas
 pub mod WorkLemmas
+pub mod TurnLemmas
+pub mod BatchLemmas
+pub mod DueLemmas
 pub mod ApartLemmas

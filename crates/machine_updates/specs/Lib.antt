@@ -1,4 +1,5 @@
 pub mod Works
+pub mod Batches
 pub mod Reserving
 pub mod Committing
 pub mod Learning

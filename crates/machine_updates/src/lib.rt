@@ -2,6 +2,7 @@
 //! of updates elsewhere is received.
 #![tactic(auto)]
 
+mod batches;
 mod committing;
 mod laws;
 mod receiving;
@@ -10,6 +11,7 @@ mod spares;
 mod telling;
 mod works;
 
+pub use batches::take_batch;
 pub use committing::commit;
 pub use laws::works_of_strangers_are_apart;
 pub use receiving::receive_done;
