@@ -165,6 +165,16 @@ impl LocalGraph {
         self.numbers[edge.0 as usize] = number;
     }
 
+    /// Whether v has a row here that is not out.
+    pub fn has_row(&self, v: Vertex) -> bool
+        ensures { result ≡ is_some (links_at self.now v.0) }
+    {
+        match self.places.place(v) {
+            Some(place) => place < self.rows.len() && self.rows[place].is_some(),
+            None => false,
+        }
+    }
+
     /// Moves the row of an own vertex out, with the numbers of its edges in a list that has room for them.
     pub fn take_row(&mut self, v: Vertex, spare: Vec<u64>) -> Row
         requires row { is_some (links_at self.old v.0) ≡ true }

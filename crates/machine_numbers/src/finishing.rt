@@ -25,6 +25,7 @@ impl Numbers {
         ensures many_edges { length self.new.local.numbers ≡ length self.old.local.numbers }
         ensures run { (k : ℕ) → place_at self.old.local outcome.work.vertex.0 ≡ Some k → HasRun self.old.tasks self.new.tasks k }
         ensures tasks_kept { AreTasksOf self.new.local self.new.tasks }
+        ensures many_tasks { length self.new.tasks.task ≡ length self.old.tasks.task }
         ensures spare { (result.edges ≡ outcome.work.row.numbers) × (result.near ≡ outcome.work.near) }
     {
         let Outcome {

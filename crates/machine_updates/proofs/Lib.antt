@@ -1,0 +1,15 @@
+pub mod TellLemmas
+pub mod PrepareLemmas
+pub mod ReserveLemmas
+pub mod GraphLemmas
+pub mod LeaveLemmas
+pub mod ToldLemmas
+pub mod CommitLemmas
+pub mod OrderLemmas
+pub mod StayLemmas
+pub mod ReceiveLemmas
+pub mod WorkLemmas
+pub mod TurnLemmas
+pub mod BatchLemmas
+pub mod DueLemmas
+pub mod ApartLemmas

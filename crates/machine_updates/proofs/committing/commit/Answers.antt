@@ -1,0 +1,42 @@
+-- What the calls leave makes up the commit.
+use Rattle.std.proofs.Common.{refl}
+use Rattle.machine_updates.proofs.CommitLemmas.{HasDone, committed}
+use Rattle.machine_updates.proofs.OrderLemmas.{ordered, settled, places_known}
+use Rattle.machine_updates.proofs.StayLemmas.{stays_out}
+use Rattle.machine_updates.proofs.committing.commit.Goals as goal
+
+has_done : (c : goal.After-finish-2) → HasDone c.args.core.now (record { terms = c.args.core.now.terms; numbers = c.finish-2.new.self; by_place = c.args.core.now.by_place; pipe = c.finish.new.self; locks = c.release_all.new.locks; out = c.tell_all.new.out; spare = c.args.core.now.spare }) c.args.outcome c.args.prepared.items c.args.ticket
+has_done c =
+    let e = c.finish-2.ensures in
+    record {
+      terms = refl;
+      by_place = refl;
+      updated = e.updated;
+      back = e.back;
+      graph = record { own = e.own; rest = e.local };
+      ghosts = e.ghosts;
+      run = e.run;
+      tasks = e.tasks_kept;
+      owned = c.release_all.ensures.owned;
+      holder = c.release_all.ensures.holder;
+      queue = c.release_all.ensures.queue;
+      finished = c.finish.ensures.finished;
+      pipe = c.finish.ensures.rest;
+      out = c.tell_all.ensures.told;
+      words = c.tell_all.ensures.words;
+    }
+
+pub returns-clause-committed : goal.returns-clause-committed
+returns-clause-committed c = committed c.args.core.now _ c.args.outcome c.args.prepared.items c.args.ticket c.requires.orderly c.requires.out c.requires.reserved (has_done c)
+
+pub returns-clause-orderly : goal.returns-clause-orderly
+returns-clause-orderly c = ordered c.args.core.now _ c.args.outcome c.args.prepared.items c.args.ticket c.requires.orderly c.requires.out c.requires.reserved (has_done c)
+
+pub returns-clause-settings : goal.returns-clause-settings
+returns-clause-settings c = settled c.args.core.now _ c.args.outcome c.args.prepared.items c.args.ticket c.requires.orderly c.requires.out c.requires.reserved (has_done c) c.finish-2.ensures.many_edges
+
+pub returns-clause-others : goal.returns-clause-others
+returns-clause-others c = stays_out c.args.core.now _ c.args.outcome c.args.prepared.items c.args.ticket c.requires.orderly c.requires.out c.requires.reserved (has_done c)
+
+pub returns-clause-places : goal.returns-clause-places
+returns-clause-places c = places_known c.args.core.now _ c.args.outcome c.args.prepared.items c.args.ticket c.requires.orderly c.requires.out c.requires.reserved (has_done c) c.finish-2.ensures.many_tasks

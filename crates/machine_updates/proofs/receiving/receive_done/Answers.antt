@@ -1,0 +1,31 @@
+-- What the calls leave makes up the receipt.
+use Rattle.std.proofs.Common.{refl}
+use Rattle.machine_updates.proofs.ReceiveLemmas.{HasHeard, received_is, order_heard, settings_heard, places_heard}
+use Rattle.machine_updates.proofs.receiving.receive_done.Goals as goal
+
+has_heard : (c : goal.After-release_all) → HasHeard c.args.core.now (record c.args.core.now { numbers = c.learn.new.self; locks = c.release_all.new.locks }) c.args.done.now
+has_heard c =
+    let e = c.learn.ensures in
+    record {
+      learned = e.learned;
+      local = e.local;
+      ghosts = e.ghosts;
+      tasks = e.tasks;
+      tasks_kept = e.tasks_kept;
+      owned = c.release_all.ensures.owned;
+      holder = c.release_all.ensures.holder;
+      queue = c.release_all.ensures.queue;
+      rest = refl;
+    }
+
+pub returns-clause-received : goal.returns-clause-received
+returns-clause-received c = received_is c.args.core.now _ c.args.done.now c.requires.orderly c.requires.can (has_heard c)
+
+pub returns-clause-orderly : goal.returns-clause-orderly
+returns-clause-orderly c = order_heard c.args.core.now _ c.args.done.now c.requires.orderly c.requires.can (has_heard c)
+
+pub returns-clause-settings : goal.returns-clause-settings
+returns-clause-settings c = settings_heard c.args.core.now _ c.args.done.now c.requires.orderly c.requires.can (has_heard c) c.learn.ensures.many_edges
+
+pub returns-clause-places : goal.returns-clause-places
+returns-clause-places c = places_heard c.args.core.now _ c.args.done.now c.requires.orderly c.requires.can (has_heard c) c.learn.ensures.many_tasks

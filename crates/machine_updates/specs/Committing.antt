@@ -1,0 +1,66 @@
+-- What a commit asks and leaves.
+use Rattle.std.specs.Prelude.{◌≡◌, ℕ, Bool, true, Option, None, List, [], ◌∷◌, length}
+use Rattle.gl_base.specs.declared.entries.Entry.{Entry}
+use Rattle.gl_base.specs.declared.entries.Entry.TheVariants.{Go}
+use Rattle.gl_base.specs.declared.numbers.MachineNo.{MachineNo}
+use Rattle.gl_base.specs.declared.scopes.Peer.TheVariants.{Machine}
+use Rattle.gl_base.specs.declared.scopes.ScopeId.{ScopeId}
+use Rattle.scope_lists.specs.Scopes.{set_for}
+use Rattle.vertex_locks.specs.Locks.{LockView}
+use Rattle.local_graph.specs.declared.works.Outcome.{Outcome}
+use Rattle.wire_msgs.specs.Views.{MessageView, DoneView}
+use Rattle.wire_msgs.specs.Views as told
+use Rattle.outboxes.specs.Outboxes.{OutboxesView, outbox_to, with_outbox, with_message}
+use Rattle.cluster_core.specs.Effects.{updated}
+use Rattle.cluster_core.specs.Settings.{IsSetting}
+use Rattle.machine_numbers.specs.declared.keeping.Numbers.{Numbers}
+use Rattle.machine_numbers.specs.Steps.{told_datum, told_edges, told_wakes}
+use Rattle.machine_numbers.specs.Settings.{IsMadeOfWork}
+use Rattle.machine_parts.specs.declared.cores.Core.{Core}
+use Rattle.machine_parts.specs.Parts.{datum_here, sides_at, is_owned, holder_at, queue_at, part_of}
+use Rattle.machine_parts.specs.Settings.{Setting, IsPartOf}
+use Rattle.machine_updates.specs.declared.reserving.Prepared.{Prepared}
+use Rattle.machine_updates.specs.Works.{HasItsRow}
+
+-- ---- what the other machines are told
+
+-- what machine `to` is told of the outcome
+abbrev pub done_told : Numbers → Outcome → MachineNo → DoneView
+done_told n o to =
+    record {
+      scope = o.work.scope;
+      centre = o.work.vertex;
+      datum = told_datum (datum_here n o.work.vertex.0) o.value;
+      edges = told_edges to.0 (sides_at n.local o.work.vertex.0) o.work.row.numbers.items o.edges.items;
+      wakes = told_wakes to.0 o.woken (sides_at n.local o.work.vertex.0) o.work.row.links.items;
+      pends = [];
+      number = 0;
+    }
+
+-- one message more waits for machine b
+abbrev pub posted : MachineNo → MessageView → OutboxesView → OutboxesView
+posted b m out = with_outbox out (Machine b) (with_message m (outbox_to out (Machine b)))
+
+-- each of these machines was told, one after another
+abbrev pub after_told : (MachineNo → DoneView) → List Prepared → OutboxesView → OutboxesView
+after_told done [] out = out
+after_told done (p ∷ ps) out = after_told done ps (posted p.to (told.Done (done p.to)) out)
+
+-- ---- the commit
+
+-- the scope holds no lock any more
+pub record HasNoLock (old new : List (Option LockView)) (s : ScopeId) : Type 0 where
+  pub owned : (x : ℕ) → is_owned new x ≡ is_owned old x
+  pub holder : (x : ℕ) (t : ScopeId) → holder_at new x t ≡ set_for (holder_at old x) s None t
+  pub queue : (x : ℕ) → queue_at new x ≡ queue_at old x
+
+-- the entry of the update in the log
+abbrev pub entry_logged : Outcome → ℕ → Entry
+entry_logged o ticket = Go o.work.scope.home o.work.vertex ticket
+
+-- The update is the cluster's, for each setting of which the machine is a part, the row is the vertex's and the outcome is what
+-- the program makes of the work.
+abbrev pub HasCommitted : Core → Core → Outcome → ℕ → Type 0
+HasCommitted old new o ticket =
+    (st : Setting) → IsSetting st → IsPartOf st old → HasItsRow st old o.work → IsMadeOfWork st.program o →
+    part_of new ≡ updated st old.numbers.local.me.0 o.work.scope o.work.vertex.0 (entry_logged o ticket) (part_of old)

@@ -1,0 +1,6 @@
+pub mod Works
+pub mod Batches
+pub mod Reserving
+pub mod Committing
+pub mod Learning
+pub mod Inner

@@ -1,0 +1,25 @@
+//! Word of updates elsewhere.
+ghost use Rattle.std.specs.Prelude.{◌≡◌};
+ghost use Rattle.machine_parts.specs.Order.{IsOrderly, KnowsPlaces};
+ghost use Rattle.machine_parts.specs.Settings.{SameSettings};
+ghost use Rattle.machine_updates.specs.Learning.{CanLearn, HasReceivedDone};
+
+use lock_release::release_all;
+use machine_parts::Core;
+use wire_msgs::Done;
+
+/// Word of an update elsewhere has come: its numbers are kept, the vertices that it wakes are tasks, and its scope's locks here
+/// are released. It takes no memory.
+pub fn receive_done(core: &mut Core, done: &Done)
+    requires orderly { IsOrderly core.old }
+    requires can { CanLearn core.old done.now }
+    ensures received { HasReceivedDone core.old core.new done.now }
+    ensures orderly { IsOrderly core.new }
+    ensures places { KnowsPlaces core.old → KnowsPlaces core.new }
+    ensures settings { SameSettings core.old core.new }
+    ensures rest { core.new ≡ record core.old { numbers = core.new.numbers; locks = core.new.locks } }
+{
+    core.numbers.learn(done);
+    let part = core.numbers.local.part(done.centre);
+    release_all(&mut core.locks, part, done.scope);
+}

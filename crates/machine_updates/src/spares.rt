@@ -1,0 +1,52 @@
+//! Lists that works have left behind.
+ghost use Rattle.std.specs.Prelude.{◌≤◌, IfOk, vec_capacity};
+ghost use Rattle.machine_numbers.specs.Steps.{HasRoom};
+
+use gl_base::NoMemory;
+use machine_numbers::Spare;
+use std::alloc::Global;
+
+/// Lists that works have left behind. The works that are taken next get them, so that in the long run none is made.
+#[derive(Drop)]
+pub struct Spares {
+    lists: Vec<Spare>,
+}
+
+impl Spares {
+    /// Room for the lists of so many works, of which none is there yet.
+    pub fn with_room(alloc: Global, many: usize) -> Result<Spares, NoMemory> {
+        Ok(Spares {
+            lists: Vec::with_capacity(alloc, many)?,
+        })
+    }
+
+    /// Lists with room for the work of a vertex with so many edges.
+    pub fn fitted(&mut self, alloc: Global, degree: usize) -> Result<Spare, NoMemory>
+        ensures { IfOk result (λ spare. HasRoom spare degree) }
+    {
+        match self.lists.pop() {
+            Some(spare) => Ok(Spare {
+                edges: fit(spare.edges, degree)?,
+                near: fit(spare.near, degree)?,
+            }),
+            None => Spare::with_room(alloc, degree),
+        }
+    }
+
+    /// Keeps the lists of a work where there is room for them.
+    pub fn keep(&mut self, spare: Spare) {
+        if self.lists.len() < self.lists.capacity() {
+            self.lists.push_reserved(spare);
+        }
+    }
+}
+
+/// The list, empty and with room for so many.
+fn fit(list: Vec<u64>, degree: usize) -> Result<Vec<u64>, NoMemory>
+    ensures { IfOk result (λ v. degree ≤ vec_capacity v) }
+{
+    let mut list = list;
+    list.clear();
+    list.reserve(degree)?;
+    Ok(list)
+}
