@@ -1,8 +1,7 @@
 -- Scopes that are taken one after another.
-use Rattle.std.proofs.Common.{◌≡◌, ◌≢◌, ◌⊎◌, ℕ, zero, suc, ◌+◌, ◌<◌, ◌≤◌, ◌==◌, ◌&&◌, ◌||◌, ◌++◌, Bool, true, false, true≢false, not, if◌then◌else◌, Option, Some, None, List, [], ◌∷◌, length, get_or, refl, sym, ap, ◌∙◌, subst, arith, inl, inr, All}
+use Rattle.std.proofs.Common.{◌≡◌, ◌≢◌, ℕ, ◌<◌, ◌==◌, ◌&&◌, ◌++◌, Bool, true, false, true≢false, not, if◌then◌else◌, Option, Some, None, List, [], ◌∷◌, length, get_or, refl, sym, ap, ◌∙◌, subst, arith, inl, inr, All}
 use Rattle.std.specs.Prelude.{is_some}
-use Rattle.std.specs.List.{AllPairs}
-use Rattle.std.proofs.lemmas.Bool.{cases_eq, eq-eqb, ne_eqb, or_cases, and_parts}
+use Rattle.std.proofs.lemmas.Bool.{eq-eqb, ne_eqb, or_cases, and_parts}
 use Rattle.std.proofs.lemmas.List.Elements.{All-push, All-head, All-tail}
 use Rattle.std.proofs.lemmas.List.Quantifiers.{all_pairs_push}
 use Rattle.gl_base.specs.declared.numbers.Vertex.{Vertex}
@@ -14,14 +13,13 @@ use Rattle.local_graph.specs.declared.sides.Side.{Side}
 use Rattle.local_graph.specs.declared.works.Work.{Work}
 use Rattle.machine_numbers.specs.Settings.{IsRowOf}
 use Rattle.machine_parts.specs.declared.cores.Core.{Core}
-use Rattle.machine_parts.specs.Parts.{LocalView, task_here, pending_here, links_at, sides_at, flight_at, is_ready, part_of}
+use Rattle.machine_parts.specs.Parts.{task_here, pending_here, links_at, sides_at, flight_at, is_ready, part_of}
 use Rattle.machine_parts.specs.Order.{IsOrderly, KnowsPlaces}
 use Rattle.machine_parts.specs.Settings.{Setting, IsPartOf, SameSettings}
 use Rattle.machine_updates.specs.declared.batches.Due.{Due}
 use Rattle.machine_updates.specs.Works.{IsOut, CanBeTaken, HasItsRow}
 use Rattle.machine_updates.specs.Batches.{NoneToTake, HasTakenAll}
 use Rattle.machine_updates.specs.Inner.Dues.{IsDue, is_due, is_free_to_take}
-use Rattle.machine_updates.proofs.LeaveLemmas.{some_none}
 
 -- the machine with these rows
 abbrev pub with_rows_alone : Core → List (Option (List Link)) → Core

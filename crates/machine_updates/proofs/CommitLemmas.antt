@@ -1,47 +1,38 @@
 -- What a commit leaves is what the cluster's effect makes of the machine's part.
-use Rattle.std.proofs.Common.{◌≡◌, ◌≢◌, ℕ, suc, ◌+◌, ◌<◌, ◌≤◌, ◌==◌, ◌&&◌, ◌||◌, ◌++◌, Bool, true, false, true≢false, not, pred, if◌then◌else◌, Option, Some, None, List, [], ◌∷◌, length, map, get_or, set, refl, sym, ap, ◌∙◌, subst, arith, inl, inr, All, add-one, length-append}
-use Rattle.std.specs.Prelude.{is_some, option_map}
-use Rattle.std.specs.List.{list_any}
-use Rattle.std.proofs.lemmas.Bool.{cases_eq, eq-eqb, ne_eqb}
-use Rattle.gl_base.specs.declared.atoms.GhostLine.{GhostLine}
-use Rattle.gl_base.specs.declared.numbers.MachineNo.{MachineNo}
+use Rattle.std.proofs.Common.{◌≡◌, ℕ, ◌+◌, ◌==◌, ◌&&◌, ◌++◌, Bool, true, false, true≢false, not, pred, if◌then◌else◌, Option, Some, None, List, [], ◌∷◌, refl, sym, ap, ◌∙◌, subst, add-one}
+use Rattle.std.specs.Prelude.{is_some}
 use Rattle.gl_base.specs.declared.numbers.Vertex.{Vertex}
-use Rattle.gl_base.specs.declared.scopes.Datum.{Datum}
 use Rattle.gl_base.specs.declared.scopes.ScopeId.{ScopeId}
 use Rattle.scope_lists.specs.Scopes.{is_scope, set_for}
-use Rattle.scope_pipe.specs.Entered.{entered_scope}
 use Rattle.scope_pipe.specs.Pipes.{HasFinished, flight_count}
 use Rattle.update_api.specs.Links.{nears_at}
 use Rattle.update_api.specs.Marks.{AreMarked}
 use Rattle.local_graph.specs.Locals.{got_at}
 use Rattle.local_graph.specs.declared.works.Outcome.{Outcome}
-use Rattle.cluster_core.specs.Effects.{updated, news_for, tell, told_datum}
+use Rattle.cluster_core.specs.Effects.{updated, news_for, tell}
 use Rattle.cluster_core.specs.Messages.{Message, News}
 use Rattle.cluster_core.specs.Messages as law
 use Rattle.cluster_core.specs.Scopes.{takes_part}
 use Rattle.cluster_core.specs.Settings.{IsSetting}
-use Rattle.cluster_core.proofs.Basics.{set_at-cases}
 use Rattle.local_parts.proofs.SharedLemmas.{edges_shared}
 use Rattle.wire_msgs.specs.Views as told
 use Rattle.outboxes.specs.Outboxes.{OutboxesView}
-use Rattle.machine_numbers.specs.declared.keeping.Numbers.{Numbers}
-use Rattle.machine_numbers.specs.Views.{TasksView, AreTasksOf, ghost_datum, news_of, numbers_along, near_along, value_here}
-use Rattle.machine_numbers.specs.Steps.{HasUpdated, HasRun, renewed}
+use Rattle.machine_numbers.specs.Views.{TasksView, AreTasksOf, near_along, value_here}
+use Rattle.machine_numbers.specs.Steps.{HasUpdated, HasRun}
 use Rattle.machine_numbers.specs.Settings.{with_numbers, IsOutcomeOf, IsMadeOfWork, lent_along}
 use Rattle.machine_numbers.proofs.JoinLemmas.{updated_is, news_are}
 use Rattle.machine_parts.specs.declared.cores.Core.{Core}
-use Rattle.machine_parts.specs.Parts.{LocalView, PipeView, EnteredView, Part, place_at, is_own, links_at, sides_at, datum_here, task_here, edge_here, flag_there, pending_here, flight_at, is_ready, entered_at, is_owned, holder_at, queue_at, messages_for, message_of, number_of, stand_at, news_told, part_of}
-use Rattle.machine_parts.specs.Order.{IsOrderly, AreNumbersInOrder, HasComeRight, AreLocksInOrder, AreFlightsInOrder, IsGraphInOrder, StandByPlace}
-use Rattle.machine_parts.specs.Settings.{Setting, IsPartOf, IsLocalOf}
+use Rattle.machine_parts.specs.Parts.{LocalView, PipeView, place_at, is_own, links_at, sides_at, flag_there, pending_here, flight_at, entered_at, is_owned, holder_at, queue_at, messages_for, message_of, number_of, stand_at, news_told, part_of}
+use Rattle.machine_parts.specs.Order.{IsOrderly}
+use Rattle.machine_parts.specs.Settings.{Setting, IsPartOf}
 use Rattle.machine_updates.specs.declared.reserving.Prepared.{Prepared}
 use Rattle.machine_updates.specs.Works.{IsOut, HasItsRow}
 use Rattle.machine_updates.specs.Reserving.{IsReserved, is_to_be_told}
 use Rattle.machine_updates.specs.Committing.{done_told, after_told, entry_logged, HasCommitted}
 use Rattle.machine_updates.specs.Inner.Telling.{HasWord}
 use Rattle.machine_updates.proofs.TellLemmas.{done_is}
-use Rattle.machine_updates.proofs.ToldLemmas.{told_at, told_many, parts_are}
-use Rattle.machine_updates.proofs.GraphLemmas.{SameGraph, place_kept, graph_kept, sides_here, ghosts_kept}
-use Rattle.machine_updates.proofs.LeaveLemmas.{IsWithout, none_or, some_none, come_kept, other_entered, was_entered, locks_left, flights_left}
+use Rattle.machine_updates.proofs.ToldLemmas.{told_at, parts_are}
+use Rattle.machine_updates.proofs.GraphLemmas.{SameGraph, place_kept}
 
 -- what became of the parts of a machine
 pub record HasDone (old new : Core) (o : Outcome) (ps : List Prepared) (ticket : ℕ) : Type 0 where

@@ -1,7 +1,6 @@
 -- What a machine holds of the graph, where data, rows and numbers of edges alone have changed.
-use Rattle.std.proofs.Common.{◌≡◌, ℕ, ◌<◌, ◌==◌, true, Option, Some, None, List, length, get_or, sym, ap, ◌∙◌, subst, All}
+use Rattle.std.proofs.Common.{◌≡◌, ℕ, ◌<◌, ◌==◌, true, List, length, get_or, sym, ap, ◌∙◌, subst, All}
 use Rattle.std.specs.Prelude.{slice_get, is_some}
-use Rattle.gl_base.specs.declared.atoms.GhostLine.{GhostLine}
 use Rattle.gl_base.specs.declared.numbers.MachineNo.{MachineNo}
 use Rattle.gl_base.specs.declared.numbers.Vertex.{Vertex}
 use Rattle.local_graph.specs.declared.sides.Side.{Side}

@@ -1,7 +1,7 @@
 -- A scope that is over: what else is in order stays so.
-use Rattle.std.proofs.Common.{◌≡◌, ◌≢◌, ℕ, zero, suc, ◌<◌, ◌≤◌, ◌==◌, Bool, true, false, true≢false, if◌then◌else◌, Option, Some, None, List, [], ◌∷◌, length, get_or, set, refl, sym, ap, ◌∙◌, subst, inl, inr, All, get_or-set_other}
-use Rattle.std.specs.Prelude.{is_some, slice_get}
-use Rattle.std.proofs.lemmas.Bool.{cases_eq, eq-eqb, ne_eqb}
+use Rattle.std.proofs.Common.{◌≡◌, ℕ, zero, suc, ◌<◌, ◌==◌, Bool, true, false, true≢false, if◌then◌else◌, Option, Some, None, List, [], ◌∷◌, get_or, set, refl, sym, ap, ◌∙◌, subst, inl, inr, All, get_or-set_other}
+use Rattle.std.specs.Prelude.{is_some}
+use Rattle.std.proofs.lemmas.Bool.{eq-eqb, ne_eqb}
 use Rattle.gl_base.specs.declared.numbers.MachineNo.{MachineNo}
 use Rattle.gl_base.specs.declared.numbers.Vertex.{Vertex}
 use Rattle.gl_base.specs.declared.scopes.Claim.{Claim}
@@ -10,13 +10,12 @@ use Rattle.scope_lists.specs.Scopes.{is_scope, set_for}
 use Rattle.scope_lists.specs.Found.{by_scope}
 use Rattle.scope_lists.proofs.SameScope.{same_scope, one_or_two, set_for-here, set_for-there}
 use Rattle.scope_pipe.specs.Entered.{entered_scope}
-use Rattle.scope_pipe.specs.Pipes.{Flies}
 use Rattle.vertex_locks.specs.Locks.{LockView}
 use Rattle.update_api.specs.declared.links.Link.{Link}
 use Rattle.machine_numbers.specs.declared.keeping.Numbers.{Numbers}
 use Rattle.machine_numbers.specs.Views.{AreTasksOf}
 use Rattle.machine_parts.specs.Parts.{LocalView, PipeView, EnteredView, place_at, is_own, links_at, part_at, flag_there, admitted_here, flight_at, is_ready, entered_at, is_owned, holder_at, queue_at}
-use Rattle.machine_parts.specs.Order.{StandsAtLock, HasComeRight, AreLocksInOrder, AreFlightsInOrder, IsReadyAt, nobody, is_one_of}
+use Rattle.machine_parts.specs.Order.{StandsAtLock, HasComeRight, AreLocksInOrder, AreFlightsInOrder, nobody, is_one_of}
 use Rattle.machine_updates.proofs.GraphLemmas.{SameGraph, place_kept, part_kept, me_kept}
 
 pub some_none : {X : Type 0} (x : X) → Some x ≡ None → ⊥

@@ -1,37 +1,33 @@
 -- A machine stays in order as it commits, and a part of the same settings.
-use Rattle.std.proofs.Common.{◌≡◌, ◌≢◌, ℕ, suc, ◌+◌, ◌<◌, ◌≤◌, ◌==◌, ◌++◌, Bool, true, false, true≢false, if◌then◌else◌, Option, Some, None, List, [], ◌∷◌, length, get_or, set, refl, sym, ap, ◌∙◌, subst, arith, inl, inr, All, Vec, Global, length-append, length-set}
+use Rattle.std.proofs.Common.{◌≡◌, ℕ, suc, ◌+◌, ◌≤◌, ◌==◌, Bool, true, false, true≢false, if◌then◌else◌, Option, Some, None, List, [], ◌∷◌, length, refl, sym, ap, ◌∙◌, subst, arith, inl, inr, Vec, Global, length-append, length-set}
 use Rattle.std.specs.Prelude.{is_some, slice_get}
 use Rattle.std.specs.List.{list_any}
-use Rattle.std.proofs.lemmas.Bool.{cases_eq, cases_Bool, eq-eqb, ne_eqb}
+use Rattle.std.proofs.lemmas.Bool.{cases_eq, eq-eqb, ne_eqb}
 use Rattle.gl_base.specs.declared.atoms.GhostLine.{GhostLine}
-use Rattle.gl_base.specs.declared.entries.Entry.{Entry}
 use Rattle.gl_base.specs.declared.numbers.MachineNo.{MachineNo}
 use Rattle.gl_base.specs.declared.numbers.Vertex.{Vertex}
 use Rattle.gl_base.specs.declared.scopes.Datum.{Datum}
-use Rattle.gl_base.specs.declared.scopes.ScopeId.{ScopeId}
-use Rattle.scope_lists.specs.Scopes.{is_scope, set_for}
 use Rattle.update_api.specs.declared.links.Link.{Link}
 use Rattle.local_graph.specs.declared.sides.Side.{Side}
 use Rattle.local_graph.specs.declared.works.Outcome.{Outcome}
 use Rattle.cluster_core.proofs.Basics.{set_at-cases}
 use Rattle.ghost_cache.specs.Caches.{CacheView}
-use Rattle.machine_numbers.specs.declared.keeping.Numbers.{Numbers}
-use Rattle.machine_numbers.specs.Views.{TasksView, AreTasksOf, ghost_datum}
-use Rattle.machine_numbers.specs.Steps.{HasRun, renewed}
+use Rattle.machine_numbers.specs.Views.{TasksView, ghost_datum}
+use Rattle.machine_numbers.specs.Steps.{renewed}
 use Rattle.machine_numbers.specs.Settings.{IsRowOf}
 use Rattle.outboxes.specs.Outboxes.{OutboxesView}
 use Rattle.machine_parts.specs.declared.cores.Core.{Core}
 use Rattle.machine_parts.specs.declared.cores.Terms.{Terms}
-use Rattle.machine_parts.specs.Parts.{LocalView, PipeView, EnteredView, place_at, is_placed, is_own, links_at, sides_at, parts_at, part_at, machine_numbers, datum_here, flight_at, is_ready, entered_at}
-use Rattle.machine_parts.specs.Order.{IsOrderly, AreNumbersInOrder, HasComeRight, IsGraphInOrder, StandByPlace, KnowsPlaces, nobody}
-use Rattle.machine_parts.specs.Settings.{Setting, IsPartOf, IsLocalOf, window_of}
+use Rattle.machine_parts.specs.Parts.{LocalView, PipeView, is_own, links_at, sides_at, datum_here, entered_at}
+use Rattle.machine_parts.specs.Order.{IsOrderly, AreNumbersInOrder, HasComeRight, IsGraphInOrder, KnowsPlaces}
+use Rattle.machine_parts.specs.Settings.{Setting, IsPartOf, IsLocalOf}
 use Rattle.machine_updates.specs.declared.reserving.Prepared.{Prepared}
 use Rattle.machine_updates.specs.Works.{IsOut, HasItsRow}
 use Rattle.machine_updates.specs.Reserving.{IsReserved}
-use Rattle.machine_updates.specs.Committing.{done_told, after_told, entry_logged}
+use Rattle.machine_updates.specs.Committing.{done_told, entry_logged}
 use Rattle.machine_updates.proofs.ToldLemmas.{told_many}
-use Rattle.machine_updates.proofs.GraphLemmas.{HasSameEdges, SameGraph, place_kept, sides_kept, parts_kept, part_kept, me_kept, ghosts_kept, graph_kept, sides_here}
-use Rattle.machine_updates.proofs.LeaveLemmas.{IsWithout, none_or, some_none, come_kept, other_entered, was_entered, locks_left, flights_left}
+use Rattle.machine_updates.proofs.GraphLemmas.{HasSameEdges, SameGraph, place_kept, sides_kept, ghosts_kept, graph_kept, sides_here}
+use Rattle.machine_updates.proofs.LeaveLemmas.{IsWithout, none_or, come_kept, other_entered, was_entered, locks_left, flights_left}
 use Rattle.machine_updates.proofs.CommitLemmas.{HasDone, placed}
 
 -- ---- data

@@ -1,5 +1,5 @@
 -- Machines for which room is made, one after another.
-use Rattle.std.proofs.Common.{◌≡◌, ◌≢◌, ℕ, zero, suc, ◌+◌, ◌<◌, ◌≤◌, ◌==◌, ◌&&◌, ◌||◌, ◌++◌, Bool, true, false, true≢false, not, if◌then◌else◌, List, [], ◌∷◌, length, take, get_or, refl, sym, ap, ◌∙◌, subst, arith, inl, inr, All, eq-eqb, ne_eqb}
+use Rattle.std.proofs.Common.{◌≡◌, ◌≢◌, ℕ, zero, suc, ◌+◌, ◌<◌, ◌≤◌, ◌==◌, ◌&&◌, ◌||◌, ◌++◌, Bool, true, false, true≢false, not, List, [], ◌∷◌, length, take, get_or, refl, sym, ap, ◌∙◌, subst, arith, inl, inr, eq-eqb, ne_eqb}
 use Rattle.std.specs.List.{AllPairs, list_any}
 use Rattle.std.proofs.lemmas.Bool.{cases_eq}
 use Rattle.std.proofs.lemmas.List.Elements.{All-push}
@@ -8,10 +8,9 @@ use Rattle.std.proofs.lemmas.List.Quantifiers.{all_pairs_push}
 use Rattle.std.proofs.Math.Bool.{or-false}
 use Rattle.gl_base.specs.declared.numbers.MachineNo.{MachineNo}
 use Rattle.gl_base.specs.declared.numbers.Vertex.{Vertex}
-use Rattle.gl_base.specs.declared.scopes.Peer.{Peer}
 use Rattle.gl_base.specs.declared.scopes.Peer.TheVariants.{Machine}
 use Rattle.gl_base.specs.declared.scopes.ScopeId.{ScopeId}
-use Rattle.outboxes.specs.Outboxes.{OutboxView, OutboxesView, outbox_to, waiting_for}
+use Rattle.outboxes.specs.Outboxes.{OutboxView, OutboxesView, outbox_to}
 use Rattle.machine_numbers.specs.Steps.{IsBlank}
 use Rattle.machine_updates.specs.declared.reserving.Prepared.{Prepared}
 use Rattle.machine_parts.specs.Rooms.{HaveSameMessages}

@@ -1,25 +1,22 @@
 -- What word of an update elsewhere leaves is what the cluster's effect makes of the machine's part.
-use Rattle.std.proofs.Common.{◌≡◌, ◌≢◌, ℕ, zero, suc, ◌+◌, ◌<◌, ◌≤◌, ◌==◌, ◌&&◌, ◌||◌, Bool, true, false, true≢false, not, if◌then◌else◌, Option, Some, None, List, [], ◌∷◌, length, max, refl, sym, ap, ◌∙◌, subst, arith, inl, inr, All, Vec, Global}
-use Rattle.std.specs.Prelude.{is_some, slice_get, nat_lt}
+use Rattle.std.proofs.Common.{◌≡◌, ℕ, zero, suc, ◌+◌, ◌<◌, ◌≤◌, ◌==◌, ◌&&◌, ◌||◌, Bool, true, false, true≢false, if◌then◌else◌, Option, Some, None, List, length, max, refl, sym, ap, ◌∙◌, subst, arith, inl, inr}
+use Rattle.std.specs.Prelude.{is_some, nat_lt}
 use Rattle.std.specs.List.{list_any}
 use Rattle.std.proofs.Math.Nat.{max-zero}
-use Rattle.std.proofs.lemmas.Bool.{cases_eq, cases_Bool, eq-eqb, ne_eqb, eqb-true, and_parts, or_parts}
+use Rattle.std.proofs.lemmas.Bool.{cases_Bool, ne_eqb, or_parts}
 use Rattle.gl_base.specs.declared.atoms.GhostLine.{GhostLine}
-use Rattle.gl_base.specs.declared.entries.Entry.{Entry}
 use Rattle.gl_base.specs.declared.numbers.MachineNo.{MachineNo}
 use Rattle.gl_base.specs.declared.numbers.Vertex.{Vertex}
 use Rattle.gl_base.specs.declared.scopes.Datum.{Datum}
 use Rattle.gl_base.specs.declared.scopes.ScopeId.{ScopeId}
-use Rattle.scope_lists.specs.Scopes.{is_scope, set_for}
+use Rattle.scope_lists.specs.Scopes.{set_for}
 use Rattle.scope_lists.specs.Found.{by_scope}
 use Rattle.scope_lists.proofs.SameScope.{one_or_two, set_for-here, set_for-there}
-use Rattle.scope_pipe.specs.Pipes.{flight_scope, Flies}
+use Rattle.scope_pipe.specs.Pipes.{flight_scope}
 use Rattle.scope_pipe.proofs.FlightLemmas.{in_flight_where}
-use Rattle.update_api.specs.declared.links.Link.{Link}
 use Rattle.wire_msgs.specs.declared.messages.Done.{Done}
 use Rattle.graph_core.specs.DataGraph.{size}
-use Rattle.cluster_core.specs.Effects.{applied, received, datum_after, nothing_saved, first_unmarked, first_pending, seed_if, is_at, knows, newer_datum}
-use Rattle.cluster_core.specs.Messages.{News, Section}
+use Rattle.cluster_core.specs.Effects.{applied, nothing_saved, first_unmarked, first_pending, seed_if, is_at, knows, newer_datum}
 use Rattle.cluster_core.specs.Ranges.{first_passing}
 use Rattle.machine_numbers.specs.declared.keeping.Numbers.{Numbers}
 use Rattle.machine_numbers.specs.Views.{TasksView, AreTasksOf, ghost_datum, news_of, is_named}
@@ -27,13 +24,13 @@ use Rattle.machine_numbers.specs.Steps.{HasLearned}
 use Rattle.machine_numbers.specs.Settings.{with_numbers, IsRowOf}
 use Rattle.local_graph.specs.declared.sides.Side.{Side}
 use Rattle.machine_parts.specs.declared.cores.Core.{Core}
-use Rattle.machine_parts.specs.Parts.{LocalView, PipeView, EnteredView, Part, place_at, is_own, links_at, sides_at, datum_here, flag_there, pending_here, admitted_here, flight_at, is_ready, entered_at, is_owned, holder_at, queue_at, part_of}
-use Rattle.machine_parts.specs.Order.{IsOrderly, AreNumbersInOrder, AreFlightsInOrder, IsReadyAt, HasComeRight, IsGraphInOrder, StandByPlace, KnowsPlaces}
-use Rattle.machine_parts.specs.Settings.{Setting, IsPartOf, IsLocalOf, SameSettings}
+use Rattle.machine_parts.specs.Parts.{LocalView, PipeView, Part, place_at, is_own, links_at, datum_here, flag_there, pending_here, admitted_here, flight_at, is_ready, is_owned, holder_at, queue_at, part_of}
+use Rattle.machine_parts.specs.Order.{IsOrderly, AreNumbersInOrder, AreFlightsInOrder, IsReadyAt, KnowsPlaces}
+use Rattle.machine_parts.specs.Settings.{Setting, IsPartOf, SameSettings}
 use Rattle.machine_updates.specs.Learning.{CanLearn, HasReceivedDone}
 use Rattle.machine_updates.proofs.GraphLemmas.{HasSameEdges, SameGraph, place_kept, me_kept, sides_kept, ghosts_kept, graph_kept, sides_here}
-use Rattle.machine_updates.proofs.LeaveLemmas.{IsWithout, none_or, some_none, come_kept, other_entered, was_entered, locks_left}
-use Rattle.machine_updates.proofs.OrderLemmas.{local_kept, HaveTheirRows}
+use Rattle.machine_updates.proofs.LeaveLemmas.{IsWithout, none_or, come_kept, other_entered, locks_left}
+use Rattle.machine_updates.proofs.OrderLemmas.{local_kept}
 
 -- ---- the graph here, where numbers of edges alone have changed
 

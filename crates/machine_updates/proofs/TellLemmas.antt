@@ -1,7 +1,5 @@
 -- Machines that are told one after another.
-use Rattle.std.proofs.Common.{◌≡◌, ◌≢◌, ◌⊎◌, ℕ, zero, suc, ◌<◌, ◌==◌, ◌||◌, ◌++◌, Bool, true, false, true≢false, if◌then◌else◌, List, [], ◌∷◌, length, get_or, set, refl, sym, ap, ◌∙◌, subst, arith, inl, inr, All, length-set, get_or-set_other}
-use Rattle.std.specs.List.{AllPairs}
-use Rattle.std.proofs.lemmas.List.Elements.{All-tail}
+use Rattle.std.proofs.Common.{◌≡◌, ◌≢◌, ◌⊎◌, ℕ, suc, ◌<◌, ◌==◌, true, true≢false, List, [], ◌∷◌, length, get_or, set, refl, sym, ap, ◌∙◌, subst, arith, inl, inr, length-set, get_or-set_other}
 use Rattle.std.proofs.lemmas.Bool.{or_cases, eqb-true}
 use Rattle.gl_base.specs.declared.numbers.MachineNo.{MachineNo}
 use Rattle.gl_base.specs.declared.scopes.Peer.TheVariants.{Machine}
@@ -9,12 +7,12 @@ use Rattle.local_graph.specs.declared.works.Outcome.{Outcome}
 use Rattle.wire_msgs.specs.declared.messages.Done.{Done}
 use Rattle.wire_msgs.specs.Views.{DoneView, MessageView, done_view}
 use Rattle.wire_msgs.specs.Views as told
-use Rattle.outboxes.specs.Outboxes.{OutboxView, OutboxesView, no_outbox, outbox_to, with_outbox, with_message}
+use Rattle.outboxes.specs.Outboxes.{OutboxView, OutboxesView, no_outbox, outbox_to, with_message}
 use Rattle.machine_numbers.specs.declared.keeping.Numbers.{Numbers}
-use Rattle.machine_numbers.specs.Steps.{TellsOf, IsBlank}
+use Rattle.machine_numbers.specs.Steps.{TellsOf}
 use Rattle.machine_parts.specs.Parts.{sides_at}
 use Rattle.machine_updates.specs.declared.reserving.Prepared.{Prepared}
-use Rattle.machine_updates.specs.Reserving.{CanTell, HasRoomToTell, is_to_be_told}
+use Rattle.machine_updates.specs.Reserving.{CanTell, is_to_be_told}
 use Rattle.machine_updates.specs.Committing.{done_told, posted, after_told}
 use Rattle.machine_updates.specs.Inner.Telling.{HasWord}
 

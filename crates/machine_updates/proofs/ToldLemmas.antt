@@ -1,24 +1,21 @@
 -- What waits for each machine after others were told, and who takes part in a scope.
-use Rattle.std.proofs.Common.{◌≡◌, ◌≢◌, ℕ, zero, suc, ◌+◌, ◌-◌, ◌<◌, ◌≤◌, ◌==◌, ◌&&◌, ◌||◌, ◌++◌, Bool, true, false, true≢false, not, if◌then◌else◌, Option, Some, None, List, [], ◌∷◌, length, map, get_or, set, refl, sym, ap, ◌∙◌, subst, arith, inl, inr, All, length-set, get_or-set_same, get_or-set_other}
+use Rattle.std.proofs.Common.{◌≡◌, ◌≢◌, ℕ, zero, suc, ◌+◌, ◌-◌, ◌<◌, ◌≤◌, ◌==◌, ◌||◌, ◌++◌, Bool, true, false, true≢false, if◌then◌else◌, Option, Some, None, List, [], ◌∷◌, length, map, get_or, set, refl, sym, ap, ◌∙◌, subst, arith, inl, inr, All, length-set, get_or-set_same, get_or-set_other}
 use Rattle.std.specs.List.{AllPairs, list_any}
 use Rattle.std.proofs.lemmas.Bool.{cases_eq, eq-eqb, ne_eqb, or_cases, eqb-true}
-use Rattle.std.proofs.lemmas.List.Elements.{All-head, All-tail}
 use Rattle.std.proofs.lemmas.List.{map-append}
 use Rattle.gl_base.specs.declared.numbers.MachineNo.{MachineNo}
 use Rattle.gl_base.specs.declared.scopes.Peer.TheVariants.{Machine}
 use Rattle.wire_msgs.specs.Views.{DoneView, MessageView}
 use Rattle.wire_msgs.specs.Views as told
-use Rattle.outboxes.specs.Outboxes.{OutboxView, OutboxesView, no_outbox, outbox_to, with_outbox, with_message}
-use Rattle.graph_core.specs.DataGraph.{size}
+use Rattle.outboxes.specs.Outboxes.{OutboxView, OutboxesView, no_outbox, outbox_to, with_message}
 use Rattle.cluster_core.specs.Messages.{Message}
-use Rattle.cluster_core.specs.Messages as law
 use Rattle.cluster_core.specs.Ranges.{all_passing}
 use Rattle.cluster_core.specs.Settings.{IsSetting}
 use Rattle.cluster_core.specs.Scopes.{takes_part, own_from, is_found}
 use Rattle.cluster_core.proofs.Basics.{same_truth}
 use Rattle.cluster_core.proofs.Nearness.{is_own as own_is}
 use Rattle.local_parts.proofs.FoundLemmas.{any_mapped}
-use Rattle.machine_parts.specs.Parts.{LocalView, is_own, parts_at, message_of, messages_for, news_told}
+use Rattle.machine_parts.specs.Parts.{LocalView, is_own, parts_at, message_of, messages_for}
 use Rattle.machine_parts.specs.Settings.{Setting, IsLocalOf}
 use Rattle.machine_updates.specs.declared.reserving.Prepared.{Prepared}
 use Rattle.machine_updates.specs.Reserving.{is_to_be_told}

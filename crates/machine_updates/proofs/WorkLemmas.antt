@@ -1,21 +1,18 @@
 -- Works that are taken out and put back: a machine with other rows.
-use Rattle.std.proofs.Common.{◌≡◌, ◌≢◌, ℕ, ◌+◌, ◌<◌, ◌==◌, Bool, true, false, true≢false, if◌then◌else◌, Option, Some, None, List, [], ◌∷◌, length, map, refl, sym, ap, ◌∙◌, subst, inl, inr, All}
+use Rattle.std.proofs.Common.{◌≡◌, ◌≢◌, ℕ, ◌==◌, Bool, true, false, true≢false, if◌then◌else◌, Option, Some, None, List, length, refl, sym, ap, ◌∙◌, subst, inl, inr}
 use Rattle.std.specs.Prelude.{is_some}
 use Rattle.std.proofs.lemmas.Bool.{cases_eq, eq-eqb, ne_eqb}
 use Rattle.gl_base.specs.declared.numbers.Vertex.{Vertex}
 use Rattle.gl_base.specs.declared.scopes.ScopeId.{ScopeId}
-use Rattle.scope_lists.specs.Scopes.{is_scope}
 use Rattle.update_api.specs.declared.links.Link.{Link}
-use Rattle.local_graph.specs.declared.sides.Side.{Side}
 use Rattle.local_graph.specs.declared.works.Work.{Work}
-use Rattle.machine_numbers.specs.declared.keeping.Numbers.{Numbers}
 use Rattle.machine_numbers.specs.Views.{numbers_along, near_along, value_here}
 use Rattle.machine_numbers.specs.Steps.{HasTakenOut}
 use Rattle.machine_numbers.specs.Settings.{IsRowOf}
 use Rattle.machine_parts.specs.declared.cores.Core.{Core}
-use Rattle.machine_parts.specs.Parts.{LocalView, place_at, is_own, links_at, sides_at, edge_here, task_here, pending_here, flight_at, is_ready, part_of}
+use Rattle.machine_parts.specs.Parts.{is_own, links_at, sides_at, edge_here, task_here, pending_here, flight_at, is_ready, part_of}
 use Rattle.machine_parts.specs.Order.{IsOrderly, IsReadyAt, KnowsPlaces}
-use Rattle.machine_parts.specs.Settings.{Setting, IsPartOf, IsLocalOf, SameSettings}
+use Rattle.machine_parts.specs.Settings.{Setting, IsPartOf, SameSettings}
 use Rattle.machine_updates.specs.Works.{IsOut, CanBeTaken, HasItsRow}
 use Rattle.machine_updates.proofs.GraphLemmas.{SameGraph}
 use Rattle.machine_updates.proofs.LeaveLemmas.{some_none}

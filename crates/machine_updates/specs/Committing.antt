@@ -1,5 +1,5 @@
 -- What a commit asks and leaves.
-use Rattle.std.specs.Prelude.{◌≡◌, ℕ, Bool, true, Option, None, List, [], ◌∷◌, length}
+use Rattle.std.specs.Prelude.{◌≡◌, ℕ, Option, None, List, [], ◌∷◌}
 use Rattle.gl_base.specs.declared.entries.Entry.{Entry}
 use Rattle.gl_base.specs.declared.entries.Entry.TheVariants.{Go}
 use Rattle.gl_base.specs.declared.numbers.MachineNo.{MachineNo}

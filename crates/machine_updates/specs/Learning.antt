@@ -1,5 +1,5 @@
 -- Word of an update elsewhere.
-use Rattle.std.specs.Prelude.{◌≡◌, ◌≢◌, ℕ, ◌==◌, Bool, true, false, Option, None, is_some, List, []}
+use Rattle.std.specs.Prelude.{◌≡◌, ◌≢◌, ℕ, ◌==◌, true, false, None, is_some, []}
 use Rattle.std.specs.List.{All, list_any}
 use Rattle.wire_msgs.specs.declared.messages.Done.{Done}
 use Rattle.cluster_core.specs.Effects.{received}

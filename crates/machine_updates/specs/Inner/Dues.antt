@@ -1,7 +1,6 @@
 -- Scopes that are about to be taken.
-use Rattle.std.specs.Prelude.{◌≡◌, ℕ, Bool, true, false, ◌&&◌, not, Option, List, is_some, length, map}
-use Rattle.std.specs.List.{All, list_any}
-use Rattle.gl_base.specs.declared.numbers.Vertex.{Vertex}
+use Rattle.std.specs.Prelude.{ℕ, Bool, ◌&&◌, not, List, is_some, length, map}
+use Rattle.std.specs.List.{list_any}
 use Rattle.gl_base.specs.declared.scopes.ScopeId.{ScopeId}
 use Rattle.scope_lists.specs.Scopes.{is_scope}
 use Rattle.machine_numbers.specs.Steps.{HasRoom}

@@ -1,5 +1,5 @@
 -- Word of an update for another machine.
-use Rattle.std.specs.Prelude.{◌≡◌, ℕ}
+use Rattle.std.specs.Prelude.{ℕ}
 use Rattle.local_graph.specs.declared.works.Outcome.{Outcome}
 use Rattle.wire_msgs.specs.declared.messages.Done.{Done}
 use Rattle.machine_numbers.specs.declared.keeping.Numbers.{Numbers}

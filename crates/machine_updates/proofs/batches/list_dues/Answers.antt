@@ -1,5 +1,5 @@
 -- One more of the ready ones was looked at; in the end each was.
-use Rattle.std.proofs.Common.{◌≡◌, ◌<◌, Option, Some, None, List, length, get_or, sym, ap, ◌∙◌, subst}
+use Rattle.std.proofs.Common.{◌≡◌, Option, List, get_or, sym, ap, ◌∙◌, subst}
 use Rattle.std.specs.Prelude.{is_some, IfSome}
 use Rattle.scope_lists.specs.Found.{by_scope}
 use Rattle.scope_pipe.specs.declared.flights.Flight.{Flight}

@@ -1,6 +1,5 @@
 -- Where none is due there was none to take, and else there was one.
-use Rattle.std.proofs.Common.{◌≡◌, ◌<◌, [], length, sym, ◌∙◌, arith}
-use Rattle.std.proofs.lemmas.Bool.{eqb-true}
+use Rattle.std.proofs.Common.{◌≡◌, ◌<◌, length, arith}
 use Rattle.machine_updates.specs.Batches.{scopes_of_works, scopes_of_flights}
 use Rattle.machine_updates.specs.Inner.Dues.{scopes_of_dues}
 use Rattle.machine_updates.proofs.TurnLemmas.{some_through}

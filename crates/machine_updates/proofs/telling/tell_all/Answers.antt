@@ -1,5 +1,5 @@
 -- One machine more was told; in the end none is left.
-use Rattle.std.proofs.Common.{◌≡◌, ◌⊎◌, true, List, ◌∷◌, [], length, refl, sym, ap, ◌∙◌, subst, arith}
+use Rattle.std.proofs.Common.{◌≡◌, ◌⊎◌, true, List, ◌∷◌, [], length, sym, ap, ◌∙◌, subst, arith}
 use Rattle.std.specs.Vec.Iter.{into_iter_items}
 use Rattle.machine_updates.specs.declared.reserving.Prepared.{Prepared}
 use Rattle.machine_updates.specs.Reserving.{is_to_be_told}

@@ -8,7 +8,7 @@ use Rattle.machine_numbers.specs.Steps.{HasTakenOut}
 use Rattle.machine_parts.specs.declared.cores.Core.{Core}
 use Rattle.machine_parts.specs.Parts.{part_of}
 use Rattle.machine_parts.specs.Order.{IsOrderly, KnowsPlaces}
-use Rattle.machine_parts.specs.Settings.{IsPartOf, SameSettings}
+use Rattle.machine_parts.specs.Settings.{SameSettings}
 use Rattle.machine_updates.specs.Works.{IsOut, HasItsRow}
 use Rattle.machine_updates.proofs.WorkLemmas.{with_rows, order_with, places_with, part_with, taken_ready, taken_out, taken_row, taken_others, taken_settings}
 use Rattle.machine_updates.proofs.works.take_work.Goals as goal

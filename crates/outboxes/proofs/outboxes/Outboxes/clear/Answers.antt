@@ -1,5 +1,5 @@
 -- One outbox more is emptied.
-use Rattle.std.proofs.Common.{◌≡◌, ◌<◌, ◌∙◌, ap, sym, length, set, arith}
+use Rattle.std.proofs.Common.{◌<◌, ◌∙◌, ap, sym, length, set, arith}
 use Rattle.std.proofs.lemmas.List.Edits.{map_over_more}
 use Rattle.outboxes.specs.Outboxes.{emptied}
 use Rattle.outboxes.proofs.outboxes.Outboxes.clear.Goals as goal
