@@ -37,8 +37,8 @@ pub record IsAdmission (st : Setting) (a : ℕ) (old : Part) (s : ScopeId) (new 
   pub scope : s ≡ next_scope a old
   pub after : new ≡ admitted st a vertex old
 
-abbrev pub HasAdmitted : {M : Type 0} → (Setting → ℕ → M → Type 0) → (M → Part) → M → ScopeId → M → Type 0
-HasAdmitted belongs part old s new = (st : Setting) (a : ℕ) → belongs st a old → IsAdmission st a (part old) s (part new)
+abbrev pub MakesAdmission : {M : Type 0} → (Setting → ℕ → M → Type 0) → (M → Part) → M → ScopeId → M → Type 0
+MakesAdmission belongs part old s new = (st : Setting) (a : ℕ) → belongs st a old → IsAdmission st a (part old) s (part new)
 
 -- ---- Grant
 
@@ -56,8 +56,8 @@ pub record IsGrant (st : Setting) (a x : ℕ) (old : Part) (s : ScopeId) (new : 
   pub scope : s ≡ may.claim.scope
   pub after : new ≡ granted st a x old
 
-abbrev pub HasGranted : {M : Type 0} → (Setting → ℕ → M → Type 0) → (M → Part) → M → ℕ → ScopeId → M → Type 0
-HasGranted belongs part old x s new = (st : Setting) (a : ℕ) → belongs st a old → IsGrant st a x (part old) s (part new)
+abbrev pub MakesGrant : {M : Type 0} → (Setting → ℕ → M → Type 0) → (M → Part) → M → ℕ → ScopeId → M → Type 0
+MakesGrant belongs part old x s new = (st : Setting) (a : ℕ) → belongs st a old → IsGrant st a x (part old) s (part new)
 
 -- ---- Deliver
 
@@ -69,14 +69,14 @@ pub record CanReceive {M : Type 0} (belongs : Setting → ℕ → M → Type 0) 
   pub may : MayReceive setting p number (part m) (told_by message)
 
 -- it has received it, wherever it may
-abbrev pub HasReceived : {M : Type 0} → (Setting → ℕ → M → Type 0) → (M → Part) → M → ℕ → Message → M → Type 0
-HasReceived belongs part old p message new =
+abbrev pub MakesReceipt : {M : Type 0} → (Setting → ℕ → M → Type 0) → (M → Part) → M → ℕ → Message → M → Type 0
+MakesReceipt belongs part old p message new =
     (st : Setting) (a : ℕ) → belongs st a old → MayReceive st p a (part old) (told_by message) → part new ≡ received st a (told_by message) (part old)
 
 -- ---- Send
 
 -- the message was the first that waited for machine q, and has left the outbox; nothing else has changed
-pub record IsTaken (old : Part) (q : ℕ) (message : Message) (new : Part) : Type 0 where
+pub record IsSending (old : Part) (q : ℕ) (message : Message) (new : Part) : Type 0 where
   pub behind : List law.Message
   pub first : old.out q ≡ told_by message ∷ behind
   pub after : new ≡ record old { out = set_at old.out q behind }

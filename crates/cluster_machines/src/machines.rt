@@ -1,6 +1,6 @@
 //! A machine, as a cluster knows it.
 ghost use Rattle.std.specs.Prelude.{◌≡◌, ℕ, ◌+◌, ◌↔◌, [], length, true, false, is_some, IsTrue, IfOk, IfErr, OnOk, OnErr, IfSome, IfNone, IsErrOf};
-ghost use Rattle.cluster_machines.specs.Promises.{Part, Setting, HasFirst, MayUpdate, told_by, IsSameMachine, AdmitsSome, AdmitsNone, HasAdmitted, GrantsIt, GrantsNot, HasGranted, CanReceive, HasReceived, IsTaken, MakesUpdate, is_owner_of, is_owner_at, SaysWhether};
+ghost use Rattle.cluster_machines.specs.Promises.{Part, Setting, HasFirst, MayUpdate, told_by, IsSameMachine, AdmitsSome, AdmitsNone, MakesAdmission, GrantsIt, GrantsNot, MakesGrant, CanReceive, MakesReceipt, IsSending, MakesUpdate, is_owner_of, is_owner_at, SaysWhether};
 
 use crate::refusals::Refused;
 use gl_base::{EdgeNo, Entry, MachineNo, ScopeId, Vertex};
@@ -21,7 +21,7 @@ pub trait ClusterMachine: Drop {
 
     /// A scope of a vertex that is pending or a task sets out for its locks. Which vertex is the machine's choice.
     fn admit(&mut self) -> Result<ScopeId, Refused>
-        ensures admitted { IfOk result (λ s. HasAdmitted belongs part self.old s self.new) }
+        ensures admitted { IfOk result (λ s. MakesAdmission belongs part self.old s self.new) }
         ensures not_now { IsErrOf result Refused.NotNow → AdmitsNone belongs part self.old }
         ensures no_memory { IsErrOf result Refused.NoMemory → AdmitsSome belongs part self.old }
         ensures unchanged { OnErr result (part self.new ≡ part self.old) }
@@ -29,7 +29,7 @@ pub trait ClusterMachine: Drop {
 
     /// The first that waits for the lock of an own vertex holds it, and goes on.
     fn grant(&mut self, x: Vertex) -> Result<ScopeId, Refused>
-        ensures granted { IfOk result (λ s. HasGranted belongs part self.old x.0 s self.new) }
+        ensures granted { IfOk result (λ s. MakesGrant belongs part self.old x.0 s self.new) }
         ensures not_now { IsErrOf result Refused.NotNow → GrantsNot belongs part self.old x.0 }
         ensures no_memory { IsErrOf result Refused.NoMemory → GrantsIt belongs part self.old x.0 }
         ensures unchanged { OnErr result (part self.new ≡ part self.old) }
@@ -38,7 +38,7 @@ pub trait ClusterMachine: Drop {
     /// Receives a message from another machine. For want of memory the message comes back.
     fn receive(&mut self, from: MachineNo, message: Message) -> Result<(), Returned>
         requires { CanReceive belongs part self.old from.0 message }
-        ensures received { OnOk result (HasReceived belongs part self.old from.0 message self.new) }
+        ensures received { OnOk result (MakesReceipt belongs part self.old from.0 message self.new) }
         ensures returned { IfErr result (λ back. told_by back.message ≡ told_by message) }
         ensures unchanged { OnErr result (part self.new ≡ part self.old) }
         ensures same { IsSameMachine belongs earlier self.old self.new };
@@ -49,7 +49,7 @@ pub trait ClusterMachine: Drop {
 
     /// Takes the first message that waits to be sent to a machine; `None` exactly where none waits.
     fn outbox_take(&mut self, to: MachineNo) -> Option<Message>
-        ensures taken { IfSome result (λ m. IsTaken (part self.old) to.0 m (part self.new)) }
+        ensures taken { IfSome result (λ m. IsSending (part self.old) to.0 m (part self.new)) }
         ensures none { IfNone result ((part self.old).out to.0 ≡ []) }
         ensures unchanged { IfNone result (part self.new ≡ part self.old) }
         ensures same { IsSameMachine belongs earlier self.old self.new };
