@@ -1,0 +1,6 @@
+pub mod LinkLemmas
+pub mod WorldLemmas
+pub mod GoingLemmas
+pub mod CallLemmas
+pub mod StartLemmas
+pub mod KeptLemmas
