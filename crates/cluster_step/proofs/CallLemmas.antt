@@ -18,9 +18,9 @@ use Rattle.cluster_core.specs.Settings.{Setting}
 use Rattle.cluster_core.specs.Worlds.{World, with_part, with_link}
 use Rattle.cluster_numbers.proofs.Keeping.{updates_is}
 use Rattle.cluster_machines.specs.Promises.{AdmitsNone, AdmitsSome, GrantsIt, GrantsNot, IsAdmission, IsGrant, IsSameMachine, IsUpdate, MakesAdmission, MakesGrant, MakesUpdate}
-use Rattle.cluster_step.specs.Links.{LinkView, HasLinkAt, told_on}
-use Rattle.cluster_step.specs.Worlds.{part_at, world_of_parts}
-use Rattle.cluster_step.specs.Events.{CanGoOn, CanMake, CanNotMake, Happens, HaveLinks, HoldTheSame, IsSameCluster, Makes, MayComeAbout}
+use Rattle.cluster_step.specs.Links.{LinkView, HasLinkBetween, told_on}
+use Rattle.cluster_step.specs.Worlds.{part_of_machine, world_of_parts}
+use Rattle.cluster_step.specs.Events.{CanGoOn, CanMakeEvent, CanNotMakeEvent, Happens, HaveLinks, HoldTheSame, IsSameCluster, MakesEvent, MayComeAbout}
 use Rattle.cluster_step.specs.declared.events.Event.TheVariants.{Admit, Grant, Send, Deliver, Update}
 use Rattle.cluster_step.specs.declared.parts.Parts.{Parts}
 use Rattle.cluster_step.proofs.WorldLemmas.{ChangesOneWay, changes_one, changes_none, earlier_stays, machines_stay, part_here, part_kept, part_set}
@@ -47,7 +47,7 @@ abbrev pub with_one : {M : Type 0} → Parts M → ℕ → M → Parts M
 with_one p a m = with_both p a m p.links
 
 module _ {M : Type 0} (belongs : Setting → ℕ → M → Type 0) (part : M → Part) (earlier : M → ℕ) (old : Parts M) (a : ℕ) (m : M) (low : a < length old.machines.items) (is : m ≡ get_or old.machines.items a m) where
-  pub here : (st : Setting) → part_at part st old.machines.items a ≡ part m
+  pub here : (st : Setting) → part_of_machine part st old.machines.items a ≡ part m
   here st = part_here part st old.machines.items a m low is
 
   pub here_belongs : (st : Setting) → CanGoOn belongs part old st → belongs st a m
@@ -57,8 +57,8 @@ module _ {M : Type 0} (belongs : Setting → ℕ → M → Type 0) (part : M →
 
   pub world_one : (st : Setting) (new : M) (P : Part) → part new ≡ P → world_of_parts part st (with_one old a new) ≡ with_part (world_of_parts part st old) a P
   world_one st new P made =
-      let parts : (b : ℕ) → part_at part st (with_item old.machines a new).items b ≡ set_at (part_at part st old.machines.items) a P b =
-      λ b. part_set part st old.machines.items a m low is new b ∙ ap (λ (x : Part). set_at (part_at part st old.machines.items) a x b) made in
+      let parts : (b : ℕ) → part_of_machine part st (with_item old.machines a new).items b ≡ set_at (part_of_machine part st old.machines.items) a P b =
+      λ b. part_set part st old.machines.items a m low is new b ∙ ap (λ (x : Part). set_at (part_of_machine part st old.machines.items) a x b) made in
       λ i. record {
         part = λ b. parts b i;
         link = told_on old.links;
@@ -75,8 +75,8 @@ module _ {M : Type 0} (belongs : Setting → ℕ → M → Type 0) (part : M →
       ChangesOneWay (told_on old.links) (told_on links) p q messages →
       world_of_parts part st (with_both old a new links) ≡ with_link (with_part (world_of_parts part st old) a P) p q messages
   world_both st new links P p q messages made changes =
-      let parts : (b : ℕ) → part_at part st (with_item old.machines a new).items b ≡ set_at (part_at part st old.machines.items) a P b =
-      λ b. part_set part st old.machines.items a m low is new b ∙ ap (λ (x : Part). set_at (part_at part st old.machines.items) a x b) made in
+      let parts : (b : ℕ) → part_of_machine part st (with_item old.machines a new).items b ≡ set_at (part_of_machine part st old.machines.items) a P b =
+      λ b. part_set part st old.machines.items a m low is new b ∙ ap (λ (x : Part). set_at (part_of_machine part st old.machines.items) a x b) made in
       λ i. record {
         part = λ b. parts b i;
         link = λ x y. changes_one (told_on old.links) (told_on links) p q messages changes x y i;
@@ -122,7 +122,7 @@ module _ {M : Type 0} (belongs : Setting → ℕ → M → Type 0) (part : M →
 
   -- ---- Admit
 
-  pub admit_made : (at : MachineNo) → at.0 ≡ a → (s : ScopeId) (new : M) → MakesAdmission belongs part m s new → Makes (CanGoOn belongs part old) part old (Admit at) (with_one old a new)
+  pub admit_made : (at : MachineNo) → at.0 ≡ a → (s : ScopeId) (new : M) → MakesAdmission belongs part m s new → MakesEvent (CanGoOn belongs part old) part old (Admit at) (with_one old a new)
   admit_made at named s new made st go =
       let one : IsAdmission st a (part m) s (part new) = made st a (here_belongs st go) in
       record {
@@ -130,11 +130,11 @@ module _ {M : Type 0} (belongs : Setting → ℕ → M → Type 0) (part : M →
         is = (one.vertex, ap (λ (k : ℕ). law.Admit k one.vertex) (sym named));
         step = (
           subst (MayAdmit st a one.vertex) (sym (here st)) one.may,
-          world_one st new (admitted st a one.vertex (part_at part st old.machines.items a)) (one.after ∙ ap (admitted st a one.vertex) (sym (here st))),
+          world_one st new (admitted st a one.vertex (part_of_machine part st old.machines.items a)) (one.after ∙ ap (admitted st a one.vertex) (sym (here st))),
         );
       }
 
-  pub admit_can : (at : MachineNo) → at.0 ≡ a → AdmitsSome belongs part m → CanMake (CanGoOn belongs part old) part old (Admit at)
+  pub admit_can : (at : MachineNo) → at.0 ≡ a → AdmitsSome belongs part m → CanMakeEvent (CanGoOn belongs part old) part old (Admit at)
   admit_can at named some st go =
       let one = some st a (here_belongs st go) in
       record {
@@ -143,7 +143,7 @@ module _ {M : Type 0} (belongs : Setting → ℕ → M → Type 0) (part : M →
         may = subst (MayAdmit st a one.0) (sym (here st)) one.1;
       }
 
-  pub admit_cannot : (at : MachineNo) → at.0 ≡ a → AdmitsNone belongs part m → CanNotMake (CanGoOn belongs part old) part old (Admit at)
+  pub admit_cannot : (at : MachineNo) → at.0 ≡ a → AdmitsNone belongs part m → CanNotMakeEvent (CanGoOn belongs part old) part old (Admit at)
   admit_cannot at named none st go stored may =
       let v : ℕ = may.is.0 in
       let admits : MayHappen st (world_of_parts part st old) (law.Admit a v) =
@@ -152,7 +152,7 @@ module _ {M : Type 0} (belongs : Setting → ℕ → M → Type 0) (part : M →
 
   -- ---- Grant
 
-  pub grant_made : (at : MachineNo) (x : Vertex) → at.0 ≡ a → (s : ScopeId) (new : M) → MakesGrant belongs part m x.0 s new → Makes (CanGoOn belongs part old) part old (Grant at x) (with_one old a new)
+  pub grant_made : (at : MachineNo) (x : Vertex) → at.0 ≡ a → (s : ScopeId) (new : M) → MakesGrant belongs part m x.0 s new → MakesEvent (CanGoOn belongs part old) part old (Grant at x) (with_one old a new)
   grant_made at x named s new made st go =
       let one : IsGrant st a x.0 (part m) s (part new) = made st a (here_belongs st go) in
       record {
@@ -160,11 +160,11 @@ module _ {M : Type 0} (belongs : Setting → ℕ → M → Type 0) (part : M →
         is = ap (λ (k : ℕ). law.Grant k x.0) (sym named);
         step = (
           subst (MayGrant st a x.0) (sym (here st)) one.may,
-          world_one st new (granted st a x.0 (part_at part st old.machines.items a)) (one.after ∙ ap (granted st a x.0) (sym (here st))),
+          world_one st new (granted st a x.0 (part_of_machine part st old.machines.items a)) (one.after ∙ ap (granted st a x.0) (sym (here st))),
         );
       }
 
-  pub grant_can : (at : MachineNo) (x : Vertex) → at.0 ≡ a → GrantsIt belongs part m x.0 → CanMake (CanGoOn belongs part old) part old (Grant at x)
+  pub grant_can : (at : MachineNo) (x : Vertex) → at.0 ≡ a → GrantsIt belongs part m x.0 → CanMakeEvent (CanGoOn belongs part old) part old (Grant at x)
   grant_can at x named may st go =
       record {
         action = law.Grant a x.0;
@@ -172,7 +172,7 @@ module _ {M : Type 0} (belongs : Setting → ℕ → M → Type 0) (part : M →
         may = subst (MayGrant st a x.0) (sym (here st)) (may st a (here_belongs st go));
       }
 
-  pub grant_cannot : (at : MachineNo) (x : Vertex) → at.0 ≡ a → GrantsNot belongs part m x.0 → CanNotMake (CanGoOn belongs part old) part old (Grant at x)
+  pub grant_cannot : (at : MachineNo) (x : Vertex) → at.0 ≡ a → GrantsNot belongs part m x.0 → CanNotMakeEvent (CanGoOn belongs part old) part old (Grant at x)
   grant_cannot at x named not_it st go stored may =
       let grants : MayHappen st (world_of_parts part st old) (law.Grant a x.0) =
       subst (MayHappen st (world_of_parts part st old)) (may.is ∙ ap (λ (k : ℕ). law.Grant k x.0) named) may.may in
@@ -181,26 +181,26 @@ module _ {M : Type 0} (belongs : Setting → ℕ → M → Type 0) (part : M →
   -- ---- Update
 
   -- the world asks for the same, with as many tickets as are left
-  may_here : (st : Setting) (s : ScopeId) (one other : ℕ) → 0 < other → MayUpdate s (part m) one → MayUpdate s (part_at part st old.machines.items a) other
+  may_here : (st : Setting) (s : ScopeId) (one other : ℕ) → 0 < other → MayUpdate s (part m) one → MayUpdate s (part_of_machine part st old.machines.items a) other
   may_here st s one other some may =
       let at_m : MayUpdate s (part m) other = record { vertex = may.vertex; flight = may.flight; ready = may.ready; not_pending = may.not_pending; task = may.task; ticket = some } in
       subst (λ (p : Part). MayUpdate s p other) (sym (here st)) at_m
 
-  may_there : (st : Setting) (s : ScopeId) (other : ℕ) → MayUpdate s (part_at part st old.machines.items a) other → MayUpdate s (part m) 1
+  may_there : (st : Setting) (s : ScopeId) (other : ℕ) → MayUpdate s (part_of_machine part st old.machines.items a) other → MayUpdate s (part m) 1
   may_there st s other may =
       let at_m : MayUpdate s (part m) other = subst (λ (p : Part). MayUpdate s p other) (here st) may in
       record { vertex = at_m.vertex; flight = at_m.flight; ready = at_m.ready; not_pending = at_m.not_pending; task = at_m.task; ticket = lit< tt }
 
   pub update_made : (s : ScopeId) → s.home.0 ≡ a → 0 < old.left → (new : M) → MakesUpdate belongs part m s old.next new →
-      Makes (CanGoOn belongs part old) part old (Update s) (record { machines = with_item old.machines a new; links = old.links; next = old.next + 1; left = old.left - 1 })
+      MakesEvent (CanGoOn belongs part old) part old (Update s) (record { machines = with_item old.machines a new; links = old.links; next = old.next + 1; left = old.left - 1 })
   update_made s home some new made st go =
       let one : IsUpdate st (part m) s old.next (part new) = made st (subst (λ k. belongs st k m) (sym home) (here_belongs st go)) in
       let w : World = world_of_parts part st old in
       let v : ℕ = one.may.vertex in
       let entry = Go s.home (record { 0 = v }) old.next in
-      let at_home : part_at part st old.machines.items s.home.0 ≡ part m = ap (part_at part st old.machines.items) home ∙ here st in
+      let at_home : part_of_machine part st old.machines.items s.home.0 ≡ part m = ap (part_of_machine part st old.machines.items) home ∙ here st in
       let may : MayUpdate s (w.part s.home.0) old.left =
-      subst (λ (k : ℕ). MayUpdate s (part_at part st old.machines.items k) old.left) (sym home) (may_here st s 1 old.left some one.may) in
+      subst (λ (k : ℕ). MayUpdate s (part_of_machine part st old.machines.items k) old.left) (sym home) (may_here st s 1 old.left some one.may) in
       let flies : (w.part s.home.0).flight s ≡ Some v = ap (λ (p : Part). p.flight s) at_home ∙ one.may.flight in
       let parts : World = with_part w s.home.0 (updated st s.home.0 s v entry (w.part s.home.0)) in
       let written : world_of_parts part st (with_one old a new) ≡ parts =
@@ -209,7 +209,7 @@ module _ {M : Type 0} (belongs : Setting → ℕ → M → Type 0) (part : M →
       ∙ ap (λ (p : Part). with_part w s.home.0 (updated st s.home.0 s v entry p)) (sym at_home) in
       let drawn : world_of_parts part st (record { machines = with_item old.machines a new; links = old.links; next = old.next + 1; left = old.left - 1 }) ≡ draws (world_of_parts part st (with_one old a new)) =
       λ i. record {
-        part = part_at part st (with_item old.machines a new).items;
+        part = part_of_machine part st (with_item old.machines a new).items;
         link = told_on old.links;
         next = add-one old.next i;
         left = sub-one old.left i;
@@ -231,28 +231,28 @@ module _ {M : Type 0} (belongs : Setting → ℕ → M → Type 0) (part : M →
       let one = cluster_one new same in
       record { many = one.many; settings = one.settings; before = one.before; links = one.links; tickets = omega arith }
 
-  pub update_can : (s : ScopeId) → s.home.0 ≡ a → 0 < old.left → MayUpdate s (part m) 1 → CanMake (CanGoOn belongs part old) part old (Update s)
+  pub update_can : (s : ScopeId) → s.home.0 ≡ a → 0 < old.left → MayUpdate s (part m) 1 → CanMakeEvent (CanGoOn belongs part old) part old (Update s)
   update_can s home some may st go =
       record {
         action = law.Update s;
         is = refl;
-        may = subst (λ (k : ℕ). MayUpdate s (part_at part st old.machines.items k) old.left) (sym home) (may_here st s 1 old.left some may);
+        may = subst (λ (k : ℕ). MayUpdate s (part_of_machine part st old.machines.items k) old.left) (sym home) (may_here st s 1 old.left some may);
       }
 
-  pub update_cannot : (s : ScopeId) → s.home.0 ≡ a → ¬ MayUpdate s (part m) 1 → CanNotMake (CanGoOn belongs part old) part old (Update s)
+  pub update_cannot : (s : ScopeId) → s.home.0 ≡ a → ¬ MayUpdate s (part m) 1 → CanNotMakeEvent (CanGoOn belongs part old) part old (Update s)
   update_cannot s home not_it st go stored may =
       let updates_it : MayHappen st (world_of_parts part st old) (law.Update s) = subst (MayHappen st (world_of_parts part st old)) may.is may.may in
-      not_it (may_there st s old.left (subst (λ (k : ℕ). MayUpdate s (part_at part st old.machines.items k) old.left) home updates_it))
+      not_it (may_there st s old.left (subst (λ (k : ℕ). MayUpdate s (part_of_machine part st old.machines.items k) old.left) home updates_it))
 
   -- ---- Send
 
   pub send_made : (p q : MachineNo) → p.0 ≡ a → (message : Message) (behind : List Message) (new : M) (links : List (List LinkView)) →
       (part m).out q.0 ≡ message ∷ behind → part new ≡ record (part m) { out = set_at (part m).out q.0 behind } →
       ChangesOneWay (told_on old.links) (told_on links) p.0 q.0 (told_on old.links p.0 q.0 ++ message ∷ []) →
-      Makes (CanGoOn belongs part old) part old (Send p q) (with_both old a new links)
+      MakesEvent (CanGoOn belongs part old) part old (Send p q) (with_both old a new links)
   send_made p q named message behind new links first after_is changes st go =
       let w : World = world_of_parts part st old in
-      let at_p : part_at part st old.machines.items p.0 ≡ part m = ap (part_at part st old.machines.items) named ∙ here st in
+      let at_p : part_of_machine part st old.machines.items p.0 ≡ part m = ap (part_of_machine part st old.machines.items) named ∙ here st in
       let waits : (w.part p.0).out q.0 ≡ message ∷ behind = ap (λ (x : Part). x.out q.0) at_p ∙ first in
       let left : Part → Part = λ x. record x { out = set_at x.out q.0 behind } in
       let done : world_of_parts part st (with_both old a new links) ≡ sends w p.0 q.0 (message ∷ behind) =
@@ -265,18 +265,18 @@ module _ {M : Type 0} (belongs : Setting → ℕ → M → Type 0) (part : M →
         step = (record { message = message; behind = behind; first = waits }, done ∙ ap (sends w p.0 q.0) (sym waits));
       }
 
-  pub send_can : (p q : MachineNo) → p.0 ≡ a → HasFirst ((part m).out q.0) → CanMake (CanGoOn belongs part old) part old (Send p q)
+  pub send_can : (p q : MachineNo) → p.0 ≡ a → HasFirst ((part m).out q.0) → CanMakeEvent (CanGoOn belongs part old) part old (Send p q)
   send_can p q named waits st go =
       record {
         action = law.Send p.0 q.0;
         is = refl;
-        may = subst (λ (x : Part). HasFirst (x.out q.0)) (sym (ap (part_at part st old.machines.items) named ∙ here st)) waits;
+        may = subst (λ (x : Part). HasFirst (x.out q.0)) (sym (ap (part_of_machine part st old.machines.items) named ∙ here st)) waits;
       }
 
-  pub send_cannot : (p q : MachineNo) → p.0 ≡ a → ¬ HasFirst ((part m).out q.0) → CanNotMake (CanGoOn belongs part old) part old (Send p q)
+  pub send_cannot : (p q : MachineNo) → p.0 ≡ a → ¬ HasFirst ((part m).out q.0) → CanNotMakeEvent (CanGoOn belongs part old) part old (Send p q)
   send_cannot p q named none st go stored may =
       let sends_it : MayHappen st (world_of_parts part st old) (law.Send p.0 q.0) = subst (MayHappen st (world_of_parts part st old)) may.is may.may in
-      none (subst (λ (x : Part). HasFirst (x.out q.0)) (ap (part_at part st old.machines.items) named ∙ here st) sends_it)
+      none (subst (λ (x : Part). HasFirst (x.out q.0)) (ap (part_of_machine part st old.machines.items) named ∙ here st) sends_it)
 
   -- ---- Deliver
 
@@ -284,10 +284,10 @@ module _ {M : Type 0} (belongs : Setting → ℕ → M → Type 0) (part : M →
       told_on old.links p.0 q.0 ≡ message ∷ behind →
       ((st : Setting) → belongs st a m → MayReceive st p.0 a (part m) message → part new ≡ received st a message (part m)) →
       ChangesOneWay (told_on old.links) (told_on links) p.0 q.0 behind →
-      Makes (CanGoOn belongs part old) part old (Deliver p q) (with_both old a new links)
+      MakesEvent (CanGoOn belongs part old) part old (Deliver p q) (with_both old a new links)
   deliver_made p q named message behind new links first made changes st go =
       let w : World = world_of_parts part st old in
-      let at_q : part_at part st old.machines.items q.0 ≡ part m = ap (part_at part st old.machines.items) named ∙ here st in
+      let at_q : part_of_machine part st old.machines.items q.0 ≡ part m = ap (part_of_machine part st old.machines.items) named ∙ here st in
       let comes : MayReceive st p.0 a (part m) message =
       subst (λ (x : Part). MayReceive st p.0 a x message) at_q
       (subst (λ (k : ℕ). MayReceive st p.0 k (w.part q.0) message) named (go.fronts p.0 q.0 message behind first)) in
@@ -304,7 +304,7 @@ module _ {M : Type 0} (belongs : Setting → ℕ → M → Type 0) (part : M →
 
 -- nothing is on the link
 pub deliver_cannot : {M : Type 0} (belongs : Setting → ℕ → M → Type 0) (part : M → Part) (old : Parts M) (p q : MachineNo) → told_on old.links p.0 q.0 ≡ [] →
-    CanNotMake (CanGoOn belongs part old) part old (Deliver p q)
+    CanNotMakeEvent (CanGoOn belongs part old) part old (Deliver p q)
 deliver_cannot belongs part old p q none st go stored may =
     let comes : MayHappen st (world_of_parts part st old) (law.Deliver p.0 q.0) = subst (MayHappen st (world_of_parts part st old)) may.is may.may in
     nothing comes.message comes.behind (sym none ∙ comes.first)
@@ -313,13 +313,13 @@ deliver_cannot belongs part old p q none st go stored may =
     nothing message behind same = cc
 
 pub deliver_can : {M : Type 0} (belongs : Setting → ℕ → M → Type 0) (part : M → Part) (old : Parts M) (p q : MachineNo) (message : Message) (behind : List Message) →
-    told_on old.links p.0 q.0 ≡ message ∷ behind → CanMake (CanGoOn belongs part old) part old (Deliver p q)
+    told_on old.links p.0 q.0 ≡ message ∷ behind → CanMakeEvent (CanGoOn belongs part old) part old (Deliver p q)
 deliver_can belongs part old p q message behind first st go =
     record { action = law.Deliver p.0 q.0; is = refl; may = record { message = message; behind = behind; first = first } }
 
 -- no ticket is left
 pub no_ticket : {M : Type 0} (belongs : Setting → ℕ → M → Type 0) (part : M → Part) (old : Parts M) (s : ScopeId) → old.left ≡ 0 →
-    CanNotMake (CanGoOn belongs part old) part old (Update s)
+    CanNotMakeEvent (CanGoOn belongs part old) part old (Update s)
 no_ticket belongs part old s none st go stored may =
     let updates_it : MayHappen st (world_of_parts part st old) (law.Update s) = subst (MayHappen st (world_of_parts part st old)) may.is may.may in
     absurd (omega (arith, none, updates_it.ticket))

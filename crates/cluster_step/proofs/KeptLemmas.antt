@@ -7,7 +7,7 @@ use Rattle.cluster_core.specs.Settings.{Setting}
 use Rattle.cluster_core.specs.Worlds.{World}
 use Rattle.cluster_step.specs.Links.{told_on}
 use Rattle.cluster_step.specs.Worlds.{world_of_parts}
-use Rattle.cluster_step.specs.Events.{CanGoOn, CanMake, CanNotMake, Happens, HaveLinks, HoldTheSame, IsSameCluster, Makes}
+use Rattle.cluster_step.specs.Events.{CanGoOn, CanMakeEvent, CanNotMakeEvent, Happens, HaveLinks, HoldTheSame, IsSameCluster, MakesEvent}
 use Rattle.cluster_step.specs.Inner.Going.{IsGoingOn, IsKept}
 use Rattle.cluster_step.specs.Clusters.{ClusterView}
 use Rattle.cluster_step.specs.Starts.{StartIn}
@@ -40,13 +40,13 @@ module _ {M : Type 0} (belongs : Setting → ℕ → M → Type 0) (part : M →
           fronts = front_comes st begin.setting begin.locks (world_of_parts part st start) (world_of_parts part st old) (kept.going st begin);
         }
 
-    pub makes_from : (event : Event) (new : Parts M) → Makes (CanGoOn belongs part old) part old event new → Makes (StartIn belongs part start.machines.items) part old event new
+    pub makes_from : (event : Event) (new : Parts M) → MakesEvent (CanGoOn belongs part old) part old event new → MakesEvent (StartIn belongs part start.machines.items) part old event new
     makes_from event new made st begin = made st (can_go st begin)
 
-    pub can_from : (event : Event) → CanMake (CanGoOn belongs part old) part old event → CanMake (StartIn belongs part start.machines.items) part old event
+    pub can_from : (event : Event) → CanMakeEvent (CanGoOn belongs part old) part old event → CanMakeEvent (StartIn belongs part start.machines.items) part old event
     can_from event can st begin = can st (can_go st begin)
 
-    pub cannot_from : (event : Event) → CanNotMake (CanGoOn belongs part old) part old event → CanNotMake (StartIn belongs part start.machines.items) part old event
+    pub cannot_from : (event : Event) → CanNotMakeEvent (CanGoOn belongs part old) part old event → CanNotMakeEvent (StartIn belongs part start.machines.items) part old event
     cannot_from event cannot st begin = cannot st (can_go st begin)
 
     next_kept : (new : Parts M) → IsSameCluster belongs earlier old new →
@@ -65,7 +65,7 @@ module _ {M : Type 0} (belongs : Setting → ℕ → M → Type 0) (part : M →
         }
 
     -- after an event, and where it didn't happen
-    pub kept_after : (event : Event) (r : Result (Unit {0}) Refused) (new : Parts M) → OnOk r (Makes (CanGoOn belongs part old) part old event new) → OnErr r (HoldTheSame part old new) →
+    pub kept_after : (event : Event) (r : Result (Unit {0}) Refused) (new : Parts M) → OnOk r (MakesEvent (CanGoOn belongs part old) part old event new) → OnErr r (HoldTheSame part old new) →
         IsSameCluster belongs earlier old new → IsKept belongs part earlier start new
     kept_after event (Ok done) new made same_world same =
         next_kept new same (λ st begin.
@@ -77,18 +77,18 @@ module _ {M : Type 0} (belongs : Setting → ℕ → M → Type 0) (part : M →
   -- ---- the same, as the cluster is seen
 
   module _ (view : ClusterView M) (start old : Parts M) (seen : record { start = start; now = old } ≡ view) (kept : IsKept belongs part earlier start old) where
-    pub made_seen : (event : Event) (r : Result (Unit {0}) Refused) (new : Parts M) → OnOk r (Makes (CanGoOn belongs part old) part old event new) →
-        OnOk r (Makes (StartIn belongs part view.start.machines.items) part view.now event new)
+    pub made_seen : (event : Event) (r : Result (Unit {0}) Refused) (new : Parts M) → OnOk r (MakesEvent (CanGoOn belongs part old) part old event new) →
+        OnOk r (MakesEvent (StartIn belongs part view.start.machines.items) part view.now event new)
     made_seen event (Ok done) new made =
-        subst (λ (v : ClusterView M). Makes (StartIn belongs part v.start.machines.items) part v.now event new) seen (makes_from start old kept event new made)
+        subst (λ (v : ClusterView M). MakesEvent (StartIn belongs part v.start.machines.items) part v.now event new) seen (makes_from start old kept event new made)
     made_seen event (Err refused) new made = tt
 
-    pub can_seen : (event : Event) → CanMake (CanGoOn belongs part old) part old event → CanMake (StartIn belongs part view.start.machines.items) part view.now event
-    can_seen event can = subst (λ (v : ClusterView M). CanMake (StartIn belongs part v.start.machines.items) part v.now event) seen (can_from start old kept event can)
+    pub can_seen : (event : Event) → CanMakeEvent (CanGoOn belongs part old) part old event → CanMakeEvent (StartIn belongs part view.start.machines.items) part view.now event
+    can_seen event can = subst (λ (v : ClusterView M). CanMakeEvent (StartIn belongs part v.start.machines.items) part v.now event) seen (can_from start old kept event can)
 
-    pub cannot_seen : (event : Event) → CanNotMake (CanGoOn belongs part old) part old event → CanNotMake (StartIn belongs part view.start.machines.items) part view.now event
+    pub cannot_seen : (event : Event) → CanNotMakeEvent (CanGoOn belongs part old) part old event → CanNotMakeEvent (StartIn belongs part view.start.machines.items) part view.now event
     cannot_seen event cannot =
-        subst (λ (v : ClusterView M). CanNotMake (StartIn belongs part v.start.machines.items) part v.now event) seen (cannot_from start old kept event cannot)
+        subst (λ (v : ClusterView M). CanNotMakeEvent (StartIn belongs part v.start.machines.items) part v.now event) seen (cannot_from start old kept event cannot)
 
     pub same_seen : (r : Result (Unit {0}) Refused) (new : Parts M) → OnErr r (HoldTheSame part old new) → OnErr r (HoldTheSame part view.now new)
     same_seen (Ok done) new same = tt

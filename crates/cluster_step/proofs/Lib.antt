@@ -4,3 +4,4 @@ pub mod GoingLemmas
 pub mod CallLemmas
 pub mod StartLemmas
 pub mod KeptLemmas
+pub mod ReadLemmas

@@ -11,7 +11,7 @@ use Rattle.cluster_core.specs.Settings.{Setting, IsSetting, nth_edge}
 use Rattle.cluster_core.specs.Snapshots.{IsUnmarked}
 use Rattle.cluster_core.proofs.Nearness.{part_low}
 use Rattle.cluster_step.specs.Links.{told_on}
-use Rattle.cluster_step.specs.Worlds.{part_at, no_part, world_of_parts}
+use Rattle.cluster_step.specs.Worlds.{part_of_machine, no_part, world_of_parts}
 use Rattle.cluster_step.specs.Starts.{StartIn, IsStartPart}
 use Rattle.cluster_step.specs.declared.parts.Parts.{Parts}
 
@@ -57,14 +57,14 @@ module _ (st : Setting) (is : IsSetting st) where
       }
 
 module _ {M : Type 0} (belongs : Setting → ℕ → M → Type 0) (part : M → Part) (p : Parts M) (st : Setting) (begin : StartIn belongs part p.machines.items st) (none : (a b : ℕ) → told_on p.links a b ≡ []) where
-  start_at : (a : ℕ) → IsStartPart st a (part_at part st p.machines.items a)
+  start_at : (a : ℕ) → IsStartPart st a (part_of_machine part st p.machines.items a)
   start_at a =
       ⊎_elim
       (λ (low : a < length p.machines.items).
       let has : HasItem part p.machines.items a (no_part st) = has_item part p.machines.items a (no_part st) low in
       subst (IsStartPart st a) (sym has.reads) (begin.start a has.item has.stands))
       (λ (high : length p.machines.items ≤ a).
-      let past : part_at part st p.machines.items a ≡ no_part st =
+      let past : part_of_machine part st p.machines.items a ≡ no_part st =
       get_or_past (map part p.machines.items) a (no_part st) (subst (λ n. n ≤ a) (sym (length-map p.machines.items part)) high) in
       subst (IsStartPart st a) (sym past) (no_start st begin.setting a (subst (λ n. n ≤ a) begin.many high)))
       (cases_lt a (length p.machines.items))

@@ -12,8 +12,8 @@ use Rattle.cluster_core.proofs.Basics.{set_at-same, set_at-other}
 use Rattle.cluster_machines.specs.Promises.{IsSameMachine}
 use Rattle.wire_msgs.specs.declared.messages.Message.{Message as Sent}
 use Rattle.cluster_machines.specs.Told.{told_by}
-use Rattle.cluster_step.specs.Links.{LinkView, MessageView, behind_first, no_link, link_at, with_link_at, HasLinkAt, message_read, message_view, told_on}
-use Rattle.cluster_step.specs.Worlds.{part_at, no_part, world_of_parts, AreMachinesOf, earlier_at}
+use Rattle.cluster_step.specs.Links.{LinkView, MessageView, behind_first, empty_link, link_between, with_link_between, HasLinkBetween, message_read, message_view, told_on}
+use Rattle.cluster_step.specs.Worlds.{part_of_machine, no_part, world_of_parts, AreMachinesOf, earlier_at}
 use Rattle.cluster_step.specs.Events.{HaveLinks}
 
 -- ---- lists that are written at one place
@@ -43,16 +43,16 @@ stands_after {X} (z ∷ xs) (suc a) x (suc b) y is =
 -- ---- machines
 
 module _ {M : Type 0} (part : M → Part) (st : Setting) (machines : List M) (a : ℕ) (m : M) (low : a < length machines) (is : m ≡ get_or machines a m) where
-  pub part_here : part_at part st machines a ≡ part m
+  pub part_here : part_of_machine part st machines a ≡ part m
   part_here = get_or-map part machines a m (no_part st) low ∙ ap part (sym is)
 
-  pub part_set : (new : M) (b : ℕ) → part_at part st (set machines a new) b ≡ set_at (part_at part st machines) a (part new) b
+  pub part_set : (new : M) (b : ℕ) → part_of_machine part st (set machines a new) b ≡ set_at (part_of_machine part st machines) a (part new) b
   part_set new b =
       ap (λ (ps : List Part). get_or ps b (no_part st)) (map-set part machines a new)
       ∙ got_set (map part machines) a (part new) (no_part st) (subst (λ n. a < n) (sym (length-map machines part)) low) b
 
   -- a machine that holds the same is put in its place
-  pub part_kept : (new : M) → part new ≡ part m → (b : ℕ) → part_at part st (set machines a new) b ≡ part_at part st machines b
+  pub part_kept : (new : M) → part new ≡ part m → (b : ℕ) → part_of_machine part st (set machines a new) b ≡ part_of_machine part st machines b
   part_kept new same b =
       let before : map part (set machines a new) ≡ map part machines =
       map-set part machines a new ∙ ap (set (map part machines) a) (same ∙ sym part_here) ∙ set-get_or (map part machines) a (no_part st) in
@@ -114,9 +114,9 @@ changes_one old new p q messages changes i j =
     (λ (off : i ≢ p). changes.row i j off ∙ sym (ap (λ (f : ℕ → List Message). f j) (set_at-other old p to i off)))
     (cases_eq i p)
 
-module _ (old : List (List LinkView)) (p q : ℕ) (has : HasLinkAt old p q) (new : List (List LinkView)) (rest : new ≡ with_link_at old p q (link_at new p q)) where
-  read_new : (i j : ℕ) → link_at new i j ≡ link_at (with_link_at old p q (link_at new p q)) i j
-  read_new i j = ap (λ (l : List (List LinkView)). link_at l i j) rest
+module _ (old : List (List LinkView)) (p q : ℕ) (has : HasLinkBetween old p q) (new : List (List LinkView)) (rest : new ≡ with_link_between old p q (link_between new p q)) where
+  read_new : (i j : ℕ) → link_between new i j ≡ link_between (with_link_between old p q (link_between new p q)) i j
+  read_new i j = ap (λ (l : List (List LinkView)). link_between l i j) rest
 
   pub told_changes : ChangesOneWay (told_on old) (told_on new) p q (told_on new p q)
   told_changes =
@@ -124,40 +124,40 @@ module _ (old : List (List LinkView)) (p q : ℕ) (has : HasLinkAt old p q) (new
         here = refl;
         column = λ j off. ap (λ (l : LinkView). map message_read l.messages)
             (read_new p j
-            ∙ ap (λ (row : List LinkView). get_or row j no_link) (get_or-set_same old p (set (get_or old p []) q (link_at new p q)) [] has.from)
-            ∙ get_or-set_other (get_or old p []) q j (link_at new p q) no_link off);
+            ∙ ap (λ (row : List LinkView). get_or row j empty_link) (get_or-set_same old p (set (get_or old p []) q (link_between new p q)) [] has.from)
+            ∙ get_or-set_other (get_or old p []) q j (link_between new p q) empty_link off);
         row = λ i j off. ap (λ (l : LinkView). map message_read l.messages)
             (read_new i j
-            ∙ ap (λ (row : List LinkView). get_or row j no_link) (get_or-set_other old p i (set (get_or old p []) q (link_at new p q)) [] off));
+            ∙ ap (λ (row : List LinkView). get_or row j empty_link) (get_or-set_other old p i (set (get_or old p []) q (link_between new p q)) [] off));
       }
 
   pub links_stay : (n : ℕ) → HaveLinks old n → HaveLinks new n
   links_stay n have =
       record {
-        rows = ap length rest ∙ length-set old p (set (get_or old p []) q (link_at new p q)) ∙ have.rows;
+        rows = ap length rest ∙ length-set old p (set (get_or old p []) q (link_between new p q)) ∙ have.rows;
         columns = λ i low.
             ap (λ (l : List (List LinkView)). length (get_or l i [])) rest
             ∙ ⊎_elim
             (λ (at : i ≡ p).
-            ap (λ (k : ℕ). length (get_or (set old p (set (get_or old p []) q (link_at new p q))) k [])) at
-            ∙ ap length (get_or-set_same old p (set (get_or old p []) q (link_at new p q)) [] has.from)
-            ∙ length-set (get_or old p []) q (link_at new p q)
+            ap (λ (k : ℕ). length (get_or (set old p (set (get_or old p []) q (link_between new p q))) k [])) at
+            ∙ ap length (get_or-set_same old p (set (get_or old p []) q (link_between new p q)) [] has.from)
+            ∙ length-set (get_or old p []) q (link_between new p q)
             ∙ ap (λ (k : ℕ). length (get_or old k [])) (sym at) ∙ have.columns i low)
-            (λ (off : i ≢ p). ap length (get_or-set_other old p i (set (get_or old p []) q (link_at new p q)) [] off) ∙ have.columns i low)
+            (λ (off : i ≢ p). ap length (get_or-set_other old p i (set (get_or old p []) q (link_between new p q)) [] off) ∙ have.columns i low)
             (cases_eq i p);
       }
 
-pub has_link : (links : List (List LinkView)) (n p q : ℕ) → HaveLinks links n → p < n → q < n → HasLinkAt links p q
+pub has_link : (links : List (List LinkView)) (n p q : ℕ) → HaveLinks links n → p < n → q < n → HasLinkBetween links p q
 has_link links n p q have low_p low_q =
     record { from = subst (λ k. p < k) (sym have.rows) low_p; to = subst (λ k. q < k) (sym (have.columns p low_p)) low_q }
 
-pub has_stays : (old : List (List LinkView)) (p q : ℕ) → HasLinkAt old p q → (new : List (List LinkView)) → new ≡ with_link_at old p q (link_at new p q) → HasLinkAt new p q
+pub has_stays : (old : List (List LinkView)) (p q : ℕ) → HasLinkBetween old p q → (new : List (List LinkView)) → new ≡ with_link_between old p q (link_between new p q) → HasLinkBetween new p q
 has_stays old p q has new rest =
-    let row : List LinkView = set (get_or old p []) q (link_at new p q) in
+    let row : List LinkView = set (get_or old p []) q (link_between new p q) in
     record {
       from = subst (λ k. p < k) (sym (ap length rest ∙ length-set old p row)) has.from;
       to = subst (λ k. q < k)
-          (sym (ap (λ (l : List (List LinkView)). length (get_or l p [])) rest ∙ ap length (get_or-set_same old p row [] has.from) ∙ length-set (get_or old p []) q (link_at new p q)))
+          (sym (ap (λ (l : List (List LinkView)). length (get_or l p [])) rest ∙ ap length (get_or-set_same old p row [] has.from) ∙ length-set (get_or old p []) q (link_between new p q)))
           has.to;
     }
 
@@ -171,22 +171,22 @@ pub taken_first : (messages : List MessageView) (v : MessageView) → Some v ≡
 taken_first [] v is = cc
 taken_first (w ∷ behind) v is = ap (λ (x : MessageView). x ∷ behind) (sym (some_is v w is))
 
-module _ (old : List (List LinkView)) (p q : ℕ) (has : HasLinkAt old p q) where
+module _ (old : List (List LinkView)) (p q : ℕ) (has : HasLinkBetween old p q) where
   -- a message is taken
-  module _ (message : Sent) (is : Some (message_view message) ≡ slice_get (link_at old p q).messages 0) (mid : List (List LinkView))
-      (behind : (link_at mid p q).messages ≡ behind_first (link_at old p q).messages) (rest : mid ≡ with_link_at old p q (link_at mid p q)) where
+  module _ (message : Sent) (is : Some (message_view message) ≡ slice_get (link_between old p q).messages 0) (mid : List (List LinkView))
+      (behind : (link_between mid p q).messages ≡ behind_first (link_between old p q).messages) (rest : mid ≡ with_link_between old p q (link_between mid p q)) where
     abbrev pub told_behind : List Message
-    told_behind = map message_read (behind_first (link_at old p q).messages)
+    told_behind = map message_read (behind_first (link_between old p q).messages)
 
     pub told_first : told_on old p q ≡ told_by message ∷ told_behind
-    told_first = ap (map message_read) (taken_first (link_at old p q).messages (message_view message) is)
+    told_first = ap (map message_read) (taken_first (link_between old p q).messages (message_view message) is)
 
     pub taken_changes : ChangesOneWay (told_on old) (told_on mid) p q told_behind
     taken_changes = changes_to (told_on old) (told_on mid) p q (told_on mid p q) told_behind (told_changes old p q has mid rest) (ap (map message_read) behind)
 
     -- and one that tells the same is put back
-    pub back_same : (back : Sent) → told_by back ≡ told_by message → (new : List (List LinkView)) → (link_at new p q).messages ≡ message_view back ∷ (link_at mid p q).messages →
-        new ≡ with_link_at mid p q (link_at new p q) → (i j : ℕ) → told_on new i j ≡ told_on old i j
+    pub back_same : (back : Sent) → told_by back ≡ told_by message → (new : List (List LinkView)) → (link_between new p q).messages ≡ message_view back ∷ (link_between mid p q).messages →
+        new ≡ with_link_between mid p q (link_between new p q) → (i j : ℕ) → told_on new i j ≡ told_on old i j
     back_same back tells new first again =
         let told : told_on new p q ≡ told_on old p q =
         ap (map message_read) first ∙ ap (λ (ms : List MessageView). told_by back ∷ map message_read ms) behind
@@ -197,18 +197,18 @@ module _ (old : List (List LinkView)) (p q : ℕ) (has : HasLinkAt old p q) wher
         told
 
   -- room is made, and a message is put behind the others
-  module _ (mid : List (List LinkView)) (kept : (link_at mid p q).messages ≡ (link_at old p q).messages) (rest : mid ≡ with_link_at old p q (link_at mid p q)) where
+  module _ (mid : List (List LinkView)) (kept : (link_between mid p q).messages ≡ (link_between old p q).messages) (rest : mid ≡ with_link_between old p q (link_between mid p q)) where
     kept_changes : ChangesOneWay (told_on old) (told_on mid) p q (told_on old p q)
     kept_changes = changes_to (told_on old) (told_on mid) p q (told_on mid p q) (told_on old p q) (told_changes old p q has mid rest) (ap (map message_read) kept)
 
     pub kept_same : (i j : ℕ) → told_on mid i j ≡ told_on old i j
     kept_same = changes_none (told_on old) (told_on mid) p q (told_on old p q) kept_changes refl
 
-    pub pushed_changes : (message : Sent) (new : List (List LinkView)) → (link_at new p q).messages ≡ (link_at mid p q).messages ++ message_view message ∷ [] →
-        new ≡ with_link_at mid p q (link_at new p q) → ChangesOneWay (told_on old) (told_on new) p q (told_on old p q ++ told_by message ∷ [])
+    pub pushed_changes : (message : Sent) (new : List (List LinkView)) → (link_between new p q).messages ≡ (link_between mid p q).messages ++ message_view message ∷ [] →
+        new ≡ with_link_between mid p q (link_between new p q) → ChangesOneWay (told_on old) (told_on new) p q (told_on old p q ++ told_by message ∷ [])
     pushed_changes message new last again =
         let told : told_on new p q ≡ told_on old p q ++ told_by message ∷ [] =
-        ap (map message_read) last ∙ map-append message_read (link_at mid p q).messages (message_view message ∷ [])
+        ap (map message_read) last ∙ map-append message_read (link_between mid p q).messages (message_view message ∷ [])
         ∙ ap (λ (ms : List MessageView). map message_read ms ++ told_by message ∷ []) kept in
         changes_then (told_on old) (told_on mid) (told_on new) p q (told_on old p q) (told_on old p q ++ told_by message ∷ []) kept_changes
         (changes_to (told_on mid) (told_on new) p q (told_on new p q) (told_on old p q ++ told_by message ∷ [])

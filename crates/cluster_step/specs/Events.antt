@@ -19,12 +19,12 @@ IsActionOf (Deliver p q) action = action ≡ law.Deliver p.0 q.0
 IsActionOf (Update s) action = action ≡ law.Update s
 
 -- the machines that the event names are of a cluster of so many
-abbrev pub IsWithin : ℕ → Event → Type 0
-IsWithin n (Admit a) = a.0 < n
-IsWithin n (Grant a x) = a.0 < n
-IsWithin n (Send p q) = (p.0 < n) × (q.0 < n)
-IsWithin n (Deliver p q) = (p.0 < n) × (q.0 < n)
-IsWithin n (Update s) = s.home.0 < n
+abbrev pub NamesMachinesOf : ℕ → Event → Type 0
+NamesMachinesOf n (Admit a) = a.0 < n
+NamesMachinesOf n (Grant a x) = a.0 < n
+NamesMachinesOf n (Send p q) = (p.0 < n) × (q.0 < n)
+NamesMachinesOf n (Deliver p q) = (p.0 < n) × (q.0 < n)
+NamesMachinesOf n (Update s) = s.home.0 < n
 
 -- the event may happen
 pub record MayComeAbout (st : Setting) (w : World) (event : Event) : Type 0 where
@@ -40,15 +40,15 @@ pub record Happens (st : Setting) (old : World) (event : Event) (new : World) : 
 
 -- ---- the same of machines and links, in each of these settings
 
-abbrev pub Makes : {M : Type 0} → (Setting → Type 0) → (M → Part) → Parts M → Event → Parts M → Type 0
-Makes among part old event new = (st : Setting) → among st → Happens st (world_of_parts part st old) event (world_of_parts part st new)
+abbrev pub MakesEvent : {M : Type 0} → (Setting → Type 0) → (M → Part) → Parts M → Event → Parts M → Type 0
+MakesEvent among part old event new = (st : Setting) → among st → Happens st (world_of_parts part st old) event (world_of_parts part st new)
 
-abbrev pub CanMake : {M : Type 0} → (Setting → Type 0) → (M → Part) → Parts M → Event → Type 0
-CanMake among part old event = (st : Setting) → among st → MayComeAbout st (world_of_parts part st old) event
+abbrev pub CanMakeEvent : {M : Type 0} → (Setting → Type 0) → (M → Part) → Parts M → Event → Type 0
+CanMakeEvent among part old event = (st : Setting) → among st → MayComeAbout st (world_of_parts part st old) event
 
 -- where no snapshots are taken
-abbrev pub CanNotMake : {M : Type 0} → (Setting → Type 0) → (M → Part) → Parts M → Event → Type 0
-CanNotMake among part old event = (st : Setting) → among st → st.stored ≡ false → ¬ MayComeAbout st (world_of_parts part st old) event
+abbrev pub CanNotMakeEvent : {M : Type 0} → (Setting → Type 0) → (M → Part) → Parts M → Event → Type 0
+CanNotMakeEvent among part old event = (st : Setting) → among st → st.stored ≡ false → ¬ MayComeAbout st (world_of_parts part st old) event
 
 -- the world is the same
 abbrev pub HoldTheSame : {M : Type 0} → (M → Part) → Parts M → Parts M → Type 0

@@ -14,22 +14,22 @@ behind_first [] = []
 behind_first (m ∷ behind) = behind
 
 -- no link
-abbrev pub no_link : LinkView
-no_link = record { messages = []; room = 0 }
+abbrev pub empty_link : LinkView
+empty_link = record { messages = []; room = 0 }
 
 -- the link from p to q, where each machine has a list of the links from it
-abbrev pub link_at : List (List LinkView) → ℕ → ℕ → LinkView
-link_at links p q = slice_index_or (slice_index_or links p []) q no_link
+abbrev pub link_between : List (List LinkView) → ℕ → ℕ → LinkView
+link_between links p q = slice_index_or (slice_index_or links p []) q empty_link
 
 -- the link from p to q is this one
-abbrev pub with_link_at : List (List LinkView) → ℕ → ℕ → LinkView → List (List LinkView)
-with_link_at links p q link = slice_set links p (slice_set (slice_index_or links p []) q link)
+abbrev pub with_link_between : List (List LinkView) → ℕ → ℕ → LinkView → List (List LinkView)
+with_link_between links p q link = slice_set links p (slice_set (slice_index_or links p []) q link)
 
 -- there is a link from p to q
-pub record HasLinkAt (links : List (List LinkView)) (p q : ℕ) : Type 0 where
+pub record HasLinkBetween (links : List (List LinkView)) (p q : ℕ) : Type 0 where
   pub from : p < length links
   pub to : q < length (slice_index_or links p [])
 
 -- what the messages on the link from p to q tell
 abbrev pub told_on : List (List LinkView) → ℕ → ℕ → List Message
-told_on links p q = map message_read (link_at links p q).messages
+told_on links p q = map message_read (link_between links p q).messages

@@ -1,6 +1,6 @@
 -- How a cluster begins, and what can be read of what has happened in it since.
 pub use Rattle.cluster_core.specs.Settings.{IsSetting}
-pub use Rattle.cluster_step.specs.Worlds.{Part, Setting, World, part_at, world_of_parts}
+pub use Rattle.cluster_step.specs.Worlds.{Part, Setting, World, part_of_machine, world_of_parts}
 use Rattle.std.specs.List.{AllByRecursion, list_any}
 use Rattle.std.specs.Prelude.{Bool, List, None, Some, [], false, length, slice_get, true, ℕ, ◌+◌, ◌<◌, ◌≡◌, ◌⊎◌, ◌↔◌}
 use Rattle.gl_base.specs.declared.entries.Entry.{Entry}
@@ -57,8 +57,8 @@ pub record IsOrderSince {M : Type 0} (part : M → Part) (st : Setting) (start n
   pub next : now.next ≡ start.next + length order
   pub left : now.left + length order ≡ start.left
   pub owners : AllByRecursion (IsByOwner st.owner) order
-  pub logs : (a : ℕ) → (part_at part st now.machines.items a).log ≡ entries_of a order
-  pub numbers : (v : ℕ) → v < size st.graph → ((part_at part st now.machines.items (st.owner v)).datum v).value ≡ (replay_of st order).vertex v
+  pub logs : (a : ℕ) → (part_of_machine part st now.machines.items a).log ≡ entries_of a order
+  pub numbers : (v : ℕ) → v < size st.graph → ((part_of_machine part st now.machines.items (st.owner v)).datum v).value ≡ (replay_of st order).vertex v
   pub edges : (e : ℕ) → e < length st.graph.edges → agreed st (world_of_parts part st now) e ≡ (replay_of st order).edge e
   pub tasks : (u : ℕ) → u < size st.graph → (tasks_of st order u ≡ true) ↔ IsTask st (world_of_parts part st now) u
 

@@ -31,14 +31,14 @@ no_part st =
     }
 
 -- what machine a holds
-abbrev pub part_at : {M : Type 0} → (M → Part) → Setting → List M → ℕ → Part
-part_at part st machines a = slice_index_or (map part machines) a (no_part st)
+abbrev pub part_of_machine : {M : Type 0} → (M → Part) → Setting → List M → ℕ → Part
+part_of_machine part st machines a = slice_index_or (map part machines) a (no_part st)
 
 -- the world: no snapshot is under way, and the newest is the one that the run began with
 abbrev pub world_of_parts : {M : Type 0} → (M → Part) → Setting → Parts M → World
 world_of_parts part st p =
     record {
-      part = part_at part st p.machines.items;
+      part = part_of_machine part st p.machines.items;
       link = told_on p.links;
       next = p.next;
       left = p.left;

@@ -5,9 +5,11 @@ ghost use Rattle.cluster_core.specs.Replays.{replay_of, tasks_of};
 ghost use Rattle.cluster_core.specs.Runs.{IsStart};
 ghost use Rattle.graph_core.specs.DataGraph.{size};
 ghost use Rattle.cluster_step.specs.Links.{told_on};
-ghost use Rattle.cluster_step.specs.Worlds.{Setting, earlier_at, part_at, world_of_parts};
-ghost use Rattle.cluster_step.specs.Events.{IsWithin, Makes, CanMake, CanNotMake, HoldTheSame};
+ghost use Rattle.cluster_step.specs.Worlds.{Setting, earlier_at, part_of_machine, world_of_parts};
+ghost use Rattle.cluster_step.specs.Events.{NamesMachinesOf, MakesEvent, CanMakeEvent, CanNotMakeEvent, HoldTheSame};
 ghost use Rattle.cluster_step.specs.Starts.{StartIn, IsOrderSince, AllHaveHeard};
+ghost use Rattle.cluster_step.specs.Inner.Asking.{IsFoundAt, NoneSays, HasTaskAt, is_owner_of, is_owner_at};
+ghost use Rattle.std.specs.List.{All};
 
 use crate::events::Event;
 use crate::links::Links;
@@ -67,14 +69,126 @@ impl<M: ClusterMachine> Cluster<M> {
 
     /// The event happens, where it may happen now.
     pub fn apply(&mut self, event: Event) -> Result<(), Refused>
-        requires { IsWithin (length self.old.now.machines.items) event }
-        ensures made { OnOk result (Makes (StartIn M.belongs M.part self.old.start.machines.items) M.part self.old.now event self.new.now) }
-        ensures not_now { IsErrOf result Refused.NotNow → CanNotMake (StartIn M.belongs M.part self.old.start.machines.items) M.part self.old.now event }
-        ensures no_memory { IsErrOf result Refused.NoMemory → CanMake (StartIn M.belongs M.part self.old.start.machines.items) M.part self.old.now event }
+        requires { NamesMachinesOf (length self.old.now.machines.items) event }
+        ensures made { OnOk result (MakesEvent (StartIn M.belongs M.part self.old.start.machines.items) M.part self.old.now event self.new.now) }
+        ensures not_now { IsErrOf result Refused.NotNow → CanNotMakeEvent (StartIn M.belongs M.part self.old.start.machines.items) M.part self.old.now event }
+        ensures no_memory { IsErrOf result Refused.NoMemory → CanMakeEvent (StartIn M.belongs M.part self.old.start.machines.items) M.part self.old.now event }
         ensures unchanged { OnErr result (HoldTheSame M.part self.old.now self.new.now) }
         ensures start { self.new.start ≡ self.old.start }
         ensures machines { length self.new.now.machines.items ≡ length self.old.now.machines.items }
     {
         self.parts.make(event)
     }
+
+    /// How many machines there are.
+    pub fn machines(&self) -> usize
+        ensures { result ≡ length self.now.now.machines.items }
+    {
+        self.parts.machines.len()
+    }
+
+    /// The ticket of the next update.
+    pub fn next(&self) -> u64
+        ensures { result ≡ self.now.now.next }
+    {
+        self.parts.next
+    }
+
+    /// How many tickets are left.
+    pub fn left(&self) -> u64
+        ensures { result ≡ self.now.now.left }
+    {
+        self.parts.left
+    }
+
+    /// The updates that a machine has made, by ticket. All logs together are the parts of one order.
+    pub fn log(&self, m: MachineNo) -> &[Entry]
+        requires { m.0 < length self.now.now.machines.items }
+        ensures log { (st : Setting) → result.now ≡ (part_of_machine M.part st self.now.now.machines.items m.0).log }
+        ensures serial { (st : Setting) → StartIn M.belongs M.part self.now.start.machines.items st →
+            (order : List Entry) × IsOrderSince M.part st self.now.start self.now.now order }
+    {
+        self.parts.machines[m.0 as usize].log()
+    }
+
+    /// How many updates a machine has made.
+    pub fn completed(&self, m: MachineNo) -> u64
+        requires { m.0 < length self.now.now.machines.items }
+        ensures { (st : Setting) → result ≡ earlier_at M.earlier self.now.start.machines.items m.0 + length (part_of_machine M.part st self.now.now.machines.items m.0).log }
+    {
+        self.parts.machines[m.0 as usize].completed()
+    }
+
+    /// The number of a vertex; `None` exactly where the graph has no such vertex. It asks each machine in turn.
+    pub fn value(&self, v: Vertex) -> Option<u64>
+        ensures some { (st : Setting) → StartIn M.belongs M.part self.now.start.machines.items st → is_some result ≡ nat_lt v.0 (size st.graph) }
+        ensures number { IfSome result (λ x. (st : Setting) → StartIn M.belongs M.part self.now.start.machines.items st →
+            x ≡ ((part_of_machine M.part st self.now.now.machines.items (st.owner v.0)).datum v.0).value) }
+        ensures replayed { IfSome result (λ x. (st : Setting) → StartIn M.belongs M.part self.now.start.machines.items st →
+            (order : List Entry) → IsOrderSince M.part st self.now.start self.now.now order → x ≡ (replay_of st order).vertex v.0) }
+    {
+        value_at(&self.parts.machines, v)
+    }
+
+    /// The number of an edge, as the first machine that owns an end of it has it; `None` exactly where the graph has no such edge. It
+    /// asks each machine in turn. Once all machines have heard of all updates, it is that of the order.
+    pub fn edge(&self, e: EdgeNo) -> Option<u64>
+        ensures some { (st : Setting) → StartIn M.belongs M.part self.now.start.machines.items st → is_some result ≡ nat_lt e.0 (length st.graph.edges) }
+        ensures replayed { IfSome result (λ x. (st : Setting) → StartIn M.belongs M.part self.now.start.machines.items st →
+            (order : List Entry) → IsOrderSince M.part st self.now.start self.now.now order →
+            AllHaveHeard (world_of_parts M.part st self.now.now) → x ≡ (replay_of st order).edge e.0) }
+    {
+        edge_at(&self.parts.machines, e)
+    }
+
+    /// A vertex that is a task of some machine; `None` exactly where none is. Once all machines have heard of all updates, the order
+    /// then leaves no task.
+    pub fn task(&self) -> Option<Vertex>
+        ensures some { IfSome result (λ v. (a : ℕ) × ((st : Setting) → (part_of_machine M.part st self.now.now.machines.items a).task v.0 ≡ true)) }
+        ensures none { IfNone result ((st : Setting) (a u : ℕ) → (part_of_machine M.part st self.now.now.machines.items a).task u ≡ false) }
+        ensures finished { IfNone result ((st : Setting) → StartIn M.belongs M.part self.now.start.machines.items st →
+            (order : List Entry) → IsOrderSince M.part st self.now.start self.now.now order →
+            AllHaveHeard (world_of_parts M.part st self.now.now) → (u : ℕ) → u < size st.graph → tasks_of st order u ≡ false) }
+    {
+        first_task(&self.parts.machines)
+    }
+}
+
+/// The number of a vertex at the machine that owns it.
+fn value_at<M: ClusterMachine>(machines: &[M], v: Vertex) -> Option<u64>
+    ensures found { IfSome result (λ x. IsFoundAt M.belongs (λ m. ((M.part m).datum v.0).value) machines.now (λ st a. is_owner_of st a v.0) x) }
+    ensures none { IfNone result (NoneSays M.belongs machines.now (λ st a. is_owner_of st a v.0)) }
+{
+    for machine in machines {
+        if let Some(number) = machine.value(v) {
+            return Some(number);
+        }
+    }
+    None
+}
+
+/// The number of an edge at the first machine that owns an end of it.
+fn edge_at<M: ClusterMachine>(machines: &[M], e: EdgeNo) -> Option<u64>
+    ensures found { IfSome result (λ x. IsFoundAt M.belongs (λ m. (M.part m).edge e.0) machines.now (λ st a. is_owner_at st a e.0) x) }
+    ensures none { IfNone result (NoneSays M.belongs machines.now (λ st a. is_owner_at st a e.0)) }
+{
+    for machine in machines {
+        if let Some(number) = machine.edge(e) {
+            return Some(number);
+        }
+    }
+    None
+}
+
+/// The task of the first machine that has one.
+fn first_task<M: ClusterMachine>(machines: &[M]) -> Option<Vertex>
+    ensures some { IfSome result (λ v. HasTaskAt M.part machines.now v.0) }
+    ensures none { IfNone result (All (λ m. (u : ℕ) → (M.part m).task u ≡ false) machines.now) }
+{
+    for machine in machines {
+        if let Some(v) = machine.task() {
+            return Some(v);
+        }
+    }
+    None
 }

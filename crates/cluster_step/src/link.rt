@@ -33,7 +33,7 @@ impl Link {
         }
     }
 
-    /// Makes room for one more message.
+    /// MakesEvent room for one more message.
     pub fn reserve(&mut self) -> Result<(), NoMemory>
         ensures room { OnOk result (0 < self.new.room) }
         ensures same { self.new.messages ≡ self.old.messages }

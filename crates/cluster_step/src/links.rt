@@ -1,7 +1,7 @@
 //! The links between machines.
 ghost use Rattle.std.specs.Prelude.{◌≡◌, ℕ, ◌<◌, ◌++◌, ◌∷◌, [], length, slice_get, slice_index_or, option_map, OnOk, OnSome, IfOk};
 ghost use Rattle.std.specs.List.{All};
-ghost use Rattle.cluster_step.specs.Links.{LinkView, message_view, behind_first, link_at, with_link_at, HasLinkAt};
+ghost use Rattle.cluster_step.specs.Links.{LinkView, message_view, behind_first, link_between, with_link_between, HasLinkBetween};
 
 use crate::link::Link;
 use gl_base::{MachineNo, NoMemory};
@@ -29,7 +29,7 @@ impl Links {
     pub fn new(alloc: Global, machines: usize) -> Result<Links, NoMemory>
         ensures rows { IfOk result (λ l. length l ≡ machines) }
         ensures columns { IfOk result (λ l. (p : ℕ) → p < machines → length (slice_index_or l p []) ≡ machines) }
-        ensures none { IfOk result (λ l. (p q : ℕ) → (link_at l p q).messages ≡ []) }
+        ensures none { IfOk result (λ l. (p q : ℕ) → (link_between l p q).messages ≡ []) }
     {
         let mut rows = Vec::with_capacity(alloc, machines)?;
         for _ in 0..machines {
@@ -38,43 +38,43 @@ impl Links {
         Ok(Links { rows })
     }
 
-    /// Makes room for one more message on the link.
+    /// MakesEvent room for one more message on the link.
     pub fn reserve(&mut self, from: MachineNo, to: MachineNo) -> Result<(), NoMemory>
-        requires { HasLinkAt self.old from.0 to.0 }
-        ensures room { OnOk result (0 < (link_at self.new from.0 to.0).room) }
-        ensures same { (link_at self.new from.0 to.0).messages ≡ (link_at self.old from.0 to.0).messages }
-        ensures rest { self.new ≡ with_link_at self.old from.0 to.0 (link_at self.new from.0 to.0) }
+        requires { HasLinkBetween self.old from.0 to.0 }
+        ensures room { OnOk result (0 < (link_between self.new from.0 to.0).room) }
+        ensures same { (link_between self.new from.0 to.0).messages ≡ (link_between self.old from.0 to.0).messages }
+        ensures rest { self.new ≡ with_link_between self.old from.0 to.0 (link_between self.new from.0 to.0) }
     {
         self.rows[from.0 as usize][to.0 as usize].reserve()
     }
 
     /// The message is the last one on the link.
     pub fn push(&mut self, from: MachineNo, to: MachineNo, message: Message)
-        requires link { HasLinkAt self.old from.0 to.0 }
-        requires room { 0 < (link_at self.old from.0 to.0).room }
-        ensures last { (link_at self.new from.0 to.0).messages ≡ (link_at self.old from.0 to.0).messages ++ message_view message ∷ [] }
-        ensures rest { self.new ≡ with_link_at self.old from.0 to.0 (link_at self.new from.0 to.0) }
+        requires link { HasLinkBetween self.old from.0 to.0 }
+        requires room { 0 < (link_between self.old from.0 to.0).room }
+        ensures last { (link_between self.new from.0 to.0).messages ≡ (link_between self.old from.0 to.0).messages ++ message_view message ∷ [] }
+        ensures rest { self.new ≡ with_link_between self.old from.0 to.0 (link_between self.new from.0 to.0) }
     {
         self.rows[from.0 as usize][to.0 as usize].push(message);
     }
 
     /// Takes the first message off the link. Its room is kept.
     pub fn take(&mut self, from: MachineNo, to: MachineNo) -> Option<Message>
-        requires { HasLinkAt self.old from.0 to.0 }
-        ensures first { option_map message_view result ≡ slice_get (link_at self.old from.0 to.0).messages 0 }
-        ensures behind { (link_at self.new from.0 to.0).messages ≡ behind_first (link_at self.old from.0 to.0).messages }
-        ensures room { OnSome result (0 < (link_at self.new from.0 to.0).room) }
-        ensures rest { self.new ≡ with_link_at self.old from.0 to.0 (link_at self.new from.0 to.0) }
+        requires { HasLinkBetween self.old from.0 to.0 }
+        ensures first { option_map message_view result ≡ slice_get (link_between self.old from.0 to.0).messages 0 }
+        ensures behind { (link_between self.new from.0 to.0).messages ≡ behind_first (link_between self.old from.0 to.0).messages }
+        ensures room { OnSome result (0 < (link_between self.new from.0 to.0).room) }
+        ensures rest { self.new ≡ with_link_between self.old from.0 to.0 (link_between self.new from.0 to.0) }
     {
         self.rows[from.0 as usize][to.0 as usize].take()
     }
 
     /// The message is the first one on the link.
     pub fn put_back(&mut self, from: MachineNo, to: MachineNo, message: Message)
-        requires link { HasLinkAt self.old from.0 to.0 }
-        requires room { 0 < (link_at self.old from.0 to.0).room }
-        ensures first { (link_at self.new from.0 to.0).messages ≡ message_view message ∷ (link_at self.old from.0 to.0).messages }
-        ensures rest { self.new ≡ with_link_at self.old from.0 to.0 (link_at self.new from.0 to.0) }
+        requires link { HasLinkBetween self.old from.0 to.0 }
+        requires room { 0 < (link_between self.old from.0 to.0).room }
+        ensures first { (link_between self.new from.0 to.0).messages ≡ message_view message ∷ (link_between self.old from.0 to.0).messages }
+        ensures rest { self.new ≡ with_link_between self.old from.0 to.0 (link_between self.new from.0 to.0) }
     {
         self.rows[from.0 as usize][to.0 as usize].put_back(message);
     }

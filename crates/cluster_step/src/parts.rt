@@ -1,8 +1,8 @@
 //! A cluster's machines, links and tickets.
 ghost use Rattle.std.specs.Prelude.{◌≡◌, ◌+◌, ◌^◌, ◌<◌, length, OnOk, OnErr, IsErrOf};
-ghost use Rattle.cluster_step.specs.Links.{HasLinkAt};
+ghost use Rattle.cluster_step.specs.Links.{HasLinkBetween};
 ghost use Rattle.cluster_step.specs.Worlds.{Setting};
-ghost use Rattle.cluster_step.specs.Events.{IsWithin, Makes, CanMake, CanNotMake, HoldTheSame, HaveLinks, CanGoOn, IsSameCluster};
+ghost use Rattle.cluster_step.specs.Events.{NamesMachinesOf, MakesEvent, CanMakeEvent, CanNotMakeEvent, HoldTheSame, HaveLinks, CanGoOn, IsSameCluster};
 
 use crate::events::Event;
 use crate::links::Links;
@@ -22,13 +22,13 @@ pub struct Parts<M> {
 impl<M: ClusterMachine> Parts<M> {
     /// The event happens, where it may happen now.
     pub fn make(&mut self, event: Event) -> Result<(), Refused>
-        requires within { IsWithin (length self.old.machines.items) event }
+        requires within { NamesMachinesOf (length self.old.machines.items) event }
         requires links { HaveLinks self.old.links (length self.old.machines.items) }
         requires few { self.old.next + self.old.left < 2 ^ 64 }
         requires some { (st : Setting) × CanGoOn M.belongs M.part self.old st }
-        ensures made { OnOk result (Makes (CanGoOn M.belongs M.part self.old) M.part self.old event self.new) }
-        ensures not_now { IsErrOf result Refused.NotNow → CanNotMake (CanGoOn M.belongs M.part self.old) M.part self.old event }
-        ensures no_memory { IsErrOf result Refused.NoMemory → CanMake (CanGoOn M.belongs M.part self.old) M.part self.old event }
+        ensures made { OnOk result (MakesEvent (CanGoOn M.belongs M.part self.old) M.part self.old event self.new) }
+        ensures not_now { IsErrOf result Refused.NotNow → CanNotMakeEvent (CanGoOn M.belongs M.part self.old) M.part self.old event }
+        ensures no_memory { IsErrOf result Refused.NoMemory → CanMakeEvent (CanGoOn M.belongs M.part self.old) M.part self.old event }
         ensures unchanged { OnErr result (HoldTheSame M.part self.old self.new) }
         ensures same { IsSameCluster M.belongs M.earlier self.old self.new }
     {
@@ -44,9 +44,9 @@ impl<M: ClusterMachine> Parts<M> {
     /// The machine admits a scope.
     fn admit(&mut self, at: MachineNo) -> Result<(), Refused>
         requires { at.0 < length self.old.machines.items }
-        ensures made { OnOk result (Makes (CanGoOn M.belongs M.part self.old) M.part self.old (Event.Admit at) self.new) }
-        ensures not_now { IsErrOf result Refused.NotNow → CanNotMake (CanGoOn M.belongs M.part self.old) M.part self.old (Event.Admit at) }
-        ensures no_memory { IsErrOf result Refused.NoMemory → CanMake (CanGoOn M.belongs M.part self.old) M.part self.old (Event.Admit at) }
+        ensures made { OnOk result (MakesEvent (CanGoOn M.belongs M.part self.old) M.part self.old (Event.Admit at) self.new) }
+        ensures not_now { IsErrOf result Refused.NotNow → CanNotMakeEvent (CanGoOn M.belongs M.part self.old) M.part self.old (Event.Admit at) }
+        ensures no_memory { IsErrOf result Refused.NoMemory → CanMakeEvent (CanGoOn M.belongs M.part self.old) M.part self.old (Event.Admit at) }
         ensures unchanged { OnErr result (HoldTheSame M.part self.old self.new) }
         ensures same { IsSameCluster M.belongs M.earlier self.old self.new }
     {
@@ -57,9 +57,9 @@ impl<M: ClusterMachine> Parts<M> {
     /// The first that waits at the machine for the lock has it.
     fn grant(&mut self, at: MachineNo, x: Vertex) -> Result<(), Refused>
         requires { at.0 < length self.old.machines.items }
-        ensures made { OnOk result (Makes (CanGoOn M.belongs M.part self.old) M.part self.old (Event.Grant at x) self.new) }
-        ensures not_now { IsErrOf result Refused.NotNow → CanNotMake (CanGoOn M.belongs M.part self.old) M.part self.old (Event.Grant at x) }
-        ensures no_memory { IsErrOf result Refused.NoMemory → CanMake (CanGoOn M.belongs M.part self.old) M.part self.old (Event.Grant at x) }
+        ensures made { OnOk result (MakesEvent (CanGoOn M.belongs M.part self.old) M.part self.old (Event.Grant at x) self.new) }
+        ensures not_now { IsErrOf result Refused.NotNow → CanNotMakeEvent (CanGoOn M.belongs M.part self.old) M.part self.old (Event.Grant at x) }
+        ensures no_memory { IsErrOf result Refused.NoMemory → CanMakeEvent (CanGoOn M.belongs M.part self.old) M.part self.old (Event.Grant at x) }
         ensures unchanged { OnErr result (HoldTheSame M.part self.old self.new) }
         ensures same { IsSameCluster M.belongs M.earlier self.old self.new }
     {
@@ -70,10 +70,10 @@ impl<M: ClusterMachine> Parts<M> {
     /// The first message that waits at the one machine for the other goes onto the link.
     fn send(&mut self, from: MachineNo, to: MachineNo) -> Result<(), Refused>
         requires from { from.0 < length self.old.machines.items }
-        requires link { HasLinkAt self.old.links from.0 to.0 }
-        ensures made { OnOk result (Makes (CanGoOn M.belongs M.part self.old) M.part self.old (Event.Send from to) self.new) }
-        ensures not_now { IsErrOf result Refused.NotNow → CanNotMake (CanGoOn M.belongs M.part self.old) M.part self.old (Event.Send from to) }
-        ensures no_memory { IsErrOf result Refused.NoMemory → CanMake (CanGoOn M.belongs M.part self.old) M.part self.old (Event.Send from to) }
+        requires link { HasLinkBetween self.old.links from.0 to.0 }
+        ensures made { OnOk result (MakesEvent (CanGoOn M.belongs M.part self.old) M.part self.old (Event.Send from to) self.new) }
+        ensures not_now { IsErrOf result Refused.NotNow → CanNotMakeEvent (CanGoOn M.belongs M.part self.old) M.part self.old (Event.Send from to) }
+        ensures no_memory { IsErrOf result Refused.NoMemory → CanMakeEvent (CanGoOn M.belongs M.part self.old) M.part self.old (Event.Send from to) }
         ensures unchanged { OnErr result (HoldTheSame M.part self.old self.new) }
         ensures same { IsSameCluster M.belongs M.earlier self.old self.new }
     {
@@ -92,11 +92,11 @@ impl<M: ClusterMachine> Parts<M> {
     /// The first message on the link from the one machine to the other is received.
     fn deliver(&mut self, from: MachineNo, to: MachineNo) -> Result<(), Refused>
         requires to { to.0 < length self.old.machines.items }
-        requires link { HasLinkAt self.old.links from.0 to.0 }
+        requires link { HasLinkBetween self.old.links from.0 to.0 }
         requires some { (st : Setting) × CanGoOn M.belongs M.part self.old st }
-        ensures made { OnOk result (Makes (CanGoOn M.belongs M.part self.old) M.part self.old (Event.Deliver from to) self.new) }
-        ensures not_now { IsErrOf result Refused.NotNow → CanNotMake (CanGoOn M.belongs M.part self.old) M.part self.old (Event.Deliver from to) }
-        ensures no_memory { IsErrOf result Refused.NoMemory → CanMake (CanGoOn M.belongs M.part self.old) M.part self.old (Event.Deliver from to) }
+        ensures made { OnOk result (MakesEvent (CanGoOn M.belongs M.part self.old) M.part self.old (Event.Deliver from to) self.new) }
+        ensures not_now { IsErrOf result Refused.NotNow → CanNotMakeEvent (CanGoOn M.belongs M.part self.old) M.part self.old (Event.Deliver from to) }
+        ensures no_memory { IsErrOf result Refused.NoMemory → CanMakeEvent (CanGoOn M.belongs M.part self.old) M.part self.old (Event.Deliver from to) }
         ensures unchanged { OnErr result (HoldTheSame M.part self.old self.new) }
         ensures same { IsSameCluster M.belongs M.earlier self.old self.new }
     {
@@ -116,9 +116,9 @@ impl<M: ClusterMachine> Parts<M> {
     fn update(&mut self, scope: ScopeId) -> Result<(), Refused>
         requires home { scope.home.0 < length self.old.machines.items }
         requires few { self.old.next + self.old.left < 2 ^ 64 }
-        ensures made { OnOk result (Makes (CanGoOn M.belongs M.part self.old) M.part self.old (Event.Update scope) self.new) }
-        ensures not_now { IsErrOf result Refused.NotNow → CanNotMake (CanGoOn M.belongs M.part self.old) M.part self.old (Event.Update scope) }
-        ensures no_memory { IsErrOf result Refused.NoMemory → CanMake (CanGoOn M.belongs M.part self.old) M.part self.old (Event.Update scope) }
+        ensures made { OnOk result (MakesEvent (CanGoOn M.belongs M.part self.old) M.part self.old (Event.Update scope) self.new) }
+        ensures not_now { IsErrOf result Refused.NotNow → CanNotMakeEvent (CanGoOn M.belongs M.part self.old) M.part self.old (Event.Update scope) }
+        ensures no_memory { IsErrOf result Refused.NoMemory → CanMakeEvent (CanGoOn M.belongs M.part self.old) M.part self.old (Event.Update scope) }
         ensures unchanged { OnErr result (HoldTheSame M.part self.old self.new) }
         ensures same { IsSameCluster M.belongs M.earlier self.old self.new }
     {

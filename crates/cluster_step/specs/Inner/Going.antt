@@ -6,7 +6,7 @@ use Rattle.cluster_core.specs.Places.{ArePlaces}
 use Rattle.cluster_core.specs.Snapshots.{IsConsistent}
 use Rattle.cluster_core.specs.Stages.{Stage}
 use Rattle.cluster_cuts.specs.Goings.{GoesOn}
-use Rattle.cluster_step.specs.Links.{link_at}
+use Rattle.cluster_step.specs.Links.{link_between}
 use Rattle.cluster_step.specs.Worlds.{AreMachinesOf, Part, Setting, World, earlier_at, world_of_parts}
 use Rattle.cluster_step.specs.Events.{HaveLinks}
 use Rattle.cluster_step.specs.Starts.{StartIn}
