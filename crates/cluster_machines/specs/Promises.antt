@@ -4,9 +4,10 @@ pub use Rattle.cluster_core.specs.Actions.{HasFirst, MayAdmit, MayGrant, MayUpda
 pub use Rattle.cluster_core.specs.Copies.{from_owner, to_owner}
 pub use Rattle.cluster_core.specs.Parts.{Part}
 pub use Rattle.cluster_core.specs.Receiving.{MayReceive}
-pub use Rattle.cluster_core.specs.Settings.{Setting}
+pub use Rattle.cluster_core.specs.Places.{IsAtHome}
+pub use Rattle.cluster_core.specs.Settings.{IsSetting, Setting, is_in_scope}
 pub use Rattle.cluster_machines.specs.Told.{told_by}
-use Rattle.std.specs.Prelude.{Bool, List, false, length, nat_lt, ℕ, ◌&&◌, ◌==◌, ◌||◌, ◌∷◌, ◌≡◌}
+use Rattle.std.specs.Prelude.{Bool, List, None, false, length, nat_lt, ℕ, ⊤, ◌&&◌, ◌==◌, ◌||◌, ◌∷◌, ◌≡◌}
 use Rattle.gl_base.specs.declared.entries.Entry.TheVariants.{Go}
 use Rattle.gl_base.specs.declared.scopes.ScopeId.{ScopeId}
 use Rattle.cluster_core.specs.Effects.{admitted, granted, next_scope, received, updated}
@@ -61,12 +62,29 @@ MakesGrant belongs part old x s new = (st : Setting) (a : ℕ) → belongs st a 
 
 -- ---- Deliver
 
+-- Word of an update, and not of a snapshot: by a scope of the owner of its centre, which waits for no lock here and holds none but
+-- those of its own scope. Nothing becomes pending.
+pub record IsUpdateWord (st : Setting) (a : ℕ) (part : Part) (s : ScopeId) (news : law.News) : Type 0 where
+  pub home : IsAtHome st s news.centre
+  pub stand : part.stand s ≡ None
+  pub others : (x : ℕ) → st.owner x ≡ a → is_in_scope st news.centre x ≡ false → part.holder x s ≡ None
+  pub pends : (u : ℕ) → news.pends u ≡ false
+  pub number : news.number ≡ 0
+
+-- what is known of a message besides, where no snapshots are taken: a scope that asks is of the owner of its centre
+abbrev pub IsAsExpected : Setting → ℕ → Part → law.Message → Type 0
+IsAsExpected st a part (law.Ask s v rest) = IsAtHome st s v
+IsAsExpected st a part (law.Ready s) = ⊤
+IsAsExpected st a part (law.Done s news) = IsUpdateWord st a part s news
+
 -- In some cluster to which the machine belongs it may receive this message from machine p.
 pub record CanReceive {M : Type 0} (belongs : Setting → ℕ → M → Type 0) (part : M → Part) (m : M) (p : ℕ) (message : Message) : Type 0 where
   pub setting : Setting
+  pub is : IsSetting setting
   pub number : ℕ
   pub here : belongs setting number m
   pub may : MayReceive setting p number (part m) (told_by message)
+  pub expected : IsAsExpected setting number (part m) (told_by message)
 
 -- it has received it, wherever it may
 abbrev pub MakesReceipt : {M : Type 0} → (Setting → ℕ → M → Type 0) → (M → Part) → M → ℕ → Message → M → Type 0

@@ -1,8 +1,15 @@
 -- A cluster keeps what it keeps, whatever happens in it.
-use Rattle.std.proofs.Common.{◌≡◌, ℕ, ◌+◌, ◌<◌, ◌^◌, List, [], ◌∷◌, length, sym, refl, ap, ◌∙◌, subst, arith}
+use Rattle.std.proofs.Common.{◌≡◌, ℕ, suc, ◌+◌, ◌<◌, ◌≤◌, ◌^◌, le_of_eq, List, [], ◌∷◌, length, sym, refl, ap, ◌∙◌, subst, arith}
+use Rattle.std.specs.List.{AllByRecursion}
 use Rattle.std.specs.Prelude.{Result, Ok, Err, OnOk, OnErr}
 use Rattle.cluster_machines.specs.declared.refusals.Refused.{Refused}
+use Rattle.gl_base.specs.declared.entries.Entry.{Entry}
+use Rattle.gl_base.specs.declared.entries.Entry.TheVariants.{Go, Restart}
+use Rattle.cluster_core.specs.Actions.{MayHappen}
+use Rattle.cluster_core.specs.Actions as law
 use Rattle.cluster_core.specs.Parts.{Part}
+use Rattle.cluster_core.specs.Replays.{IsReplay, ticket_of}
+use Rattle.cluster_cuts.specs.Goings.{AreUpdatesFrom}
 use Rattle.cluster_core.specs.Settings.{Setting}
 use Rattle.cluster_core.specs.Worlds.{World}
 use Rattle.cluster_step.specs.Links.{told_on}
@@ -10,10 +17,11 @@ use Rattle.cluster_step.specs.Worlds.{world_of_parts}
 use Rattle.cluster_step.specs.Events.{CanGoOn, CanMakeEvent, CanNotMakeEvent, Happens, HaveLinks, HoldTheSame, IsSameCluster, MakesEvent}
 use Rattle.cluster_step.specs.Inner.Going.{IsGoingOn, IsKept}
 use Rattle.cluster_step.specs.Clusters.{ClusterView}
-use Rattle.cluster_step.specs.Starts.{StartIn}
+use Rattle.cluster_step.specs.Starts.{IsOrderSince, StartIn, WasFresh}
+use Rattle.cluster_step.specs.declared.events.Event.TheVariants.{Admit, Deliver, Grant, Send, Update}
 use Rattle.cluster_step.specs.declared.events.Event.{Event}
 use Rattle.cluster_step.specs.declared.parts.Parts.{Parts}
-use Rattle.cluster_step.proofs.GoingLemmas.{begins_going, front_comes, goes_on_by}
+use Rattle.cluster_step.proofs.GoingLemmas.{begins_going, fresh_now, front_comes, front_expected, goes_on_by}
 use Rattle.cluster_step.proofs.StartLemmas.{world_starts, world_unmarked}
 
 module _ {M : Type 0} (belongs : Setting → ℕ → M → Type 0) (part : M → Part) (earlier : M → ℕ) where
@@ -36,8 +44,10 @@ module _ {M : Type 0} (belongs : Setting → ℕ → M → Type 0) (part : M →
     pub can_go : (st : Setting) → StartIn belongs part start.machines.items st → CanGoOn belongs part old st
     can_go st begin =
         record {
+          is = begin.setting;
           machines = kept.machines st begin;
           fronts = front_comes st begin.setting begin.locks (world_of_parts part st start) (world_of_parts part st old) (kept.going st begin);
+          expected = front_expected st begin.setting begin.locks (world_of_parts part st start) (world_of_parts part st old) (kept.going st begin);
         }
 
     pub makes_from : (event : Event) (new : Parts M) → MakesEvent (CanGoOn belongs part old) part old event new → MakesEvent (StartIn belongs part start.machines.items) part old event new
@@ -70,9 +80,41 @@ module _ {M : Type 0} (belongs : Setting → ℕ → M → Type 0) (part : M →
     kept_after event (Ok done) new made same_world same =
         next_kept new same (λ st begin.
         let one : Happens st (world_of_parts part st old) event (world_of_parts part st new) = made st (can_go st begin) in
-        goes_on_by st begin.setting begin.locks (world_of_parts part st start) (world_of_parts part st old) (kept.going st begin) one.action (world_of_parts part st new) one.step)
+        goes_on_by st begin.setting begin.locks (world_of_parts part st start) (world_of_parts part st old) (kept.going st begin) event one.action (world_of_parts part st new) one.is one.step)
     kept_after event (Err refused) new made same_world same =
         next_kept new same (λ st begin. subst (IsGoingOn st (world_of_parts part st start)) (sym (same_world st)) (kept.going st begin))
+
+    -- each update was fresh
+    tickets_below : (next : ℕ) (order : List Entry) (high : ℕ) → AreUpdatesFrom next order → next + length order ≤ high → AllByRecursion (λ entry. ticket_of entry < high) order
+    tickets_below next [] high from within = tt
+    tickets_below next (Go machine vertex ticket ∷ order) high from within =
+        let first : ticket ≡ next = from.0 in
+        (omega arith, tickets_below (suc next) order high from.1 (omega arith))
+    tickets_below next (Restart ticket ∷ order) high from within = absurd from
+
+    replay_from_since : (st : Setting) (order : List Entry) → IsOrderSince part st start old order → IsReplay st (world_of_parts part st old) order
+    replay_from_since st order since =
+        record {
+          valid = since.valid;
+          logs = since.logs;
+          tickets = tickets_below start.next order old.next since.tickets (le_of_eq (sym since.next));
+          numbers = since.numbers;
+          edges = since.edges;
+          tasks = since.tasks;
+        }
+
+    pub fresh_after : (event : Event) (r : Result (Unit {0}) Refused) (new : Parts M) → OnOk r (MakesEvent (CanGoOn belongs part old) part old event new) →
+        OnOk r ((st : Setting) → StartIn belongs part start.machines.items st → (order : List Entry) → IsOrderSince part st start old order → WasFresh st (world_of_parts part st old) order event)
+    fresh_after (Admit a) (Ok done) new made = λ st begin order since. tt
+    fresh_after (Grant a x) (Ok done) new made = λ st begin order since. tt
+    fresh_after (Send p q) (Ok done) new made = λ st begin order since. tt
+    fresh_after (Deliver p q) (Ok done) new made = λ st begin order since. tt
+    fresh_after (Update s) (Ok done) new made = λ st begin order since.
+        let w : World = world_of_parts part st old in
+        let one : Happens st w (Update s) (world_of_parts part st new) = made st (can_go st begin) in
+        let may : MayHappen st w (law.Update s) = subst (MayHappen st w) one.is one.step.0 in
+        (may.vertex, may.flight, fresh_now st begin.setting begin.locks (world_of_parts part st start) w (kept.going st begin) order (replay_from_since st order since) s may)
+    fresh_after event (Err refused) new made = tt
 
   -- ---- the same, as the cluster is seen
 
@@ -82,6 +124,12 @@ module _ {M : Type 0} (belongs : Setting → ℕ → M → Type 0) (part : M →
     made_seen event (Ok done) new made =
         subst (λ (v : ClusterView M). MakesEvent (StartIn belongs part v.start.machines.items) part v.now event new) seen (makes_from start old kept event new made)
     made_seen event (Err refused) new made = tt
+
+    pub fresh_seen : (event : Event) (r : Result (Unit {0}) Refused) (new : Parts M) → OnOk r (MakesEvent (CanGoOn belongs part old) part old event new) →
+        OnOk r ((st : Setting) → StartIn belongs part view.start.machines.items st → (order : List Entry) → IsOrderSince part st view.start view.now order → WasFresh st (world_of_parts part st view.now) order event)
+    fresh_seen event r new made =
+        subst (λ (v : ClusterView M). OnOk r ((st : Setting) → StartIn belongs part v.start.machines.items st → (order : List Entry) → IsOrderSince part st v.start v.now order → WasFresh st (world_of_parts part st v.now) order event)) seen
+        (fresh_after start old kept event r new made)
 
     pub can_seen : (event : Event) → CanMakeEvent (CanGoOn belongs part old) part old event → CanMakeEvent (StartIn belongs part view.start.machines.items) part view.now event
     can_seen event can = subst (λ (v : ClusterView M). CanMakeEvent (StartIn belongs part v.start.machines.items) part v.now event) seen (can_from start old kept event can)

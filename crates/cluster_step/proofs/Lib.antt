@@ -1,5 +1,6 @@
 pub mod LinkLemmas
 pub mod WorldLemmas
+pub mod PlainLemmas
 pub mod GoingLemmas
 pub mod CallLemmas
 pub mod StartLemmas

@@ -1,6 +1,8 @@
 -- The events of a cluster, as actions of the cluster's law.
 pub use Rattle.cluster_core.specs.Actions.{Action, IsActionStep, MayHappen}
 pub use Rattle.cluster_core.specs.Receiving.{MayReceive}
+pub use Rattle.cluster_core.specs.Settings.{IsSetting}
+pub use Rattle.cluster_machines.specs.Promises.{IsAsExpected}
 use Rattle.std.specs.Prelude.{List, false, length, slice_index_or, [], ℕ, ◌+◌, ◌<◌, ◌∷◌, ◌≡◌}
 use Rattle.cluster_core.specs.Actions as law
 use Rattle.cluster_core.specs.Messages.{Message}
@@ -63,9 +65,12 @@ pub record HaveLinks (links : List (List LinkView)) (n : ℕ) : Type 0 where
 
 -- the machines belong to the setting, and the first message of each link may be received
 pub record CanGoOn {M : Type 0} (belongs : Setting → ℕ → M → Type 0) (part : M → Part) (p : Parts M) (st : Setting) : Type 0 where
+  pub is : IsSetting st
   pub machines : AreMachinesOf belongs st p.machines.items
   pub fronts : (a b : ℕ) (m : Message) (behind : List Message) → (world_of_parts part st p).link a b ≡ m ∷ behind →
       MayReceive st a b ((world_of_parts part st p).part b) m
+  pub expected : (a b : ℕ) (m : Message) (behind : List Message) → (world_of_parts part st p).link a b ≡ m ∷ behind →
+      IsAsExpected st b ((world_of_parts part st p).part b) m
 
 -- there are as many machines, tickets and links; the machines belong to the settings to which they belonged, and their logs begin
 -- where they began

@@ -2,18 +2,20 @@
 pub use Rattle.cluster_core.specs.Settings.{IsSetting}
 pub use Rattle.cluster_step.specs.Worlds.{Part, Setting, World, part_of_machine, world_of_parts}
 use Rattle.std.specs.List.{AllByRecursion, list_any}
-use Rattle.std.specs.Prelude.{Bool, List, None, Some, [], false, length, slice_get, true, ℕ, ◌+◌, ◌<◌, ◌≡◌, ◌⊎◌, ◌↔◌}
+use Rattle.std.specs.Prelude.{Bool, List, None, Some, [], false, length, slice_get, true, ℕ, ⊤, ◌+◌, ◌<◌, ◌≡◌, ◌⊎◌, ◌↔◌}
 use Rattle.gl_base.specs.declared.entries.Entry.{Entry}
 use Rattle.gl_base.specs.declared.scopes.ScopeId.{ScopeId}
 use Rattle.cluster_core.specs.Copies.{agreed, from_owner, to_owner}
 use Rattle.cluster_core.specs.Messages.{Ask, Done, Message, Ready}
-use Rattle.cluster_core.specs.Replays.{IsTask, entries_of, replay_of, tasks_of}
+use Rattle.cluster_core.specs.Replays.{IsFresh, IsTask, entries_of, replay_of, tasks_of}
 use Rattle.cluster_core.specs.Scopes.{takes_part}
 use Rattle.cluster_core.specs.Settings.{Locking}
 use Rattle.cluster_core.specs.Worlds.{way}
 use Rattle.cluster_cuts.specs.Goings.{AreUpdatesFrom, IsByOwner}
 use Rattle.graph_core.specs.DataGraph.{size}
 use Rattle.seq_run.specs.Orders.{IsValidFrom, all_tasks}
+use Rattle.cluster_step.specs.declared.events.Event.{Event}
+use Rattle.cluster_step.specs.declared.events.Event.TheVariants.{Admit, Deliver, Grant, Send, Update}
 use Rattle.cluster_step.specs.declared.parts.Parts.{Parts}
 
 -- ---- how it begins
@@ -61,6 +63,14 @@ pub record IsOrderSince {M : Type 0} (part : M → Part) (st : Setting) (start n
   pub numbers : (v : ℕ) → v < size st.graph → ((part_of_machine part st now.machines.items (st.owner v)).datum v).value ≡ (replay_of st order).vertex v
   pub edges : (e : ℕ) → e < length st.graph.edges → agreed st (world_of_parts part st now) e ≡ (replay_of st order).edge e
   pub tasks : (u : ℕ) → u < size st.graph → (tasks_of st order u ≡ true) ↔ IsTask st (world_of_parts part st now) u
+
+-- an update that was made was lent what the order has there: of its vertex, of its edges and of its neighbours
+abbrev pub WasFresh : Setting → World → List Entry → Event → Type 0
+WasFresh st w order (Update s) = (v : ℕ) × ((w.part s.home.0).flight s ≡ Some v) × IsFresh st (replay_of st order) (w.part s.home.0) v
+WasFresh st w order (Admit a) = ⊤
+WasFresh st w order (Grant a x) = ⊤
+WasFresh st w order (Send p q) = ⊤
+WasFresh st w order (Deliver p q) = ⊤
 
 -- word of an update
 abbrev pub is_word_of_update : Message → Bool

@@ -7,7 +7,7 @@ ghost use Rattle.graph_core.specs.DataGraph.{size};
 ghost use Rattle.cluster_step.specs.Links.{told_on};
 ghost use Rattle.cluster_step.specs.Worlds.{Setting, earlier_at, part_of_machine, world_of_parts};
 ghost use Rattle.cluster_step.specs.Events.{NamesMachinesOf, MakesEvent, CanMakeEvent, CanNotMakeEvent, HoldTheSame};
-ghost use Rattle.cluster_step.specs.Starts.{StartIn, IsOrderSince, AllHaveHeard};
+ghost use Rattle.cluster_step.specs.Starts.{StartIn, IsOrderSince, WasFresh, AllHaveHeard};
 ghost use Rattle.cluster_step.specs.Inner.Asking.{IsFoundAt, NoneSays, HasTaskAt, is_owner_of, is_owner_at};
 ghost use Rattle.std.specs.List.{All};
 
@@ -74,6 +74,8 @@ impl<M: ClusterMachine> Cluster<M> {
         ensures not_now { IsErrOf result Refused.NotNow → CanNotMakeEvent (StartIn M.belongs M.part self.old.start.machines.items) M.part self.old.now event }
         ensures no_memory { IsErrOf result Refused.NoMemory → CanMakeEvent (StartIn M.belongs M.part self.old.start.machines.items) M.part self.old.now event }
         ensures unchanged { OnErr result (HoldTheSame M.part self.old.now self.new.now) }
+        ensures fresh { OnOk result ((st : Setting) → StartIn M.belongs M.part self.old.start.machines.items st →
+            (order : List Entry) → IsOrderSince M.part st self.old.start self.old.now order → WasFresh st (world_of_parts M.part st self.old.now) order event) }
         ensures start { self.new.start ≡ self.old.start }
         ensures machines { length self.new.now.machines.items ≡ length self.old.now.machines.items }
     {

@@ -1,21 +1,33 @@
 -- A cluster that goes on from its start as the cluster's law says.
-use Rattle.std.specs.Prelude.{List, Some, [], length, slice_get, ℕ, ◌+◌, ◌<◌, ◌^◌, ◌≡◌}
+use Rattle.std.specs.List.{AllByRecursion}
+use Rattle.std.specs.Prelude.{[], false, length, ℕ, ⊤, ◌+◌, ◌<◌, ◌^◌, ◌≡◌}
 use Rattle.gl_base.specs.declared.scopes.ScopeId.{ScopeId}
-use Rattle.cluster_core.specs.Messages.{Message}
+use Rattle.cluster_core.specs.Messages.{Ask, Done, Message, Ready}
 use Rattle.cluster_core.specs.Places.{ArePlaces}
 use Rattle.cluster_core.specs.Snapshots.{IsConsistent}
 use Rattle.cluster_core.specs.Stages.{Stage}
+use Rattle.cluster_core.specs.Worlds.{way}
 use Rattle.cluster_cuts.specs.Goings.{GoesOn}
-use Rattle.cluster_step.specs.Links.{link_between}
 use Rattle.cluster_step.specs.Worlds.{AreMachinesOf, Part, Setting, World, earlier_at, world_of_parts}
 use Rattle.cluster_step.specs.Events.{HaveLinks}
 use Rattle.cluster_step.specs.Starts.{StartIn}
 use Rattle.cluster_step.specs.declared.parts.Parts.{Parts}
 
+-- word of an update belongs to no snapshot, and makes nothing pending
+abbrev pub IsPlain : Message → Type 0
+IsPlain (Ask s v rest) = ⊤
+IsPlain (Ready s) = ⊤
+IsPlain (Done s news) = (news.number ≡ 0) × ((u : ℕ) → news.pends u ≡ false)
+
+-- so it is of all that is on the way
+abbrev pub AreAllPlain : World → Type 0
+AreAllPlain w = (p q : ℕ) → AllByRecursion IsPlain (way w p q)
+
 -- each scope is in one place, and copies, numbers and marks have gone on from the start by updates alone
 pub record IsGoingOn (st : Setting) (from now : World) : Type 0 where
   pub stage : ScopeId → Stage
   pub places : ArePlaces st now stage
+  pub plain : AreAllPlain now
   pub kept : IsConsistent st from
   pub none : kept.order ≡ []
   pub gone : GoesOn st from kept now

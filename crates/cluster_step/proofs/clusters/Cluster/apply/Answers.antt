@@ -1,5 +1,5 @@
 -- What the parts promise is promised in each setting in which the cluster began, and the cluster is kept.
-use Rattle.cluster_step.proofs.KeptLemmas.{can_go, can_seen, cannot_seen, kept_after, made_seen, same_seen}
+use Rattle.cluster_step.proofs.KeptLemmas.{can_go, can_seen, cannot_seen, fresh_seen, kept_after, made_seen, same_seen}
 use Rattle.cluster_step.proofs.clusters.Cluster.apply.Goals as goal
 
 pub make-requires-clause-some : goal.make-requires-clause-some
@@ -19,3 +19,6 @@ returns-clause-no_memory g c is = can_seen g.M.ClusterMachine.belongs g.M.Cluste
 
 pub returns-clause-unchanged : goal.returns-clause-unchanged
 returns-clause-unchanged g c = same_seen g.M.ClusterMachine.belongs g.M.ClusterMachine.part g.M.ClusterMachine.earlier c.args.self.now c.self.inside.start.value c.self.inside.parts c.self.view_is c.self.invariant c.make.result c.make.new.self c.make.ensures.unchanged
+
+pub returns-clause-fresh : goal.returns-clause-fresh
+returns-clause-fresh g c = fresh_seen g.M.ClusterMachine.belongs g.M.ClusterMachine.part g.M.ClusterMachine.earlier c.args.self.now c.self.inside.start.value c.self.inside.parts c.self.view_is c.self.invariant c.args.event c.make.result c.make.new.self c.make.ensures.made
