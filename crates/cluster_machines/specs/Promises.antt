@@ -1,13 +1,12 @@
 -- What the calls of a machine promise, for every setting of a cluster to which it belongs: `belongs` says that it is this machine of
 -- a cluster with this setting, and `part` what it holds.
 pub use Rattle.cluster_core.specs.Actions.{HasFirst, MayAdmit, MayGrant, MayUpdate}
-pub use Rattle.cluster_core.specs.Copies.{from_owner, to_owner}
 pub use Rattle.cluster_core.specs.Parts.{Part}
 pub use Rattle.cluster_core.specs.Receiving.{MayReceive}
 pub use Rattle.cluster_core.specs.Places.{IsAtHome}
 pub use Rattle.cluster_core.specs.Settings.{IsSetting, Setting, is_in_scope}
 pub use Rattle.cluster_machines.specs.Told.{told_by}
-use Rattle.std.specs.Prelude.{Bool, List, None, false, length, nat_lt, ℕ, ⊤, ◌&&◌, ◌==◌, ◌||◌, ◌∷◌, ◌≡◌}
+use Rattle.std.specs.Prelude.{Bool, List, None, false, length, nat_lt, ℕ, ⊤, ◌&&◌, ◌==◌, ◌∷◌, ◌≡◌}
 use Rattle.gl_base.specs.declared.entries.Entry.TheVariants.{Go}
 use Rattle.gl_base.specs.declared.scopes.ScopeId.{ScopeId}
 use Rattle.cluster_core.specs.Effects.{admitted, granted, next_scope, received, updated}
@@ -115,9 +114,9 @@ MakesUpdate belongs part old s ticket new = (st : Setting) → belongs st s.home
 abbrev pub is_owner_of : Setting → ℕ → ℕ → Bool
 is_owner_of st a v = nat_lt v (size st.graph) && st.owner v == a
 
--- machine a owns an end of edge e
-abbrev pub is_owner_at : Setting → ℕ → ℕ → Bool
-is_owner_at st a e = nat_lt e (length st.graph.edges) && (from_owner st e == a || to_owner st e == a)
+-- it does, and the graph has edge e
+abbrev pub is_owner_with : Setting → ℕ → ℕ → ℕ → Bool
+is_owner_with st a v e = is_owner_of st a v && nat_lt e (length st.graph.edges)
 
 -- the test is so wherever the machine belongs
 abbrev pub SaysWhether : {M : Type 0} → (Setting → ℕ → M → Type 0) → M → (Setting → ℕ → Bool) → Bool → Type 0

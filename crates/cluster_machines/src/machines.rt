@@ -1,6 +1,6 @@
 //! A machine, as a cluster knows it.
 ghost use Rattle.std.specs.Prelude.{◌≡◌, ℕ, ◌+◌, ◌↔◌, [], length, true, false, is_some, IsTrue, IfOk, IfErr, OnOk, OnErr, IfSome, IfNone, IsErrOf};
-ghost use Rattle.cluster_machines.specs.Promises.{Part, Setting, HasFirst, MayUpdate, told_by, IsSameMachine, AdmitsSome, AdmitsNone, MakesAdmission, GrantsIt, GrantsNot, MakesGrant, CanReceive, MakesReceipt, IsSending, MakesUpdate, is_owner_of, is_owner_at, SaysWhether};
+ghost use Rattle.cluster_machines.specs.Promises.{Part, Setting, HasFirst, MayUpdate, told_by, IsSameMachine, AdmitsSome, AdmitsNone, MakesAdmission, GrantsIt, GrantsNot, MakesGrant, CanReceive, MakesReceipt, IsSending, MakesUpdate, is_owner_of, is_owner_with, SaysWhether};
 
 use crate::refusals::Refused;
 use gl_base::{EdgeNo, Entry, MachineNo, ScopeId, Vertex};
@@ -71,10 +71,11 @@ pub trait ClusterMachine: Drop {
         ensures number { IfSome result (λ x. x ≡ ((part self.now).datum v.0).value) }
         ensures owned { SaysWhether belongs self.now (λ st a. is_owner_of st a v.0) (is_some result) };
 
-    /// The number that it has of an edge; `None` exactly where it owns neither end.
-    fn edge(&self, e: EdgeNo) -> Option<u64>
+    /// The number that it has of an edge at a vertex of its own; `None` exactly where it doesn't own the vertex, or the graph has no
+    /// such edge.
+    fn edge(&self, end: Vertex, e: EdgeNo) -> Option<u64>
         ensures number { IfSome result (λ x. x ≡ (part self.now).edge e.0) }
-        ensures held { SaysWhether belongs self.now (λ st a. is_owner_at st a e.0) (is_some result) };
+        ensures held { SaysWhether belongs self.now (λ st a. is_owner_with st a end.0 e.0) (is_some result) };
 
     /// A vertex that is a task of this machine; `None` exactly where none is.
     fn task(&self) -> Option<Vertex>

@@ -2,7 +2,7 @@
 use Rattle.std.proofs.Common.{◌≡◌, ◌≢◌, ◌⊎◌, ℕ, zero, suc, ◌+◌, ◌<◌, ◌≤◌, ◌==◌, ◌&&◌, ◌||◌, Bool, true, false, List, [], ◌∷◌, ◌++◌, length, map, get_or, Option, Some, None, slice_get, is_some, sym, refl, ap, ◌∙◌, subst, ⊎_elim, inl, inr, true≢false, arith}
 use Rattle.std.specs.List.{All, list_any}
 use Rattle.std.specs.Prelude.{IfSome, IfNone, nat_lt}
-use Rattle.std.proofs.lemmas.Bool.{and_parts, and_from, cases_Bool, cases_lt, eq-eqb, eqb-true, false_from_ne_true, lt-ltb, ltb-true, or_cases, or_from, or_left}
+use Rattle.std.proofs.lemmas.Bool.{and_parts, and_from, cases_Bool, cases_lt, eq-eqb, eqb-true, false_from_ne_true, ltb-true}
 use Rattle.std.proofs.lemmas.List.{get_or-map}
 use Rattle.gl_base.specs.declared.entries.Entry.{Entry}
 use Rattle.gl_base.specs.declared.numbers.Vertex.{Vertex}
@@ -15,9 +15,9 @@ use Rattle.cluster_core.specs.Settings.{Setting, IsSetting, nth_edge}
 use Rattle.cluster_core.specs.Ways.{edge_told, vertex_woken}
 use Rattle.cluster_core.specs.Worlds.{World, way}
 use Rattle.cluster_step.specs.Clusters.{ClusterView}
-use Rattle.cluster_step.specs.Inner.Asking.{HasTaskAt, IsFoundAt, NoneSays, is_owner_at, is_owner_of}
+use Rattle.cluster_step.specs.Inner.Asking.{HasTaskAt, IsFoundAt, NoneSays, is_owner_of, is_owner_with}
 use Rattle.cluster_step.specs.Inner.Going.{IsGoingOn, IsKept}
-use Rattle.cluster_step.specs.Starts.{AllHaveHeard, IsOrderSince, StartIn, is_word_of_update}
+use Rattle.cluster_step.specs.Starts.{AllHaveHeard, IsEndOf, IsOrderSince, StartIn, is_word_of_update}
 use Rattle.cluster_step.specs.Worlds.{earlier_at, no_part, part_of_machine, world_of_parts}
 use Rattle.cluster_step.specs.declared.parts.Parts.{Parts}
 use Rattle.cluster_step.proofs.GoingLemmas.{replay_is}
@@ -120,55 +120,55 @@ module _ {M : Type 0} (belongs : Setting → ℕ → M → Type 0) (part : M →
 
   -- ---- numbers of edges
 
-  module _ (e : ℕ) where
-    edge_found : (x : ℕ) → IsFoundAt belongs (λ m. (part m).edge e) now.machines.items (λ st a. is_owner_at st a e) x → (st : Setting) → StartIn belongs part start.machines.items st →
-        (nat_lt e (length st.graph.edges) ≡ true) × ((x ≡ (part_of_machine part st now.machines.items (from_owner st e)).edge e) ⊎ (x ≡ (part_of_machine part st now.machines.items (to_owner st e)).edge e))
+  module _ (v e : ℕ) where
+    edge_found : (x : ℕ) → IsFoundAt belongs (λ m. (part m).edge e) now.machines.items (λ st a. is_owner_with st a v e) x → (st : Setting) → StartIn belongs part start.machines.items st →
+        ((nat_lt v (size st.graph) && nat_lt e (length st.graph.edges)) ≡ true) × (x ≡ (part_of_machine part st now.machines.items (st.owner v)).edge e)
     edge_found x found st begin =
         let k : ℕ = found.place in
-        let says : is_owner_at st k e ≡ true = sym (found.says st k (kept.machines st begin k found.machine found.stands)) in
-        let both = and_parts (nat_lt e (length st.graph.edges)) (from_owner st e == k || to_owner st e == k) says in
-        let read : part_of_machine part st now.machines.items k ≡ part found.machine = read_item part now.machines.items k found.machine (no_part st) found.stands in
-        let here : x ≡ (part_of_machine part st now.machines.items k).edge e = found.is ∙ sym (ap (λ (p : Part). p.edge e) read) in
-        let where_is : (a : ℕ) → (a == k) ≡ true → x ≡ (part_of_machine part st now.machines.items a).edge e =
-        λ a at. here ∙ ap (λ (b : ℕ). (part_of_machine part st now.machines.items b).edge e) (sym (eqb-true a k at)) in (
-          both.0,
-          ⊎_elim
-              (λ (at : (from_owner st e == k) ≡ true). let one : (x ≡ (part_of_machine part st now.machines.items (from_owner st e)).edge e) ⊎ (x ≡ (part_of_machine part st now.machines.items (to_owner st e)).edge e) = inl (where_is (from_owner st e) at) in one)
-              (λ (at : (to_owner st e == k) ≡ true). let other : (x ≡ (part_of_machine part st now.machines.items (from_owner st e)).edge e) ⊎ (x ≡ (part_of_machine part st now.machines.items (to_owner st e)).edge e) = inr (where_is (to_owner st e) at) in other)
-              (or_cases (from_owner st e == k) (to_owner st e == k) both.1),
-        )
+        let says : is_owner_with st k v e ≡ true = sym (found.says st k (kept.machines st begin k found.machine found.stands)) in
+        let both = and_parts (is_owner_of st k v) (nat_lt e (length st.graph.edges)) says in
+        let own = and_parts (nat_lt v (size st.graph)) (st.owner v == k) both.0 in
+        let read : part_of_machine part st now.machines.items (st.owner v) ≡ part found.machine =
+        ap (part_of_machine part st now.machines.items) (eqb-true (st.owner v) k own.1) ∙ read_item part now.machines.items k found.machine (no_part st) found.stands in
+        (and_from (nat_lt v (size st.graph)) (nat_lt e (length st.graph.edges)) own.0 both.1, found.is ∙ sym (ap (λ (p : Part). p.edge e) read))
 
-    edge_none : NoneSays belongs now.machines.items (λ st a. is_owner_at st a e) → (st : Setting) → StartIn belongs part start.machines.items st → nat_lt e (length st.graph.edges) ≡ true → ⊥
-    edge_none none st begin within =
-        let edge : IsEdge (size st.graph) st.graph.directed (nth_edge st e) =
-        begin.setting.graph.edges e (record { from = 0; to = 0; weight = 0 }) (ltb-true e (length st.graph.edges) within) in
-        let a : ℕ = from_owner st e in
-        let low : a < length now.machines.items = subst (λ n. a < n) (sym (kept.many ∙ begin.many)) (begin.setting.owner (nth_edge st e).from edge.from) in
-        let m = stands_low (λ m. (s : Setting) (b : ℕ) → belongs s b m → false ≡ is_owner_at s b e) now.machines.items a low none in
-        not_both (is_owner_at st a e) (m.2 st a (kept.machines st begin a m.0 m.1))
-        (and_from (nat_lt e (length st.graph.edges)) (a == a || to_owner st e == a) within (or_left (a == a) (to_owner st e == a) (eq-eqb a a refl)))
+    edge_none : NoneSays belongs now.machines.items (λ st a. is_owner_with st a v e) → (st : Setting) → StartIn belongs part start.machines.items st →
+        (nat_lt v (size st.graph) && nat_lt e (length st.graph.edges)) ≡ true → ⊥
+    edge_none none st begin there =
+        let both = and_parts (nat_lt v (size st.graph)) (nat_lt e (length st.graph.edges)) there in
+        let a : ℕ = st.owner v in
+        let low : a < length now.machines.items = subst (λ n. a < n) (sym (kept.many ∙ begin.many)) (begin.setting.owner v (ltb-true v (size st.graph) both.0)) in
+        let m = stands_low (λ m. (s : Setting) (b : ℕ) → belongs s b m → false ≡ is_owner_with s b v e) now.machines.items a low none in
+        not_both (is_owner_with st a v e) (m.2 st a (kept.machines st begin a m.0 m.1))
+        (and_from (is_owner_of st a v) (nat_lt e (length st.graph.edges)) (and_from (nat_lt v (size st.graph)) (st.owner v == a) both.0 (eq-eqb a a refl)) both.1)
 
-    edge_some : (o : Option ℕ) → IfSome o (λ x. IsFoundAt belongs (λ m. (part m).edge e) now.machines.items (λ st a. is_owner_at st a e) x) →
-        IfNone o (NoneSays belongs now.machines.items (λ st a. is_owner_at st a e)) → (st : Setting) → StartIn belongs part start.machines.items st → is_some o ≡ nat_lt e (length st.graph.edges)
+    edge_some : (o : Option ℕ) → IfSome o (λ x. IsFoundAt belongs (λ m. (part m).edge e) now.machines.items (λ st a. is_owner_with st a v e) x) →
+        IfNone o (NoneSays belongs now.machines.items (λ st a. is_owner_with st a v e)) → (st : Setting) → StartIn belongs part start.machines.items st →
+        is_some o ≡ (nat_lt v (size st.graph) && nat_lt e (length st.graph.edges))
     edge_some (Some x) found none st begin = sym (edge_found x found st begin).0
-    edge_some None found none st begin = sym (false_from_ne_true (nat_lt e (length st.graph.edges)) (edge_none none st begin))
+    edge_some None found none st begin = sym (false_from_ne_true (nat_lt v (size st.graph) && nat_lt e (length st.graph.edges)) (edge_none none st begin))
 
-    edge_replayed : (o : Option ℕ) → IfSome o (λ x. IsFoundAt belongs (λ m. (part m).edge e) now.machines.items (λ st a. is_owner_at st a e) x) →
+    edge_number : (o : Option ℕ) → IfSome o (λ x. IsFoundAt belongs (λ m. (part m).edge e) now.machines.items (λ st a. is_owner_with st a v e) x) →
+        IfSome o (λ x. (st : Setting) → StartIn belongs part start.machines.items st → x ≡ (part_of_machine part st now.machines.items (st.owner v)).edge e)
+    edge_number (Some x) found = λ st begin. (edge_found x found st begin).1
+    edge_number None found = tt
+
+    edge_replayed : (o : Option ℕ) → IfSome o (λ x. IsFoundAt belongs (λ m. (part m).edge e) now.machines.items (λ st a. is_owner_with st a v e) x) →
         IfSome o (λ x. (st : Setting) → StartIn belongs part start.machines.items st → (order : List Entry) → IsOrderSince part st start now order →
-        AllHaveHeard (world_of_parts part st now) → x ≡ (replay_of st order).edge e)
-    edge_replayed (Some x) found = λ st begin order since heard.
+        IsEndOf st v e → AllHaveHeard (world_of_parts part st now) → x ≡ (replay_of st order).edge e)
+    edge_replayed (Some x) found = λ st begin order since end heard.
         let w : World = world_of_parts part st now in
         let from : ℕ = from_owner st e in
         let to : ℕ = to_owner st e in
         let is = edge_found x found st begin in
-        let within : e < length st.graph.edges = ltb-true e (length st.graph.edges) is.0 in
+        let within : e < length st.graph.edges = ltb-true e (length st.graph.edges) (and_parts (nat_lt v (size st.graph)) (nat_lt e (length st.graph.edges)) is.0).1 in
         let from_comes : edge_to_come w e from to ≡ (w.part from).edge e = edge_quiet e (way w to from) ((w.part from).edge e) (heard to from) in
         let to_comes : edge_to_come w e to from ≡ (w.part to).edge e = edge_quiet e (way w from to) ((w.part to).edge e) (heard from to) in
         let agree : edge_to_come w e from to ≡ edge_to_come w e to from = (kept.going st begin).gone.next.copies.edges_agree e within in
         ⊎_elim
-        (λ (at : x ≡ (w.part from).edge e). at ∙ sym from_comes ∙ since.edges e within)
-        (λ (at : x ≡ (w.part to).edge e). at ∙ sym to_comes ∙ sym agree ∙ since.edges e within)
-        is.1
+        (λ (at : v ≡ (nth_edge st e).from). is.1 ∙ ap (λ (u : ℕ). (w.part (st.owner u)).edge e) at ∙ sym from_comes ∙ since.edges e within)
+        (λ (at : v ≡ (nth_edge st e).to). is.1 ∙ ap (λ (u : ℕ). (w.part (st.owner u)).edge e) at ∙ sym to_comes ∙ sym agree ∙ since.edges e within)
+        end
     edge_replayed None found = tt
 
   -- ---- tasks
@@ -251,21 +251,27 @@ module _ {M : Type 0} (belongs : Setting → ℕ → M → Type 0) (part : M →
         subst (λ (c : ClusterView M). IfSome o (λ x. (st : Setting) → StartIn belongs part c.start.machines.items st → (order : List Entry) → IsOrderSince part st c.start c.now order → x ≡ (replay_of st order).vertex v)) seen
         (value_replayed belongs part earlier start now kept v o found_v)
 
-  module _ (e : ℕ) (machines : List M) (same : machines ≡ now.machines.items) (o : Option ℕ) (found : IfSome o (λ x. IsFoundAt belongs (λ m. (part m).edge e) machines (λ st a. is_owner_at st a e) x)) where
-    found_e : IfSome o (λ x. IsFoundAt belongs (λ m. (part m).edge e) now.machines.items (λ st a. is_owner_at st a e) x)
-    found_e = subst (λ (ms : List M). IfSome o (λ x. IsFoundAt belongs (λ m. (part m).edge e) ms (λ st a. is_owner_at st a e) x)) same found
+  module _ (v e : ℕ) (machines : List M) (same : machines ≡ now.machines.items) (o : Option ℕ) (found : IfSome o (λ x. IsFoundAt belongs (λ m. (part m).edge e) machines (λ st a. is_owner_with st a v e) x)) where
+    found_e : IfSome o (λ x. IsFoundAt belongs (λ m. (part m).edge e) now.machines.items (λ st a. is_owner_with st a v e) x)
+    found_e = subst (λ (ms : List M). IfSome o (λ x. IsFoundAt belongs (λ m. (part m).edge e) ms (λ st a. is_owner_with st a v e) x)) same found
 
-    pub edge_some_seen : IfNone o (NoneSays belongs machines (λ st a. is_owner_at st a e)) → (st : Setting) → StartIn belongs part view.start.machines.items st → is_some o ≡ nat_lt e (length st.graph.edges)
+    pub edge_some_seen : IfNone o (NoneSays belongs machines (λ st a. is_owner_with st a v e)) → (st : Setting) → StartIn belongs part view.start.machines.items st →
+        is_some o ≡ (nat_lt v (size st.graph) && nat_lt e (length st.graph.edges))
     edge_some_seen none =
-        subst (λ (c : ClusterView M). (st : Setting) → StartIn belongs part c.start.machines.items st → is_some o ≡ nat_lt e (length st.graph.edges)) seen
-        (edge_some belongs part earlier start now kept e o found_e (subst (λ (ms : List M). IfNone o (NoneSays belongs ms (λ st a. is_owner_at st a e))) same none))
+        subst (λ (c : ClusterView M). (st : Setting) → StartIn belongs part c.start.machines.items st → is_some o ≡ (nat_lt v (size st.graph) && nat_lt e (length st.graph.edges))) seen
+        (edge_some belongs part earlier start now kept v e o found_e (subst (λ (ms : List M). IfNone o (NoneSays belongs ms (λ st a. is_owner_with st a v e))) same none))
+
+    pub edge_number_seen : IfSome o (λ x. (st : Setting) → StartIn belongs part view.start.machines.items st → x ≡ (part_of_machine part st view.now.machines.items (st.owner v)).edge e)
+    edge_number_seen =
+        subst (λ (c : ClusterView M). IfSome o (λ x. (st : Setting) → StartIn belongs part c.start.machines.items st → x ≡ (part_of_machine part st c.now.machines.items (st.owner v)).edge e)) seen
+        (edge_number belongs part earlier start now kept v e o found_e)
 
     pub edge_replayed_seen : IfSome o (λ x. (st : Setting) → StartIn belongs part view.start.machines.items st → (order : List Entry) → IsOrderSince part st view.start view.now order →
-        AllHaveHeard (world_of_parts part st view.now) → x ≡ (replay_of st order).edge e)
+        IsEndOf st v e → AllHaveHeard (world_of_parts part st view.now) → x ≡ (replay_of st order).edge e)
     edge_replayed_seen =
         subst (λ (c : ClusterView M). IfSome o (λ x. (st : Setting) → StartIn belongs part c.start.machines.items st → (order : List Entry) → IsOrderSince part st c.start c.now order →
-        AllHaveHeard (world_of_parts part st c.now) → x ≡ (replay_of st order).edge e)) seen
-        (edge_replayed belongs part earlier start now kept e o found_e)
+        IsEndOf st v e → AllHaveHeard (world_of_parts part st c.now) → x ≡ (replay_of st order).edge e)) seen
+        (edge_replayed belongs part earlier start now kept v e o found_e)
 
   module _ (machines : List M) (same : machines ≡ now.machines.items) (o : Option Vertex) where
     none_now : IfNone o (All (λ m. (u : ℕ) → (part m).task u ≡ false) machines) → IfNone o (All (λ m. (u : ℕ) → (part m).task u ≡ false) now.machines.items)

@@ -7,12 +7,13 @@ use Rattle.gl_base.specs.declared.entries.Entry.{Entry}
 use Rattle.gl_base.specs.declared.scopes.ScopeId.{ScopeId}
 use Rattle.cluster_core.specs.Copies.{agreed, from_owner, to_owner}
 use Rattle.cluster_core.specs.Messages.{Ask, Done, Message, Ready}
-use Rattle.cluster_core.specs.Replays.{IsFresh, IsTask, entries_of, replay_of, tasks_of}
+pub use Rattle.cluster_core.specs.Replays.{IsFresh, IsTask, entries_of, replay_of, tasks_of}
+pub use Rattle.cluster_core.specs.Runs.{IsStart}
+pub use Rattle.graph_core.specs.DataGraph.{size}
 use Rattle.cluster_core.specs.Scopes.{takes_part}
-use Rattle.cluster_core.specs.Settings.{Locking}
+use Rattle.cluster_core.specs.Settings.{Locking, nth_edge}
 use Rattle.cluster_core.specs.Worlds.{way}
 use Rattle.cluster_cuts.specs.Goings.{AreUpdatesFrom, IsByOwner}
-use Rattle.graph_core.specs.DataGraph.{size}
 use Rattle.seq_run.specs.Orders.{IsValidFrom, all_tasks}
 use Rattle.cluster_step.specs.declared.events.Event.{Event}
 use Rattle.cluster_step.specs.declared.events.Event.TheVariants.{Admit, Deliver, Grant, Send, Update}
@@ -71,6 +72,10 @@ WasFresh st w order (Admit a) = ⊤
 WasFresh st w order (Grant a x) = ⊤
 WasFresh st w order (Send p q) = ⊤
 WasFresh st w order (Deliver p q) = ⊤
+
+-- v is an end of edge e
+abbrev pub IsEndOf : Setting → ℕ → ℕ → Type 0
+IsEndOf st v e = (v ≡ (nth_edge st e).from) ⊎ (v ≡ (nth_edge st e).to)
 
 -- word of an update
 abbrev pub is_word_of_update : Message → Bool

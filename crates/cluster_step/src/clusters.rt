@@ -1,14 +1,12 @@
 //! A cluster on one thread.
-ghost use Rattle.std.specs.Prelude.{◌≡◌, ℕ, ◌+◌, ◌^◌, ◌<◌, [], false, length, is_some, nat_lt, IfOk, OnOk, OnErr, IfSome, IfNone, IsErrOf, List, true};
+ghost use Rattle.std.specs.Prelude.{◌≡◌, ℕ, ◌+◌, ◌^◌, ◌<◌, ◌&&◌, [], false, length, is_some, nat_lt, IfOk, OnOk, OnErr, IfSome, IfNone, IsErrOf, List, true};
 ghost use Rattle.gl_base.specs.declared.entries.Entry.{Entry};
-ghost use Rattle.cluster_core.specs.Replays.{replay_of, tasks_of};
-ghost use Rattle.cluster_core.specs.Runs.{IsStart};
-ghost use Rattle.graph_core.specs.DataGraph.{size};
 ghost use Rattle.cluster_step.specs.Links.{told_on};
 ghost use Rattle.cluster_step.specs.Worlds.{Setting, earlier_at, part_of_machine, world_of_parts};
 ghost use Rattle.cluster_step.specs.Events.{NamesMachinesOf, MakesEvent, CanMakeEvent, CanNotMakeEvent, HoldTheSame};
-ghost use Rattle.cluster_step.specs.Starts.{StartIn, IsOrderSince, WasFresh, AllHaveHeard};
-ghost use Rattle.cluster_step.specs.Inner.Asking.{IsFoundAt, NoneSays, HasTaskAt, is_owner_of, is_owner_at};
+ghost use Rattle.cluster_step.specs.Starts.{StartIn, IsOrderSince, IsStart, IsEndOf, WasFresh, AllHaveHeard, replay_of, tasks_of, size};
+ghost use Rattle.cluster_step.specs.Clusters.{InEachSetting, OfTheOrder};
+ghost use Rattle.cluster_step.specs.Inner.Asking.{IsFoundAt, NoneSays, HasTaskAt, is_owner_of, is_owner_with};
 ghost use Rattle.std.specs.List.{All};
 
 use crate::events::Event;
@@ -54,7 +52,7 @@ impl<M: ClusterMachine> Cluster<M> {
         ensures none { IfOk result (λ c. (p q : ℕ) → told_on c.now.links p q ≡ []) }
         ensures began { IfOk result (λ c. c.start ≡ c.now) }
         // It is a start of the law, in each setting in which the machines start.
-        ensures start { IfOk result (λ c. (st : Setting) → StartIn M.belongs M.part machines.items st → IsStart st (world_of_parts M.part st c.now)) }
+        ensures start { IfOk result (λ c. InEachSetting M.belongs M.part c (λ st. IsStart st (world_of_parts M.part st c.now))) }
     {
         let links = Links::new(alloc, machines.len())?;
         let parts = Parts {
@@ -74,8 +72,7 @@ impl<M: ClusterMachine> Cluster<M> {
         ensures not_now { IsErrOf result Refused.NotNow → CanNotMakeEvent (StartIn M.belongs M.part self.old.start.machines.items) M.part self.old.now event }
         ensures no_memory { IsErrOf result Refused.NoMemory → CanMakeEvent (StartIn M.belongs M.part self.old.start.machines.items) M.part self.old.now event }
         ensures unchanged { OnErr result (HoldTheSame M.part self.old.now self.new.now) }
-        ensures fresh { OnOk result ((st : Setting) → StartIn M.belongs M.part self.old.start.machines.items st →
-            (order : List Entry) → IsOrderSince M.part st self.old.start self.old.now order → WasFresh st (world_of_parts M.part st self.old.now) order event) }
+        ensures fresh { OnOk result (OfTheOrder M.belongs M.part self.old (λ st order. WasFresh st (world_of_parts M.part st self.old.now) order event)) }
         ensures start { self.new.start ≡ self.old.start }
         ensures machines { length self.new.now.machines.items ≡ length self.old.now.machines.items }
     {
@@ -107,8 +104,7 @@ impl<M: ClusterMachine> Cluster<M> {
     pub fn log(&self, m: MachineNo) -> &[Entry]
         requires { m.0 < length self.now.now.machines.items }
         ensures log { (st : Setting) → result.now ≡ (part_of_machine M.part st self.now.now.machines.items m.0).log }
-        ensures serial { (st : Setting) → StartIn M.belongs M.part self.now.start.machines.items st →
-            (order : List Entry) × IsOrderSince M.part st self.now.start self.now.now order }
+        ensures serial { InEachSetting M.belongs M.part self.now (λ st. (order : List Entry) × IsOrderSince M.part st self.now.start self.now.now order) }
     {
         self.parts.machines[m.0 as usize].log()
     }
@@ -123,24 +119,22 @@ impl<M: ClusterMachine> Cluster<M> {
 
     /// The number of a vertex; `None` exactly where the graph has no such vertex. It asks each machine in turn.
     pub fn value(&self, v: Vertex) -> Option<u64>
-        ensures some { (st : Setting) → StartIn M.belongs M.part self.now.start.machines.items st → is_some result ≡ nat_lt v.0 (size st.graph) }
-        ensures number { IfSome result (λ x. (st : Setting) → StartIn M.belongs M.part self.now.start.machines.items st →
-            x ≡ ((part_of_machine M.part st self.now.now.machines.items (st.owner v.0)).datum v.0).value) }
-        ensures replayed { IfSome result (λ x. (st : Setting) → StartIn M.belongs M.part self.now.start.machines.items st →
-            (order : List Entry) → IsOrderSince M.part st self.now.start self.now.now order → x ≡ (replay_of st order).vertex v.0) }
+        ensures some { InEachSetting M.belongs M.part self.now (λ st. is_some result ≡ nat_lt v.0 (size st.graph)) }
+        ensures number { IfSome result (λ x. InEachSetting M.belongs M.part self.now (λ st. x ≡ ((part_of_machine M.part st self.now.now.machines.items (st.owner v.0)).datum v.0).value)) }
+        ensures replayed { IfSome result (λ x. OfTheOrder M.belongs M.part self.now (λ st order. x ≡ (replay_of st order).vertex v.0)) }
     {
         value_at(&self.parts.machines, v)
     }
 
-    /// The number of an edge, as the first machine that owns an end of it has it; `None` exactly where the graph has no such edge. It
-    /// asks each machine in turn. Once all machines have heard of all updates, it is that of the order.
-    pub fn edge(&self, e: EdgeNo) -> Option<u64>
-        ensures some { (st : Setting) → StartIn M.belongs M.part self.now.start.machines.items st → is_some result ≡ nat_lt e.0 (length st.graph.edges) }
-        ensures replayed { IfSome result (λ x. (st : Setting) → StartIn M.belongs M.part self.now.start.machines.items st →
-            (order : List Entry) → IsOrderSince M.part st self.now.start self.now.now order →
-            AllHaveHeard (world_of_parts M.part st self.now.now) → x ≡ (replay_of st order).edge e.0) }
+    /// The number of an edge, as the owner of this end of it has it; `None` exactly where the graph has no such vertex or no such
+    /// edge. It asks each machine in turn. Once all machines have heard of all updates, it is that of the order.
+    pub fn edge(&self, end: Vertex, e: EdgeNo) -> Option<u64>
+        ensures some { InEachSetting M.belongs M.part self.now (λ st. is_some result ≡ (nat_lt end.0 (size st.graph) && nat_lt e.0 (length st.graph.edges))) }
+        ensures number { IfSome result (λ x. InEachSetting M.belongs M.part self.now (λ st. x ≡ (part_of_machine M.part st self.now.now.machines.items (st.owner end.0)).edge e.0)) }
+        ensures replayed { IfSome result (λ x. OfTheOrder M.belongs M.part self.now (λ st order.
+            IsEndOf st end.0 e.0 → AllHaveHeard (world_of_parts M.part st self.now.now) → x ≡ (replay_of st order).edge e.0)) }
     {
-        edge_at(&self.parts.machines, e)
+        edge_at(&self.parts.machines, end, e)
     }
 
     /// A vertex that is a task of some machine; `None` exactly where none is. Once all machines have heard of all updates, the order
@@ -148,9 +142,8 @@ impl<M: ClusterMachine> Cluster<M> {
     pub fn task(&self) -> Option<Vertex>
         ensures some { IfSome result (λ v. (a : ℕ) × ((st : Setting) → (part_of_machine M.part st self.now.now.machines.items a).task v.0 ≡ true)) }
         ensures none { IfNone result ((st : Setting) (a u : ℕ) → (part_of_machine M.part st self.now.now.machines.items a).task u ≡ false) }
-        ensures finished { IfNone result ((st : Setting) → StartIn M.belongs M.part self.now.start.machines.items st →
-            (order : List Entry) → IsOrderSince M.part st self.now.start self.now.now order →
-            AllHaveHeard (world_of_parts M.part st self.now.now) → (u : ℕ) → u < size st.graph → tasks_of st order u ≡ false) }
+        ensures finished { IfNone result (OfTheOrder M.belongs M.part self.now (λ st order.
+            AllHaveHeard (world_of_parts M.part st self.now.now) → (u : ℕ) → u < size st.graph → tasks_of st order u ≡ false)) }
     {
         first_task(&self.parts.machines)
     }
@@ -169,13 +162,13 @@ fn value_at<M: ClusterMachine>(machines: &[M], v: Vertex) -> Option<u64>
     None
 }
 
-/// The number of an edge at the first machine that owns an end of it.
-fn edge_at<M: ClusterMachine>(machines: &[M], e: EdgeNo) -> Option<u64>
-    ensures found { IfSome result (λ x. IsFoundAt M.belongs (λ m. (M.part m).edge e.0) machines.now (λ st a. is_owner_at st a e.0) x) }
-    ensures none { IfNone result (NoneSays M.belongs machines.now (λ st a. is_owner_at st a e.0)) }
+/// The number of an edge at the machine that owns this end of it.
+fn edge_at<M: ClusterMachine>(machines: &[M], end: Vertex, e: EdgeNo) -> Option<u64>
+    ensures found { IfSome result (λ x. IsFoundAt M.belongs (λ m. (M.part m).edge e.0) machines.now (λ st a. is_owner_with st a end.0 e.0) x) }
+    ensures none { IfNone result (NoneSays M.belongs machines.now (λ st a. is_owner_with st a end.0 e.0)) }
 {
     for machine in machines {
-        if let Some(number) = machine.edge(e) {
+        if let Some(number) = machine.edge(end, e) {
             return Some(number);
         }
     }

@@ -21,7 +21,7 @@ pub struct Parts<M> {
 
 impl<M: ClusterMachine> Parts<M> {
     /// The event happens, where it may happen now.
-    pub fn make(&mut self, event: Event) -> Result<(), Refused>
+    pub(crate) fn make(&mut self, event: Event) -> Result<(), Refused>
         requires within { NamesMachinesOf (length self.old.machines.items) event }
         requires links { HaveLinks self.old.links (length self.old.machines.items) }
         requires few { self.old.next + self.old.left < 2 ^ 64 }

@@ -1,5 +1,5 @@
 -- What is found where machines are asked in turn.
-pub use Rattle.cluster_machines.specs.Promises.{SaysWhether, is_owner_at, is_owner_of}
+pub use Rattle.cluster_machines.specs.Promises.{SaysWhether, is_owner_of, is_owner_with}
 use Rattle.std.specs.List.{All}
 use Rattle.std.specs.Prelude.{Bool, List, Some, false, slice_get, true, ℕ, ◌≡◌}
 use Rattle.cluster_step.specs.Worlds.{Part, Setting}

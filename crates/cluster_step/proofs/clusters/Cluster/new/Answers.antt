@@ -2,6 +2,7 @@
 use Rattle.std.proofs.Common.{◌≡◌, ℕ, List, [], length, map, sym, ap, ◌∙◌, subst}
 use Rattle.cluster_step.specs.Events.{HaveLinks}
 use Rattle.cluster_step.specs.Inner.Going.{IsKept}
+use Rattle.cluster_step.specs.Starts.{StartIn}
 use Rattle.cluster_step.specs.Links.{LinkView, message_read, told_on}
 use Rattle.cluster_step.proofs.KeptLemmas.{kept_new}
 use Rattle.cluster_step.proofs.LinkLemmas.{have_links, nothing_told}
@@ -18,4 +19,5 @@ invariant_of-result g c =
 
 pub returns-clause-start : goal.returns-clause-start
 returns-clause-start g c st begin =
-    world_starts g.M.ClusterMachine.belongs g.M.ClusterMachine.part (record { machines = c.args.machines; links = c.in_ok-links.links; next = c.args.next; left = c.args.left }) st begin (nothing_told c.in_ok-links.links c.in_ok-links.ensures.none)
+    world_starts g.M.ClusterMachine.belongs g.M.ClusterMachine.part (record { machines = c.args.machines; links = c.in_ok-links.links; next = c.args.next; left = c.args.left }) st
+    (subst (λ start. StartIn g.M.ClusterMachine.belongs g.M.ClusterMachine.part start.machines.items st) c.of-start.ensures begin) (nothing_told c.in_ok-links.links c.in_ok-links.ensures.none)
