@@ -18,9 +18,12 @@ use Rattle.cluster_core.specs.Settings.{Setting}
 use Rattle.cluster_core.specs.Worlds.{World, with_part, with_link}
 use Rattle.cluster_numbers.proofs.Keeping.{updates_is}
 use Rattle.cluster_machines.specs.Promises.{AdmitsNone, AdmitsSome, GrantsIt, GrantsNot, IsAdmission, IsGrant, IsSameMachine, IsUpdate, MakesAdmission, MakesGrant, MakesUpdate}
-use Rattle.cluster_step.specs.Links.{LinkView, HasLinkBetween, told_on}
+use Rattle.cluster_step.specs.Inner.Writing.{HasLinkBetween}
+use Rattle.cluster_step.specs.Links.{LinkView, told_on}
 use Rattle.cluster_step.specs.Worlds.{part_of_machine, world_of_parts}
-use Rattle.cluster_step.specs.Events.{CanGoOn, CanMakeEvent, CanNotMakeEvent, Happens, HaveLinks, HoldTheSame, IsSameCluster, MakesEvent, MayComeAbout}
+use Rattle.cluster_step.specs.Inner.Writing.{HaveLinks}
+use Rattle.cluster_step.specs.Inner.Steps.{CanGoOn, IsSameCluster}
+use Rattle.cluster_step.specs.Events.{CanMakeEvent, CanNotMakeEvent, Happens, HoldTheSame, MakesEvent, MayComeAbout}
 use Rattle.cluster_step.specs.declared.events.Event.TheVariants.{Admit, Grant, Send, Deliver, Update}
 use Rattle.cluster_step.specs.declared.parts.Parts.{Parts}
 use Rattle.cluster_step.proofs.WorldLemmas.{ChangesOneWay, changes_one, changes_none, earlier_stays, machines_stay, part_here, part_kept, part_set}

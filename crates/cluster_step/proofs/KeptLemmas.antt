@@ -14,7 +14,9 @@ use Rattle.cluster_core.specs.Settings.{Setting}
 use Rattle.cluster_core.specs.Worlds.{World}
 use Rattle.cluster_step.specs.Links.{told_on}
 use Rattle.cluster_step.specs.Worlds.{world_of_parts}
-use Rattle.cluster_step.specs.Events.{CanGoOn, CanMakeEvent, CanNotMakeEvent, Happens, HaveLinks, HoldTheSame, IsSameCluster, MakesEvent}
+use Rattle.cluster_step.specs.Inner.Writing.{HaveLinks}
+use Rattle.cluster_step.specs.Inner.Steps.{CanGoOn, IsSameCluster}
+use Rattle.cluster_step.specs.Events.{CanMakeEvent, CanNotMakeEvent, Happens, HoldTheSame, MakesEvent}
 use Rattle.cluster_step.specs.Inner.Going.{IsGoingOn, IsKept}
 use Rattle.cluster_step.specs.Clusters.{ClusterView}
 use Rattle.cluster_step.specs.Starts.{IsOrderSince, StartIn, WasFresh}

@@ -2,8 +2,9 @@
 use Rattle.std.proofs.Common.{◌≡◌, ℕ, zero, suc, ◌<◌, List, [], ◌∷◌, ◌++◌, length, map, set, get_or, sym, refl, ap, ◌∙◌, subst, arith, get_or-set_same}
 use Rattle.std.proofs.lemmas.List.{get_or-map, get_or_default, length-map, map-set}
 use Rattle.std.specs.List.{All}
-use Rattle.cluster_step.specs.Links.{LinkView, empty_link, link_between, with_link_between, HasLinkBetween, message_read, told_on}
-use Rattle.cluster_step.specs.Events.{HaveLinks}
+use Rattle.cluster_step.specs.Inner.Writing.{with_link_between, HasLinkBetween}
+use Rattle.cluster_step.specs.Links.{LinkView, empty_link, link_between, message_read, told_on}
+use Rattle.cluster_step.specs.Inner.Writing.{HaveLinks}
 
 -- a row of links is read as `items` says
 module _ {R : Type 0} (rows : List R) (items : R → List LinkView) (old : List (List LinkView)) (view : map items rows ≡ old) (p q : ℕ) (has : HasLinkBetween old p q) where

@@ -12,9 +12,11 @@ use Rattle.cluster_core.proofs.Basics.{set_at-same, set_at-other}
 use Rattle.cluster_machines.specs.Promises.{IsSameMachine}
 use Rattle.wire_msgs.specs.declared.messages.Message.{Message as Sent}
 use Rattle.cluster_machines.specs.Told.{told_by}
-use Rattle.cluster_step.specs.Links.{LinkView, MessageView, behind_first, empty_link, link_between, with_link_between, HasLinkBetween, message_read, message_view, told_on}
-use Rattle.cluster_step.specs.Worlds.{part_of_machine, no_part, world_of_parts, AreMachinesOf, earlier_at}
-use Rattle.cluster_step.specs.Events.{HaveLinks}
+use Rattle.cluster_step.specs.Inner.Writing.{behind_first, with_link_between, HasLinkBetween}
+use Rattle.cluster_step.specs.Links.{LinkView, MessageView, empty_link, link_between, message_read, message_view, told_on}
+use Rattle.cluster_step.specs.Inner.Steps.{AreMachinesOf}
+use Rattle.cluster_step.specs.Worlds.{part_of_machine, no_part, world_of_parts, earlier_at}
+use Rattle.cluster_step.specs.Inner.Writing.{HaveLinks}
 
 -- ---- lists that are written at one place
 

@@ -1,13 +1,9 @@
 -- The events of a cluster, as actions of the cluster's law.
 pub use Rattle.cluster_core.specs.Actions.{Action, IsActionStep, MayHappen}
-pub use Rattle.cluster_core.specs.Receiving.{MayReceive}
-pub use Rattle.cluster_core.specs.Settings.{IsSetting}
-pub use Rattle.cluster_machines.specs.Promises.{IsAsExpected}
-use Rattle.std.specs.Prelude.{List, false, length, slice_index_or, [], ℕ, ◌+◌, ◌<◌, ◌∷◌, ◌≡◌}
+use Rattle.std.specs.Prelude.{false, ℕ, ◌<◌, ◌≡◌}
 use Rattle.cluster_core.specs.Actions as law
-use Rattle.cluster_core.specs.Messages.{Message}
-use Rattle.cluster_step.specs.Links.{LinkView}
-use Rattle.cluster_step.specs.Worlds.{AreMachinesOf, Part, Setting, World, earlier_at, world_of_parts}
+use Rattle.cluster_step.specs.Inner.Steps.{AreMachinesOf}
+use Rattle.cluster_step.specs.Worlds.{Part, Setting, World, world_of_parts}
 use Rattle.cluster_step.specs.declared.events.Event.{Event}
 use Rattle.cluster_step.specs.declared.events.Event.TheVariants.{Admit, Deliver, Grant, Send, Update}
 use Rattle.cluster_step.specs.declared.parts.Parts.{Parts}
@@ -55,28 +51,3 @@ CanNotMakeEvent among part old event = (st : Setting) → among st → st.stored
 -- the world is the same
 abbrev pub HoldTheSame : {M : Type 0} → (M → Part) → Parts M → Parts M → Type 0
 HoldTheSame part old new = (st : Setting) → world_of_parts part st new ≡ world_of_parts part st old
-
--- ---- what each event asks of machines and links, and leaves
-
--- there is a link from each machine to each one
-pub record HaveLinks (links : List (List LinkView)) (n : ℕ) : Type 0 where
-  pub rows : length links ≡ n
-  pub columns : (p : ℕ) → p < n → length (slice_index_or links p []) ≡ n
-
--- the machines belong to the setting, and the first message of each link may be received
-pub record CanGoOn {M : Type 0} (belongs : Setting → ℕ → M → Type 0) (part : M → Part) (p : Parts M) (st : Setting) : Type 0 where
-  pub is : IsSetting st
-  pub machines : AreMachinesOf belongs st p.machines.items
-  pub fronts : (a b : ℕ) (m : Message) (behind : List Message) → (world_of_parts part st p).link a b ≡ m ∷ behind →
-      MayReceive st a b ((world_of_parts part st p).part b) m
-  pub expected : (a b : ℕ) (m : Message) (behind : List Message) → (world_of_parts part st p).link a b ≡ m ∷ behind →
-      IsAsExpected st b ((world_of_parts part st p).part b) m
-
--- there are as many machines, tickets and links; the machines belong to the settings to which they belonged, and their logs begin
--- where they began
-pub record IsSameCluster {M : Type 0} (belongs : Setting → ℕ → M → Type 0) (earlier : M → ℕ) (old new : Parts M) : Type 0 where
-  pub many : length new.machines.items ≡ length old.machines.items
-  pub settings : (st : Setting) → AreMachinesOf belongs st old.machines.items → AreMachinesOf belongs st new.machines.items
-  pub before : (a : ℕ) → earlier_at earlier new.machines.items a ≡ earlier_at earlier old.machines.items a
-  pub links : (n : ℕ) → HaveLinks old.links n → HaveLinks new.links n
-  pub tickets : new.next + new.left ≡ old.next + old.left

@@ -1,17 +1,12 @@
 -- The links between machines, as plain lists.
 pub use Rattle.cluster_machines.specs.Told.{MessageView, message_view, message_read}
-use Rattle.std.specs.Prelude.{List, [], length, map, slice_index_or, slice_set, ℕ, ◌<◌, ◌∷◌}
+use Rattle.std.specs.Prelude.{List, [], map, slice_index_or, ℕ}
 use Rattle.cluster_core.specs.Messages.{Message}
 
 -- The messages on a link, the first first, and for how many more there is room.
 pub record LinkView : Type 0 where
   pub messages : List MessageView
   pub room : ℕ
-
--- what is left without the first
-abbrev pub behind_first : List MessageView → List MessageView
-behind_first [] = []
-behind_first (m ∷ behind) = behind
 
 -- no link
 abbrev pub empty_link : LinkView
@@ -20,15 +15,6 @@ empty_link = record { messages = []; room = 0 }
 -- the link from p to q, where each machine has a list of the links from it
 abbrev pub link_between : List (List LinkView) → ℕ → ℕ → LinkView
 link_between links p q = slice_index_or (slice_index_or links p []) q empty_link
-
--- the link from p to q is this one
-abbrev pub with_link_between : List (List LinkView) → ℕ → ℕ → LinkView → List (List LinkView)
-with_link_between links p q link = slice_set links p (slice_set (slice_index_or links p []) q link)
-
--- there is a link from p to q
-pub record HasLinkBetween (links : List (List LinkView)) (p q : ℕ) : Type 0 where
-  pub from : p < length links
-  pub to : q < length (slice_index_or links p [])
 
 -- what the messages on the link from p to q tell
 abbrev pub told_on : List (List LinkView) → ℕ → ℕ → List Message

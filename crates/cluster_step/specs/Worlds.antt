@@ -1,7 +1,7 @@
 -- A cluster's machines and links, and the world of the cluster's law that they stand for.
 pub use Rattle.cluster_machines.specs.Promises.{Part, Setting}
 pub use Rattle.cluster_core.specs.Worlds.{World}
-use Rattle.std.specs.Prelude.{List, None, [], false, map, slice_get, slice_index_or, true, ℕ, Some, ◌≡◌}
+use Rattle.std.specs.Prelude.{List, None, [], false, map, slice_index_or, true, ℕ}
 use Rattle.cluster_core.specs.Effects.{nothing_saved}
 use Rattle.cluster_step.specs.Links.{told_on}
 use Rattle.cluster_step.specs.declared.parts.Parts.{Parts}
@@ -48,10 +48,6 @@ world_of_parts part st p =
       reports = λ a. [];
       collected = λ a. None;
     }
-
--- each of them belongs to the setting, as the machine of its place
-abbrev pub AreMachinesOf : {M : Type 0} → (Setting → ℕ → M → Type 0) → Setting → List M → Type 0
-AreMachinesOf {M} belongs st machines = (a : ℕ) (m : M) → slice_get machines a ≡ Some m → belongs st a m
 
 -- how many updates machine a had made before its log begins
 abbrev pub earlier_at : {M : Type 0} → (M → ℕ) → List M → ℕ → ℕ

@@ -2,10 +2,10 @@
 ghost use Rattle.std.specs.Prelude.{◌≡◌, ℕ, ◌+◌, ◌^◌, ◌<◌, ◌&&◌, [], false, length, is_some, nat_lt, IfOk, OnOk, OnErr, IfSome, IfNone, IsErrOf, List, true};
 ghost use Rattle.gl_base.specs.declared.entries.Entry.{Entry};
 ghost use Rattle.cluster_step.specs.Links.{told_on};
-ghost use Rattle.cluster_step.specs.Worlds.{Setting, earlier_at, part_of_machine, world_of_parts};
+ghost use Rattle.cluster_step.specs.Worlds.{Setting, earlier_at};
 ghost use Rattle.cluster_step.specs.Events.{NamesMachinesOf, MakesEvent, CanMakeEvent, CanNotMakeEvent, HoldTheSame};
 ghost use Rattle.cluster_step.specs.Starts.{StartIn, IsOrderSince, IsStart, IsEndOf, WasFresh, AllHaveHeard, replay_of, tasks_of, size};
-ghost use Rattle.cluster_step.specs.Clusters.{InEachSetting, OfTheOrder};
+ghost use Rattle.cluster_step.specs.Clusters.{InEachSetting, OfTheOrder, part_now, world_now};
 ghost use Rattle.cluster_step.specs.Inner.Asking.{IsFoundAt, NoneSays, HasTaskAt, is_owner_of, is_owner_with};
 ghost use Rattle.std.specs.List.{All};
 
@@ -52,7 +52,7 @@ impl<M: ClusterMachine> Cluster<M> {
         ensures none { IfOk result (λ c. (p q : ℕ) → told_on c.now.links p q ≡ []) }
         ensures began { IfOk result (λ c. c.start ≡ c.now) }
         // It is a start of the law, in each setting in which the machines start.
-        ensures start { IfOk result (λ c. InEachSetting M.belongs M.part c (λ st. IsStart st (world_of_parts M.part st c.now))) }
+        ensures start { IfOk result (λ c. InEachSetting M.belongs M.part c (λ st. IsStart st (world_now M.part st c))) }
     {
         let links = Links::new(alloc, machines.len())?;
         let parts = Parts {
@@ -72,7 +72,7 @@ impl<M: ClusterMachine> Cluster<M> {
         ensures not_now { IsErrOf result Refused.NotNow → CanNotMakeEvent (StartIn M.belongs M.part self.old.start.machines.items) M.part self.old.now event }
         ensures no_memory { IsErrOf result Refused.NoMemory → CanMakeEvent (StartIn M.belongs M.part self.old.start.machines.items) M.part self.old.now event }
         ensures unchanged { OnErr result (HoldTheSame M.part self.old.now self.new.now) }
-        ensures fresh { OnOk result (OfTheOrder M.belongs M.part self.old (λ st order. WasFresh st (world_of_parts M.part st self.old.now) order event)) }
+        ensures fresh { OnOk result (OfTheOrder M.belongs M.part self.old (λ st order. WasFresh st (world_now M.part st self.old) order event)) }
         ensures start { self.new.start ≡ self.old.start }
         ensures machines { length self.new.now.machines.items ≡ length self.old.now.machines.items }
     {
@@ -103,7 +103,7 @@ impl<M: ClusterMachine> Cluster<M> {
     /// The updates that a machine has made, by ticket. All logs together are the parts of one order.
     pub fn log(&self, m: MachineNo) -> &[Entry]
         requires { m.0 < length self.now.now.machines.items }
-        ensures log { (st : Setting) → result.now ≡ (part_of_machine M.part st self.now.now.machines.items m.0).log }
+        ensures log { (st : Setting) → result.now ≡ (part_now M.part st self.now m.0).log }
         ensures serial { InEachSetting M.belongs M.part self.now (λ st. (order : List Entry) × IsOrderSince M.part st self.now.start self.now.now order) }
     {
         self.parts.machines[m.0 as usize].log()
@@ -112,7 +112,7 @@ impl<M: ClusterMachine> Cluster<M> {
     /// How many updates a machine has made.
     pub fn completed(&self, m: MachineNo) -> u64
         requires { m.0 < length self.now.now.machines.items }
-        ensures { (st : Setting) → result ≡ earlier_at M.earlier self.now.start.machines.items m.0 + length (part_of_machine M.part st self.now.now.machines.items m.0).log }
+        ensures { (st : Setting) → result ≡ earlier_at M.earlier self.now.start.machines.items m.0 + length (part_now M.part st self.now m.0).log }
     {
         self.parts.machines[m.0 as usize].completed()
     }
@@ -120,7 +120,7 @@ impl<M: ClusterMachine> Cluster<M> {
     /// The number of a vertex; `None` exactly where the graph has no such vertex. It asks each machine in turn.
     pub fn value(&self, v: Vertex) -> Option<u64>
         ensures some { InEachSetting M.belongs M.part self.now (λ st. is_some result ≡ nat_lt v.0 (size st.graph)) }
-        ensures number { IfSome result (λ x. InEachSetting M.belongs M.part self.now (λ st. x ≡ ((part_of_machine M.part st self.now.now.machines.items (st.owner v.0)).datum v.0).value)) }
+        ensures number { IfSome result (λ x. InEachSetting M.belongs M.part self.now (λ st. x ≡ ((part_now M.part st self.now (st.owner v.0)).datum v.0).value)) }
         ensures replayed { IfSome result (λ x. OfTheOrder M.belongs M.part self.now (λ st order. x ≡ (replay_of st order).vertex v.0)) }
     {
         value_at(&self.parts.machines, v)
@@ -130,9 +130,9 @@ impl<M: ClusterMachine> Cluster<M> {
     /// edge. It asks each machine in turn. Once all machines have heard of all updates, it is that of the order.
     pub fn edge(&self, end: Vertex, e: EdgeNo) -> Option<u64>
         ensures some { InEachSetting M.belongs M.part self.now (λ st. is_some result ≡ (nat_lt end.0 (size st.graph) && nat_lt e.0 (length st.graph.edges))) }
-        ensures number { IfSome result (λ x. InEachSetting M.belongs M.part self.now (λ st. x ≡ (part_of_machine M.part st self.now.now.machines.items (st.owner end.0)).edge e.0)) }
+        ensures number { IfSome result (λ x. InEachSetting M.belongs M.part self.now (λ st. x ≡ (part_now M.part st self.now (st.owner end.0)).edge e.0)) }
         ensures replayed { IfSome result (λ x. OfTheOrder M.belongs M.part self.now (λ st order.
-            IsEndOf st end.0 e.0 → AllHaveHeard (world_of_parts M.part st self.now.now) → x ≡ (replay_of st order).edge e.0)) }
+            IsEndOf st end.0 e.0 → AllHaveHeard (world_now M.part st self.now) → x ≡ (replay_of st order).edge e.0)) }
     {
         edge_at(&self.parts.machines, end, e)
     }
@@ -140,10 +140,10 @@ impl<M: ClusterMachine> Cluster<M> {
     /// A vertex that is a task of some machine; `None` exactly where none is. Once all machines have heard of all updates, the order
     /// then leaves no task.
     pub fn task(&self) -> Option<Vertex>
-        ensures some { IfSome result (λ v. (a : ℕ) × ((st : Setting) → (part_of_machine M.part st self.now.now.machines.items a).task v.0 ≡ true)) }
-        ensures none { IfNone result ((st : Setting) (a u : ℕ) → (part_of_machine M.part st self.now.now.machines.items a).task u ≡ false) }
+        ensures some { IfSome result (λ v. (a : ℕ) × ((st : Setting) → (part_now M.part st self.now a).task v.0 ≡ true)) }
+        ensures none { IfNone result ((st : Setting) (a u : ℕ) → (part_now M.part st self.now a).task u ≡ false) }
         ensures finished { IfNone result (OfTheOrder M.belongs M.part self.now (λ st order.
-            AllHaveHeard (world_of_parts M.part st self.now.now) → (u : ℕ) → u < size st.graph → tasks_of st order u ≡ false)) }
+            AllHaveHeard (world_now M.part st self.now) → (u : ℕ) → u < size st.graph → tasks_of st order u ≡ false)) }
     {
         first_task(&self.parts.machines)
     }

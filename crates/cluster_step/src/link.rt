@@ -1,6 +1,7 @@
 //! What is on the way from one machine to another.
 ghost use Rattle.std.specs.Prelude.{◌≡◌, ◌<◌, ◌++◌, ◌∷◌, [], slice_get, option_map, OnSome, OnOk};
-ghost use Rattle.cluster_step.specs.Links.{message_view, behind_first};
+ghost use Rattle.cluster_step.specs.Inner.Writing.{behind_first};
+ghost use Rattle.cluster_step.specs.Links.{message_view};
 
 use gl_base::NoMemory;
 use std::alloc::Global;

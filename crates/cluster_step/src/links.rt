@@ -1,7 +1,8 @@
 //! The links between machines.
 ghost use Rattle.std.specs.Prelude.{◌≡◌, ℕ, ◌<◌, ◌++◌, ◌∷◌, [], length, slice_get, slice_index_or, option_map, OnOk, OnSome, IfOk};
 ghost use Rattle.std.specs.List.{All};
-ghost use Rattle.cluster_step.specs.Links.{LinkView, message_view, behind_first, link_between, with_link_between, HasLinkBetween};
+ghost use Rattle.cluster_step.specs.Inner.Writing.{behind_first, with_link_between, HasLinkBetween};
+ghost use Rattle.cluster_step.specs.Links.{LinkView, message_view, link_between};
 
 use crate::link::Link;
 use gl_base::{MachineNo, NoMemory};

@@ -1,8 +1,10 @@
 //! A cluster's machines, links and tickets.
 ghost use Rattle.std.specs.Prelude.{◌≡◌, ◌+◌, ◌^◌, ◌<◌, length, OnOk, OnErr, IsErrOf};
-ghost use Rattle.cluster_step.specs.Links.{HasLinkBetween};
+ghost use Rattle.cluster_step.specs.Inner.Writing.{HasLinkBetween};
 ghost use Rattle.cluster_step.specs.Worlds.{Setting};
-ghost use Rattle.cluster_step.specs.Events.{NamesMachinesOf, MakesEvent, CanMakeEvent, CanNotMakeEvent, HoldTheSame, HaveLinks, CanGoOn, IsSameCluster};
+ghost use Rattle.cluster_step.specs.Inner.Writing.{HaveLinks};
+ghost use Rattle.cluster_step.specs.Inner.Steps.{CanGoOn, IsSameCluster};
+ghost use Rattle.cluster_step.specs.Events.{NamesMachinesOf, MakesEvent, CanMakeEvent, CanNotMakeEvent, HoldTheSame};
 
 use crate::events::Event;
 use crate::links::Links;

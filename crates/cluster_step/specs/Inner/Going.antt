@@ -8,8 +8,9 @@ use Rattle.cluster_core.specs.Snapshots.{IsConsistent}
 use Rattle.cluster_core.specs.Stages.{Stage}
 use Rattle.cluster_core.specs.Worlds.{way}
 use Rattle.cluster_cuts.specs.Goings.{GoesOn}
-use Rattle.cluster_step.specs.Worlds.{AreMachinesOf, Part, Setting, World, earlier_at, world_of_parts}
-use Rattle.cluster_step.specs.Events.{HaveLinks}
+use Rattle.cluster_step.specs.Inner.Steps.{AreMachinesOf}
+use Rattle.cluster_step.specs.Worlds.{Part, Setting, World, earlier_at, world_of_parts}
+use Rattle.cluster_step.specs.Inner.Writing.{HaveLinks}
 use Rattle.cluster_step.specs.Starts.{StartIn}
 use Rattle.cluster_step.specs.declared.parts.Parts.{Parts}
 

@@ -1,6 +1,6 @@
 -- Machines that start, and links with nothing on them, are a start.
 use Rattle.std.proofs.Common.{◌≡◌, ℕ, List, [], length, map, sym, ap, ◌∙◌, subst}
-use Rattle.cluster_step.specs.Events.{HaveLinks}
+use Rattle.cluster_step.specs.Inner.Writing.{HaveLinks}
 use Rattle.cluster_step.specs.Inner.Going.{IsKept}
 use Rattle.cluster_step.specs.Starts.{StartIn}
 use Rattle.cluster_step.specs.Links.{LinkView, message_read, told_on}

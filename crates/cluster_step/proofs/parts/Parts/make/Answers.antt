@@ -1,6 +1,7 @@
 -- What the call of the arm promises is promised of the event.
 use Rattle.std.proofs.Common.{sym, subst}
-use Rattle.cluster_step.specs.Events.{CanGoOn, CanNotMakeEvent}
+use Rattle.cluster_step.specs.Inner.Steps.{CanGoOn}
+use Rattle.cluster_step.specs.Events.{CanNotMakeEvent}
 use Rattle.cluster_step.specs.declared.events.Event.{Event}
 use Rattle.cluster_step.proofs.parts.Parts.make.Goals as goal
 
