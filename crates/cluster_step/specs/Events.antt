@@ -1,6 +1,6 @@
 -- The events of a cluster, as actions of the cluster's law.
 pub use Rattle.cluster_core.specs.Actions.{Action, IsActionStep, MayHappen}
-use Rattle.std.specs.Prelude.{false, ℕ, ◌<◌, ◌≡◌}
+use Rattle.std.specs.Prelude.{false, ℕ, ⊤, ◌<◌, ◌≡◌}
 use Rattle.cluster_core.specs.Actions as law
 use Rattle.cluster_step.specs.Inner.Steps.{AreMachinesOf}
 use Rattle.cluster_step.specs.Worlds.{Part, Setting, World, world_of_parts}
@@ -36,6 +36,14 @@ pub record Happens (st : Setting) (old : World) (event : Event) (new : World) : 
   pub is : IsActionOf event action
   pub step : IsActionStep st old action new
 
+-- the guard of the law is the whole guard: where snapshots are taken, an admission may besides wait for the next one
+abbrev pub IsWholeGuard : Setting → Event → Type 0
+IsWholeGuard st (Admit a) = st.stored ≡ false
+IsWholeGuard st (Grant a x) = ⊤
+IsWholeGuard st (Send p q) = ⊤
+IsWholeGuard st (Deliver p q) = ⊤
+IsWholeGuard st (Update s) = ⊤
+
 -- ---- the same of machines and links, in each of these settings
 
 abbrev pub MakesEvent : {M : Type 0} → (Setting → Type 0) → (M → Part) → Parts M → Event → Parts M → Type 0
@@ -44,9 +52,8 @@ MakesEvent among part old event new = (st : Setting) → among st → Happens st
 abbrev pub CanMakeEvent : {M : Type 0} → (Setting → Type 0) → (M → Part) → Parts M → Event → Type 0
 CanMakeEvent among part old event = (st : Setting) → among st → MayComeAbout st (world_of_parts part st old) event
 
--- where no snapshots are taken
 abbrev pub CanNotMakeEvent : {M : Type 0} → (Setting → Type 0) → (M → Part) → Parts M → Event → Type 0
-CanNotMakeEvent among part old event = (st : Setting) → among st → st.stored ≡ false → ¬ MayComeAbout st (world_of_parts part st old) event
+CanNotMakeEvent among part old event = (st : Setting) → among st → IsWholeGuard st event → ¬ MayComeAbout st (world_of_parts part st old) event
 
 -- the world is the same
 abbrev pub HoldTheSame : {M : Type 0} → (M → Part) → Parts M → Parts M → Type 0
