@@ -1,5 +1,5 @@
 -- What a call of one machine makes of the cluster.
-use Rattle.std.proofs.Common.{◌≡◌, ◌⊎◌, ℕ, zero, suc, pred, ◌+◌, ◌-◌, ◌<◌, false, List, [], ◌∷◌, ◌++◌, length, map, get_or, Some, None, sym, refl, ap, ◌∙◌, subst, arith, add-one, sub-one, length-set, lit<}
+use Rattle.std.proofs.Common.{◌≡◌, ℕ, ◌+◌, ◌-◌, ◌<◌, List, [], ◌∷◌, ◌++◌, length, get_or, Some, None, sym, refl, ap, ◌∙◌, subst, arith, add-one, sub-one, length-set, lit<}
 use Rattle.std.specs.Prelude.{Result, Ok, Err, IsErr, IsErrAnd, IsErrOf, OnErr}
 use Rattle.std.specs.Vec.{with_item}
 use Rattle.std.proofs.lemmas.Option.{slice_get_read}
@@ -18,15 +18,14 @@ use Rattle.cluster_core.specs.Settings.{Setting}
 use Rattle.cluster_core.specs.Worlds.{World, with_part, with_link}
 use Rattle.cluster_numbers.proofs.Keeping.{updates_is}
 use Rattle.cluster_machines.specs.Promises.{AdmitsNone, AdmitsSome, GrantsIt, GrantsNot, IsAdmission, IsGrant, IsSameMachine, IsUpdate, MakesAdmission, MakesGrant, MakesUpdate}
-use Rattle.cluster_step.specs.Inner.Writing.{HasLinkBetween}
 use Rattle.cluster_step.specs.Links.{LinkView, told_on}
 use Rattle.cluster_step.specs.Worlds.{part_of_machine, world_of_parts}
 use Rattle.cluster_step.specs.Inner.Writing.{HaveLinks}
 use Rattle.cluster_step.specs.Inner.Steps.{CanGoOn, IsSameCluster}
-use Rattle.cluster_step.specs.Events.{CanMakeEvent, CanNotMakeEvent, Happens, HoldTheSame, MakesEvent, MayComeAbout}
+use Rattle.cluster_step.specs.Events.{CanMakeEvent, CanNotMakeEvent, HoldTheSame, MakesEvent}
 use Rattle.cluster_step.specs.declared.events.Event.TheVariants.{Admit, Grant, Send, Deliver, Update}
 use Rattle.cluster_step.specs.declared.parts.Parts.{Parts}
-use Rattle.cluster_step.proofs.WorldLemmas.{ChangesOneWay, changes_one, changes_none, earlier_stays, machines_stay, part_here, part_kept, part_set}
+use Rattle.cluster_step.proofs.WorldLemmas.{ChangesOneWay, changes_one, earlier_stays, machines_stay, part_here, part_kept, part_set}
 
 error_is : {X E : Type 0} (e x : E) → IsErrOf {T = X} (Err e) x → e ≡ x
 error_is e x is = cc

@@ -1,16 +1,16 @@
 -- A cluster goes on as the cluster's law says.
-use Rattle.std.proofs.Common.{◌≡◌, ◌⊎◌, ℕ, ◌+◌, ◌<◌, Bool, true, false, List, [], ◌∷◌, ◌++◌, length, ◌&&◌, sym, refl, ap, ap₂, ◌∙◌, subst, arith}
-use Rattle.std.specs.List.{AllByRecursion, list_any}
+use Rattle.std.proofs.Common.{◌≡◌, ℕ, Bool, List, [], ◌∷◌, ◌++◌, ◌&&◌, sym, refl, ap, ap₂, ◌∙◌, subst}
+use Rattle.std.specs.List.{AllByRecursion}
 use Rattle.gl_base.specs.declared.entries.Entry.{Entry}
 use Rattle.gl_base.specs.declared.scopes.ScopeId.{ScopeId}
-use Rattle.cluster_core.specs.Actions.{Action, MayHappen, MayUpdate, IsActionStep, after}
+use Rattle.cluster_core.specs.Actions.{Action, MayUpdate, IsActionStep, after}
 use Rattle.cluster_core.specs.Messages.{Ask, Done, Message, Ready}
 use Rattle.cluster_core.specs.Places.{IsExclusive}
 use Rattle.cluster_core.specs.Receiving.{MayReceive}
 use Rattle.cluster_core.specs.Replays.{IsFresh, IsReplay, replay_of}
 use Rattle.cluster_core.specs.Runs.{IsStart}
 use Rattle.cluster_core.specs.Settings.{Locking, Setting, IsSetting}
-use Rattle.cluster_core.specs.Snapshots.{IsConsistent, IsUnmarked}
+use Rattle.cluster_core.specs.Snapshots.{IsUnmarked}
 use Rattle.cluster_core.specs.Scopes.{mode_at}
 use Rattle.cluster_core.specs.Stages.{Asks, Ends, Idle, IsAsked, IsDone, some_if, tokens_of}
 use Rattle.cluster_core.specs.Worlds.{World, way}
@@ -23,7 +23,7 @@ use Rattle.cluster_places.proofs.Going.{asked_here}
 use Rattle.cluster_places.proofs.Seen.{asked_stage, done_stage}
 use Rattle.cluster_places.proofs.Standing.{shows_as, stage_as}
 use Rattle.cluster_places.proofs.PlacesKept.{action_keeps, start_placed}
-use Rattle.cluster_cuts.specs.Goings.{IsOneStep, GoesOn}
+use Rattle.cluster_cuts.specs.Goings.{IsOneStep}
 use Rattle.cluster_cuts.proofs.Beginning.{first_kept}
 use Rattle.cluster_cuts.proofs.CutsKept.{one_step}
 use Rattle.cluster_cuts.proofs.CutsGoOn.{goes_not, goes_then, step_goes}

@@ -1,5 +1,5 @@
 -- A cluster keeps what it keeps, whatever happens in it.
-use Rattle.std.proofs.Common.{◌≡◌, ℕ, suc, ◌+◌, ◌<◌, ◌≤◌, ◌^◌, le_of_eq, List, [], ◌∷◌, length, sym, refl, ap, ◌∙◌, subst, arith}
+use Rattle.std.proofs.Common.{◌≡◌, ℕ, suc, ◌+◌, ◌<◌, ◌≤◌, ◌^◌, le_of_eq, List, [], ◌∷◌, length, sym, refl, ◌∙◌, subst, arith}
 use Rattle.std.specs.List.{AllByRecursion}
 use Rattle.std.specs.Prelude.{Result, Ok, Err, OnOk, OnErr}
 use Rattle.cluster_machines.specs.declared.refusals.Refused.{Refused}

@@ -1,5 +1,5 @@
 -- Word of updates belongs to no snapshot, whatever happens.
-use Rattle.std.proofs.Common.{◌≡◌, ◌≢◌, ◌⊎◌, ℕ, Bool, true, false, if◌then◌else◌, ◌&&◌, ◌==◌, not, List, [], ◌∷◌, ◌++◌, Some, sym, refl, ap, ◌∙◌, subst, ⊎_elim, inl, inr, append_assoc}
+use Rattle.std.proofs.Common.{◌≡◌, ◌≢◌, ◌⊎◌, ℕ, Bool, true, false, if◌then◌else◌, ◌&&◌, ◌==◌, not, List, [], ◌∷◌, ◌++◌, Some, sym, refl, subst, ⊎_elim, inl, inr, append_assoc}
 use Rattle.std.specs.List.{AllByRecursion}
 use Rattle.std.proofs.lemmas.Bool.{cases_eq}
 use Rattle.gl_base.specs.declared.entries.Entry.TheVariants.{Go}
@@ -7,17 +7,17 @@ use Rattle.gl_base.specs.declared.scopes.ScopeId.{ScopeId}
 use Rattle.cluster_core.specs.Actions.{HasFirst, MayHappen, MayUpdate, after, delivers, sends, updates}
 use Rattle.cluster_core.specs.Actions as law
 use Rattle.cluster_core.specs.Effects.{admitted, granted, received, updated, news_for}
-use Rattle.cluster_core.specs.Messages.{Ask, Done, Message, News, Ready}
+use Rattle.cluster_core.specs.Messages.{Ask, Done, Message, Ready}
 use Rattle.cluster_core.specs.Parts.{Part}
 use Rattle.cluster_core.specs.Ranges.{set_at}
 use Rattle.cluster_core.specs.Scopes.{set_for, takes_part}
 use Rattle.cluster_core.specs.Settings.{Setting}
-use Rattle.cluster_core.specs.Worlds.{World, way, with_part}
+use Rattle.cluster_core.specs.Worlds.{World, way}
 use Rattle.cluster_core.proofs.Basics.{set_at-holds, set_at-kept}
 use Rattle.cluster_core.proofs.Taking.{taken, taken-here, taken-there}
 use Rattle.cluster_numbers.proofs.Keeping.{updates_is}
 use Rattle.cluster_numbers.proofs.Quiet.{dones, admitted-quiet, granted-quiet, goes_on-quiet, ready-quiet}
-use Rattle.cluster_numbers.proofs.QuietWorlds.{IsQuietStep, part_quiet, quiet_steps, sent_quiet, taken_quiet}
+use Rattle.cluster_numbers.proofs.QuietWorlds.{IsQuietStep, part_quiet, sent_quiet}
 use Rattle.cluster_step.specs.Events.{Action, IsActionOf}
 use Rattle.cluster_step.specs.Inner.Going.{AreAllPlain, IsPlain}
 use Rattle.cluster_step.specs.declared.events.Event.{Event}

@@ -1,17 +1,17 @@
 -- What is read of a cluster is what its order says.
-use Rattle.std.proofs.Common.{◌≡◌, ◌≢◌, ◌⊎◌, ℕ, zero, suc, ◌+◌, ◌<◌, ◌≤◌, ◌==◌, ◌&&◌, ◌||◌, Bool, true, false, List, [], ◌∷◌, ◌++◌, length, map, get_or, Option, Some, None, slice_get, is_some, sym, refl, ap, ◌∙◌, subst, ⊎_elim, inl, inr, true≢false, arith}
+use Rattle.std.proofs.Common.{◌≡◌, ℕ, zero, suc, ◌+◌, ◌<◌, ◌==◌, ◌&&◌, Bool, true, false, List, [], ◌∷◌, length, map, get_or, Option, Some, None, slice_get, is_some, sym, refl, ap, ◌∙◌, subst, ⊎_elim, true≢false, arith}
 use Rattle.std.specs.List.{All, list_any}
 use Rattle.std.specs.Prelude.{IfSome, IfNone, nat_lt}
-use Rattle.std.proofs.lemmas.Bool.{and_parts, and_from, cases_Bool, cases_lt, eq-eqb, eqb-true, false_from_ne_true, ltb-true}
+use Rattle.std.proofs.lemmas.Bool.{and_parts, and_from, eq-eqb, eqb-true, false_from_ne_true, ltb-true}
 use Rattle.std.proofs.lemmas.List.{get_or-map}
 use Rattle.gl_base.specs.declared.entries.Entry.{Entry}
 use Rattle.gl_base.specs.declared.numbers.Vertex.{Vertex}
-use Rattle.graph_core.specs.DataGraph.{IsEdge, size}
-use Rattle.cluster_core.specs.Copies.{agreed, edge_to_come, from_owner, to_owner}
+use Rattle.graph_core.specs.DataGraph.{size}
+use Rattle.cluster_core.specs.Copies.{edge_to_come, from_owner, to_owner}
 use Rattle.cluster_core.specs.Messages.{Ask, Done, Message, Ready}
 use Rattle.cluster_core.specs.Parts.{Part}
-use Rattle.cluster_core.specs.Replays.{IsReplay, IsTask, replay_of, tasks_of}
-use Rattle.cluster_core.specs.Settings.{Setting, IsSetting, nth_edge}
+use Rattle.cluster_core.specs.Replays.{IsReplay, replay_of, tasks_of}
+use Rattle.cluster_core.specs.Settings.{Setting, nth_edge}
 use Rattle.cluster_core.specs.Ways.{edge_told, vertex_woken}
 use Rattle.cluster_core.specs.Worlds.{World, way}
 use Rattle.cluster_step.specs.Clusters.{ClusterView}

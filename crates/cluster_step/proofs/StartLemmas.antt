@@ -1,12 +1,11 @@
 -- Machines that start make a world that starts.
-use Rattle.std.proofs.Common.{◌≡◌, ◌⊎◌, ℕ, zero, suc, ◌<◌, ◌≤◌, List, [], ◌∷◌, length, map, get_or, Some, slice_get, sym, refl, ap, ◌∙◌, subst, ⊎_elim, arith}
+use Rattle.std.proofs.Common.{◌≡◌, ◌⊎◌, ℕ, zero, suc, ◌<◌, ◌≤◌, List, [], ◌∷◌, length, map, get_or, Some, slice_get, sym, refl, subst, ⊎_elim, arith}
 use Rattle.std.proofs.lemmas.Bool.{cases_lt}
 use Rattle.std.proofs.lemmas.List.{get_or_past, length-map}
 use Rattle.graph_core.specs.DataGraph.{IsEdge, size}
 use Rattle.cluster_core.specs.Copies.{from_owner, to_owner}
 use Rattle.cluster_core.specs.Parts.{Part}
 use Rattle.cluster_core.specs.Runs.{IsStart}
-use Rattle.cluster_core.specs.Scopes.{takes_part}
 use Rattle.cluster_core.specs.Settings.{Setting, IsSetting, nth_edge}
 use Rattle.cluster_core.specs.Snapshots.{IsUnmarked}
 use Rattle.cluster_core.proofs.Nearness.{part_low}

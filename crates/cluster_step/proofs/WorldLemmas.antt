@@ -1,5 +1,5 @@
 -- One machine or one link is written, and the world is changed there alone.
-use Rattle.std.proofs.Common.{◌≡◌, ◌≢◌, ◌⊎◌, ℕ, zero, suc, ◌+◌, ◌<◌, List, [], ◌∷◌, ◌++◌, length, map, set, get_or, Some, None, slice_get, sym, refl, ap, ◌∙◌, subst, ⊎_elim, inl, inr, arith, get_or-set_same, get_or-set_other, length-set}
+use Rattle.std.proofs.Common.{◌≡◌, ◌≢◌, ◌⊎◌, ℕ, zero, suc, ◌<◌, List, [], ◌∷◌, ◌++◌, length, map, set, get_or, Some, slice_get, sym, refl, ap, ◌∙◌, subst, ⊎_elim, inl, inr, get_or-set_same, get_or-set_other, length-set}
 use Rattle.std.proofs.lemmas.Bool.{cases_eq}
 use Rattle.std.proofs.lemmas.List.{get_or-map, length-map, map-append, map-set, set-get_or}
 use Rattle.std.proofs.lemmas.Option.{slice_get_read}
@@ -7,7 +7,6 @@ use Rattle.cluster_core.specs.Messages.{Message}
 use Rattle.cluster_core.specs.Parts.{Part}
 use Rattle.cluster_core.specs.Ranges.{set_at}
 use Rattle.cluster_core.specs.Settings.{Setting}
-use Rattle.cluster_core.specs.Worlds.{World, with_part, with_link}
 use Rattle.cluster_core.proofs.Basics.{set_at-same, set_at-other}
 use Rattle.cluster_machines.specs.Promises.{IsSameMachine}
 use Rattle.wire_msgs.specs.declared.messages.Message.{Message as Sent}
@@ -15,7 +14,7 @@ use Rattle.cluster_machines.specs.Told.{told_by}
 use Rattle.cluster_step.specs.Inner.Writing.{behind_first, with_link_between, HasLinkBetween}
 use Rattle.cluster_step.specs.Links.{LinkView, MessageView, empty_link, link_between, message_read, message_view, told_on}
 use Rattle.cluster_step.specs.Inner.Steps.{AreMachinesOf}
-use Rattle.cluster_step.specs.Worlds.{part_of_machine, no_part, world_of_parts, earlier_at}
+use Rattle.cluster_step.specs.Worlds.{part_of_machine, no_part, earlier_at}
 use Rattle.cluster_step.specs.Inner.Writing.{HaveLinks}
 
 -- ---- lists that are written at one place

@@ -2,7 +2,6 @@
 pub use Rattle.cluster_core.specs.Actions.{Action, IsActionStep, MayHappen}
 use Rattle.std.specs.Prelude.{false, ℕ, ⊤, ◌<◌, ◌≡◌}
 use Rattle.cluster_core.specs.Actions as law
-use Rattle.cluster_step.specs.Inner.Steps.{AreMachinesOf}
 use Rattle.cluster_step.specs.Worlds.{Part, Setting, World, world_of_parts}
 use Rattle.cluster_step.specs.declared.events.Event.{Event}
 use Rattle.cluster_step.specs.declared.events.Event.TheVariants.{Admit, Deliver, Grant, Send, Update}

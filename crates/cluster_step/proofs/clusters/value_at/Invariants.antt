@@ -1,4 +1,4 @@
-use Rattle.std.proofs.Common.{false, take}
+use Rattle.std.proofs.Common.{take}
 use Rattle.cluster_step.specs.Inner.Asking.{NoneSays, is_owner_of}
 use Rattle.cluster_step.proofs.clusters.value_at.Given as goal
 

@@ -1,9 +1,7 @@
 -- Machines that start, and links with nothing on them, are a start.
-use Rattle.std.proofs.Common.{◌≡◌, ℕ, List, [], length, map, sym, ap, ◌∙◌, subst}
-use Rattle.cluster_step.specs.Inner.Writing.{HaveLinks}
+use Rattle.std.proofs.Common.{length, sym, ◌∙◌, subst}
 use Rattle.cluster_step.specs.Inner.Going.{IsKept}
 use Rattle.cluster_step.specs.Starts.{StartIn}
-use Rattle.cluster_step.specs.Links.{LinkView, message_read, told_on}
 use Rattle.cluster_step.proofs.KeptLemmas.{kept_new}
 use Rattle.cluster_step.proofs.LinkLemmas.{have_links, nothing_told}
 use Rattle.cluster_step.proofs.StartLemmas.{world_starts}

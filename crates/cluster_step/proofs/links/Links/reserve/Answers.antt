@@ -1,9 +1,8 @@
 -- The link alone is written.
-use Rattle.std.proofs.Common.{◌≡◌, ◌<◌, ◌++◌, ◌∷◌, [], refl, sym, ap, ◌∙◌, subst}
+use Rattle.std.proofs.Common.{◌<◌, refl, sym, ap, ◌∙◌, subst}
 use Rattle.std.specs.Vec.{with_item}
-use Rattle.std.specs.Prelude.{OnOk, OnSome}
-use Rattle.cluster_step.specs.Inner.Writing.{behind_first}
-use Rattle.cluster_step.specs.Links.{LinkView, MessageView, message_view}
+use Rattle.std.specs.Prelude.{OnOk}
+use Rattle.cluster_step.specs.Links.{LinkView}
 use Rattle.cluster_step.proofs.LinkLemmas.{link_was, link_here, links_rest}
 use Rattle.cluster_step.proofs.links.Links.reserve.Goals as goal
 

@@ -1,5 +1,5 @@
 -- The first message of the link is received, or put back.
-use Rattle.std.proofs.Common.{refl, sym, ap, ◌∙◌, subst}
+use Rattle.std.proofs.Common.{refl, subst}
 use Rattle.cluster_core.specs.Parts.{Part}
 use Rattle.cluster_core.specs.Receiving.{MayReceive}
 use Rattle.cluster_machines.specs.Promises.{IsAsExpected}
