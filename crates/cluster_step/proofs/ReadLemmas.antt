@@ -73,7 +73,8 @@ module _ {M : Type 0} (belongs : Setting → ℕ → M → Type 0) (part : M →
           tickets = going.gone.tickets;
           next = drawn;
           left = omega arith;
-          owners = going.gone.owners;
+          vertices = going.gone.vertices;
+        owners = going.gone.owners;
           logs = replay.logs;
           numbers = replay.numbers;
           edges = replay.edges;

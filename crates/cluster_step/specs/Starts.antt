@@ -13,7 +13,7 @@ pub use Rattle.graph_core.specs.DataGraph.{size}
 use Rattle.cluster_core.specs.Scopes.{takes_part}
 use Rattle.cluster_core.specs.Settings.{Locking, nth_edge}
 use Rattle.cluster_core.specs.Worlds.{way}
-use Rattle.cluster_cuts.specs.Goings.{AreUpdatesFrom, IsByOwner}
+use Rattle.cluster_cuts.specs.Goings.{AreUpdatesFrom, IsByOwner, IsOfVertexBelow}
 use Rattle.seq_run.specs.Orders.{IsValidFrom, all_tasks}
 use Rattle.cluster_step.specs.declared.events.Event.{Event}
 use Rattle.cluster_step.specs.declared.events.Event.TheVariants.{Admit, Deliver, Grant, Send, Update}
@@ -51,14 +51,15 @@ pub record StartIn {M : Type 0} (belongs : Setting → ℕ → M → Type 0) (pa
 -- ---- what has happened since
 
 -- The order in which the updates count: each found its vertex among the tasks of the undivided graph, from the start on. Its tickets
--- are those that were drawn, one after another; each machine's log is its part of the order, and each update is by the owner of its
--- vertex. Replayed on the undivided graph it gives the numbers of the owners and, once all that is on the way has come, those of the
--- edges; its tasks are those of the machines and those that are on the way.
+-- are those that were drawn, one after another; each machine's log is its part of the order, and each update is of a vertex of the
+-- graph, by its owner. Replayed on the undivided graph it gives the numbers of the owners and, once all that is on the way has come,
+-- those of the edges; its tasks are those of the machines and those that are on the way.
 pub record IsOrderSince {M : Type 0} (part : M → Part) (st : Setting) (start now : Parts M) (order : List Entry) : Type 0 where
   pub valid : IsValidFrom st.graph st.program st.start (all_tasks st.graph) order
   pub tickets : AreUpdatesFrom start.next order
   pub next : now.next ≡ start.next + length order
   pub left : now.left + length order ≡ start.left
+  pub vertices : AllByRecursion (IsOfVertexBelow (size st.graph)) order
   pub owners : AllByRecursion (IsByOwner st.owner) order
   pub logs : (a : ℕ) → (part_of_machine part st now.machines.items a).log ≡ entries_of a order
   pub numbers : (v : ℕ) → v < size st.graph → ((part_of_machine part st now.machines.items (st.owner v)).datum v).value ≡ (replay_of st order).vertex v
