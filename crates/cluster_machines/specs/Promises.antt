@@ -1,0 +1,123 @@
+-- What the calls of a machine promise, for every setting of a cluster to which it belongs: `belongs` says that it is this machine of
+-- a cluster with this setting, and `part` what it holds.
+pub use Rattle.cluster_core.specs.Actions.{HasFirst, MayAdmit, MayGrant, MayUpdate}
+pub use Rattle.cluster_core.specs.Parts.{Part}
+pub use Rattle.cluster_core.specs.Receiving.{MayReceive}
+pub use Rattle.cluster_core.specs.Places.{IsAtHome}
+pub use Rattle.cluster_core.specs.Settings.{IsSetting, Setting, is_in_scope}
+pub use Rattle.cluster_machines.specs.Told.{told_by}
+use Rattle.std.specs.Prelude.{Bool, List, None, false, length, nat_lt, ℕ, ⊤, ◌&&◌, ◌==◌, ◌∷◌, ◌≡◌}
+use Rattle.gl_base.specs.declared.entries.Entry.TheVariants.{Go}
+use Rattle.gl_base.specs.declared.scopes.ScopeId.{ScopeId}
+use Rattle.cluster_core.specs.Effects.{admitted, granted, next_scope, received, updated}
+use Rattle.cluster_core.specs.Messages as law
+use Rattle.cluster_core.specs.Ranges.{set_at}
+use Rattle.graph_core.specs.DataGraph.{size}
+use Rattle.wire_msgs.specs.declared.messages.Message.{Message}
+
+-- The machine belongs to each setting to which it belonged, and has made as many updates before its log begins.
+pub record IsSameMachine {M : Type 0} (belongs : Setting → ℕ → M → Type 0) (earlier : M → ℕ) (old new : M) : Type 0 where
+  pub settings : (st : Setting) (a : ℕ) → belongs st a old → belongs st a new
+  pub before : earlier new ≡ earlier old
+
+-- ---- Admit
+
+-- some vertex may be admitted
+abbrev pub AdmitsSome : {M : Type 0} → (Setting → ℕ → M → Type 0) → (M → Part) → M → Type 0
+AdmitsSome belongs part m = (st : Setting) (a : ℕ) → belongs st a m → (v : ℕ) × MayAdmit st a v (part m)
+
+-- where no snapshots are taken: no vertex may be admitted
+abbrev pub AdmitsNone : {M : Type 0} → (Setting → ℕ → M → Type 0) → (M → Part) → M → Type 0
+AdmitsNone belongs part m = (st : Setting) (a : ℕ) → belongs st a m → st.stored ≡ false → (v : ℕ) → ¬ MayAdmit st a v (part m)
+
+-- a vertex that may be admitted is admitted, and s is its scope
+pub record IsAdmission (st : Setting) (a : ℕ) (old : Part) (s : ScopeId) (new : Part) : Type 0 where
+  pub vertex : ℕ
+  pub may : MayAdmit st a vertex old
+  pub scope : s ≡ next_scope a old
+  pub after : new ≡ admitted st a vertex old
+
+abbrev pub MakesAdmission : {M : Type 0} → (Setting → ℕ → M → Type 0) → (M → Part) → M → ScopeId → M → Type 0
+MakesAdmission belongs part old s new = (st : Setting) (a : ℕ) → belongs st a old → IsAdmission st a (part old) s (part new)
+
+-- ---- Grant
+
+-- the lock of x may be granted to the first that waits for it
+abbrev pub GrantsIt : {M : Type 0} → (Setting → ℕ → M → Type 0) → (M → Part) → M → ℕ → Type 0
+GrantsIt belongs part m x = (st : Setting) (a : ℕ) → belongs st a m → MayGrant st a x (part m)
+
+-- it may not be granted
+abbrev pub GrantsNot : {M : Type 0} → (Setting → ℕ → M → Type 0) → (M → Part) → M → ℕ → Type 0
+GrantsNot belongs part m x = (st : Setting) (a : ℕ) → belongs st a m → ¬ MayGrant st a x (part m)
+
+-- scope s was the first that waits for the lock of x, and has it now
+pub record IsGrant (st : Setting) (a x : ℕ) (old : Part) (s : ScopeId) (new : Part) : Type 0 where
+  pub may : MayGrant st a x old
+  pub scope : s ≡ may.claim.scope
+  pub after : new ≡ granted st a x old
+
+abbrev pub MakesGrant : {M : Type 0} → (Setting → ℕ → M → Type 0) → (M → Part) → M → ℕ → ScopeId → M → Type 0
+MakesGrant belongs part old x s new = (st : Setting) (a : ℕ) → belongs st a old → IsGrant st a x (part old) s (part new)
+
+-- ---- Deliver
+
+-- Word of an update, and not of a snapshot: by a scope of the owner of its centre, which waits for no lock here and holds none but
+-- those of its own scope. Nothing becomes pending.
+pub record IsUpdateWord (st : Setting) (a : ℕ) (part : Part) (s : ScopeId) (news : law.News) : Type 0 where
+  pub home : IsAtHome st s news.centre
+  pub stand : part.stand s ≡ None
+  pub others : (x : ℕ) → st.owner x ≡ a → is_in_scope st news.centre x ≡ false → part.holder x s ≡ None
+  pub pends : (u : ℕ) → news.pends u ≡ false
+  pub number : news.number ≡ 0
+
+-- what is known of a message besides, where no snapshots are taken: a scope that asks is of the owner of its centre
+abbrev pub IsAsExpected : Setting → ℕ → Part → law.Message → Type 0
+IsAsExpected st a part (law.Ask s v rest) = IsAtHome st s v
+IsAsExpected st a part (law.Ready s) = ⊤
+IsAsExpected st a part (law.Done s news) = IsUpdateWord st a part s news
+
+-- In some cluster to which the machine belongs it may receive this message from machine p.
+pub record CanReceive {M : Type 0} (belongs : Setting → ℕ → M → Type 0) (part : M → Part) (m : M) (p : ℕ) (message : Message) : Type 0 where
+  pub setting : Setting
+  pub is : IsSetting setting
+  pub number : ℕ
+  pub here : belongs setting number m
+  pub may : MayReceive setting p number (part m) (told_by message)
+  pub expected : IsAsExpected setting number (part m) (told_by message)
+
+-- it has received it, wherever it may
+abbrev pub MakesReceipt : {M : Type 0} → (Setting → ℕ → M → Type 0) → (M → Part) → M → ℕ → Message → M → Type 0
+MakesReceipt belongs part old p message new =
+    (st : Setting) (a : ℕ) → belongs st a old → MayReceive st p a (part old) (told_by message) → part new ≡ received st a (told_by message) (part old)
+
+-- ---- Send
+
+-- the message was the first that waited for machine q, and has left the outbox; nothing else has changed
+pub record IsSending (old : Part) (q : ℕ) (message : Message) (new : Part) : Type 0 where
+  pub behind : List law.Message
+  pub first : old.out q ≡ told_by message ∷ behind
+  pub after : new ≡ record old { out = set_at old.out q behind }
+
+-- ---- Update
+
+-- the update of a ready scope is made and logged under this ticket
+pub record IsUpdate (st : Setting) (old : Part) (s : ScopeId) (ticket : ℕ) (new : Part) : Type 0 where
+  pub may : MayUpdate s old 1
+  pub after : new ≡ updated st s.home.0 s may.vertex (Go s.home (record { 0 = may.vertex }) ticket) old
+
+abbrev pub MakesUpdate : {M : Type 0} → (Setting → ℕ → M → Type 0) → (M → Part) → M → ScopeId → ℕ → M → Type 0
+MakesUpdate belongs part old s ticket new = (st : Setting) → belongs st s.home.0 old → IsUpdate st (part old) s ticket (part new)
+
+-- ---- what is read
+
+-- machine a owns v
+abbrev pub is_owner_of : Setting → ℕ → ℕ → Bool
+is_owner_of st a v = nat_lt v (size st.graph) && st.owner v == a
+
+-- it does, and the graph has edge e
+abbrev pub is_owner_with : Setting → ℕ → ℕ → ℕ → Bool
+is_owner_with st a v e = is_owner_of st a v && nat_lt e (length st.graph.edges)
+
+-- the test is so wherever the machine belongs
+abbrev pub SaysWhether : {M : Type 0} → (Setting → ℕ → M → Type 0) → M → (Setting → ℕ → Bool) → Bool → Type 0
+SaysWhether belongs m test answer = (st : Setting) (a : ℕ) → belongs st a m → answer ≡ test st a

@@ -1,0 +1,8 @@
+//! What a cluster knows of its machines: their calls, and what each promises in the words of the cluster's law.
+#![tactic(auto)]
+
+mod machines;
+mod refusals;
+
+pub use machines::ClusterMachine;
+pub use refusals::Refused;

@@ -1,0 +1,92 @@
+-- A cluster goes on as the cluster's law says.
+use Rattle.std.proofs.Common.{◌≡◌, ℕ, Bool, List, [], ◌∷◌, ◌++◌, ◌&&◌, sym, refl, ap, ap₂, ◌∙◌, subst}
+use Rattle.std.specs.List.{AllByRecursion}
+use Rattle.gl_base.specs.declared.entries.Entry.{Entry}
+use Rattle.gl_base.specs.declared.scopes.ScopeId.{ScopeId}
+use Rattle.cluster_core.specs.Actions.{Action, MayUpdate, IsActionStep, after}
+use Rattle.cluster_core.specs.Messages.{Ask, Done, Message, Ready}
+use Rattle.cluster_core.specs.Places.{IsExclusive}
+use Rattle.cluster_core.specs.Receiving.{MayReceive}
+use Rattle.cluster_core.specs.Replays.{IsFresh, IsReplay, replay_of}
+use Rattle.cluster_core.specs.Runs.{IsStart}
+use Rattle.cluster_core.specs.Settings.{Locking, Setting, IsSetting}
+use Rattle.cluster_core.specs.Snapshots.{IsUnmarked}
+use Rattle.cluster_core.specs.Scopes.{mode_at}
+use Rattle.cluster_core.specs.Stages.{Asks, Ends, Idle, IsAsked, IsDone, some_if, tokens_of}
+use Rattle.cluster_core.specs.Worlds.{World, way}
+use Rattle.cluster_core.proofs.Taking.{taken, taken-here}
+use Rattle.cluster_numbers.proofs.Keeping.{update_fresh}
+use Rattle.cluster_places.proofs.Delivering.{done_here, told}
+use Rattle.cluster_places.proofs.Excluding.{exclusive}
+use Rattle.cluster_places.proofs.Fronts.{front}
+use Rattle.cluster_places.proofs.Going.{asked_here}
+use Rattle.cluster_places.proofs.Seen.{asked_stage, done_stage}
+use Rattle.cluster_places.proofs.Standing.{shows_as, stage_as}
+use Rattle.cluster_places.proofs.PlacesKept.{action_keeps, start_placed}
+use Rattle.cluster_cuts.specs.Goings.{IsOneStep}
+use Rattle.cluster_cuts.proofs.Beginning.{first_kept}
+use Rattle.cluster_cuts.proofs.CutsKept.{one_step}
+use Rattle.cluster_cuts.proofs.CutsGoOn.{goes_not, goes_then, step_goes}
+use Rattle.cluster_machines.specs.Promises.{IsAsExpected}
+use Rattle.cluster_step.specs.Events.{IsActionOf}
+use Rattle.cluster_step.specs.Inner.Going.{AreAllPlain, IsGoingOn, IsPlain}
+use Rattle.cluster_step.specs.declared.events.Event.{Event}
+use Rattle.cluster_step.proofs.PlainLemmas.{event_plain}
+
+pub begins_going : (st : Setting) → IsSetting st → (w : World) → IsStart st w → IsUnmarked st w → IsGoingOn st w w
+begins_going st is w start unmarked =
+    let kept = first_kept st is w start unmarked in
+    let nothing : (p q : ℕ) → way w p q ≡ [] = λ p q. ap₂ (λ xs ys. xs ++ ys) (start.links p q) (start.outboxes p q) in
+    let plain : AreAllPlain w = λ p q. subst (AllByRecursion IsPlain) (sym (nothing p q)) tt in
+    record { stage = λ s. Idle; places = start_placed st w start; plain = plain; kept = kept; none = refl; gone = goes_not st w kept }
+
+module _ (st : Setting) (is : IsSetting st) (locks : st.engine ≡ Locking) (from now : World) (going : IsGoingOn st from now) where
+  pub goes_on_by : (event : Event) (action : Action) (new : World) → IsActionOf event action → IsActionStep st now action new → IsGoingOn st from new
+  goes_on_by event action new of step =
+      let apart : IsExclusive st now = exclusive st is now going.stage going.places in
+      let placed = action_keeps st is locks now going.stage going.places action step.0 in
+      let one : IsOneStep st now going.gone.next (after st now action) = one_step st is now going.gone.next apart action step.0 in
+      let whole : IsGoingOn st from (after st now action) = record {
+        stage = placed.0;
+        places = placed.1;
+        plain = event_plain st now going.plain event action of step.0;
+        kept = going.kept;
+        none = going.none;
+        gone = goes_then st from now (after st now action) going.kept going.gone (step_goes st is now going.gone.next (after st now action) one);
+      } in
+      subst (IsGoingOn st from) (sym step.1) whole
+
+  pub front_comes : (p q : ℕ) (m : Message) (behind : List Message) → now.link p q ≡ m ∷ behind → MayReceive st p q (now.part q) m
+  front_comes p q m behind first = front st is now going.stage going.places p q (going.gone.next.copies.told p q) m behind first
+
+  -- what is known of it besides
+  pub front_expected : (p q : ℕ) (m : Message) (behind : List Message) → now.link p q ≡ m ∷ behind → IsAsExpected st q (now.part q) m
+  front_expected p q (Ask s v rest) behind first =
+      let h = asked_stage st s (going.stage s) p q v rest (tokens_of s (way (taken now p q (Ask s v rest) behind first) p q)) (told st is now going.stage going.places p q (Ask s v rest) behind first s (IsAsked v rest) (asked_here s v rest)) in
+      (stage_as st now going.stage going.places s (Asks v p q) h.0).0
+  front_expected p q (Ready s) behind first = tt
+  front_expected p q (Done s news) behind first =
+      let c : ℕ = news.centre in
+      let h = done_stage st s (going.stage s) p q c (tokens_of s (way (taken now p q (Done s news) behind first) p q)) (told st is now going.stage going.places p q (Done s news) behind first s (IsDone c) (done_here s news)) in
+      let seen = shows_as st now going.stage going.places s (Ends c h.0) h.1 in
+      let plain : AllByRecursion IsPlain (Done s news ∷ way (taken now p q (Done s news) behind first) p q) =
+      subst (AllByRecursion IsPlain) (taken-here now p q (Done s news) behind first) (going.plain p q) in
+      record {
+        home = (stage_as st now going.stage going.places s (Ends c h.0) h.1).0;
+        stand = seen.stand q;
+        others = λ x owned outside.
+            ap (λ (a : ℕ). (now.part a).holder x s) (sym owned) ∙ seen.holder x
+            ∙ ap (λ (test : Bool). some_if (test && h.0 (st.owner x)) (mode_at c x)) outside;
+        pends = plain.0.1;
+        number = plain.0.0;
+      }
+
+  -- each update that may happen is lent what the order has there
+  pub fresh_now : (order : List Entry) → IsReplay st now order → (s : ScopeId) (may : MayUpdate s (now.part s.home.0) now.left) → IsFresh st (replay_of st order) (now.part s.home.0) may.vertex
+  fresh_now order replay s may = update_fresh st is now order going.gone.next.copies replay (exclusive st is now going.stage going.places) s may
+
+  pub order_is : going.gone.next.order ≡ going.gone.rest
+  order_is = going.gone.order ∙ ap (λ (es : List Entry). es ++ going.gone.rest) going.none
+
+  pub replay_is : IsReplay st now going.gone.rest
+  replay_is = subst (IsReplay st now) order_is going.gone.next.replay

@@ -1,0 +1,6 @@
+pub mod Links
+pub mod Worlds
+pub mod Events
+pub mod Starts
+pub mod Clusters
+pub mod Inner

@@ -1,0 +1,189 @@
+//! A cluster on one thread.
+ghost use Rattle.std.specs.Prelude.{◌≡◌, ℕ, ◌+◌, ◌^◌, ◌<◌, ◌&&◌, [], false, length, is_some, nat_lt, IfOk, OnOk, OnErr, IfSome, IfNone, IsErrOf, List, true};
+ghost use Rattle.gl_base.specs.declared.entries.Entry.{Entry};
+ghost use Rattle.cluster_step.specs.Links.{told_on};
+ghost use Rattle.cluster_step.specs.Worlds.{Setting, earlier_at};
+ghost use Rattle.cluster_step.specs.Events.{NamesMachinesOf, MakesEvent, CanMakeEvent, CanNotMakeEvent, HoldTheSame};
+ghost use Rattle.cluster_step.specs.Starts.{StartIn, IsOrderSince, IsStart, IsEndOf, WasFresh, AllHaveHeard, replay_of, tasks_of, size};
+ghost use Rattle.cluster_step.specs.Clusters.{InEachSetting, OfTheOrder, part_now, world_now};
+ghost use Rattle.cluster_step.specs.Inner.Asking.{IsFoundAt, NoneSays, HasTaskAt, is_owner_of, is_owner_with};
+ghost use Rattle.std.specs.List.{All};
+
+use crate::events::Event;
+use crate::links::Links;
+use crate::parts::Parts;
+use cluster_machines::{ClusterMachine, Refused};
+use gl_base::{EdgeNo, Entry, MachineNo, NoMemory, Vertex};
+use std::alloc::Global;
+use std::marker::Model;
+use std::snapshot::Snapshot;
+
+/// Machines that work on one graph, the links between them, and the tickets. Contracts see what the cluster began with, and what it
+/// has now. Whatever happens in it, its updates are those of one valid order.
+#[derive(Drop)]
+pub struct Cluster<M: ClusterMachine> {
+    parts: Parts<M>,
+    start: Snapshot<Parts<M>>,
+}
+
+impl<M: ClusterMachine> Model for Cluster<M> {
+    ghost use Rattle.cluster_step.specs.Clusters.{ClusterView};
+    ghost use Rattle.cluster_step.specs.Inner.Going.{IsKept};
+
+    ghost Value = { ClusterView M };
+
+    ghost view = { λ c. record { start = c.start.value; now = c.parts } };
+
+    ghost invariant = { λ c. IsKept M.belongs M.part M.earlier c.start.value c.parts };
+}
+
+impl<M: ClusterMachine> Cluster<M> {
+    /// A cluster of machines that start, each at its place. The first update gets the ticket `next`, and there are `left` of them.
+    pub fn new(
+        alloc: Global,
+        machines: Vec<M>,
+        next: u64,
+        left: u64,
+    ) -> Result<Cluster<M>, NoMemory>
+        requires start { (st : Setting) × StartIn M.belongs M.part machines.items st }
+        requires few { next + left < 2 ^ 63 }
+        ensures machines { IfOk result (λ c. c.now.machines ≡ machines) }
+        ensures tickets { IfOk result (λ c. (c.now.next ≡ next) × (c.now.left ≡ left)) }
+        ensures none { IfOk result (λ c. (p q : ℕ) → told_on c.now.links p q ≡ []) }
+        ensures began { IfOk result (λ c. c.start ≡ c.now) }
+        // It is a start of the law, in each setting in which the machines start.
+        ensures start { IfOk result (λ c. InEachSetting M.belongs M.part c (λ st. IsStart st (world_now M.part st c))) }
+    {
+        let links = Links::new(alloc, machines.len())?;
+        let parts = Parts {
+            machines,
+            links,
+            next,
+            left,
+        };
+        let start = Snapshot::of(&parts);
+        Ok(Cluster { parts, start })
+    }
+
+    /// The event happens, where it may happen now.
+    pub fn apply(&mut self, event: Event) -> Result<(), Refused>
+        requires { NamesMachinesOf (length self.old.now.machines.items) event }
+        ensures made { OnOk result (MakesEvent (StartIn M.belongs M.part self.old.start.machines.items) M.part self.old.now event self.new.now) }
+        ensures not_now { IsErrOf result Refused.NotNow → CanNotMakeEvent (StartIn M.belongs M.part self.old.start.machines.items) M.part self.old.now event }
+        ensures no_memory { IsErrOf result Refused.NoMemory → CanMakeEvent (StartIn M.belongs M.part self.old.start.machines.items) M.part self.old.now event }
+        ensures unchanged { OnErr result (HoldTheSame M.part self.old.now self.new.now) }
+        ensures fresh { OnOk result (OfTheOrder M.belongs M.part self.old (λ st order. WasFresh st (world_now M.part st self.old) order event)) }
+        ensures start { self.new.start ≡ self.old.start }
+        ensures machines { length self.new.now.machines.items ≡ length self.old.now.machines.items }
+    {
+        self.parts.make(event)
+    }
+
+    /// How many machines there are.
+    pub fn machines(&self) -> usize
+        ensures { result ≡ length self.now.now.machines.items }
+    {
+        self.parts.machines.len()
+    }
+
+    /// The ticket of the next update.
+    pub fn next(&self) -> u64
+        ensures { result ≡ self.now.now.next }
+    {
+        self.parts.next
+    }
+
+    /// How many tickets are left.
+    pub fn left(&self) -> u64
+        ensures { result ≡ self.now.now.left }
+    {
+        self.parts.left
+    }
+
+    /// The updates that a machine has made, by ticket. All logs together are the parts of one order.
+    pub fn log(&self, m: MachineNo) -> &[Entry]
+        requires { m.0 < length self.now.now.machines.items }
+        ensures log { (st : Setting) → result.now ≡ (part_now M.part st self.now m.0).log }
+        ensures serial { InEachSetting M.belongs M.part self.now (λ st. (order : List Entry) × IsOrderSince M.part st self.now.start self.now.now order) }
+    {
+        self.parts.machines[m.0 as usize].log()
+    }
+
+    /// How many updates a machine has made.
+    pub fn completed(&self, m: MachineNo) -> u64
+        requires { m.0 < length self.now.now.machines.items }
+        ensures { (st : Setting) → result ≡ earlier_at M.earlier self.now.start.machines.items m.0 + length (part_now M.part st self.now m.0).log }
+    {
+        self.parts.machines[m.0 as usize].completed()
+    }
+
+    /// The number of a vertex; `None` exactly where the graph has no such vertex. It asks each machine in turn.
+    pub fn value(&self, v: Vertex) -> Option<u64>
+        ensures some { InEachSetting M.belongs M.part self.now (λ st. is_some result ≡ nat_lt v.0 (size st.graph)) }
+        ensures number { IfSome result (λ x. InEachSetting M.belongs M.part self.now (λ st. x ≡ ((part_now M.part st self.now (st.owner v.0)).datum v.0).value)) }
+        ensures replayed { IfSome result (λ x. OfTheOrder M.belongs M.part self.now (λ st order. x ≡ (replay_of st order).vertex v.0)) }
+    {
+        value_at(&self.parts.machines, v)
+    }
+
+    /// The number of an edge, as the owner of this end of it has it; `None` exactly where the graph has no such vertex or no such
+    /// edge. It asks each machine in turn. Once all machines have heard of all updates, it is that of the order.
+    pub fn edge(&self, end: Vertex, e: EdgeNo) -> Option<u64>
+        ensures some { InEachSetting M.belongs M.part self.now (λ st. is_some result ≡ (nat_lt end.0 (size st.graph) && nat_lt e.0 (length st.graph.edges))) }
+        ensures number { IfSome result (λ x. InEachSetting M.belongs M.part self.now (λ st. x ≡ (part_now M.part st self.now (st.owner end.0)).edge e.0)) }
+        ensures replayed { IfSome result (λ x. OfTheOrder M.belongs M.part self.now (λ st order.
+            IsEndOf st end.0 e.0 → AllHaveHeard (world_now M.part st self.now) → x ≡ (replay_of st order).edge e.0)) }
+    {
+        edge_at(&self.parts.machines, end, e)
+    }
+
+    /// A vertex that is a task of some machine; `None` exactly where none is. Once all machines have heard of all updates, the order
+    /// then leaves no task.
+    pub fn task(&self) -> Option<Vertex>
+        ensures some { IfSome result (λ v. (a : ℕ) × ((st : Setting) → (part_now M.part st self.now a).task v.0 ≡ true)) }
+        ensures none { IfNone result ((st : Setting) (a u : ℕ) → (part_now M.part st self.now a).task u ≡ false) }
+        ensures finished { IfNone result (OfTheOrder M.belongs M.part self.now (λ st order.
+            AllHaveHeard (world_now M.part st self.now) → (u : ℕ) → u < size st.graph → tasks_of st order u ≡ false)) }
+    {
+        first_task(&self.parts.machines)
+    }
+}
+
+/// The number of a vertex at the machine that owns it.
+fn value_at<M: ClusterMachine>(machines: &[M], v: Vertex) -> Option<u64>
+    ensures found { IfSome result (λ x. IsFoundAt M.belongs (λ m. ((M.part m).datum v.0).value) machines.now (λ st a. is_owner_of st a v.0) x) }
+    ensures none { IfNone result (NoneSays M.belongs machines.now (λ st a. is_owner_of st a v.0)) }
+{
+    for machine in machines {
+        if let Some(number) = machine.value(v) {
+            return Some(number);
+        }
+    }
+    None
+}
+
+/// The number of an edge at the machine that owns this end of it.
+fn edge_at<M: ClusterMachine>(machines: &[M], end: Vertex, e: EdgeNo) -> Option<u64>
+    ensures found { IfSome result (λ x. IsFoundAt M.belongs (λ m. (M.part m).edge e.0) machines.now (λ st a. is_owner_with st a end.0 e.0) x) }
+    ensures none { IfNone result (NoneSays M.belongs machines.now (λ st a. is_owner_with st a end.0 e.0)) }
+{
+    for machine in machines {
+        if let Some(number) = machine.edge(end, e) {
+            return Some(number);
+        }
+    }
+    None
+}
+
+/// The task of the first machine that has one.
+fn first_task<M: ClusterMachine>(machines: &[M]) -> Option<Vertex>
+    ensures some { IfSome result (λ v. HasTaskAt M.part machines.now v.0) }
+    ensures none { IfNone result (All (λ m. (u : ℕ) → (M.part m).task u ≡ false) machines.now) }
+{
+    for machine in machines {
+        if let Some(v) = machine.task() {
+            return Some(v);
+        }
+    }
+    None
+}

@@ -1,0 +1,15 @@
+//! A cluster on one thread: its machines, the links between them, and the tickets. Whatever happens in it, the updates are those of
+//! one valid order.
+#![tactic(auto)]
+
+mod clusters;
+mod events;
+mod link;
+mod links;
+mod parts;
+
+pub use cluster_machines::{ClusterMachine, Refused};
+pub use clusters::Cluster;
+pub use events::Event;
+pub use links::Links;
+pub use parts::Parts;

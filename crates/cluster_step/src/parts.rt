@@ -1,0 +1,135 @@
+//! A cluster's machines, links and tickets.
+ghost use Rattle.std.specs.Prelude.{◌≡◌, ◌+◌, ◌^◌, ◌<◌, length, OnOk, OnErr, IsErrOf};
+ghost use Rattle.cluster_step.specs.Inner.Writing.{HasLinkBetween};
+ghost use Rattle.cluster_step.specs.Worlds.{Setting};
+ghost use Rattle.cluster_step.specs.Inner.Writing.{HaveLinks};
+ghost use Rattle.cluster_step.specs.Inner.Steps.{CanGoOn, IsSameCluster};
+ghost use Rattle.cluster_step.specs.Events.{NamesMachinesOf, MakesEvent, CanMakeEvent, CanNotMakeEvent, HoldTheSame};
+
+use crate::events::Event;
+use crate::links::Links;
+use cluster_machines::{ClusterMachine, Refused};
+use gl_base::{MachineNo, ScopeId, Vertex};
+use wire_msgs::Returned;
+
+/// A cluster's machines, the links between them, the next ticket, and how many tickets are left.
+#[derive(Drop)]
+pub struct Parts<M> {
+    pub machines: Vec<M>,
+    pub links: Links,
+    pub next: u64,
+    pub left: u64,
+}
+
+impl<M: ClusterMachine> Parts<M> {
+    /// The event happens, where it may happen now.
+    pub(crate) fn make(&mut self, event: Event) -> Result<(), Refused>
+        requires within { NamesMachinesOf (length self.old.machines.items) event }
+        requires links { HaveLinks self.old.links (length self.old.machines.items) }
+        requires few { self.old.next + self.old.left < 2 ^ 64 }
+        requires some { (st : Setting) × CanGoOn M.belongs M.part self.old st }
+        ensures made { OnOk result (MakesEvent (CanGoOn M.belongs M.part self.old) M.part self.old event self.new) }
+        ensures not_now { IsErrOf result Refused.NotNow → CanNotMakeEvent (CanGoOn M.belongs M.part self.old) M.part self.old event }
+        ensures no_memory { IsErrOf result Refused.NoMemory → CanMakeEvent (CanGoOn M.belongs M.part self.old) M.part self.old event }
+        ensures unchanged { OnErr result (HoldTheSame M.part self.old self.new) }
+        ensures same { IsSameCluster M.belongs M.earlier self.old self.new }
+    {
+        match event {
+            Event::Admit(at) => self.admit(at),
+            Event::Grant(at, x) => self.grant(at, x),
+            Event::Send { from, to } => self.send(from, to),
+            Event::Deliver { from, to } => self.deliver(from, to),
+            Event::Update(scope) => self.update(scope),
+        }
+    }
+
+    /// The machine admits a scope.
+    fn admit(&mut self, at: MachineNo) -> Result<(), Refused>
+        requires { at.0 < length self.old.machines.items }
+        ensures made { OnOk result (MakesEvent (CanGoOn M.belongs M.part self.old) M.part self.old (Event.Admit at) self.new) }
+        ensures not_now { IsErrOf result Refused.NotNow → CanNotMakeEvent (CanGoOn M.belongs M.part self.old) M.part self.old (Event.Admit at) }
+        ensures no_memory { IsErrOf result Refused.NoMemory → CanMakeEvent (CanGoOn M.belongs M.part self.old) M.part self.old (Event.Admit at) }
+        ensures unchanged { OnErr result (HoldTheSame M.part self.old self.new) }
+        ensures same { IsSameCluster M.belongs M.earlier self.old self.new }
+    {
+        self.machines[at.0 as usize].admit()?;
+        Ok(())
+    }
+
+    /// The first that waits at the machine for the lock has it.
+    fn grant(&mut self, at: MachineNo, x: Vertex) -> Result<(), Refused>
+        requires { at.0 < length self.old.machines.items }
+        ensures made { OnOk result (MakesEvent (CanGoOn M.belongs M.part self.old) M.part self.old (Event.Grant at x) self.new) }
+        ensures not_now { IsErrOf result Refused.NotNow → CanNotMakeEvent (CanGoOn M.belongs M.part self.old) M.part self.old (Event.Grant at x) }
+        ensures no_memory { IsErrOf result Refused.NoMemory → CanMakeEvent (CanGoOn M.belongs M.part self.old) M.part self.old (Event.Grant at x) }
+        ensures unchanged { OnErr result (HoldTheSame M.part self.old self.new) }
+        ensures same { IsSameCluster M.belongs M.earlier self.old self.new }
+    {
+        self.machines[at.0 as usize].grant(x)?;
+        Ok(())
+    }
+
+    /// The first message that waits at the one machine for the other goes onto the link.
+    fn send(&mut self, from: MachineNo, to: MachineNo) -> Result<(), Refused>
+        requires from { from.0 < length self.old.machines.items }
+        requires link { HasLinkBetween self.old.links from.0 to.0 }
+        ensures made { OnOk result (MakesEvent (CanGoOn M.belongs M.part self.old) M.part self.old (Event.Send from to) self.new) }
+        ensures not_now { IsErrOf result Refused.NotNow → CanNotMakeEvent (CanGoOn M.belongs M.part self.old) M.part self.old (Event.Send from to) }
+        ensures no_memory { IsErrOf result Refused.NoMemory → CanMakeEvent (CanGoOn M.belongs M.part self.old) M.part self.old (Event.Send from to) }
+        ensures unchanged { OnErr result (HoldTheSame M.part self.old self.new) }
+        ensures same { IsSameCluster M.belongs M.earlier self.old self.new }
+    {
+        let machine = &mut self.machines[from.0 as usize];
+        if !machine.waits(to) {
+            return Err(Refused::NotNow);
+        }
+        self.links.reserve(from, to)?;
+        let Some(message) = machine.outbox_take(to) else {
+            return Err(Refused::NotNow);
+        };
+        self.links.push(from, to, message);
+        Ok(())
+    }
+
+    /// The first message on the link from the one machine to the other is received.
+    fn deliver(&mut self, from: MachineNo, to: MachineNo) -> Result<(), Refused>
+        requires to { to.0 < length self.old.machines.items }
+        requires link { HasLinkBetween self.old.links from.0 to.0 }
+        requires some { (st : Setting) × CanGoOn M.belongs M.part self.old st }
+        ensures made { OnOk result (MakesEvent (CanGoOn M.belongs M.part self.old) M.part self.old (Event.Deliver from to) self.new) }
+        ensures not_now { IsErrOf result Refused.NotNow → CanNotMakeEvent (CanGoOn M.belongs M.part self.old) M.part self.old (Event.Deliver from to) }
+        ensures no_memory { IsErrOf result Refused.NoMemory → CanMakeEvent (CanGoOn M.belongs M.part self.old) M.part self.old (Event.Deliver from to) }
+        ensures unchanged { OnErr result (HoldTheSame M.part self.old self.new) }
+        ensures same { IsSameCluster M.belongs M.earlier self.old self.new }
+    {
+        let Some(message) = self.links.take(from, to) else {
+            return Err(Refused::NotNow);
+        };
+        match self.machines[to.0 as usize].receive(from, message) {
+            Ok(()) => Ok(()),
+            Err(Returned { message }) => {
+                self.links.put_back(from, to, message);
+                Err(Refused::NoMemory)
+            }
+        }
+    }
+
+    /// The update of the scope is made at its home, under the next ticket.
+    fn update(&mut self, scope: ScopeId) -> Result<(), Refused>
+        requires home { scope.home.0 < length self.old.machines.items }
+        requires few { self.old.next + self.old.left < 2 ^ 64 }
+        ensures made { OnOk result (MakesEvent (CanGoOn M.belongs M.part self.old) M.part self.old (Event.Update scope) self.new) }
+        ensures not_now { IsErrOf result Refused.NotNow → CanNotMakeEvent (CanGoOn M.belongs M.part self.old) M.part self.old (Event.Update scope) }
+        ensures no_memory { IsErrOf result Refused.NoMemory → CanMakeEvent (CanGoOn M.belongs M.part self.old) M.part self.old (Event.Update scope) }
+        ensures unchanged { OnErr result (HoldTheSame M.part self.old self.new) }
+        ensures same { IsSameCluster M.belongs M.earlier self.old self.new }
+    {
+        if self.left == 0 {
+            return Err(Refused::NotNow);
+        }
+        self.machines[scope.home.0 as usize].update(scope, self.next)?;
+        self.next += 1;
+        self.left -= 1;
+        Ok(())
+    }
+}
