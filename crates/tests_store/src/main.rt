@@ -4,6 +4,7 @@
 #![tactic(auto)]
 
 mod edits;
+mod full;
 mod images;
 mod reading;
 mod samples;
@@ -48,5 +49,7 @@ fn all_tables(alloc: Global) -> Result<Vec<Tally>, NoMemory> {
     tables.push(edits::closed_gates(alloc)?)?;
     tables.push(stops::failing_calls(alloc)?)?;
     tables.push(stops::stopped_calls(alloc)?)?;
+    tables.push(full::full_stores(alloc)?)?;
+    tables.push(full::failed_journals(alloc)?)?;
     Ok(tables)
 }

@@ -60,7 +60,7 @@ fn fill(alloc: Global, journal: &mut Journal<MemDisk>, header: &Header) -> Resul
 }
 
 /// Adds a record, and tells whether it was acknowledged.
-fn add(
+pub fn add(
     alloc: Global,
     journal: &mut Journal<MemDisk>,
     header: &Header,
