@@ -14,7 +14,7 @@ use std::alloc::Global;
 use update_api::Program;
 
 /// Makes the update of a ready scope of this machine, whose vertex is a task and not pending, and tells the other machines of the
-/// scope. It is logged under the ticket.
+/// scope. It is logged under the ticket. A log that holds as many updates as it may is want of memory too.
 pub fn update<P: Program>(
     alloc: Global,
     core: &mut Core,
@@ -35,6 +35,8 @@ pub fn update<P: Program>(
     ensures orderly { IsOrderly core.new }
     ensures places { KnowsPlaces core.old → KnowsPlaces core.new }
     ensures settings { SameSettings core.old core.new }
+    ensures pipe { core.new.pipe ≡ record core.old.pipe { waiting = core.new.pipe.waiting; ready = core.new.pipe.ready } }
+    ensures rest { core.new ≡ record core.old { numbers = core.new.numbers; pipe = core.new.pipe; locks = core.new.locks; out = core.new.out; spare = core.new.spare } }
 {
     let Some(centre) = centre_to_update(core, scope) else {
         return Err(Refused::NotNow);
@@ -71,6 +73,8 @@ fn make<P: Program>(
     ensures orderly { IsOrderly core.new }
     ensures places { KnowsPlaces core.old → KnowsPlaces core.new }
     ensures settings { SameSettings core.old core.new }
+    ensures pipe { core.new.pipe ≡ record core.old.pipe { waiting = core.new.pipe.waiting; ready = core.new.pipe.ready } }
+    ensures rest { core.new ≡ record core.old { numbers = core.new.numbers; pipe = core.new.pipe; locks = core.new.locks; out = core.new.out; spare = core.new.spare } }
 {
     let prepared = reserve_commit(alloc, core, flight.scope)?;
     let degree = core.numbers.local.sides(flight.centre).len();
@@ -95,12 +99,14 @@ fn complete<P: Program>(
     requires reserved { IsReserved core.old work.scope work.vertex prepared.items }
     ensures completed { OnOk result (HasCompleted (P.meaning program.now) core.old core.new work ticket) }
     ensures part { OnErr result (part_of core.new ≡ part_of core.old) }
-    ensures rest { OnErr result (core.new ≡ record core.old { numbers = record core.old.numbers { local = record core.old.numbers.local { rows = core.new.numbers.local.rows; numbers = core.new.numbers.local.numbers } } }) }
+    ensures back { OnErr result (core.new ≡ record core.old { numbers = record core.old.numbers { local = record core.old.numbers.local { rows = core.new.numbers.local.rows; numbers = core.new.numbers.local.numbers } } }) }
     ensures rows { (x : ℕ) → links_at core.new.numbers.local x ≡ (if x == work.vertex.0 then Some work.row.links.items else links_at core.old.numbers.local x) }
     ensures own { (x : ℕ) → is_own core.new.numbers.local x ≡ is_own core.old.numbers.local x }
     ensures orderly { IsOrderly core.new }
     ensures places { KnowsPlaces core.old → KnowsPlaces core.new }
     ensures settings { (st : Setting) → IsPartOf st core.old → HasItsRow st core.old work → IsPartOf st core.new }
+    ensures pipe { core.new.pipe ≡ record core.old.pipe { waiting = core.new.pipe.waiting; ready = core.new.pipe.ready } }
+    ensures rest { core.new ≡ record core.old { numbers = core.new.numbers; pipe = core.new.pipe; locks = core.new.locks; out = core.new.out; spare = core.new.spare } }
 {
     match Outcome::of(alloc, work) {
         Ok(mut outcome) => {
