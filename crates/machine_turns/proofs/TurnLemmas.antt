@@ -11,8 +11,8 @@ use Rattle.update_api.specs.Updates.{Update}
 use Rattle.machine_parts.specs.declared.cores.Core.{Core}
 use Rattle.machine_parts.specs.Parts.{number_of}
 use Rattle.machine_updates.specs.declared.reserving.Prepared.{Prepared}
-use Rattle.machine_turns.specs.Turns.{IsOrderly, AreIn, MayUpdate, HasMadeUpdate, HasOnlyMadeRoom, Setting, IsPartOf, SameSettings, part_of, updated, is_own, links_at}
-use Rattle.machine_turns.specs.Inner.Taking.{CanBeTaken, IsOut, HasItsRow, IsReserved, HasCompleted}
+use Rattle.machine_turns.specs.Turns.{IsOrderly, AreIn, IsOut, MayUpdate, HasMadeUpdate, HasOnlyMadeRoom, Setting, IsPartOf, SameSettings, part_of, updated, is_own, links_at}
+use Rattle.machine_turns.specs.Inner.Taking.{CanBeTaken, HasItsRow, IsReserved, HasCompleted}
 
 -- what follows from a value follows where there is one
 pub on_ok : {T E : Type 0} {A B : Type 0} (r : Result T E) → (A → B) → OnOk r A → OnOk r B

@@ -7,6 +7,7 @@ pub use Rattle.machine_parts.specs.Order.{IsOrderly, KnowsPlaces}
 pub use Rattle.machine_parts.specs.Parts.{part_of, is_own, links_at, sides_at, task_here, pending_here}
 pub use Rattle.machine_parts.specs.Rooms.{HasOnlyMadeRoom}
 pub use Rattle.machine_parts.specs.Settings.{Setting, IsPartOf, SameSettings}
+pub use Rattle.machine_updates.specs.Works.{IsOut}
 use Rattle.std.specs.Prelude.{◌≡◌, ℕ}
 use Rattle.gl_base.specs.declared.entries.Entry.TheVariants.{Go}
 use Rattle.gl_base.specs.declared.scopes.ScopeId.{ScopeId}

@@ -1,8 +1,8 @@
 //! The update of a scope.
 ghost use Rattle.std.specs.Prelude.{◌≡◌, ℕ, ◌==◌, Some, length, if◌then◌else◌, OnOk, OnErr, IsErrOf};
 ghost use Rattle.local_graph.specs.Works.{IsRow};
-ghost use Rattle.machine_turns.specs.Turns.{IsOrderly, KnowsPlaces, SameSettings, AreIn, HasSetting, MayUpdate, HasMadeUpdate, IsAsBefore, Setting, IsPartOf, part_of, is_own, links_at, sides_at};
-ghost use Rattle.machine_turns.specs.Inner.Taking.{CanBeTaken, IsOut, HasItsRow, IsReserved, HasCompleted};
+ghost use Rattle.machine_turns.specs.Turns.{IsOrderly, KnowsPlaces, SameSettings, AreIn, HasSetting, MayUpdate, HasMadeUpdate, IsAsBefore, IsOut, Setting, IsPartOf, part_of, is_own, links_at, sides_at};
+ghost use Rattle.machine_turns.specs.Inner.Taking.{CanBeTaken, HasItsRow, IsReserved, HasCompleted};
 
 use crate::waiting::centre_to_update;
 use gl_base::{NoMemory, ScopeId};

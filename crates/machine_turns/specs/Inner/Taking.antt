@@ -1,5 +1,5 @@
 -- A work that is taken for one update.
-pub use Rattle.machine_updates.specs.Works.{CanBeTaken, IsOut, HasItsRow}
+pub use Rattle.machine_updates.specs.Works.{CanBeTaken, HasItsRow}
 pub use Rattle.machine_updates.specs.Reserving.{IsReserved}
 use Rattle.std.specs.Prelude.{◌≡◌, ℕ}
 use Rattle.gl_base.specs.declared.entries.Entry.TheVariants.{Go}
