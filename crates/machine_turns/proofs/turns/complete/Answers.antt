@@ -1,0 +1,21 @@
+-- What was made of the work is committed.
+use Rattle.std.proofs.Common.{◌≡◌, sym, ap, ◌∙◌, subst}
+use Rattle.gl_base.specs.declared.entries.Entry.TheVariants.{Go}
+use Rattle.local_graph.specs.declared.works.Work.{Work}
+use Rattle.machine_numbers.specs.Settings.{IsMadeOfWork}
+use Rattle.update_api.specs.Updates.{Update}
+use Rattle.machine_turns.specs.Turns.{part_of, updated}
+use Rattle.machine_turns.specs.Inner.Taking.{HasItsRow}
+use Rattle.machine_turns.proofs.MadeLemmas.{made_of_work}
+use Rattle.machine_turns.proofs.turns.complete.Goals as goal
+
+pub returns-in-Ok-clause-completed : goal.returns-in-Ok-clause-completed
+returns-in-Ok-clause-completed g c st setting here row program =
+    let m = c.args.core.now in
+    let made = c.update.new.self in
+    let first = c.in-Ok.ensures in
+    let done = c.update.ensures in
+    let is : made.work ≡ c.args.work = done.work ∙ first.work in
+    let outcome = made_of_work (g.P.Program.meaning c.args.program.now) c.args.work c.in-Ok.outcome made first.work first.value first.edges done.work done.number done.marks done.woken in
+    c.commit.ensures.committed st setting here (subst (λ (w : Work). HasItsRow st m w) (sym is) row) (subst (λ (p : Update). IsMadeOfWork p made) (sym program) outcome)
+    ∙ ap (λ (w : Work). updated st m.numbers.local.me.0 w.scope w.vertex.0 (Go w.scope.home w.vertex c.args.ticket) (part_of m)) is

@@ -1,0 +1,35 @@
+-- The scope is taken alone, so no other work is out.
+use Rattle.std.proofs.Common.{sym, subst}
+use Rattle.gl_base.specs.declared.numbers.Vertex.{Vertex}
+use Rattle.gl_base.specs.declared.scopes.ScopeId.{ScopeId}
+use Rattle.machine_turns.specs.Inner.Taking.{IsReserved}
+use Rattle.machine_turns.proofs.TurnLemmas.{on_ok, reserved_still, rows_in, has_made}
+use Rattle.machine_turns.proofs.turns.make.Goals as goal
+
+pub complete-requires-clause-reserved : goal.complete-requires-clause-reserved
+complete-requires-clause-reserved g c =
+    let roomy = c.reserve_commit.new.core in
+    let out = c.take_work-work.new.core in
+    let f = c.args.flight in
+    let ps = c.in_ok-prepared.prepared.items in
+    let e = c.take_work-work.ensures in
+    subst (λ (s : ScopeId). IsReserved out s c.take_work-work.result.vertex ps) (sym e.scope.0)
+    (subst (λ (v : Vertex). IsReserved out f.scope v ps) (sym e.scope.1)
+    (reserved_still roomy out f.scope f.centre ps e.rest (c.in_ok-prepared.ensures.reserved f.centre c.requires.can.flight)))
+
+pub returns-clause-made : goal.returns-clause-made
+returns-clause-made g c =
+    let f = c.args.flight in
+    let e = c.take_work-work.ensures in
+    let r = c.reserve_commit.ensures in
+    on_ok c.complete.result
+    (has_made c.args.core.now c.reserve_commit.new.core c.take_work-work.new.core c.complete.new.core c.take_work-work.result f.scope f.centre e.scope.0 e.scope.1 r.same e.rest
+    (g.P.Program.meaning c.args.program.now) c.args.ticket c.requires.orderly c.requires.can e.orderly e.out e.part r.part r.settings e.settings e.row)
+    c.complete.ensures.completed
+
+pub returns-clause-rows : goal.returns-clause-rows
+returns-clause-rows g c =
+    let f = c.args.flight in
+    let e = c.take_work-work.ensures in
+    rows_in c.args.core.now c.reserve_commit.new.core c.take_work-work.new.core c.complete.new.core c.take_work-work.result f.scope f.centre e.scope.0 e.scope.1 c.reserve_commit.ensures.same e.rest
+    e.rows c.complete.ensures.rows c.complete.ensures.own c.requires.rows

@@ -1,0 +1,34 @@
+-- What the update of a scope asks of a machine, and what it leaves.
+pub use Rattle.cluster_core.specs.Actions.{MayUpdate}
+pub use Rattle.cluster_core.specs.Effects.{updated}
+pub use Rattle.cluster_core.specs.Settings.{IsSetting}
+pub use Rattle.local_parts.specs.Parts.{AreIn}
+pub use Rattle.machine_parts.specs.Order.{IsOrderly, KnowsPlaces}
+pub use Rattle.machine_parts.specs.Parts.{part_of, is_own, links_at, sides_at, task_here, pending_here}
+pub use Rattle.machine_parts.specs.Rooms.{HasOnlyMadeRoom}
+pub use Rattle.machine_parts.specs.Settings.{Setting, IsPartOf, SameSettings}
+pub use Rattle.machine_updates.specs.Works.{IsOut}
+use Rattle.std.specs.Prelude.{◌≡◌, ℕ}
+use Rattle.gl_base.specs.declared.entries.Entry.TheVariants.{Go}
+use Rattle.gl_base.specs.declared.scopes.ScopeId.{ScopeId}
+use Rattle.update_api.specs.Updates.{Update}
+use Rattle.machine_parts.specs.declared.cores.Core.{Core}
+
+-- the machine is a part of some cluster
+pub record HasSetting (m : Core) : Type 0 where
+  pub setting : Setting
+  pub here : IsPartOf setting m
+
+-- The scope might make its update. For each setting of which the machine is a part, and whose program is this one, the part is what
+-- the law makes of it: the update is logged under this ticket.
+pub record HasMadeUpdate (program : Update) (old new : Core) (s : ScopeId) (ticket : ℕ) : Type 0 where
+  pub may : MayUpdate s (part_of old) 1
+  pub home : s.home ≡ old.numbers.local.me
+  pub after : (st : Setting) → IsSetting st → IsPartOf st old → st.program ≡ program →
+      part_of new ≡ updated st s.home.0 s may.vertex (Go s.home (record { 0 = may.vertex }) ticket) (part_of old)
+
+-- The part is as before. But for how rows and the numbers of edges are kept, only room has changed.
+pub record IsAsBefore (old new : Core) : Type 0 where
+  pub part : part_of new ≡ part_of old
+  pub local : new.numbers.local ≡ record old.numbers.local { rows = new.numbers.local.rows; numbers = new.numbers.local.numbers }
+  pub room : HasOnlyMadeRoom (record old { numbers = record old.numbers { local = new.numbers.local } }) new

@@ -1,0 +1,9 @@
+//! The update event of a machine as one call.
+#![tactic(auto)]
+
+mod laws;
+mod turns;
+mod waiting;
+
+pub use laws::no_work_is_out_while_rows_are_in;
+pub use turns::update;
