@@ -74,7 +74,7 @@ module _ {M : Type 0} (belongs : Setting → ℕ → M → Type 0) (part : M →
           next = drawn;
           left = omega arith;
           vertices = going.gone.vertices;
-        owners = going.gone.owners;
+          owners = going.gone.owners;
           logs = replay.logs;
           numbers = replay.numbers;
           edges = replay.edges;
