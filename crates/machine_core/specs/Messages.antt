@@ -1,13 +1,13 @@
 -- What a machine receives and sends.
 pub use Rattle.cluster_core.specs.Actions.{HasFirst}
 pub use Rattle.wire_msgs.specs.Views.{message_view}
-use Rattle.std.specs.Prelude.{◌≡◌, ℕ, List, ◌∷◌}
+use Rattle.std.specs.Prelude.{◌≡◌, ℕ, ◌<◌, List, ◌∷◌}
 use Rattle.cluster_core.specs.Messages.{Message}
 use Rattle.cluster_core.specs.Parts.{Part}
 use Rattle.cluster_core.specs.Ranges.{set_at}
 use Rattle.machine_parts.specs.declared.cores.Core.{Core}
 use Rattle.machine_parts.specs.Parts.{message_of}
-use Rattle.machine_scopes.specs.Asking.{IsNewAt, AreMachinesFor, CanBecomeReady}
+use Rattle.machine_scopes.specs.Asking.{IsNewAt, AreMachinesFor, CanBecomeReady, come}
 use Rattle.machine_updates.specs.Learning.{CanLearn}
 use Rattle.wire_msgs.specs.declared.messages.Message as sent
 use Rattle.wire_msgs.specs.declared.messages.Message.TheVariants as wire
@@ -23,6 +23,11 @@ CanReceiveMessage m (wire.Ask s centre rest) = IsNewAt m s centre × AreMachines
 CanReceiveMessage m (wire.Ready s) = CanBecomeReady m s
 CanReceiveMessage m (wire.Done done) = CanLearn m done
 CanReceiveMessage m _ = ⊥
+
+-- fewer scopes than may have come, where one comes with the message
+abbrev pub MayStillCome : Core → sent.Message → Type 0
+MayStillCome m (wire.Ask s centre rest) = come m.pipe < 4096
+MayStillCome m _ = Unit {0}
 
 -- the message was the first that waited for machine q, and has left the outbox; nothing else of the part has changed
 pub record HasSentFirst (old : Part) (q : ℕ) (message : Message) (new : Part) : Type 0 where

@@ -1,7 +1,7 @@
 //! What a machine receives and sends.
 ghost use Rattle.std.specs.Prelude.{◌≡◌, ◌↔◌, [], true, IsTrue, IfErr, IfSome, IfNone, OnOk, OnErr};
 ghost use Rattle.machine_core.specs.Machines.{SameSettings, HasOnlyMadeRoom, HasReceivedMessage, part_of};
-ghost use Rattle.machine_core.specs.Messages.{CanReceiveMessage, HasFirst, HasSentFirst, message_told};
+ghost use Rattle.machine_core.specs.Messages.{CanReceiveMessage, MayStillCome, HasFirst, HasSentFirst, message_told};
 
 use crate::machines::Machine;
 use gl_base::{MachineNo, Peer};
@@ -18,6 +18,7 @@ impl Machine {
         requires { CanReceiveMessage self.old message }
         ensures settings { SameSettings self.old self.new }
         ensures received { OnOk result (HasReceivedMessage self.old self.new (message_told message)) }
+        ensures place { OnOk result (MayStillCome self.old message) }
         ensures back { IfErr result (λ back. back.message ≡ message) }
         ensures unchanged { OnErr result (HasOnlyMadeRoom self.old self.new × (part_of self.new ≡ part_of self.old)) }
     {
