@@ -28,12 +28,12 @@ impl Machine {
                 centre,
                 rest,
             } => {
-                let rest = if self.core.pipe.entered_count() < MAX_COME {
+                let came = if self.core.pipe.entered_count() < MAX_COME {
                     self.receive_ask(alloc, scope, centre, rest)
                 } else {
                     Err(rest)
                 };
-                match rest {
+                match came {
                     Ok(()) => Ok(()),
                     Err(rest) => Err(Returned {
                         message: Message::Ask {
