@@ -1,3 +1,5 @@
 pub mod GraphLemmas
 pub mod NewLemmas
 pub mod FrontLemmas
+pub mod SendLemmas
+pub mod ReadLemmas

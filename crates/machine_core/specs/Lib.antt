@@ -1,1 +1,4 @@
 pub mod Machines
+pub mod Updates
+pub mod Messages
+pub mod Reading

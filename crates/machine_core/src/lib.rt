@@ -3,6 +3,9 @@
 
 mod laws;
 mod machines;
+mod messages;
+mod reading;
+mod updates;
 
 pub use laws::{fronts_fit_the_machine, new_machines_are_in_order};
 pub use machines::Machine;

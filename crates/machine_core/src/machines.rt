@@ -11,7 +11,7 @@ use std::marker::Model;
 /// A machine, whose parts go together. Contracts see the parts.
 #[derive(Drop)]
 pub struct Machine {
-    core: Core,
+    pub(crate) core: Core,
 }
 
 impl Model for Machine {

@@ -1,0 +1,111 @@
+-- The first message that waits for a machine is taken.
+use Rattle.std.proofs.Common.{◌≡◌, ℕ, zero, suc, ◌<◌, Bool, true, false, if◌then◌else◌, Option, None, Some, List, [], ◌∷◌, length, map, option_map, set, get_or, slice_get, IfSome, IfNone, inl, inr, nat_lt, ◌↔◌, true≢false, refl, sym, ap, ◌∙◌, subst, arith, get_or-set_same, get_or-set_other}
+use Rattle.std.proofs.lemmas.Bool.{cases_eq, eq-eqb, ne_eqb, lt-ltb}
+use Rattle.std.proofs.lemmas.List.{length-set, set-get_or}
+use Rattle.gl_base.specs.declared.numbers.MachineNo.{MachineNo}
+use Rattle.gl_base.specs.declared.scopes.Peer.TheVariants.{Machine}
+use Rattle.cluster_core.specs.Actions.{HasFirst}
+use Rattle.cluster_core.specs.Messages as law
+use Rattle.cluster_core.specs.Ranges.{set_at}
+use Rattle.outboxes.specs.Outboxes.{OutboxView, OutboxesView, MessageView, no_outbox, outbox_to, waiting_for, with_outbox, left_behind, without_first}
+use Rattle.wire_msgs.specs.Views.{message_view}
+use Rattle.wire_msgs.specs.declared.messages.Message.{Message}
+use Rattle.machine_parts.specs.declared.cores.Core.{Core}
+use Rattle.machine_parts.specs.Order.{IsGraphInOrder, HasComeRight}
+use Rattle.machine_parts.specs.Parts.{message_of, part_of}
+use Rattle.machine_core.specs.Machines.{IsMachine}
+use Rattle.machine_core.specs.Messages.{HasSentFirst, message_told}
+
+-- ---- a list and its first
+
+none_first : (w : MessageView) → Some w ≡ None → ⊥
+none_first w is = cc
+
+first_behind : (ws : List MessageView) (w : MessageView) (room : ℕ) → Some w ≡ slice_get ws 0 → (behind : List MessageView) × (ws ≡ w ∷ behind) × ((left_behind ws room).messages ≡ behind)
+first_behind [] w room first = absurd (none_first w first)
+first_behind (u ∷ ws) w room first =
+    let same : w ≡ u = cc in
+    (ws, ap (λ (x : MessageView). x ∷ ws) (sym same), refl)
+
+none_waits : (ws : List MessageView) → None ≡ slice_get ws 0 → ws ≡ []
+none_waits [] none = refl
+none_waits (w ∷ ws) none = absurd (none_first w (sym none))
+
+-- a message waits just where the law finds a first one
+pub waits_first : (ws : List MessageView) → (nat_lt 0 (length ws) ≡ true) ↔ HasFirst (map message_of ws)
+waits_first [] = (λ waits. absurd (true≢false (sym waits)), λ first. absurd (no_message first.message first.behind first.first))
+  where
+    no_message : (m : law.Message) (behind : List law.Message) → [] ≡ m ∷ behind → ⊥
+    no_message m behind is = cc
+waits_first (w ∷ ws) = (λ waits. record { message = message_of w; behind = map message_of ws; first = refl }, λ first. lt-ltb 0 (length (w ∷ ws)) (omega arith))
+
+-- an outbox in which a message waits is one of the list
+is_there : (boxes : List OutboxView) (b : ℕ) (w : MessageView) → Some w ≡ slice_get (get_or boxes b no_outbox).messages 0 → b < length boxes
+is_there [] b w first = absurd (none_first w first)
+is_there (box ∷ boxes) zero w first = omega arith
+is_there (box ∷ boxes) (suc b) w first = omega (arith, is_there boxes b w first)
+
+-- what waits for machine q, as the outbox to machine b is another one
+box_behind : (boxes : List OutboxView) (b q : ℕ) (box : OutboxView) (ws : List MessageView) → b < length boxes → box.messages ≡ ws
+    → map message_of (get_or (set boxes b box) q no_outbox).messages ≡ set_at (λ (r : ℕ). map message_of (get_or boxes r no_outbox).messages) b (map message_of ws) q
+box_behind boxes b q box ws low is = elim (cases_eq q b) [
+  | inl same ↦
+      ap (λ (r : ℕ). map message_of (get_or (set boxes b box) r no_outbox).messages) same
+      ∙ ap (λ (o : OutboxView). map message_of o.messages) (get_or-set_same boxes b box no_outbox low)
+      ∙ ap (map message_of) is
+      ∙ sym (ap (λ (t : Bool). if t then map message_of ws else map message_of (get_or boxes q no_outbox).messages) (eq-eqb q b same))
+  | inr other ↦
+      ap (λ (o : OutboxView). map message_of o.messages) (get_or-set_other boxes b q box no_outbox other)
+      ∙ sym (ap (λ (t : Bool). if t then map message_of ws else map message_of (get_or boxes q no_outbox).messages) (ne_eqb q b other))
+]
+
+-- ---- the machine
+
+-- as many outboxes: the machine is in order as it was
+pub order_stays : (m : Core) (out : OutboxesView) → length out.machines ≡ length m.out.machines → IsMachine m → IsMachine (record m { out = out })
+order_stays m out many is = record {
+  orderly = record {
+    graph = subst (IsGraphInOrder m.numbers.local) (sym many) is.orderly.graph;
+    numbers = is.orderly.numbers;
+    entered = λ s e at. subst (λ (k : ℕ). HasComeRight m.numbers.local m.pipe k false s e) (sym many) (is.orderly.entered s e at);
+    locks = is.orderly.locks;
+    flights = is.orderly.flights;
+    width = is.orderly.width;
+  };
+  places = record { vertices = is.places.vertices; flags = is.places.flags };
+}
+
+module _ (m : Core) (to : MachineNo) (out : OutboxesView) (behind : out ≡ with_outbox m.out (Machine to) (without_first (outbox_to m.out (Machine to)))) where
+  pub as_many : length out.machines ≡ length m.out.machines
+  as_many = ap (λ (o : OutboxesView). length o.machines) behind ∙ length-set m.out.machines to.0 (without_first (outbox_to m.out (Machine to)))
+
+  first_sent : (message : Message) → Some (message_view message) ≡ slice_get (waiting_for m.out (Machine to)) 0 → HasSentFirst (part_of m) to.0 (message_told message) (part_of (record m { out = out }))
+  first_sent message first =
+      let box = outbox_to m.out (Machine to) in
+      let left = first_behind box.messages (message_view message) box.room first in
+      let low = is_there m.out.machines to.0 (message_view message) first in
+      record {
+        behind = map message_of left.0;
+        first = ap (map message_of) left.1;
+        after =
+            ap (λ (o : OutboxesView). part_of (record m { out = o })) behind
+            ∙ (λ i. record (part_of m) { out = λ q. box_behind m.out.machines to.0 q (without_first box) left.0 low left.2 i });
+      }
+
+  pub sent_first : (o : Option Message) → option_map message_view o ≡ slice_get (waiting_for m.out (Machine to)) 0
+      → IfSome o (λ message. HasSentFirst (part_of m) to.0 (message_told message) (part_of (record m { out = out })))
+  sent_first None first = tt
+  sent_first (Some message) first = first_sent message first
+
+  nothing_sent : None ≡ slice_get (waiting_for m.out (Machine to)) 0 → out ≡ m.out
+  nothing_sent first =
+      let box = outbox_to m.out (Machine to) in
+      let empty = none_waits box.messages first in
+      let same : without_first box ≡ box = ap (λ (ws : List MessageView). left_behind ws box.room) empty ∙ (λ i. record { messages = (sym empty) i; room = box.room }) in
+      behind
+      ∙ ap (λ (b : OutboxView). record m.out { machines = set m.out.machines to.0 b }) same
+      ∙ (λ i. record m.out { machines = (set-get_or m.out.machines to.0 no_outbox) i })
+
+  pub sent_none : (o : Option Message) → option_map message_view o ≡ slice_get (waiting_for m.out (Machine to)) 0 → IfNone o (record m { out = out } ≡ m)
+  sent_none None first = ap (λ (o : OutboxesView). record m { out = o }) (nothing_sent first)
+  sent_none (Some message) first = tt

@@ -1,0 +1,5 @@
+use Rattle.machine_core.proofs.ReadLemmas.{task_there}
+use Rattle.machine_core.proofs.machines.Machine.task.Goals as goal
+
+pub returns-clause-some : goal.returns-clause-some
+returns-clause-some c = rw (← c.self.view_is) (task_there c.self.inside.core c.in_ok-place.place.0 c.index.result.now c.self.invariant.places c.in_ok-place.ensures c.index.ensures)
