@@ -1,6 +1,7 @@
 -- What a machine keeps for snapshots.
 pub use Rattle.wire_msgs.specs.Views.{SectionView, section_view}
-use Rattle.std.specs.Prelude.{◌≡◌, ℕ, ◌+◌, ◌≤◌, Bool, false, not, ◌&&◌, ◌||◌, nat_le, nat_lt, pred, Option, Some, None, List, [], ◌∷◌, ◌++◌, drop, length, sum_by, if◌then◌else◌}
+use Rattle.std.specs.Prelude.{◌≡◌, ℕ, ◌+◌, ◌≤◌, Bool, false, not, ◌&&◌, ◌||◌, nat_le, nat_lt, pred, Option, Some, None, List, [], ◌∷◌, ◌++◌, drop, length, map, nat_eq, sum_by, if◌then◌else◌}
+use Rattle.std.specs.List.{IsDistinct}
 use Rattle.gl_base.specs.declared.entries.Entry.{Entry}
 use Rattle.gl_base.specs.declared.numbers.EdgeNo.{EdgeNo}
 use Rattle.gl_base.specs.declared.numbers.Vertex.{Vertex}
@@ -118,3 +119,17 @@ with_asking half w = record w { wanted = w.wanted || has_to_ask half w }
 -- the snapshot behind which it asks for one, where it has to
 abbrev pub asked_behind : ℕ → SnapView → Option ℕ
 asked_behind half w = if has_to_ask half w then Some w.acknowledged else None
+
+-- ---- what is saved once
+
+-- the numbers of the vertices and edges that were saved
+abbrev pub saved_vertices_of : SnapView → List ℕ
+saved_vertices_of w = map (λ pair. pair.0.0) w.vertices
+
+abbrev pub saved_edges_of : SnapView → List ℕ
+saved_edges_of w = map (λ pair. pair.0.0) w.edges
+
+-- no vertex and no edge was saved twice
+pub record IsSavedOnce (w : SnapView) : Type 0 where
+  pub vertices : IsDistinct nat_eq (saved_vertices_of w)
+  pub edges : IsDistinct nat_eq (saved_edges_of w)
