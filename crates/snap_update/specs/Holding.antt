@@ -3,9 +3,9 @@ pub use Rattle.cluster_core.specs.Effects.{saves_edge}
 pub use Rattle.cluster_core.specs.Messages.{Message}
 pub use Rattle.cluster_core.specs.Parts.{Part}
 pub use Rattle.cluster_core.specs.Settings.{Setting}
-pub use Rattle.cluster_model.specs.Calls.{Begin, Call, Committed, Report}
+pub use Rattle.cluster_model.specs.Calls.{Begin, Call, Committed, Report, Step, Wave}
 pub use Rattle.cluster_model.specs.Machines.{Machine, outside}
-pub use Rattle.cluster_model.specs.Working.{admits, asks, commits, goes_back, grants, half_window, makes_mark, receives, sections, snapshot_in, takes_call, works_on}
+pub use Rattle.cluster_model.specs.Working.{admits, asks, commits, fails, goes_back, grants, half_window, hands, hands_report, makes_mark, prompt, receives, sections, snapshot_in, takes_call, works_on}
 use Rattle.std.specs.Prelude.{◌≡◌, ℕ, ◌==◌, Option, Some, None, List, [], ◌∷◌, ◌++◌, if◌then◌else◌}
 use Rattle.gl_base.specs.declared.numbers.EdgeNo.{EdgeNo}
 use Rattle.gl_base.specs.declared.numbers.Vertex.{Vertex}

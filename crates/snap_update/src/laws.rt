@@ -1,12 +1,12 @@
 //! Laws about what a machine keeps for snapshots, for every setting of a cluster. Each is the contract of a function that does nothing.
-ghost use Rattle.std.specs.Prelude.{◌≡◌, ◌++◌, ℕ, List, None};
+ghost use Rattle.std.specs.Prelude.{◌≡◌, ◌+◌, ◌++◌, ℕ, List, None};
 ghost use Rattle.gl_base.specs.declared.entries.Entry.{Entry};
 ghost use Rattle.gl_base.specs.declared.numbers.EdgeNo.{EdgeNo};
 ghost use Rattle.gl_base.specs.declared.numbers.Vertex.{Vertex};
 ghost use Rattle.gl_base.specs.declared.scopes.ScopeId.{ScopeId};
 ghost use Rattle.seq_run.specs.States.{GraphState};
-ghost use Rattle.snap_update.specs.Snaps.{IsSavedOnce, SnapRoom, SnapView, nothing_since, outside_of, own_section, with_begun, with_committed, with_entry, with_edge, with_section, with_vertex};
-ghost use Rattle.snap_update.specs.Holding.{AreEdgesToSave, Begin, Committed, IsSnapPartOf, Machine, Message, Setting, TellsSection, admits, asks, commits, goes_back, grants, last_of_edge, last_of_vertex, makes_mark, outside, receives, sections, snapshot_in, takes_call, wants_in, with_edges, with_window, works_on};
+ghost use Rattle.snap_update.specs.Snaps.{IsSavedOnce, SnapRoom, SnapView, first_unsure, nothing_since, outside_of, own_section, with_begun, with_committed, with_entry, with_edge, with_section, with_vertex};
+ghost use Rattle.snap_update.specs.Holding.{AreEdgesToSave, Begin, Committed, IsSnapPartOf, Machine, Message, Report, Setting, Step, TellsSection, Wave, admits, asks, commits, fails, goes_back, grants, hands, hands_report, last_of_edge, last_of_vertex, makes_mark, outside, prompt, receives, sections, snapshot_in, takes_call, wants_in, with_edges, with_window, works_on};
 
 /// A machine of the cluster begins with nothing made since a snapshot, and goes back to that.
 pub fn machines_begin_with_nothing()
@@ -57,8 +57,23 @@ pub fn windows_are_watched()
     ensures wanted { (st : Setting) (w : SnapView) (m : Machine) → IsSnapPartOf w m → (asks st m).out ≡ m.out ++ wants_in st w }
 {}
 
-/// Admissions and grants leave it as it is.
-pub fn admissions_leave_snapshots()
+/// Each update is outside from when it is logged until its section is known to be acknowledged.
+pub fn updates_outside_are_counted()
+    ensures none { (number : ℕ) (room : SnapRoom) → outside_of (nothing_since number room) ≡ 0 }
+    ensures logged { (entry : Entry) (mark : ℕ) (w : SnapView) → outside_of (with_entry entry mark w) ≡ outside_of w + 1 }
+    ensures begun { (number : ℕ) (w : SnapView) → outside_of (with_begun number w) ≡ outside_of w }
+    ensures sent { (w : SnapView) → outside_of (with_section w) ≡ outside_of w }
+    ensures committed { (number : ℕ) (w : SnapView) → outside_of (with_committed number w) + first_unsure w.unsure ≡ outside_of w }
+{}
+
+/// The other events of the cluster's machine leave it as it is.
+pub fn other_events_leave_snapshots()
     ensures admitted { (st : Setting) (a v : ℕ) (w : SnapView) (m : Machine) → IsSnapPartOf w m → IsSnapPartOf w (admits st a v m) }
     ensures granted { (st : Setting) (a x : ℕ) (w : SnapView) (m : Machine) → IsSnapPartOf w m → IsSnapPartOf w (grants st a x m) }
+    ensures waved { (st : Setting) (a wave : ℕ) (w : SnapView) (m : Machine) → IsSnapPartOf w m → IsSnapPartOf w (takes_call st a (Wave wave) m) }
+    ensures stepped { (st : Setting) (a colour : ℕ) (w : SnapView) (m : Machine) → IsSnapPartOf w m → IsSnapPartOf w (takes_call st a (Step colour) m) }
+    ensures answered { (st : Setting) (a : ℕ) (w : SnapView) (m : Machine) → IsSnapPartOf w m → IsSnapPartOf w (prompt st a m) }
+    ensures handed { (q : ℕ) (messages : List Message) (w : SnapView) (m : Machine) → IsSnapPartOf w m → IsSnapPartOf w (hands q messages m) }
+    ensures reported { (reports : List Report) (w : SnapView) (m : Machine) → IsSnapPartOf w m → IsSnapPartOf w (hands_report reports m) }
+    ensures failed { (w : SnapView) (m : Machine) → IsSnapPartOf w m → IsSnapPartOf w (fails m) }
 {}
