@@ -1,0 +1,2 @@
+pub mod Snaps
+pub mod Holding
