@@ -1,0 +1,5 @@
+//! Tests of what a machine keeps for snapshots.
+#![tactic(auto)]
+
+#[cfg(test)]
+mod snaps;
