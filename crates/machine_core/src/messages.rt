@@ -1,10 +1,10 @@
 //! What a machine receives and sends.
-ghost use Rattle.std.specs.Prelude.{◌≡◌, ◌↔◌, [], true, IsTrue, IfErr, IfSome, IfNone, OnOk, OnErr};
-ghost use Rattle.machine_core.specs.Machines.{SameSettings, HasOnlyMadeRoom, HasReceivedMessage, part_of};
+ghost use Rattle.std.specs.Prelude.{◌≡◌, ◌<◌, ◌↔◌, [], true, IsTrue, IfErr, IfSome, IfNone, OnOk, OnErr};
+ghost use Rattle.machine_core.specs.Machines.{SameSettings, HasOnlyMadeRoom, HasReceivedMessage, part_of, come, machine_numbers, IsNewAt, AreMachinesFor, Ask};
 ghost use Rattle.machine_core.specs.Messages.{CanReceiveMessage, MayStillCome, HasFirst, HasSentFirst, message_told};
 
 use crate::machines::Machine;
-use gl_base::{MachineNo, Peer};
+use gl_base::{MachineNo, Peer, ScopeId, Vertex};
 use std::alloc::Global;
 use wire_msgs::{Message, Returned};
 
@@ -27,23 +27,10 @@ impl Machine {
                 scope,
                 centre,
                 rest,
-            } => {
-                let came = if self.core.pipe.entered_count() < MAX_COME {
-                    self.receive_ask(alloc, scope, centre, rest)
-                } else {
-                    Err(rest)
-                };
-                match came {
-                    Ok(()) => Ok(()),
-                    Err(rest) => Err(Returned {
-                        message: Message::Ask {
-                            scope,
-                            centre,
-                            rest,
-                        },
-                    }),
-                }
-            }
+            } => match self.receive_in_room(alloc, scope, centre, rest) {
+                Ok(()) => Ok(()),
+                Err(rest) => Err(returned(scope, centre, rest)),
+            },
             Message::Ready { scope } => {
                 self.receive_ready(scope);
                 Ok(())
@@ -53,6 +40,29 @@ impl Machine {
                 Ok(())
             }
             _ => unreachable!(),
+        }
+    }
+
+    /// A scope comes for its locks here, where fewer have come than may; else its machines come back.
+    fn receive_in_room(
+        &mut self,
+        alloc: Global,
+        scope: ScopeId,
+        centre: Vertex,
+        rest: Vec<MachineNo>,
+    ) -> Result<(), Vec<MachineNo>>
+        requires is_new { IsNewAt self.old scope centre }
+        requires machines { AreMachinesFor self.old scope rest.items }
+        ensures settings { SameSettings self.old self.new }
+        ensures received { OnOk result (HasReceivedMessage self.old self.new (Ask scope centre.0 (machine_numbers rest.items))) }
+        ensures place { OnOk result (come self.old.pipe < 4096) }
+        ensures back { IfErr result (λ same. same ≡ rest) }
+        ensures unchanged { OnErr result (HasOnlyMadeRoom self.old self.new × (part_of self.new ≡ part_of self.old)) }
+    {
+        if self.core.pipe.entered_count() < MAX_COME {
+            self.receive_ask(alloc, scope, centre, rest)
+        } else {
+            Err(rest)
         }
     }
 
@@ -72,5 +82,18 @@ impl Machine {
         ensures rest { self.new ≡ record self.old { out = self.new.out } }
     {
         self.core.out.take(Peer::Machine(to))
+    }
+}
+
+/// The request that was not received.
+fn returned(scope: ScopeId, centre: Vertex, rest: Vec<MachineNo>) -> Returned
+    ensures { result.message ≡ Message.Ask scope centre rest }
+{
+    Returned {
+        message: Message::Ask {
+            scope,
+            centre,
+            rest,
+        },
     }
 }
