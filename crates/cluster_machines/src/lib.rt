@@ -2,7 +2,5 @@
 #![tactic(auto)]
 
 mod machines;
-mod refusals;
 
 pub use machines::ClusterMachine;
-pub use refusals::Refused;

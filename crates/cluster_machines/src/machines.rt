@@ -2,8 +2,7 @@
 ghost use Rattle.std.specs.Prelude.{◌≡◌, ℕ, ◌+◌, ◌↔◌, [], length, true, false, is_some, IsTrue, IfOk, IfErr, OnOk, OnErr, IfSome, IfNone, IsErrOf};
 ghost use Rattle.cluster_machines.specs.Promises.{Part, Setting, HasFirst, MayUpdate, told_by, IsSameMachine, AdmitsSome, AdmitsNone, MakesAdmission, GrantsIt, GrantsNot, MakesGrant, CanReceive, MakesReceipt, IsSending, MakesUpdate, is_owner_of, is_owner_with, SaysWhether};
 
-use crate::refusals::Refused;
-use gl_base::{EdgeNo, Entry, MachineNo, ScopeId, Vertex};
+use gl_base::{EdgeNo, Entry, MachineNo, Refused, ScopeId, Vertex};
 use wire_msgs::{Message, Returned};
 
 /// A machine of a cluster. Each call that changes it is the machine's part of an event: it is `NotNow` exactly where the event's

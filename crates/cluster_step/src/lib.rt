@@ -8,7 +8,7 @@ mod link;
 mod links;
 mod parts;
 
-pub use cluster_machines::{ClusterMachine, Refused};
+pub use cluster_machines::ClusterMachine;
 pub use clusters::Cluster;
 pub use events::Event;
 pub use links::Links;

@@ -8,8 +8,8 @@ ghost use Rattle.cluster_step.specs.Events.{NamesMachinesOf, MakesEvent, CanMake
 
 use crate::events::Event;
 use crate::links::Links;
-use cluster_machines::{ClusterMachine, Refused};
-use gl_base::{MachineNo, ScopeId, Vertex};
+use cluster_machines::ClusterMachine;
+use gl_base::{MachineNo, Refused, ScopeId, Vertex};
 use wire_msgs::Returned;
 
 /// A cluster's machines, the links between them, the next ticket, and how many tickets are left.

@@ -4,7 +4,7 @@ ghost use Rattle.coord_core.specs.Coordinators.{HasCluster, MayBeCounted, messag
 ghost use Rattle.coord_core.specs.Calls.{HasHandedOver, HasPutWave, HasTakenReport, IsDueOf, IsFirstOf, MayNotPutWave, MayPutWave, MayReport, StaysCoordinator, TellsCounts};
 
 use crate::asking::{ask_each, reserve_each};
-use gl_base::{MachineNo, NoMemory, Peer};
+use gl_base::{MachineNo, NoMemory, Peer, Refused};
 use outboxes::Outboxes;
 use quiet_waves::{Verdict, Waves};
 use std::alloc::Global;
@@ -19,24 +19,6 @@ pub enum Due {
     /// A wave is to be put out.
     Wave,
     Nothing,
-}
-
-/// Why an event did not happen.
-#[derive(Clone, Copy, Debug, PartialEq, Eq, Hash)]
-pub enum Refused {
-    /// It may not happen now.
-    NotNow,
-    NoMemory,
-}
-
-impl From<NoMemory> for Refused {
-    ghost use Rattle.coord_core.specs.declared.leading.Refused.TheVariants.{NoMemory};
-
-    ghost from_gives = { λ _ refused. refused ≡ NoMemory };
-
-    fn from(_: NoMemory) -> Self {
-        Refused::NoMemory
-    }
 }
 
 /// The coordinator of a cluster with locks that takes no snapshots: how many waves it has put out, whether answers to the newest

@@ -4,4 +4,4 @@
 mod asking;
 mod leading;
 
-pub use leading::{Coordinator, Due, Refused};
+pub use leading::{Coordinator, Due};

@@ -11,6 +11,7 @@ mod limits;
 mod memory;
 mod names;
 mod numbers;
+mod refusals;
 mod scopes;
 mod snapshots;
 mod text_faults;
@@ -28,6 +29,7 @@ pub use limits::{
 pub use memory::{NoMemory, OrNoMemory};
 pub use names::Name;
 pub use numbers::{AtomNo, EdgeNo, MachineNo, Vertex};
+pub use refusals::Refused;
 pub use scopes::{Claim, Counted, Datum, Mode, Peer, ScopeId};
 pub use snapshots::{Base, Record, SavedPart};
 pub use text_faults::{TextFault, TextFile, TextKind};

@@ -2,8 +2,8 @@
 ghost use Rattle.std.specs.Prelude.{◌≡◌, ◌<◌, IfOk, IfErr, OnOk, OnErr, IsErrOf};
 ghost use Rattle.machine_core.specs.Machines.{IsOrderly, KnowsPlaces, SameSettings, HasOnlyMadeRoom, part_of, come, next_id, machine_numbers, MayGrantLock, MayNotGrantLock, HasGrantedLock, WaitsFirst, WantedNext, IsNewAt, AreMachinesFor, CanBecomeReady, HasReceivedMessage, Ask, Ready, CanAdmitPick, MayAdmitNone, HasAdmittedPick};
 
-use gl_base::{MachineNo, ScopeId, Vertex};
-use machine_parts::{Core, Refused};
+use gl_base::{MachineNo, Refused, ScopeId, Vertex};
+use machine_parts::Core;
 use machine_scopes::Moved;
 use std::alloc::Global;
 use std::marker::Model;

@@ -6,10 +6,9 @@ ghost use Rattle.machine_core.specs.Machines.{Setting, IsPartOf, SameSettings, H
 ghost use Rattle.machine_core.specs.Updates.{HasRoom, CanBeTaken, IsOut, IsApartFrom, HasItsRow, AreSomeOf, scopes_of_works, scopes_of_flights, NoneToTake, HasTakenAll, IsReserved, HasCommitted, HasUpdated, HasFinished, HasNoLock, done_told, after_told, entry_logged, CanLearn, HasReceivedDone, links_at, sides_at, flight_at};
 
 use crate::machines::Machine;
-use gl_base::{NoMemory, ScopeId};
+use gl_base::{NoMemory, Refused, ScopeId};
 use local_graph::{Batch, Outcome, Work};
 use machine_numbers::Spare;
-use machine_parts::Refused;
 use machine_updates::{Prepared, Spares};
 use scope_pipe::Flight;
 use std::alloc::Global;

@@ -2,9 +2,7 @@
 #![tactic(auto)]
 
 mod cores;
-mod refusals;
 mod spare;
 
 pub use cores::{Core, Terms};
-pub use refusals::Refused;
 pub use spare::SpareParts;

@@ -4,8 +4,8 @@ ghost use Rattle.machine_scopes.specs.Admitting.{IsOrderly, KnowsPlaces, SameSet
 
 use crate::picking::{put_back, take_pick};
 use crate::starting::{prepare, set_out};
-use gl_base::{NoMemory, ScopeId};
-use machine_parts::{Core, Refused};
+use gl_base::{NoMemory, Refused, ScopeId};
+use machine_parts::Core;
 use std::alloc::Global;
 
 /// Admits a scope of the vertex that the tasks pick, where fewer scopes are in flight than may be: it asks for its first lock here,

@@ -3,8 +3,8 @@ ghost use Rattle.std.specs.Prelude.{◌≡◌, true, IfOk, IfErr, OnErr, IsErrOf
 ghost use Rattle.machine_scopes.specs.Granting.{IsOrderly, SameSettings, HasOnlyMadeRoom, MayGrantLock, MayNotGrantLock, HasGrantedLock, WaitsFirst, WantedNext, IsNext, WaitOnce, part_of, is_owned, holder_at, queue_at};
 
 use crate::going::{go_on, reserve_next};
-use gl_base::{Claim, ScopeId, Vertex};
-use machine_parts::{Core, Refused};
+use gl_base::{Claim, Refused, ScopeId, Vertex};
+use machine_parts::Core;
 use scope_pipe::Next;
 use vertex_locks::Turn;
 

@@ -5,9 +5,9 @@ ghost use Rattle.machine_turns.specs.Turns.{IsOrderly, KnowsPlaces, SameSettings
 ghost use Rattle.machine_turns.specs.Inner.Taking.{CanBeTaken, HasItsRow, IsReserved, HasCompleted};
 
 use crate::waiting::centre_to_update;
-use gl_base::{NoMemory, ScopeId};
+use gl_base::{NoMemory, Refused, ScopeId};
 use local_graph::{Outcome, Work};
-use machine_parts::{Core, Refused};
+use machine_parts::Core;
 use machine_updates::{Prepared, Spares, commit, put_back, reserve_commit, take_work};
 use scope_pipe::Flight;
 use std::alloc::Global;

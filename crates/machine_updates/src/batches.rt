@@ -11,10 +11,10 @@ ghost use Rattle.machine_updates.specs.Inner.Dues.{IsDue, is_due, is_free_to_tak
 
 use crate::spares::Spares;
 use crate::works::take_work;
-use gl_base::{NoMemory, ScopeId, Vertex};
+use gl_base::{NoMemory, Refused, ScopeId, Vertex};
 use local_graph::{Batch, Work};
 use machine_numbers::{Numbers, Spare};
-use machine_parts::{Core, Refused};
+use machine_parts::Core;
 use scope_pipe::Flight;
 use std::alloc::Global;
 

@@ -1,8 +1,8 @@
 //! A machine with one vertex and no edge.
 ghost use Rattle.std.specs.Prelude.{◌≡◌};
 
-use cluster_machines::{ClusterMachine, Refused};
-use gl_base::{EdgeNo, Entry, MachineNo, ScopeId, Vertex};
+use cluster_machines::ClusterMachine;
+use gl_base::{EdgeNo, Entry, MachineNo, Refused, ScopeId, Vertex};
 use wire_msgs::{Message, Returned};
 
 /// How far its one update is.

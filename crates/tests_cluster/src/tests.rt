@@ -1,7 +1,7 @@
 //! A cluster of one machine, from its start to the end of its one update.
 use crate::lone::{Lone, Progress};
-use cluster_step::{Cluster, Event, Refused};
-use gl_base::{EdgeNo, Entry, MachineNo, NoMemory, ScopeId, Vertex};
+use cluster_step::{Cluster, Event};
+use gl_base::{EdgeNo, Entry, MachineNo, NoMemory, Refused, ScopeId, Vertex};
 use std::alloc::Global;
 use std::test::Fail;
 

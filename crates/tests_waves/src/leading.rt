@@ -1,6 +1,6 @@
 //! The coordinator and machines that answer it.
-use coord_core::{Coordinator, Due, Refused};
-use gl_base::{MachineNo, Vertex};
+use coord_core::{Coordinator, Due};
+use gl_base::{MachineNo, Refused, Vertex};
 use scope_pipe::ScopePipe;
 use std::test::Fail;
 use task_sched::TaskSet;

@@ -1,6 +1,6 @@
 -- The call of the machine is the event of the cluster.
 use Rattle.std.proofs.Common.{refl}
-use Rattle.cluster_machines.specs.declared.refusals.Refused.TheVariants.{NotNow, NoMemory}
+use Rattle.gl_base.specs.declared.refusals.Refused.TheVariants.{NotNow, NoMemory}
 use Rattle.cluster_step.specs.Events.{HoldTheSame}
 use Rattle.cluster_step.proofs.CallLemmas.{admit_made, admit_can, admit_cannot, cluster_one, handed_on, on_err, same_one, with_one}
 use Rattle.cluster_step.proofs.parts.Parts.admit.Goals as goal

@@ -1,6 +1,6 @@
 -- The call of the machine is the event of the cluster.
 use Rattle.std.proofs.Common.{◌≢◌, ◌<◌, ℕ, refl, arith}
-use Rattle.cluster_machines.specs.declared.refusals.Refused.TheVariants.{NotNow, NoMemory}
+use Rattle.gl_base.specs.declared.refusals.Refused.TheVariants.{NotNow, NoMemory}
 use Rattle.cluster_step.specs.Events.{HoldTheSame}
 use Rattle.cluster_step.proofs.CallLemmas.{cluster_one, handed_on, on_err, same_one, update_can, update_cannot, update_made, update_same, with_one}
 use Rattle.cluster_step.proofs.parts.Parts.update.Goals as goal

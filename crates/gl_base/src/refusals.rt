@@ -1,5 +1,5 @@
 //! Why an event didn't happen.
-use gl_base::NoMemory;
+use crate::memory::NoMemory;
 use std::alloc::AllocError;
 use std::error::Error;
 use std::fmt;
@@ -26,7 +26,7 @@ impl Error for Refused {}
 
 impl From<AllocError> for Refused {
     ghost use Rattle.std.specs.Prelude.{◌≡◌};
-    ghost use Rattle.cluster_machines.specs.declared.refusals.Refused.TheVariants.{NoMemory};
+    ghost use Rattle.gl_base.specs.declared.refusals.Refused.TheVariants.{NoMemory};
 
     ghost from_gives = { λ _ refused. refused ≡ NoMemory };
 
@@ -37,7 +37,7 @@ impl From<AllocError> for Refused {
 
 impl From<NoMemory> for Refused {
     ghost use Rattle.std.specs.Prelude.{◌≡◌};
-    ghost use Rattle.cluster_machines.specs.declared.refusals.Refused.TheVariants.{NoMemory};
+    ghost use Rattle.gl_base.specs.declared.refusals.Refused.TheVariants.{NoMemory};
 
     ghost from_gives = { λ _ refused. refused ≡ NoMemory };
 
