@@ -32,6 +32,11 @@ pub record IsNext (holder : ScopeId → Option Mode) (queue : List Claim) (c : C
   pub first : queue ≡ c ∷ behind
   pub together : (s : ScopeId) (mode : Mode) → holder s ≡ Some mode → GoTogether mode c.mode
 
+-- nobody holds the lock, and nobody waits for it
+pub record IsFreeLock (holder : ScopeId → Option Mode) (queue : List Claim) : Type 0 where
+  pub unheld : (s : ScopeId) → holder s ≡ None
+  pub none_waits : queue ≡ []
+
 -- where a writer holds the lock, it is the only holder
 abbrev pub WritesAlone : (ScopeId → Option Mode) → Type 0
 WritesAlone holder = (s t : ScopeId) (mode : Mode) → holder s ≡ Some Writer → holder t ≡ Some mode → s ≡ t

@@ -1,7 +1,7 @@
 //! The locks of all vertices of a machine.
 ghost use Rattle.std.specs.Prelude.{◌≡◌, ℕ, ◌+◌, ◌<◌, ◌≤◌, ◌==◌, true, false, is_some, None, length, slice_index_or, IfOk, OnOk, OnErr};
 ghost use Rattle.std.specs.List.{All, list_any};
-ghost use Rattle.vertex_locks.specs.Locks.{has, WritesAlone, WaitOnce};
+ghost use Rattle.vertex_locks.specs.Locks.{has, IsFreeLock, WritesAlone, WaitOnce};
 ghost use Rattle.vertex_locks.specs.Tables.{is_owned, holder_at, queue_at, room_at, HasAsked, HasTaken, HasReleased, HasRoomFor, HasGranted, IsUnclaimed, IsTurn, no_lock};
 ghost use Rattle.vertex_locks.specs.Inner.KeptTables.{IsFree};
 
@@ -97,6 +97,16 @@ impl LockTable {
     {
         let place = self.places[x.0 as usize] as usize;
         self.locks[place].waits(scope)
+    }
+
+    /// Whether nobody holds the lock of x, and nobody waits for it.
+    pub fn is_free(&self, x: Vertex) -> bool
+        requires { is_owned self.now x.0 ≡ true }
+        ensures free { result ≡ true → IsFreeLock (holder_at self.now x.0) (queue_at self.now x.0) }
+        ensures claimed { result ≡ false → IsFreeLock (holder_at self.now x.0) (queue_at self.now x.0) → ⊥ }
+    {
+        let place = self.places[x.0 as usize] as usize;
+        self.locks[place].is_free()
     }
 
     /// What `grant` would answer.
