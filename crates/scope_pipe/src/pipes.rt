@@ -145,6 +145,15 @@ impl ScopePipe {
         scope
     }
 
+    /// The next scope is passed over, as if it had been admitted and were over.
+    pub fn pass(&mut self)
+        requires { self.old.serial < 18446744073709551615 }
+        ensures { self.new ≡ record self.old { serial = self.old.serial + 1 } }
+    {
+        let next = self.serial + 1;
+        self.serial = next;
+    }
+
     /// The scope has come to this machine: `part` are this machine's vertices of it and `rest` the machines still to come, both
     /// ascending.
     pub fn enter(&mut self, scope: ScopeId, centre: Vertex, part: Vec<Vertex>, rest: Vec<MachineNo>)
