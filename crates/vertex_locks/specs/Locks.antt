@@ -1,9 +1,9 @@
 -- A lock: who holds it, and who waits for it.
-use Rattle.std.specs.Prelude.{◌≡◌, ℕ, ◌+◌, ◌-◌, ◌≤◌, Bool, Option, Some, None, is_some, option_map, List, [], ◌∷◌, ◌++◌, length, take, drop, if◌then◌else◌}
+use Rattle.std.specs.Prelude.{◌≡◌, ℕ, Bool, Option, Some, None, is_some, option_map, List, [], ◌∷◌, take, drop}
 use Rattle.std.specs.List.{AllPairs, AllByRecursion}
 use Rattle.gl_base.specs.declared.scopes.Claim.{Claim}
 use Rattle.gl_base.specs.declared.scopes.Mode.{Mode}
-use Rattle.gl_base.specs.declared.scopes.Mode.TheVariants.{Reader, Writer}
+use Rattle.gl_base.specs.declared.scopes.Mode.TheVariants.{Writer}
 use Rattle.gl_base.specs.declared.scopes.ScopeId.{ScopeId}
 use Rattle.scope_lists.specs.Scopes.{GoTogether}
 use Rattle.scope_lists.specs.Found.{by_scope, AreOfTwoScopes}

@@ -1,6 +1,5 @@
-use Rattle.std.proofs.Common.{◌≡◌, ◌≢◌, ◌∙◌, length, ◌==◌, ap, subst, sym, false, true, List}
+use Rattle.std.proofs.Common.{◌≡◌, ◌≢◌, ◌∙◌, length, ◌==◌, ap, subst, sym}
 use Rattle.std.proofs.lemmas.Bool.{eqb-true, eq-eqb, both_ways}
-use Rattle.gl_base.specs.declared.scopes.Claim.{Claim}
 use Rattle.vertex_locks.specs.Locks.{LockView, mode_of, IsFreeLock}
 use Rattle.vertex_locks.proofs.LockLemmas.{none_there, some_there}
 use Rattle.vertex_locks.proofs.locks.Lock.is_free.Goals as goal
