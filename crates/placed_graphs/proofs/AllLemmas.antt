@@ -3,35 +3,36 @@ use Rattle.std.proofs.Common.{◌≡◌, ◌<◌, ℕ, ◌∷◌, ◌++◌, ◌�
 use Rattle.std.proofs.lemmas.Bool.{cases_lt}
 use Rattle.std.proofs.lemmas.List.{get_or_push, length-append}
 use Rattle.std.proofs.Math.ListN.{get_or-append}
+use Rattle.gl_base.specs.declared.snapshots.Base.{Base}
 use Rattle.machine_numbers.specs.declared.keeping.Numbers.{Numbers}
 use Rattle.placed_graphs.specs.Placed.{AreUnsetParts, IsUnsetPart, LocalView, Setting}
 use Rattle.placed_graphs.specs.Beginnings.{AllBegin, AreFirstNumbers, AreFreshTasks, BeginsAt, BeginsWith, CanAllBegin, CanBegin, IsReadyPart}
 
 -- each machine of the first ones begins as the run does
-abbrev pub BeginSoFar : List LocalView → List ℕ → ℕ → Option ℕ → List Numbers → Type 0
-BeginSoFar parts values mark window all =
-    (st : Setting) → AreUnsetParts st parts → BeginsWith st values mark → (a : ℕ) (d : Numbers) → a < length all → BeginsAt st a window (get_or all a d)
+abbrev pub BeginSoFar : List LocalView → Base → Option ℕ → List Numbers → Type 0
+BeginSoFar parts base window all =
+    (st : Setting) → AreUnsetParts st parts → BeginsWith st base → (a : ℕ) (d : Numbers) → a < length all → BeginsAt st a window (get_or all a d)
 
 -- a part by its place
 part_at : (st : Setting) (parts : List LocalView) (k : ℕ) (l : LocalView) → AreUnsetParts st parts → k < length parts → l ≡ get_or parts k l → IsUnsetPart st k l
 part_at st parts k l are low at = subst (IsUnsetPart st k) (sym at) (are.each k l (subst (λ (n : ℕ). k < n) are.count low))
 
-pub can_begin : (parts : List LocalView) (many k : ℕ) (l : LocalView) → CanAllBegin parts many → k < length parts → l ≡ get_or parts k l → CanBegin l many
-can_begin parts many k l can low at =
+pub can_begin : (parts : List LocalView) (base : Base) (k : ℕ) (l : LocalView) → CanAllBegin parts base → k < length parts → l ≡ get_or parts k l → CanBegin l base
+can_begin parts base k l can low at =
     let part = part_at can.st parts k l can.are_parts low at in
     record {
       st = can.st;
       graph = can.graph;
       part = subst (λ (a : ℕ). IsUnsetPart can.st a l) (sym part.machine) part;
-      vertices = can.vertices;
+      numbers = can.numbers;
     }
 
 -- one machine more
-pub begins_more : (parts : List LocalView) (values : List ℕ) (mark : ℕ) (window : Option ℕ) (all : List Numbers) (k : ℕ) (l : LocalView) (n : Numbers) →
+pub begins_more : (parts : List LocalView) (base : Base) (window : Option ℕ) (all : List Numbers) (k : ℕ) (l : LocalView) (n : Numbers) →
     length all ≡ k → k < length parts → l ≡ get_or parts k l →
-    ((st : Setting) → IsUnsetPart st l.me.0 l → BeginsWith st values mark → AreFirstNumbers st l.me.0 n) → ((st : Setting) → IsUnsetPart st l.me.0 l → IsReadyPart st l.me.0 n) → AreFreshTasks window n.tasks →
-    BeginSoFar parts values mark window all → BeginSoFar parts values mark window (all ++ n ∷ [])
-begins_more parts values mark window all k l n count low at numbers ready fresh so_far = λ st are begins a d below.
+    ((st : Setting) → IsUnsetPart st l.me.0 l → BeginsWith st base → AreFirstNumbers st l.me.0 n) → ((st : Setting) → IsUnsetPart st l.me.0 l → IsReadyPart st l.me.0 n) → AreFreshTasks window n.tasks →
+    BeginSoFar parts base window all → BeginSoFar parts base window (all ++ n ∷ [])
+begins_more parts base window all k l n count low at numbers ready fresh so_far = λ st are begins a d below.
     elim (cases_lt a k) [
       | inl before ↦
           let inside : a < length all = subst (λ (m : ℕ). a < m) (sym count) before in
@@ -50,9 +51,9 @@ begins_more parts values mark window all k l n count low at numbers ready fresh 
           (subst (BeginsAt st k window) (sym (get_or_push all n d k count)) here)
     ]
 
-pub all_begin : (parts : List LocalView) (values : List ℕ) (mark : ℕ) (window : Option ℕ) (all : List Numbers) → length all ≡ length parts → BeginSoFar parts values mark window all →
-    (st : Setting) → AreUnsetParts st parts → BeginsWith st values mark → AllBegin st window all
-all_begin parts values mark window all many so_far st are begins =
+pub all_begin : (parts : List LocalView) (base : Base) (window : Option ℕ) (all : List Numbers) → length all ≡ length parts → BeginSoFar parts base window all →
+    (st : Setting) → AreUnsetParts st parts → BeginsWith st base → AllBegin st window all
+all_begin parts base window all many so_far st are begins =
     record {
       count = many ∙ are.count;
       each = λ a d low. so_far st are begins a d (subst (λ (n : ℕ). a < n) (sym (many ∙ are.count)) low);

@@ -129,9 +129,10 @@ module _ (st : Setting) (l : LocalView) (local : IsLocalOf st l) where
       at_listed Q (all_passing (is_ghost_of st l.me.0) 0 (size st.graph)) v (is_listed (is_ghost_of st l.me.0) (size st.graph) v low is)
       (subst (All Q) local.ghosts (All-map Q (λ (g : GhostLine). g.vertex.0) l.ghosts all))
 
-  -- the part is the graph's still, whatever data the machine keeps
-  pub with_data : (kept : List Datum) → ((x : ℕ) → is_own (record l { kept = kept }) x ≡ is_own l x) → IsLocalOf st (record l { kept = kept })
-  with_data kept same =
+  -- the part is the graph's still, whatever data and numbers of edges the machine keeps
+  pub with_data : (kept : List Datum) (numbers : List ℕ) → ((x : ℕ) → is_own (record l { kept = kept; numbers = numbers }) x ≡ is_own l x) → length numbers ≡ length l.numbers →
+      IsLocalOf st (record l { kept = kept; numbers = numbers })
+  with_data kept numbers same many =
       record {
         machine = local.machine;
         owned = local.owned;
@@ -139,7 +140,7 @@ module _ (st : Setting) (l : LocalView) (local : IsLocalOf st l) where
         ghosts = local.ghosts;
         known = local.known;
         ids = λ x own. local.ids x (sym (same x) ∙ own);
-        edges = local.edges;
+        edges = many ∙ local.edges;
         rows = λ v links own. local.rows v links (sym (same v) ∙ own);
         sides = λ v own. local.sides v (sym (same v) ∙ own);
         owners = λ v own. local.owners v (sym (same v) ∙ own);

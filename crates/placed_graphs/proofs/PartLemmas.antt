@@ -64,7 +64,7 @@ unset_there kept n (Some k) is own =
       | inr past ↦ absurd (no_some (sym (ap is_some (slice_get_past kept k past)) ∙ own))
     ]
 
-zero_there : (numbers : List ℕ) (n e : ℕ) → numbers ≡ replicate n 0 → get_or numbers e 0 ≡ 0
+pub zero_there : (numbers : List ℕ) (n e : ℕ) → numbers ≡ replicate n 0 → get_or numbers e 0 ≡ 0
 zero_there numbers n e is =
     elim (cases_lt e n) [
       | inl low ↦ ap (λ (xs : List ℕ). get_or xs e 0) is ∙ get_or-replicate n e 0 0 low

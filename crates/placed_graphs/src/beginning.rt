@@ -1,35 +1,36 @@
 //! The numbers with which a machine begins.
-ghost use Rattle.std.specs.Prelude.{◌≡◌, ℕ, ◌<◌, true, Some, is_some, length, All, IfOk};
-ghost use Rattle.placed_graphs.specs.Placed.{AreUnsetParts, IsUnsetPart, Setting, is_own, own_datum};
+ghost use Rattle.std.specs.Prelude.{◌≡◌, ℕ, ◌<◌, ◌^◌, true, Some, is_some, length, slice_index, All, IfOk};
+ghost use Rattle.placed_graphs.specs.Placed.{AreUnsetParts, IsUnsetPart, Setting, edge_number_at, is_own, own_datum};
 ghost use Rattle.placed_graphs.specs.Beginnings.{AllBegin, AreFirstNumbers, AreFreshTasks, BeginsWith, CanAllBegin, CanBegin, IsReadyPart, first_datum, ghost_datum};
 
 use ghost_cache::GhostCache;
-use gl_base::{Datum, GhostLine, NoMemory, Vertex};
+use gl_base::{Base, Datum, EdgeNo, GhostLine, NoMemory, Vertex};
 use local_graph::LocalGraph;
 use machine_numbers::Numbers;
 use std::alloc::Global;
 use task_sched::TaskSet;
 
-/// The numbers of a machine as a run begins that has these numbers of vertices and 0 at each edge: those of its own vertices and
-/// of its ghosts, with every own vertex a task in the order in which the machine keeps them, and an empty log.
+/// The numbers of a machine as a run begins from this base: those of its own vertices, of its ghosts and of the edges, with every
+/// own vertex a task in the order in which the machine keeps them, and an empty log.
 pub fn first_numbers(
     alloc: Global,
     local: LocalGraph,
-    values: &[u64],
-    mark: u32,
+    base: &Base,
     window: Option<u32>,
 ) -> Result<Numbers, NoMemory>
-    requires { CanBegin local (length values.now) }
-    ensures numbers { (st : Setting) → IsUnsetPart st local.me.0 local → BeginsWith st values.now mark → IfOk result (λ n. AreFirstNumbers st local.me.0 n) }
+    requires { CanBegin local base.now }
+    ensures numbers { (st : Setting) → IsUnsetPart st local.me.0 local → BeginsWith st base.now → IfOk result (λ n. AreFirstNumbers st local.me.0 n) }
     ensures part { (st : Setting) → IsUnsetPart st local.me.0 local → IfOk result (λ n. IsReadyPart st local.me.0 n) }
     ensures tasks { IfOk result (λ n. AreFreshTasks window n.tasks) }
 {
     let mut local = local;
-    let many = values.len() as u32;
-    let mut ghosts = GhostCache::new(alloc, local.ghosts(), many)?;
+    let values: &[u64] = &base.values;
+    let edges: &[u64] = &base.edges;
+    let mut ghosts = GhostCache::new(alloc, local.ghosts(), values.len() as u32)?;
     let tasks = TaskSet::new(alloc, local.owned().len() as u32, window)?;
-    set_own(&mut local, values, mark);
-    set_ghosts(&mut ghosts, local.ghosts(), values, mark);
+    set_own(&mut local, values, base.number);
+    set_edges(&mut local, edges);
+    set_ghosts(&mut ghosts, local.ghosts(), values, base.number);
     Ok(Numbers {
         local,
         ghosts,
@@ -42,18 +43,30 @@ pub fn first_numbers(
 pub fn first_numbers_of_all(
     alloc: Global,
     parts: Vec<LocalGraph>,
-    values: &[u64],
-    mark: u32,
+    base: &Base,
     window: Option<u32>,
 ) -> Result<Vec<Numbers>, NoMemory>
-    requires { CanAllBegin parts.items (length values.now) }
-    ensures { (st : Setting) → AreUnsetParts st parts.items → BeginsWith st values.now mark → IfOk result (λ all. AllBegin st window all.items) }
+    requires { CanAllBegin parts.items base.now }
+    ensures { (st : Setting) → AreUnsetParts st parts.items → BeginsWith st base.now → IfOk result (λ all. AllBegin st window all.items) }
 {
     let mut all = Vec::with_capacity(alloc, parts.len())?;
     for local in parts {
-        all.push(first_numbers(alloc, local, values, mark, window)?)?;
+        all.push(first_numbers(alloc, local, base, window)?)?;
     }
     Ok(all)
+}
+
+/// Sets the number of each edge.
+fn set_edges(local: &mut LocalGraph, edges: &[u64])
+    requires each { length edges.now ≡ length local.old.numbers }
+    requires few { length edges.now < 2 ^ 32 }
+    ensures set { (e : ℕ) → e < length edges.now → edge_number_at local.new e ≡ slice_index edges.now e }
+    ensures many { length local.new.numbers ≡ length local.old.numbers }
+    ensures rest { local.new ≡ record local.old { numbers = local.new.numbers } }
+{
+    for e in 0..edges.len() {
+        local.set_number(EdgeNo(e as u32), edges[e]);
+    }
 }
 
 /// Sets the datum of each own vertex.

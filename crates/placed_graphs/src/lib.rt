@@ -11,4 +11,4 @@ mod weighing;
 pub use beginning::{first_numbers, first_numbers_of_all};
 pub use cutting::{PlacedGraph, placed_by_cut};
 pub use parts::{parts_by_owner, placed};
-pub use starting::start_values;
+pub use starting::first_base;

@@ -6,7 +6,7 @@ use gl_base::{Entry, MAX_EDGES, MAX_ID, MAX_VERTICES, MachineNo, NoMemory, Verte
 use graph_core::{EdgeIn, Graph};
 use machine_numbers::Numbers;
 use merged_logs::{count_by_machine, merge};
-use placed_graphs::{first_numbers_of_all, placed_by_cut, start_values};
+use placed_graphs::{first_base, first_numbers_of_all, placed_by_cut};
 use prog_labels::Components;
 use std::alloc::Global;
 use std::process::Abort;
@@ -56,9 +56,9 @@ fn a_chain_on_two_machines(rt: HostRuntime) -> Result<(), Fail> {
     let alloc = rt.alloc();
     let graph = chain(&rt, alloc)?;
     let made = placed_by_cut(alloc, &graph, 2, 2, Vertex(0))?;
-    let values = start_values(alloc, &graph, &Components)?;
+    let base = first_base(alloc, &graph, &Components)?;
     assert_eq!(rt; graph.n(), 4);
-    let all = first_numbers_of_all(alloc, made.parts, &values, 0, None)?;
+    let all = first_numbers_of_all(alloc, made.parts, &base, None)?;
     assert_eq!(rt; all.len(), 2);
     assert_eq!(rt; kept(&all[0]), [5, 6, 7, 0]);
     assert_eq!(rt; kept(&all[1]), [0, 6, 7, 8]);

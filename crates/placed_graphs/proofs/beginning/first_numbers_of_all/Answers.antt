@@ -11,7 +11,7 @@ first_numbers-requires c =
     let turn =
     YieldsList-turn (YieldsList-from_vec {s = c.into_iter-local-iterator.result} c.args.parts.items gives.0 (gives.1 ∙ c.args.parts.ok.0))
     c.loop-local.yielded c.loop-local.local-iterator c.loop-local.yielded_by c.next.result c.next.new.self c.in-Some.local c.in-Some.is c.next.ensures.steps in
-    can_begin c.args.parts.items (length c.args.values.now) (length c.loop-local.yielded) c.in-Some.local c.requires turn.0 turn.1
+    can_begin c.args.parts.items c.args.base.now (length c.loop-local.yielded) c.in-Some.local c.requires turn.0 turn.1
 
 pub loop-local-preserved : goal.loop-local-preserved
 loop-local-preserved c =
@@ -25,8 +25,8 @@ loop-local-preserved c =
     record {
       count = ap length pushed ∙ length-append c.loop-local.all.items (n ∷ []) ∙ ap (λ (m : ℕ). m + 1) c.loop-local.invariant.count ∙ sym (length-append c.loop-local.yielded (c.in-Some.local ∷ []));
       begun =
-          subst (BeginSoFar c.args.parts.items c.args.values.now c.args.mark c.args.window) (sym pushed)
-          (begins_more c.args.parts.items c.args.values.now c.args.mark c.args.window c.loop-local.all.items (length c.loop-local.yielded) c.in-Some.local n
+          subst (BeginSoFar c.args.parts.items c.args.base.now c.args.window) (sym pushed)
+          (begins_more c.args.parts.items c.args.base.now c.args.window c.loop-local.all.items (length c.loop-local.yielded) c.in-Some.local n
           c.loop-local.invariant.count turn.0 turn.1 made.numbers made.part made.tasks c.loop-local.invariant.begun);
     }
 
@@ -36,4 +36,4 @@ returns c =
     let end =
     YieldsList-end (YieldsList-from_vec {s = c.into_iter-local-iterator.result} c.args.parts.items gives.0 (gives.1 ∙ c.args.parts.ok.0))
     c.loop-local.yielded c.loop-local.local-iterator c.loop-local.yielded_by c.next.result c.next.new.self c.in-None.is c.next.ensures.steps in
-    all_begin c.args.parts.items c.args.values.now c.args.mark c.args.window c.loop-local.all.items (c.loop-local.invariant.count ∙ end.1) c.loop-local.invariant.begun
+    all_begin c.args.parts.items c.args.base.now c.args.window c.loop-local.all.items (c.loop-local.invariant.count ∙ end.1) c.loop-local.invariant.begun

@@ -6,5 +6,5 @@ abbrev pub invariant-loop-local : goal.invariant-loop-local
 invariant-loop-local l =
     record {
       count : length l.all.items ≡ length l.yielded;
-      begun : BeginSoFar l.fn.parts.items l.values l.mark l.window l.all.items;
+      begun : BeginSoFar l.fn.parts.items l.base l.window l.all.items;
     }

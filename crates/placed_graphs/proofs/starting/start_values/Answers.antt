@@ -1,6 +1,5 @@
-use Rattle.std.proofs.Common.{◌≡◌, ◌<◌, ◌∙◌, ap, arith, subst, sym}
-use Rattle.graph_core.specs.DataGraph.{DataGraph, size}
-use Rattle.seq_run.specs.States.{GraphState}
+use Rattle.std.proofs.Common.{◌≡◌, ◌∙◌, ap, arith, subst}
+use Rattle.graph_core.specs.DataGraph.{size}
 use Rattle.seq_run.proofs.Playing.{numbers_more}
 use Rattle.placed_graphs.specs.Beginnings.{AreNumbers, start_state}
 use Rattle.placed_graphs.proofs.starting.start_values.Goals as goal
@@ -14,15 +13,4 @@ pub returns : goal.returns
 returns g c =
     let start = start_state c.args.graph.now (g.P.Program.meaning c.args.program.now) in
     let end : c.loop-v.v ≡ size c.args.graph.now = omega (arith, c.n-v-end.ensures.count, c.loop-v.auto.v-end) in
-    let numbers = subst (λ k. AreNumbers k start.vertex c.loop-v.values.items) end c.loop-v.invariant in
-    record {
-      numbers = numbers;
-      begins = λ st graph starts base.
-          record {
-            vertices = λ v low.
-                let inside : v < size c.args.graph.now = subst (λ (h : DataGraph). v < size h) graph low in
-                ap (λ (s : GraphState). s.vertex v) starts ∙ sym (numbers.each v inside);
-            edges = λ e low. ap (λ (s : GraphState). s.edge e) starts;
-            base = base;
-          };
-    }
+    subst (λ k. AreNumbers k start.vertex c.loop-v.values.items) end c.loop-v.invariant

@@ -1,4 +1,4 @@
-use Rattle.std.proofs.Common.{◌∙◌, ap, length, refl}
+use Rattle.std.proofs.Common.{refl}
 use Rattle.placed_graphs.specs.Placed.{placed_owner}
 use Rattle.placed_graphs.proofs.PartLemmas.{setting_with}
 use Rattle.tests_placed.proofs.tests.a_chain_on_two_machines.Goals as goal
@@ -11,5 +11,5 @@ first_numbers_of_all-requires g c =
       st = st;
       graph = c.n.ensures.graph;
       are_parts = c.in_ok-made.ensures.parts st (record { graph = refl; machines = refl; owners = λ v low. refl });
-      vertices = ap length c.deref.ensures.value ∙ c.in_ok-values.ensures.numbers.count;
+      numbers = c.in_ok-base.ensures.numbers;
     }
