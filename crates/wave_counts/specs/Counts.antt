@@ -1,15 +1,16 @@
 -- What a machine counts, and its answer to a wave.
+pub use Rattle.cluster_core.specs.Messages.{Message}
 pub use Rattle.cluster_core.specs.Parts.{Part}
 pub use Rattle.cluster_core.specs.Settings.{Setting}
 pub use Rattle.cluster_model.specs.Calls.{Wave, Report}
 pub use Rattle.cluster_model.specs.Machines.{Machine, gained, is_idle}
-pub use Rattle.cluster_model.specs.Working.{goes_back, is_done, prompt, takes_call}
-pub use Rattle.wire_msgs.specs.Views.{MessageView, message_view}
-use Rattle.std.specs.Prelude.{◌≡◌, ℕ, ◌+◌, ◌^◌, ◌<◌, Bool, Option, Some, None, List, [], ◌∷◌, if◌then◌else◌}
+pub use Rattle.cluster_model.specs.Working.{goes_back, hands, is_done, prompt, takes_call}
+use Rattle.std.specs.Prelude.{◌≡◌, ℕ, ◌+◌, ◌^◌, ◌<◌, ◌≤◌, Bool, Option, Some, None, List, [], ◌∷◌, if◌then◌else◌, length, nat_lt}
 use Rattle.cluster_model.specs.Calls.{Count}
-use Rattle.wire_msgs.specs.Views as wire
+use Rattle.cluster_model.specs.Totals.{total}
+use Rattle.wave_counts.specs.declared.answers.WaveAnswer.{WaveAnswer}
 
--- how many messages it put out for machines, how many of machines it received, and the wave that it has to answer still
+-- how many messages to machines have left its outboxes, how many of machines it received, and the wave that it has to answer still
 pub record CountsView : Type 0 where
   pub sent : ℕ
   pub received : ℕ
@@ -19,34 +20,47 @@ pub record CountsView : Type 0 where
 abbrev pub none_counted : CountsView
 none_counted = record { sent = 0; received = 0; held = None }
 
--- so many messages more may be put out, and one more received
-pub record HasRoomToCount (w : CountsView) (many : ℕ) : Type 0 where
-  pub sent : w.sent + many < 2 ^ 64
-  pub received : w.received + 1 < 2 ^ 64
+-- it isn't the greatest number
+abbrev pub IsOpenCount : ℕ → Type 0
+IsOpenCount n = n + 1 < 2 ^ 64
+
+-- one more, up to the greatest number
+abbrev pub one_more : ℕ → ℕ
+one_more n = if nat_lt (n + 1) (2 ^ 64) then n + 1 else n
+
+-- no count stands still, and what was sent is a count with what waits
+pub record CanTell (w : CountsView) (waiting : ℕ) : Type 0 where
+  pub sent : IsOpenCount w.sent
+  pub received : IsOpenCount w.received
+  pub sum : w.sent + waiting < 2 ^ 64
 
 -- the counts of this wave, where one is held
-abbrev pub answer_to : CountsView → ℕ → Bool → Option ℕ → Option MessageView
-answer_to w updates idle None = None
-answer_to w updates idle (Some wave) = Some (wire.Count wave (record { sent = w.sent; received = w.received; updates = updates; idle = idle }))
+abbrev pub answer_to : CountsView → ℕ → ℕ → Bool → Option ℕ → Option WaveAnswer
+answer_to w sent updates idle None = None
+answer_to w sent updates idle (Some wave) = Some (record { wave = wave; counted = record { sent = sent; received = w.received; updates = updates; idle = idle } })
 
 -- where its share is done it has answered the wave that it held, with what it had counted
-pub record HasAnsweredWave (old new : CountsView) (done : Bool) (updates : ℕ) (idle : Bool) (answer : Option MessageView) : Type 0 where
-  pub told : answer ≡ (if done then answer_to old updates idle old.held else None)
+pub record HasAnsweredWave (old new : CountsView) (done : Bool) (sent updates : ℕ) (idle : Bool) (answer : Option WaveAnswer) : Type 0 where
+  pub told : answer ≡ (if done then answer_to old sent updates idle old.held else None)
   pub rest : new ≡ record old { held = if done then None else old.held }
 
 -- ---- in a cluster
 
--- the machine has counted this
-pub record IsCountOf (w : CountsView) (m : Machine) : Type 0 where
-  pub sent : m.sent ≡ w.sent
-  pub received : m.received ≡ w.received
+-- how many messages wait in its outboxes to machines
+abbrev pub waiting_in : Setting → Part → ℕ
+waiting_in st part = total st.machines (λ q. length (part.out q))
+
+-- The machine has counted this, where a count doesn't stand still: what it put out has left its outboxes, or waits there.
+pub record IsCountOf (st : Setting) (w : CountsView) (m : Machine) : Type 0 where
+  pub sent : IsOpenCount w.sent → m.sent ≡ w.sent + waiting_in st m.part
+  pub received : IsOpenCount w.received → m.received ≡ w.received
   pub held : m.held ≡ w.held
 
--- the answer as a report to the coordinator
-abbrev pub answer_report : MessageView → List Report
-answer_report (wire.Count wave counted) = Count wave counted ∷ []
-answer_report _ = []
+-- the outboxes of the second are no shorter
+abbrev pub HasPutOut : Part → Part → Type 0
+HasPutOut old new = (q : ℕ) → length (old.out q) ≤ length (new.out q)
 
-abbrev pub answer_reports : Option MessageView → List Report
+-- the answer as a report to the coordinator
+abbrev pub answer_reports : Option WaveAnswer → List Report
 answer_reports None = []
-answer_reports (Some m) = answer_report m
+answer_reports (Some a) = Count a.wave a.counted ∷ []

@@ -1,12 +1,19 @@
 //! What a machine counts, and the wave that it has to answer.
-ghost use Rattle.std.specs.Prelude.{◌≡◌, ◌+◌, ◌^◌, ◌<◌, None, Some, is_some, option_map, OnOk, OnErr};
-ghost use Rattle.wave_counts.specs.Counts.{HasAnsweredWave, HasRoomToCount, message_view, none_counted};
+ghost use Rattle.std.specs.Prelude.{◌≡◌, ◌+◌, Some, is_some, IfOk, OnOk, OnErr};
+ghost use Rattle.wave_counts.specs.Counts.{CanTell, HasAnsweredWave, none_counted, one_more};
 
 use gl_base::{Counted, NoMemory};
 use std::marker::Model;
-use wire_msgs::Message;
 
-/// How many messages to machines a machine put out, how many of machines it received, and the wave that it has to answer still.
+/// What a machine answers to a wave.
+#[derive(Clone, Copy, Debug, PartialEq, Eq)]
+pub struct WaveAnswer {
+    pub wave: u64,
+    pub counted: Counted,
+}
+
+/// How many messages to machines have left a machine's outboxes, how many of machines it received, and the wave that it has to
+/// answer still. A count stands still at the greatest number, and tells nothing then.
 #[derive(Debug, Drop)]
 pub struct WaveCounts {
     sent: u64,
@@ -34,32 +41,37 @@ impl WaveCounts {
         }
     }
 
-    /// Whether so many messages more may be put out, and one more received: want of memory exactly where a count would end.
-    pub fn check_room(&self, sent: u64) -> Result<(), NoMemory>
-        ensures room { OnOk result (HasRoomToCount self.now sent) }
-        ensures ends { OnErr result (HasRoomToCount self.now sent → ⊥) }
+    /// A message to a machine has left its outbox.
+    pub fn add_sent(&mut self)
+        ensures { self.new ≡ record self.old { sent = one_more self.old.sent } }
     {
-        if sent <= u64::MAX - self.sent && self.received < u64::MAX {
-            Ok(())
-        } else {
-            Err(NoMemory)
+        if self.sent < u64::MAX {
+            self.sent += 1;
         }
-    }
-
-    /// So many messages more were put out for machines.
-    pub fn add_sent(&mut self, many: u64)
-        requires { self.old.sent + many < 2 ^ 64 }
-        ensures { self.new ≡ record self.old { sent = self.old.sent + many } }
-    {
-        self.sent += many;
     }
 
     /// A message of a machine was received.
     pub fn add_received(&mut self)
-        requires { self.old.received + 1 < 2 ^ 64 }
-        ensures { self.new ≡ record self.old { received = self.old.received + 1 } }
+        ensures { self.new ≡ record self.old { received = one_more self.old.received } }
     {
-        self.received += 1;
+        if self.received < u64::MAX {
+            self.received += 1;
+        }
+    }
+
+    /// How many messages to machines were put out, where so many wait in the outboxes: want of memory exactly where a count has
+    /// ended.
+    pub fn put_out(&self, waiting: u128) -> Result<u64, NoMemory>
+        ensures put_out { IfOk result (λ sent. sent ≡ self.now.sent + waiting) }
+        ensures told { OnOk result (CanTell self.now waiting) }
+        ensures ends { OnErr result (CanTell self.now waiting → ⊥) }
+    {
+        let room = (u64::MAX - self.sent) as u128;
+        if room > 0 && self.received < u64::MAX && waiting <= room {
+            Ok(self.sent + waiting as u64)
+        } else {
+            Err(NoMemory)
+        }
     }
 
     /// The coordinator asks for the counts of this wave.
@@ -76,19 +88,19 @@ impl WaveCounts {
         self.held.is_some()
     }
 
-    /// The answer to the wave that is held, where one is and the machine's share is done: what it counts, so many updates, and
-    /// whether it is idle. Then none is held any more.
-    pub fn answer(&mut self, done: bool, updates: u64, idle: bool) -> Option<Message>
-        ensures { HasAnsweredWave self.old self.new done updates idle (option_map message_view result) }
+    /// The answer to the wave that is held, where one is and the machine's share is done: so many messages put out and updates
+    /// made, what it has received, and whether it is idle. Then none is held any more.
+    pub fn answer(&mut self, done: bool, sent: u64, updates: u64, idle: bool) -> Option<WaveAnswer>
+        ensures { HasAnsweredWave self.old self.new done sent updates idle result }
     {
         if !done {
             return None;
         }
         let wave = self.held.take()?;
-        Some(Message::Count {
+        Some(WaveAnswer {
             wave,
             counted: Counted {
-                sent: self.sent,
+                sent,
                 received: self.received,
                 updates,
                 idle,
