@@ -4,8 +4,8 @@ use Rattle.std.specs.Prelude.{Contains}
 use Rattle.gl_outside.specs.Faults.{Rose}
 use Rattle.gl_outside.specs.FilesState.{FilesState, Opened, Written}
 use Rattle.graph_core.specs.DataGraph.{DataGraph}
-use Rattle.graph_text.specs.declared.making.Writing.{Writing}
-use Rattle.graph_text.specs.declared.making.Writing.TheVariants as out
+use Rattle.made_graphs.specs.declared.making.Writing.{Writing}
+use Rattle.made_graphs.specs.declared.making.Writing.TheVariants as out
 use Rattle.job_config.specs.Jobs.{JobSayings}
 use Rattle.job_config.specs.Views.{job_view}
 use Rattle.job_words.specs.declared.words.Words.{Words}

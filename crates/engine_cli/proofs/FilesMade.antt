@@ -3,7 +3,7 @@ use Rattle.std.proofs.Common.{◌≡◌, ℕ, List, [], ◌∷◌, Option, Some,
 use Rattle.gl_base.specs.declared.jobs.MakePlan.{MakePlan}
 use Rattle.gl_base.specs.declared.text_faults.TextFile.TheVariants.{Vertices, Edges}
 use Rattle.gl_outside.specs.Faults.{Rose}
-use Rattle.graph_text.specs.declared.making.Writing.{Writing}
+use Rattle.made_graphs.specs.declared.making.Writing.{Writing}
 use Rattle.gl_outside.specs.FilesState.{FilesState}
 use Rattle.gl_base.specs.declared.names.Name.{Name}
 use Rattle.job_words.specs.declared.words.Words.{Words}
@@ -16,7 +16,7 @@ use Rattle.engine_cli.specs.Status.{IsDoneOrNoMemory, status_of_writing}
 use Rattle.engine_cli.specs.Verbs.{IsMaking}
 use Rattle.engine_cli.specs.declared.status.Status.{Status}
 use Rattle.engine_cli.specs.declared.status.Status.TheVariants.{Done, Usage, BadJob, BadGraph, BadAtoms, ReadFault, WriteFault, BudgetSpent, NoMemory}
-use Rattle.graph_text.specs.declared.making.Writing.TheVariants as out
+use Rattle.made_graphs.specs.declared.making.Writing.TheVariants as out
 
 -- making files comes to an end where no count rose
 pub made-done : (plan : MakePlan) (prefix : List ℕ) (old new : FilesState) (status : Status)

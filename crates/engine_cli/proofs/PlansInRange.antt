@@ -9,7 +9,7 @@ use Rattle.gl_base.specs.declared.limits.TheConstants.{MAX_VERTICES}
 use Rattle.gl_base.specs.declared.usage_faults.Opt.TheVariants as opt
 use Rattle.gl_base.specs.declared.usage_faults.UsageFault.{UsageFault}
 use Rattle.gl_base.specs.declared.usage_faults.UsageFault.TheVariants as fault
-use Rattle.graph_text.specs.Making.{IsPlanInRange}
+use Rattle.made_graphs.specs.Making.{IsPlanInRange}
 use Rattle.job_words.specs.CommandLine.{command_line_of, formed_means, line_means}
 use Rattle.job_words.specs.Lines.{Sayings, line_of}
 use Rattle.gl_base.specs.Results.{and_then}

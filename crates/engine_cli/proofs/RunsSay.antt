@@ -10,7 +10,7 @@ use Rattle.gl_outside.specs.Faults.{Rose}
 use Rattle.gl_outside.specs.FilesState.{FilesState, Opened, Written}
 use Rattle.gl_outside.specs.Frames.{ChangesSources}
 use Rattle.gl_outside.specs.Fronts.{AppendsFront}
-use Rattle.graph_text.specs.declared.making.Writing.TheVariants.{WriteFault as WriteFaultAtOut}
+use Rattle.made_graphs.specs.declared.making.Writing.TheVariants.{WriteFault as WriteFaultAtOut}
 use Rattle.job_config.specs.Jobs.{JobSayings}
 use Rattle.job_config.specs.Views.{job_view}
 use Rattle.seq_run.specs.Orders.{IsFinished}

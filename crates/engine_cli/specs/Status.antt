@@ -1,10 +1,10 @@
 -- The numbers of statuses, and what each says of `out`.
 use Rattle.std.specs.Prelude.{ℕ, ⊤}
-use Rattle.graph_text.specs.declared.making.Writing.{Writing}
+use Rattle.made_graphs.specs.declared.making.Writing.{Writing}
 use Rattle.job_files.specs.declared.inputs.NoInput.{NoInput}
 use Rattle.engine_cli.specs.declared.status.Status.{Status}
 use Rattle.engine_cli.specs.declared.status.Status.TheVariants.{Done, Usage, BadJob, BadGraph, BadAtoms, ReadFault, WriteFault, BudgetSpent, NoMemory}
-use Rattle.graph_text.specs.declared.making.Writing.TheVariants as out
+use Rattle.made_graphs.specs.declared.making.Writing.TheVariants as out
 use Rattle.job_files.specs.declared.inputs.NoInput.TheVariants as why
 
 -- the number that a program ends with

@@ -1,7 +1,7 @@
 //! Prints what a run left: its order, where the job names a file for it, and the answer.
 ghost use Rattle.std.specs.Prelude.{◌≡◌, ◌≤◌, length, All, Err, IfOk};
 ghost use Rattle.graph_core.specs.DataGraph.{size};
-ghost use Rattle.graph_text.specs.declared.making.Writing.TheVariants.{NoMemory as NoMemoryAtOut};
+ghost use Rattle.made_graphs.specs.declared.making.Writing.TheVariants.{NoMemory as NoMemoryAtOut};
 ghost use Rattle.job_config.specs.Views.{job_view};
 ghost use Rattle.order_text.specs.Orders.{IsEntryOf};
 ghost use Rattle.engine_cli.specs.Answer.{report_of};
@@ -14,7 +14,7 @@ use crate::running::Prepared;
 use gl_base::NoMemory;
 use gl_outside::{Files, Sink, write_all};
 use graph_core::Graph;
-use graph_text::Writing;
+use made_graphs::Writing;
 use order_text::{answer, order_bytes, report};
 use std::alloc::Global;
 use sync_folds::Fold;

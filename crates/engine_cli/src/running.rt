@@ -14,8 +14,8 @@ use crate::printing::print_run;
 use gl_base::{Entry, Job, NoMemory};
 use gl_outside::{Files, Sink};
 use graph_core::Graph;
-use graph_text::Writing;
 use job_files::{Input, NoInput, read_run_input};
+use made_graphs::Writing;
 use std::alloc::Global;
 
 /// How a run ended: its status, what is to be reported of it, and where it was made the order of its updates and how many

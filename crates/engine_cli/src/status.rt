@@ -4,8 +4,8 @@ ghost use Rattle.engine_cli.specs.Status.{status_of_no_input, status_of_writing}
 ghost use Rattle.engine_cli.specs.Status.{exit_number};
 
 use gl_base::{AtomsFault, JobFault, TextFault, UsageFault, Vertex};
-use graph_text::Writing;
 use job_files::NoInput;
+use made_graphs::Writing;
 
 /// How a call of the engine ended.
 #[derive(Debug, Drop)]

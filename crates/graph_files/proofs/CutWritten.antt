@@ -6,8 +6,8 @@ use Rattle.gl_outside.specs.Faults.{Rose}
 use Rattle.gl_outside.specs.FilesState.{FilesState}
 use Rattle.gl_outside.specs.Names.{AppendsNames}
 use Rattle.graph_core.specs.DataGraph.{DataGraph, IsDataGraph}
-use Rattle.graph_text.specs.declared.making.Writing.{Writing}
-use Rattle.graph_text.specs.declared.making.Writing.TheVariants as out
+use Rattle.made_graphs.specs.declared.making.Writing.{Writing}
+use Rattle.made_graphs.specs.declared.making.Writing.TheVariants as out
 use Rattle.atom_file.specs.Atoms.{IsAtom, atom_bytes, atom_of}
 use Rattle.atom_cut.specs.Atoms.{AreAtoms}
 use Rattle.atom_cut.specs.Index.{index_bytes}

@@ -7,14 +7,14 @@ use Rattle.gl_outside.specs.Names.{AppendsNames}
 use Rattle.gl_base.specs.declared.jobs.MakePlan.{MakePlan}
 use Rattle.gl_base.specs.declared.text_faults.TextFile.{TextFile}
 use Rattle.gl_base.specs.declared.text_faults.TextFile.TheVariants.{Vertices, Edges}
-use Rattle.graph_text.specs.Making.{made_edges, made_vertices}
-use Rattle.graph_text.specs.Writes.{Writes, WritesEdges}
-use Rattle.graph_text.specs.declared.making.Writing.{Writing}
+use Rattle.made_graphs.specs.Making.{made_edges, made_vertices}
+use Rattle.made_graphs.specs.Writes.{Writes, WritesEdges}
+use Rattle.made_graphs.specs.declared.making.Writing.{Writing}
 use Rattle.gl_outside.specs.FilesState.{FilesState}
 use Rattle.graph_files.specs.Made.{IsMade, IsMadeFront, LeavesFront, LeavesText, edges_name, vertices_name}
 use Rattle.whole_files.specs.Leaves.{GivesText, KeepsOrGives}
 use Rattle.whole_files.proofs.FilesCreated.{gives-before}
-use Rattle.graph_text.specs.declared.making.Writing.TheVariants as out
+use Rattle.made_graphs.specs.declared.making.Writing.TheVariants as out
 
 -- what writing the vertex text leaves is a front of it
 pub vertices-front : (result : Result (Unit {0}) Writing) (plan : MakePlan) (old new : Option (List ℕ)) (before now : ℕ)

@@ -5,9 +5,9 @@ use Rattle.gl_base.specs.declared.text_faults.TextFile.{TextFile}
 use Rattle.gl_base.specs.declared.text_faults.TextFile.TheVariants.{Vertices, Edges}
 use Rattle.gl_outside.specs.Faults.{Rose}
 use Rattle.gl_outside.specs.FilesState.{FilesState}
-use Rattle.graph_text.specs.Making.{IsStride, offset_count, made_edges, made_vertices}
-use Rattle.graph_text.specs.declared.making.Writing.{Writing}
-use Rattle.graph_text.specs.declared.making.Writing.TheVariants as out
+use Rattle.made_graphs.specs.Making.{IsStride, offset_count, made_edges, made_vertices}
+use Rattle.made_graphs.specs.declared.making.Writing.{Writing}
+use Rattle.made_graphs.specs.declared.making.Writing.TheVariants as out
 use Rattle.whole_files.specs.Leaves.{GivesText, KeepsOrGives}
 
 -- what comes behind the prefix

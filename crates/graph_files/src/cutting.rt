@@ -15,7 +15,7 @@ use atom_file::write_atom;
 use gl_base::{AtomNo, Lines, MAX_ATOMS};
 use gl_outside::Files;
 use graph_core::Graph;
-use graph_text::Writing;
+use made_graphs::Writing;
 use std::alloc::Global;
 use whole_files::{atom_name, index_name, write_file};
 

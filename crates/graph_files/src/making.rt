@@ -3,13 +3,13 @@ ghost use Rattle.std.specs.Prelude.{◌≡◌, ◌++◌, ℕ, ◌≤◌, [], ◌
 ghost use Rattle.std.specs.Io.KnownBytes.{Appends};
 ghost use Rattle.gl_base.specs.declared.text_faults.TextFile.TheVariants.{Vertices, Edges};
 ghost use Rattle.gl_outside.specs.Names.{AppendsNames};
-ghost use Rattle.graph_text.specs.Making.{IsPlanInRange};
+ghost use Rattle.made_graphs.specs.Making.{IsPlanInRange};
 ghost use Rattle.whole_files.specs.FilesUsed.{WritesFiles};
 ghost use Rattle.graph_files.specs.Made.{IsFault, IsMade, IsMadeFront, LeavesFront, LeavesText, edges_name, ending_of, vertices_name};
 
 use gl_base::{MakePlan, NoMemory, TextFile};
 use gl_outside::{Files, Sink, SinkOf};
-use graph_text::{Writing, make_edges, make_vertices};
+use made_graphs::{Writing, make_edges, make_vertices};
 use std::alloc::Global;
 use whole_files::not_created;
 

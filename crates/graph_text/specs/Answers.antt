@@ -5,6 +5,8 @@ use Rattle.gl_outside.specs.Faults.{Rose}
 use Rattle.graph_core.specs.declared.graph_lists.EdgeIn.{EdgeIn}
 use Rattle.graph_core.specs.DataGraph.{DataGraph, IsDataGraph}
 use Rattle.graph_core.specs.GraphLists.{IsGraphOf}
+use Rattle.graph_lines.specs.declared.said.Unread.{Unread}
+use Rattle.graph_lines.specs.declared.said.Unread.TheVariants.{ReadFault as SourceFailed, NoMemory as OutOfMemory}
 use Rattle.graph_text.specs.declared.lists.VertexList.{VertexList}
 use Rattle.graph_text.specs.declared.lists.Reading.{Reading}
 use Rattle.graph_text.specs.declared.lists.Reading.TheVariants.{Text, ReadFault, NoMemory}
@@ -27,3 +29,8 @@ ReadsGraph ids directed weighted (Ok g) text before now =
 ReadsGraph ids directed weighted (Err (Text fault)) text before now = IfSome text (λ bytes. edges_of ids directed weighted bytes ≡ Err fault)
 ReadsGraph ids directed weighted (Err ReadFault) text before now = Rose before now
 ReadsGraph ids directed weighted (Err NoMemory) text before now = Unit {0}
+
+-- why a text was not read, where no fault of its own is the cause
+abbrev pub as_reading : Unread → Reading
+as_reading SourceFailed = ReadFault
+as_reading OutOfMemory = NoMemory

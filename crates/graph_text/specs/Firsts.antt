@@ -6,15 +6,18 @@ use Rattle.gl_base.specs.declared.text_faults.TextFault.{TextFault}
 use Rattle.gl_base.specs.declared.text_faults.TextFile.{TextFile}
 use Rattle.gl_base.specs.declared.text_faults.TextKind.{TextKind}
 use Rattle.gl_base.specs.declared.text_faults.TextKind.TheVariants.{TooMany, TooLong}
-use Rattle.graph_text.specs.declared.said.Said.{Said}
-use Rattle.graph_text.specs.declared.said.Said.TheVariants.{Passed, Wrong, Late, Item}
-use Rattle.graph_text.specs.Lines.{lines, ended_lines, fields}
+use Rattle.graph_lines.specs.declared.said.Row.{Row}
+use Rattle.graph_lines.specs.declared.said.Said.{Said}
+use Rattle.graph_lines.specs.declared.said.Said.TheVariants.{Passed, Wrong, Late, Item}
+use Rattle.graph_lines.specs.Lines.{lines, ended_lines, fields}
+use Rattle.graph_lines.specs.Rows.{row_of}
+use Rattle.graph_lines.specs.Found.{run}
 
 -- What makes a text of items: what a line says, what is wrong with an item alone, and with an item behind others, and
 -- how many there may be.
 pub record Rules (X : Type 0) : Type 0 where
   pub file : TextFile
-  pub says : List (List ℕ) → Said X
+  pub says : Row → Said X
   pub fault_alone : X → Option TextKind
   pub fault_after : List X → X → Option TextKind
   pub most : ℕ
@@ -45,14 +48,9 @@ judge r s (Wrong kind) = Err (text_fault r s.line kind)
 judge r s (Late x kind) = Err (text_fault r s.line (or_kind (r.fault_alone x) kind))
 judge r s (Item x) = put r s x (r.fault_after s.items x)
 
--- one step after another, up to the first error
-abbrev pub run : {S A E : Type 0} → (S → A → Result S E) → S → List A → Result S E
-run step s [] = Ok s
-run step s (x ∷ xs) = and_then (step s x) (λ t. run step t xs)
-
 -- a line
 abbrev pub judge_line : {X : Type 0} → Rules X → Judged X → List ℕ → Result (Judged X) TextFault
-judge_line r s l = judge r s (r.says (fields l))
+judge_line r s l = judge r s (r.says (row_of (fields l)))
 
 -- these lines, from the first on
 abbrev pub judge_lines : {X : Type 0} → Rules X → List (List ℕ) → Result (Judged X) TextFault

@@ -1,11 +1,7 @@
-pub mod Lines
-pub mod Numerals
 pub mod Firsts
 pub mod Vertices
 pub mod Edges
 pub mod GraphTexts
 pub mod Ids
 pub mod Answers
-pub mod Making
-pub mod Writes
 pub mod Inner

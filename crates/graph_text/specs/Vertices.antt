@@ -1,26 +1,13 @@
 -- Vertex texts.
-use Rattle.std.specs.Prelude.{ℕ, ◌==◌, if◌then◌else◌, List, [], ◌∷◌, Option, None, Some, Result, Ok, Err}
+use Rattle.std.specs.Prelude.{ℕ, ◌==◌, if◌then◌else◌, List, Option, None, Some, Result}
 use Rattle.std.specs.List.{list_any}
 use Rattle.gl_base.specs.declared.limits.TheConstants.{MAX_VERTICES}
 use Rattle.gl_base.specs.declared.text_faults.TextFault.{TextFault}
 use Rattle.gl_base.specs.declared.text_faults.TextFile.TheVariants.{Vertices}
 use Rattle.gl_base.specs.declared.text_faults.TextKind.{TextKind}
-use Rattle.gl_base.specs.declared.text_faults.TextKind.TheVariants.{Fields, Double}
-use Rattle.graph_text.specs.declared.said.Said.{Said}
-use Rattle.graph_text.specs.declared.said.Said.TheVariants.{Passed, Wrong, Item}
-use Rattle.graph_text.specs.Lines.{is_empty, is_comment}
-use Rattle.graph_text.specs.Numerals.{id_of}
+use Rattle.gl_base.specs.declared.text_faults.TextKind.TheVariants.{Double}
+use Rattle.graph_lines.specs.Says.{vertex_said}
 use Rattle.graph_text.specs.Firsts.{Rules, items_of}
-
--- an item, or what is wrong
-abbrev pub said_of : {X : Type 0} → Result X TextKind → Said X
-said_of (Ok x) = Item x
-said_of (Err kind) = Wrong kind
-
--- a line of one identifier
-abbrev pub vertex_said : List (List ℕ) → Said ℕ
-vertex_said [] = Passed
-vertex_said (f ∷ fs) = if is_comment f then Passed else (if is_empty fs then said_of (id_of f) else Wrong Fields)
 
 -- an identifier stands once
 abbrev pub vertex_fault_after : List ℕ → ℕ → Option TextKind

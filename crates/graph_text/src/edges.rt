@@ -1,23 +1,24 @@
 //! Reads edge texts.
-ghost use Rattle.std.specs.Prelude.{◌≡◌, ℕ, ◌≤◌, Bool, List, length, Option, Some, Err};
+ghost use Rattle.std.specs.Prelude.{◌≡◌, ℕ, ◌≤◌, Bool, List, Option, Some, Err};
 ghost use Rattle.std.specs.List.{list_any};
 ghost use Rattle.std.specs.Io.KnownBytes.{Consumes};
 ghost use Rattle.graph_core.specs.GraphLists.{lower_first, same_ends};
-ghost use Rattle.graph_text.specs.Inner.Found.{ended as ended_by};
+ghost use Rattle.graph_lines.specs.Found.{found_of};
+ghost use Rattle.graph_text.specs.Inner.Settled.{ended as ended_by};
 ghost use Rattle.graph_text.specs.Edges.{edge_rules, edge_fault_alone, edge_fault_after};
 ghost use Rattle.graph_text.specs.Firsts.{or_kind};
-ghost use Rattle.graph_text.specs.Inner.RowRules.{row_weight, row_ends};
-ghost use Rattle.graph_text.specs.Inner.Texts.{found_at};
 ghost use Rattle.graph_text.specs.Answers.{ReadsGraph};
-ghost use Rattle.graph_text.specs.Inner.FoundEdges.{AreFoundEdges, Builds, IsFaultIn, IsEdgeRefusal, EndsEdges};
+ghost use Rattle.graph_text.specs.Inner.FoundEdges.{AreFoundEdges, Builds, EndsEdges};
 
-use crate::lines::{LineItem, Lines, read_lines};
-use crate::said::{Ending, Row, Said};
+use crate::lists::{refusal, text_fault};
 use crate::{Reading, VertexList};
-use gl_base::{MAX_EDGES, MAX_ID, TextFault, TextFile, TextKind};
+use gl_base::{TextFault, TextFile, TextKind};
 use gl_outside::Source;
-use graph_core::{EdgeIn, Graph, GraphFault};
+use graph_core::{EdgeIn, Graph};
+use graph_lines::{Ending, FoundItems, read_lines};
 use std::alloc::Global;
+
+const FILE: TextFile = TextFile::Edges;
 
 /// Reads an edge text to its end, and builds the graph of its edges between the vertices of the list. A line has two
 /// identifiers and, where `weighted`, a weight from 0 to 4294967295, which may end in a point and zeros; further fields
@@ -41,65 +42,8 @@ pub fn read_edges<S: Source>(
     ensures later { S.faults source.old ≤ S.faults source.new }
     ensures same { S.same source.old source.new }
 {
-    let mut lines = Lines::new(alloc);
-    let ending = read_lines(source, weighted, &mut lines)?;
-    graph_of(alloc, list, directed, lines, ending)
-}
-
-impl LineItem for EdgeIn {
-    ghost use Rattle.gl_base.specs.declared.limits.TheConstants.{MAX_EDGES};
-    ghost use Rattle.graph_text.specs.Inner.RowRules.{edge_row};
-
-    const MOST: usize = MAX_EDGES;
-
-    ghost MOST = { MAX_EDGES };
-
-    ghost says = { edge_row };
-
-    fn said(row: Row, weighted: bool) -> Said<EdgeIn> {
-        match row {
-            Row::Nothing => Said::Passed,
-            Row::One(_) => Said::Wrong(TextKind::Fields),
-            Row::Two(from, to) => with_ends(from, to, weight_in(weighted, None)),
-            Row::Three(from, to, weight) => with_ends(from, to, weight_in(weighted, Some(weight))),
-        }
-    }
-}
-
-/// The weight that the third field tells, where there is one.
-#[inline]
-fn weight_in(weighted: bool, third: Option<Option<u64>>) -> Result<u32, TextKind>
-    ensures { result ≡ row_weight weighted third }
-{
-    if !weighted {
-        return Ok(1);
-    }
-    match third {
-        None => Err(TextKind::NoWeight),
-        Some(None) => Err(TextKind::Number),
-        Some(Some(weight)) if weight <= 4294967295 => Ok(weight as u32),
-        Some(Some(_)) => Err(TextKind::TooLarge),
-    }
-}
-
-/// The edge between two ends, with its weight or what is wrong with that.
-#[inline]
-fn with_ends(from: Option<u64>, to: Option<u64>, weight: Result<u32, TextKind>) -> Said<EdgeIn>
-    ensures { result ≡ row_ends from to weight }
-{
-    let (Some(from), Some(to)) = (from, to) else {
-        return Said::Wrong(TextKind::Number);
-    };
-    if from > MAX_ID || to > MAX_ID {
-        return Said::Wrong(TextKind::TooLarge);
-    }
-    match weight {
-        Ok(weight) => Said::Item(EdgeIn { from, to, weight }),
-        Err(kind) => {
-            let weight = 0;
-            Said::Late(EdgeIn { from, to, weight }, kind)
-        }
-    }
+    let found = read_lines(alloc, source, weighted)?;
+    graph_of(alloc, list, directed, found)
 }
 
 /// The graph of the edges that were found, or the first fault.
@@ -107,39 +51,18 @@ fn graph_of(
     alloc: Global,
     list: VertexList,
     directed: bool,
-    lines: Lines<EdgeIn>,
-    ending: Option<Ending<EdgeIn>>,
+    found: FoundItems<EdgeIn>,
 ) -> Result<Graph, Reading>
-    requires { AreFoundEdges (found_at lines ending) }
-    ensures { Builds list.ids.items directed (found_at lines ending) result }
+    requires { AreFoundEdges (found_of found) }
+    ensures { Builds list.ids.items directed (found_of found) result }
 {
-    let ended = end_of_text(ending, &list.ids, directed, &lines.items);
-    match Graph::build(alloc, list.ids, lines.items, directed) {
-        Err(fault) => Err(refusal(fault, &lines.places)),
+    let ended = end_of_text(found.ending, &list.ids, directed, &found.items);
+    match Graph::build(alloc, list.ids, found.items, directed) {
+        Err(fault) => Err(refusal(FILE, fault, &found.places)),
         Ok(graph) => match ended {
             Ok(()) => Ok(graph),
             Err(fault) => Err(Reading::Text(fault)),
         },
-    }
-}
-
-/// The fault of edges that make no graph, each of which has its line.
-fn refusal(fault: GraphFault, places: &[u32]) -> Reading
-    requires { IsFaultIn (length places.now) fault }
-    ensures { IsEdgeRefusal places.now fault result }
-{
-    match fault {
-        GraphFault::UnknownVertex(place) => {
-            Reading::Text(text_fault(places[place], TextKind::Unknown))
-        }
-        GraphFault::SelfLoop(place) => {
-            Reading::Text(text_fault(places[place], TextKind::SelfLoop))
-        }
-        GraphFault::DoubleEdge(place) => {
-            Reading::Text(text_fault(places[place], TextKind::Double))
-        }
-        GraphFault::NoMemory => Reading::NoMemory,
-        GraphFault::DoubleVertex(_) => unreachable!(),
     }
 }
 
@@ -154,14 +77,15 @@ fn end_of_text(
 {
     match ending {
         None => Ok(()),
-        Some(Ending::Fault(line, kind)) => Err(text_fault(line, kind)),
+        Some(Ending::Fault(line, kind)) => Err(text_fault(FILE, line, kind)),
         Some(Ending::Late(line, e, kind)) => Err(text_fault(
+            FILE,
             line,
             fault_alone(ids, e).unwrap_or(kind),
         )),
         Some(Ending::Full(line, e)) => {
             let wrong = fault_after(ids, directed, edges, e);
-            Err(text_fault(line, wrong.unwrap_or(TextKind::TooMany)))
+            Err(text_fault(FILE, line, wrong.unwrap_or(TextKind::TooMany)))
         }
     }
 }
@@ -217,16 +141,5 @@ fn lower_end_first(directed: bool, e: EdgeIn) -> EdgeIn
         from: e.to,
         to: e.from,
         weight: e.weight,
-    }
-}
-
-/// A fault of the edge text.
-fn text_fault(line: u32, kind: TextKind) -> TextFault
-    ensures { result ≡ record { file = TextFile.Edges; line = line; kind = kind } }
-{
-    TextFault {
-        file: TextFile::Edges,
-        line,
-        kind,
     }
 }

@@ -1,20 +1,22 @@
 //! Reads vertex texts.
-ghost use Rattle.std.specs.Prelude.{◌≡◌, ℕ, ◌≤◌, List, length, Option, Some, Err};
+ghost use Rattle.std.specs.Prelude.{◌≡◌, ℕ, ◌≤◌, List, Option, Some, Err};
 ghost use Rattle.std.specs.Io.KnownBytes.{Consumes};
-ghost use Rattle.graph_text.specs.Inner.Found.{ended as ended_by};
+ghost use Rattle.graph_lines.specs.Found.{found_of};
+ghost use Rattle.graph_text.specs.Inner.Settled.{ended as ended_by};
 ghost use Rattle.graph_text.specs.Vertices.{vertex_rules, vertex_fault_after};
 ghost use Rattle.graph_text.specs.Firsts.{or_kind};
-ghost use Rattle.graph_text.specs.Inner.Texts.{found_at};
 ghost use Rattle.graph_text.specs.Answers.{ReadsVertices};
-ghost use Rattle.graph_text.specs.Inner.FoundVertices.{AreFound, Lists, IsDoubleIn, IsUnsorted, Ends};
+ghost use Rattle.graph_text.specs.Inner.FoundVertices.{AreFound, Lists, Ends};
 
-use crate::lines::{LineItem, Lines, read_lines};
-use crate::said::{Ending, Row, Said};
+use crate::lists::{refusal, text_fault};
 use crate::{Reading, VertexList};
-use gl_base::{MAX_ID, MAX_VERTICES, TextFault, TextFile, TextKind};
+use gl_base::{TextFault, TextFile, TextKind};
 use gl_outside::Source;
-use graph_core::{GraphFault, sorted_ids};
+use graph_core::sorted_ids;
+use graph_lines::{Ending, FoundItems, read_lines};
 use std::alloc::Global;
+
+const FILE: TextFile = TextFile::Vertices;
 
 /// Reads a vertex text to its end: lines of one identifier each, from 0 to 9223372036854775806, in any order and with
 /// any zeros before it. Blanks and tabs around it, a CR at the end of a line, lines without a field and lines that begin
@@ -30,62 +32,22 @@ pub fn read_vertices<S: Source>(alloc: Global, source: &mut S) -> Result<VertexL
     ensures later { S.faults source.old ≤ S.faults source.new }
     ensures same { S.same source.old source.new }
 {
-    let mut lines = Lines::new(alloc);
-    let ending = read_lines(source, false, &mut lines)?;
-    list_of(alloc, lines, ending)
-}
-
-impl LineItem for u64 {
-    ghost use Rattle.gl_base.specs.declared.limits.TheConstants.{MAX_VERTICES};
-    ghost use Rattle.graph_text.specs.Inner.RowRules.{vertex_row};
-
-    const MOST: usize = MAX_VERTICES;
-
-    ghost MOST = { MAX_VERTICES };
-
-    ghost says = { λ weighted row. vertex_row row };
-
-    fn said(row: Row, _weighted: bool) -> Said<u64> {
-        match row {
-            Row::Nothing => Said::Passed,
-            Row::One(Some(id)) if id <= MAX_ID => Said::Item(id),
-            Row::One(Some(_)) => Said::Wrong(TextKind::TooLarge),
-            Row::One(None) => Said::Wrong(TextKind::Number),
-            Row::Two(..) | Row::Three(..) => Said::Wrong(TextKind::Fields),
-        }
-    }
+    let found = read_lines(alloc, source, false)?;
+    list_of(alloc, found)
 }
 
 /// The list of the identifiers that were found, or the first fault.
-fn list_of(
-    alloc: Global,
-    lines: Lines<u64>,
-    ending: Option<Ending<u64>>,
-) -> Result<VertexList, Reading>
-    requires { AreFound (found_at lines ending) }
-    ensures { Lists (found_at lines ending) result }
+fn list_of(alloc: Global, found: FoundItems<u64>) -> Result<VertexList, Reading>
+    requires { AreFound (found_of found) }
+    ensures { Lists (found_of found) result }
 {
-    let ended = end_of_text(ending, &lines.items);
-    match sorted_ids(alloc, lines.items) {
-        Err(fault) => Err(refusal(fault, &lines.places)),
+    let ended = end_of_text(found.ending, &found.items);
+    match sorted_ids(alloc, found.items) {
+        Err(fault) => Err(refusal(FILE, fault, &found.places)),
         Ok(ids) => match ended {
             Ok(()) => Ok(VertexList { ids }),
             Err(fault) => Err(Reading::Text(fault)),
         },
-    }
-}
-
-/// The fault of identifiers that cannot be sorted, each of which has its line.
-fn refusal(fault: GraphFault, places: &[u32]) -> Reading
-    requires { IsDoubleIn (length places.now) fault }
-    ensures { IsUnsorted places.now fault result }
-{
-    match fault {
-        GraphFault::DoubleVertex(place) => {
-            Reading::Text(text_fault(places[place], TextKind::Double))
-        }
-        GraphFault::NoMemory => Reading::NoMemory,
-        _ => unreachable!(),
     }
 }
 
@@ -104,9 +66,9 @@ fn ending_fault(ending: Ending<u64>, ids: &[u64]) -> TextFault
     ensures { ended_by vertex_rules ids.now (Some ending) ≡ Err result }
 {
     match ending {
-        Ending::Fault(line, kind) => text_fault(line, kind),
-        Ending::Late(line, _, kind) => text_fault(line, kind),
-        Ending::Full(line, id) => text_fault(line, surplus(id, ids)),
+        Ending::Fault(line, kind) => text_fault(FILE, line, kind),
+        Ending::Late(line, _, kind) => text_fault(FILE, line, kind),
+        Ending::Full(line, id) => text_fault(FILE, line, surplus(id, ids)),
     }
 }
 
@@ -118,16 +80,5 @@ fn surplus(id: u64, ids: &[u64]) -> TextKind
         TextKind::Double
     } else {
         TextKind::TooMany
-    }
-}
-
-/// A fault of the vertex text.
-fn text_fault(line: u32, kind: TextKind) -> TextFault
-    ensures { result ≡ record { file = TextFile.Vertices; line = line; kind = kind } }
-{
-    TextFault {
-        file: TextFile::Vertices,
-        line,
-        kind,
     }
 }

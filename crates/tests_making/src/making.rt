@@ -1,10 +1,11 @@
 //! `make_vertices` and `make_edges`.
 ghost use Rattle.std.specs.Prelude.{IsTrue};
-ghost use Rattle.graph_text.specs.Making.{IsPlanInRange};
+ghost use Rattle.made_graphs.specs.Making.{IsPlanInRange};
 
 use gl_base::{MakePlan, NoMemory};
 use gl_outside::{MemSink, PlainSource};
-use graph_text::{Writing, make_edges, make_vertices, read_edges, read_vertices};
+use graph_text::{read_edges, read_vertices};
+use made_graphs::{Writing, make_edges, make_vertices};
 use std::alloc::Global;
 use std::test::Fail;
 

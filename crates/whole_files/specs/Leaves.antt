@@ -2,8 +2,8 @@
 use Rattle.std.specs.Prelude.{◌≡◌, ◌⊎◌, ℕ, List, Option, Some, IfSome}
 use Rattle.gl_outside.specs.declared.files.OpenFault.{OpenFault}
 use Rattle.gl_outside.specs.declared.files.OpenFault.TheVariants as open_fault
-use Rattle.graph_text.specs.declared.making.Writing.{Writing}
-use Rattle.graph_text.specs.declared.making.Writing.TheVariants as out
+use Rattle.made_graphs.specs.declared.making.Writing.{Writing}
+use Rattle.made_graphs.specs.declared.making.Writing.TheVariants as out
 
 -- a name gives bytes of which this holds
 abbrev pub GivesText : Option (List ℕ) → (List ℕ → Type 0) → Type 0

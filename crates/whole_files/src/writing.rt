@@ -4,12 +4,12 @@ ghost use Rattle.std.specs.Io.KnownBytes.{Appends};
 ghost use Rattle.gl_outside.specs.Faults.{Rose};
 ghost use Rattle.gl_outside.specs.Fronts.{AppendsFront};
 ghost use Rattle.gl_outside.specs.Names.{AppendsNames};
-ghost use Rattle.graph_text.specs.declared.making.Writing.TheVariants.{WriteFault, NoMemory};
+ghost use Rattle.made_graphs.specs.declared.making.Writing.TheVariants.{WriteFault, NoMemory};
 ghost use Rattle.whole_files.specs.FilesUsed.{WritesFiles};
 ghost use Rattle.whole_files.specs.Leaves.{KeepsOrGives, writing_of};
 
 use gl_outside::{Files, OpenFault, Sink, SinkOf, write_all};
-use graph_text::Writing;
+use made_graphs::Writing;
 
 /// Makes the file of this name, or empties it, and writes the bytes. Where it fails the file is what it was, or has a front
 /// of the bytes.

@@ -3,8 +3,8 @@ use Rattle.std.specs.Prelude.{◌≡◌, ◌⊎◌, ℕ, Bool, List, ⊤, Option
 use Rattle.std.specs.Io.KnownBytes.{Appends}
 use Rattle.std.specs.declared.alloc.Global.{Global}
 use Rattle.std.specs.declared.vec.Vec.{Vec}
-use Rattle.graph_text.specs.declared.making.Writing.{Writing}
-use Rattle.graph_text.specs.declared.making.Writing.TheVariants.{WriteFault, NoMemory}
+use Rattle.made_graphs.specs.declared.making.Writing.{Writing}
+use Rattle.made_graphs.specs.declared.making.Writing.TheVariants.{WriteFault, NoMemory}
 use Rattle.order_text.specs.Answers.{answer_text}
 use Rattle.order_text.specs.Orders.{order_text}
 use Rattle.engine_cli.specs.declared.running.Prepared.{Prepared}

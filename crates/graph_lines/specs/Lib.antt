@@ -1,0 +1,5 @@
+pub mod Lines
+pub mod Rows
+pub mod Says
+pub mod Found
+pub mod Inner

@@ -1,5 +1,0 @@
-use Rattle.graph_text.proofs.MadeEdges.{made_edges-read}
-use Rattle.graph_text.proofs.laws.made_edges_are_listed.Goals as goal
-
-pub returns : goal.returns
-returns c = λ plan stride directed weighted ranges is has. made_edges-read plan stride directed weighted ranges is has

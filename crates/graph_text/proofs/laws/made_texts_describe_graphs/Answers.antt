@@ -1,5 +1,0 @@
-use Rattle.graph_text.proofs.MadeGraphs.{made_graph-described}
-use Rattle.graph_text.proofs.laws.made_texts_describe_graphs.Goals as goal
-
-pub returns : goal.returns
-returns c = λ plan stride directed weighted ranges is has. made_graph-described plan stride directed weighted ranges is has
