@@ -1,5 +1,6 @@
-pub mod GraphLemmas
-pub mod NewLemmas
 pub mod FrontLemmas
-pub mod SendLemmas
+pub mod GraphLemmas
+pub mod KeptLemmas
+pub mod NewLemmas
 pub mod ReadLemmas
+pub mod SendLemmas

@@ -1,4 +1,5 @@
 pub mod Machines
 pub mod Updates
+pub mod Turns
 pub mod Messages
 pub mod Reading

@@ -1,4 +1,5 @@
 -- A machine and its calls, and a new machine.
+pub use Rattle.cluster_core.specs.Effects.{next_scope}
 pub use Rattle.cluster_core.specs.Messages.{Message, News, Done}
 pub use Rattle.cluster_core.specs.Places.{ArePlaces}
 pub use Rattle.cluster_core.specs.Receiving.{MayAsk, MayBecomeReady}
@@ -11,7 +12,7 @@ pub use Rattle.machine_parts.specs.Rooms.{HasOnlyMadeRoom}
 pub use Rattle.machine_parts.specs.Settings.{Setting, IsPartOf, SameSettings}
 pub use Rattle.machine_scopes.specs.Granting.{MayGrantLock, MayNotGrantLock, HasGrantedLock, WaitsFirst, WantedNext}
 pub use Rattle.machine_scopes.specs.Asking.{IsSetting, IsNewAt, AreMachinesFor, CanBecomeReady, HasReceivedMessage, Ask, Ready, come}
-pub use Rattle.machine_scopes.specs.Admitting.{CanAdmitPick, MayAdmitNone, HasAdmittedPick, next_id}
+pub use Rattle.machine_scopes.specs.Admitting.{CanAdmitPick, MayAdmitNone, HasAdmittedPick}
 use Rattle.std.specs.Prelude.{◌≡◌, ℕ, ◌==◌, true, false, is_some}
 use Rattle.std.specs.List.{list_any}
 use Rattle.local_parts.specs.Parts.{AreIn}

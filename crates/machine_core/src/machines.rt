@@ -1,6 +1,6 @@
 //! A machine.
-ghost use Rattle.std.specs.Prelude.{◌≡◌, ◌<◌, IfOk, IfErr, OnOk, OnErr, IsErrOf};
-ghost use Rattle.machine_core.specs.Machines.{IsOrderly, KnowsPlaces, SameSettings, HasOnlyMadeRoom, part_of, come, next_id, machine_numbers, MayGrantLock, MayNotGrantLock, HasGrantedLock, WaitsFirst, WantedNext, IsNewAt, AreMachinesFor, CanBecomeReady, HasReceivedMessage, Ask, Ready, CanAdmitPick, MayAdmitNone, HasAdmittedPick};
+ghost use Rattle.std.specs.Prelude.{◌≡◌, ℕ, ◌<◌, IfOk, IfErr, IfSome, IfNone, OnOk, OnErr, IsErrOf};
+ghost use Rattle.machine_core.specs.Machines.{IsMachine, IsOrderly, KnowsPlaces, SameSettings, HasOnlyMadeRoom, part_of, come, next_scope, machine_numbers, MayGrantLock, MayNotGrantLock, HasGrantedLock, WaitsFirst, WantedNext, IsNewAt, AreMachinesFor, CanBecomeReady, HasReceivedMessage, Ask, Ready, CanAdmitPick, MayAdmitNone, HasAdmittedPick};
 
 use gl_base::{MachineNo, Refused, ScopeId, Vertex};
 use machine_parts::Core;
@@ -35,24 +35,25 @@ impl Machine {
         Machine { core }
     }
 
-    /// Its parts.
+    /// Its parts, which go together.
     pub fn core(&self) -> &Core
-        ensures { result.now ≡ self.now }
+        ensures parts { result.now ≡ self.now }
+        ensures in_order { IsMachine self.now }
     {
         &self.core
     }
 
     /// Admits a scope of the vertex that the tasks pick, where fewer scopes are in flight than may be: it asks for its first lock
-    /// here, or sets out to the first machine of its scope.
+    /// here, or sets out to the first machine of its scope. There is no memory for it also where no serial is left, or where it would
+    /// come here and as many scopes have come as may.
     pub fn admit(&mut self, alloc: Global) -> Result<ScopeId, Refused>
-        requires serial { self.old.pipe.serial < 18446744073709551615 }
-        requires few { come self.old.pipe < 4096 }
         ensures settings { SameSettings self.old self.new }
-        ensures scope { IfOk result (λ s. s ≡ next_id self.old.pipe) }
+        ensures scope { IfOk result (λ s. s ≡ next_scope self.old.numbers.local.me.0 (part_of self.old)) }
         ensures admitted { IfOk result (λ s. HasAdmittedPick self.old self.new) }
         ensures not_now { IsErrOf result Refused.NotNow → MayAdmitNone self.old }
         ensures no_memory { IsErrOf result Refused.NoMemory → CanAdmitPick self.old }
         ensures unchanged { OnErr result (part_of self.new ≡ part_of self.old) }
+        ensures local { self.new.numbers.local ≡ self.old.numbers.local }
     {
         machine_scopes::admit(alloc, &mut self.core)
     }
@@ -67,12 +68,22 @@ impl Machine {
         ensures not_now { IsErrOf result Refused.NotNow → MayNotGrantLock self.old x.0 }
         ensures no_memory { IsErrOf result Refused.NoMemory → MayGrantLock self.old x.0 }
         ensures unchanged { OnErr result (HasOnlyMadeRoom self.old self.new × (part_of self.new ≡ part_of self.old)) }
+        ensures numbers { self.new.numbers ≡ self.old.numbers }
     {
         machine_scopes::grant(&mut self.core, x)
     }
 
+    /// A vertex whose lock may be granted, and `None` exactly where there is none. It takes no memory, and no claim changes.
+    pub fn next_grant(&mut self) -> Option<Vertex>
+        ensures some { IfSome result (λ x. MayGrantLock self.old x.0) }
+        ensures none { IfNone result ((x : ℕ) → MayNotGrantLock self.old x) }
+        ensures same { self.new ≡ self.old }
+    {
+        machine_scopes::next_grant(&mut self.core)
+    }
+
     /// The scope of this centre has come, and has the machines `rest` still to come: it asks for its locks here, or goes on at once
-    /// where there is none. Want of memory hands `rest` back.
+    /// where there is none. Where there is not enough memory, or as many scopes have come as may, `rest` comes back.
     pub fn receive_ask(
         &mut self,
         alloc: Global,
@@ -82,11 +93,12 @@ impl Machine {
     ) -> Result<(), Vec<MachineNo>>
         requires is_new { IsNewAt self.old scope centre }
         requires machines { AreMachinesFor self.old scope rest.items }
-        requires few { come self.old.pipe < 4096 }
         ensures settings { SameSettings self.old self.new }
+        ensures place { OnOk result (come self.old.pipe < 4096) }
         ensures received { OnOk result (HasReceivedMessage self.old self.new (Ask scope centre.0 (machine_numbers rest.items))) }
         ensures back { IfErr result (λ same. same ≡ rest) }
         ensures unchanged { OnErr result (HasOnlyMadeRoom self.old self.new × (part_of self.new ≡ part_of self.old)) }
+        ensures numbers { self.new.numbers ≡ self.old.numbers }
     {
         machine_scopes::receive_ask(alloc, &mut self.core, scope, centre, rest)
     }
@@ -96,6 +108,7 @@ impl Machine {
         requires { CanBecomeReady self.old scope }
         ensures settings { SameSettings self.old self.new }
         ensures received { HasReceivedMessage self.old self.new (Ready scope) }
+        ensures numbers { self.new.numbers ≡ self.old.numbers }
     {
         machine_scopes::receive_ready(&mut self.core, scope);
     }

@@ -8,9 +8,6 @@ use gl_base::{MachineNo, Peer, ScopeId, Vertex};
 use std::alloc::Global;
 use wire_msgs::{Message, Returned};
 
-/// As many scopes may have come to a machine.
-const MAX_COME: usize = 4096;
-
 impl Machine {
     /// Receives a message of another machine, by its kind. Where there is not enough memory, or as many scopes have come as may,
     /// the message comes back as it was.
@@ -20,6 +17,7 @@ impl Machine {
         ensures received { OnOk result (HasReceivedMessage self.old self.new (message_told message)) }
         ensures place { OnOk result (MayStillCome self.old message) }
         ensures back { IfErr result (λ back. back.message ≡ message) }
+        ensures local { self.new.numbers.local ≡ record self.old.numbers.local { numbers = self.new.numbers.local.numbers } }
         ensures unchanged { OnErr result (HasOnlyMadeRoom self.old self.new × (part_of self.new ≡ part_of self.old)) }
     {
         match message {
@@ -27,7 +25,7 @@ impl Machine {
                 scope,
                 centre,
                 rest,
-            } => match self.receive_in_room(alloc, scope, centre, rest) {
+            } => match self.receive_ask(alloc, scope, centre, rest) {
                 Ok(()) => Ok(()),
                 Err(rest) => Err(returned(scope, centre, rest)),
             },
@@ -40,29 +38,6 @@ impl Machine {
                 Ok(())
             }
             _ => unreachable!(),
-        }
-    }
-
-    /// A scope comes for its locks here, where fewer have come than may; else its machines come back.
-    fn receive_in_room(
-        &mut self,
-        alloc: Global,
-        scope: ScopeId,
-        centre: Vertex,
-        rest: Vec<MachineNo>,
-    ) -> Result<(), Vec<MachineNo>>
-        requires is_new { IsNewAt self.old scope centre }
-        requires machines { AreMachinesFor self.old scope rest.items }
-        ensures settings { SameSettings self.old self.new }
-        ensures received { OnOk result (HasReceivedMessage self.old self.new (Ask scope centre.0 (machine_numbers rest.items))) }
-        ensures place { OnOk result (come self.old.pipe < 4096) }
-        ensures back { IfErr result (λ same. same ≡ rest) }
-        ensures unchanged { OnErr result (HasOnlyMadeRoom self.old self.new × (part_of self.new ≡ part_of self.old)) }
-    {
-        if self.core.pipe.entered_count() < MAX_COME {
-            self.receive_ask(alloc, scope, centre, rest)
-        } else {
-            Err(rest)
         }
     }
 

@@ -44,6 +44,7 @@ impl Machine {
     /// A vertex that is a task of this machine, admitted or not; `None` exactly where none is.
     pub fn task(&self) -> Option<Vertex>
         ensures some { IfSome result (λ v. (part_of self.now).task v.0 ≡ true) }
+        ensures own { IfSome result (λ v. is_own self.now.numbers.local v.0 ≡ true) }
         ensures none { IfNone result ((u : ℕ) → (part_of self.now).task u ≡ false) }
     {
         let place = self.core.numbers.tasks.some_task()?;

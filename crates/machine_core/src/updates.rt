@@ -105,6 +105,7 @@ impl Machine {
         requires { CanLearn self.old done.now }
         ensures received { HasReceivedDone self.old self.new done.now }
         ensures settings { SameSettings self.old self.new }
+        ensures local { self.new.numbers.local ≡ record self.old.numbers.local { numbers = self.new.numbers.local.numbers } }
         ensures rest { self.new ≡ record self.old { numbers = self.new.numbers; locks = self.new.locks } }
     {
         machine_updates::receive_done(&mut self.core, done);

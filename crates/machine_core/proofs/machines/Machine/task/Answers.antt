@@ -1,5 +1,10 @@
-use Rattle.machine_core.proofs.ReadLemmas.{task_there}
+use Rattle.machine_core.proofs.ReadLemmas.{task_own, task_there}
 use Rattle.machine_core.proofs.machines.Machine.task.Goals as goal
 
 pub returns-clause-some : goal.returns-clause-some
 returns-clause-some c = rw (← c.self.view_is) (task_there c.self.inside.core c.in_ok-place.place.0 c.index.result.now c.self.invariant.places c.in_ok-place.ensures c.index.ensures)
+
+pub returns-clause-own : goal.returns-clause-own
+returns-clause-own c =
+    rw (← c.self.view_is)
+    (task_own c.self.inside.core c.in_ok-place.place.0 c.index.result.now c.self.invariant.places c.in_ok-place.ensures c.index.ensures c.self.invariant.orderly)
