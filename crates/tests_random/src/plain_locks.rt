@@ -12,14 +12,26 @@ struct Plain {
 }
 
 impl Plain {
+    /// Whether the claim may be held beside those that hold, so that no writer is beside another.
+    fn has_room_for(&self, claim: &Claim) -> bool {
+        let reads = |claim: &Claim| claim.mode == Mode::Reader;
+        self.holders.is_empty() || (reads(claim) && self.holders.iter().all(reads))
+    }
+
+    /// Whether the first that waits would hold the lock.
+    fn would_grant(&self) -> bool {
+        match self.queue.first() {
+            Some(first) => self.has_room_for(first),
+            None => false,
+        }
+    }
+
     /// The first that waits holds the lock, where no writer is beside another.
     fn grant(&mut self) -> Result<Turn, NoMemory> {
         let Some(first) = self.queue.first().copied() else {
             return Ok(Turn::Waiting);
         };
-        let reads = |claim: &Claim| claim.mode == Mode::Reader;
-        let alone = self.holders.is_empty();
-        if !alone && !(reads(&first) && self.holders.iter().all(reads)) {
+        if !self.has_room_for(&first) {
             return Ok(Turn::Waiting);
         }
         self.queue.remove(0);
@@ -70,6 +82,17 @@ fn call(
     Ok(true)
 }
 
+/// Whether the table tells of a lock that would be granted, and of none where none would be.
+fn tells_of_one(table: &mut LockTable, plain: &[Plain]) -> bool {
+    match table.next_grant() {
+        Some(x) => match plain.get(x.0 as usize) {
+            Some(lock) => lock.would_grant(),
+            None => false,
+        },
+        None => plain.iter().all(|lock| !lock.would_grant()),
+    }
+}
+
 /// Plays random calls of both, from locks that nobody claims.
 fn play(table: &mut LockTable, seed: u64, alloc: Global) -> Result<bool, NoMemory> {
     let mut plain = Vec::new(alloc);
@@ -81,7 +104,8 @@ fn play(table: &mut LockTable, seed: u64, alloc: Global) -> Result<bool, NoMemor
     }
     let mut chances = Chances::new(seed);
     for _ in 0..1000 {
-        if !call(table, &mut plain, &mut chances)? {
+        let alike = call(table, &mut plain, &mut chances)?;
+        if !alike || !tells_of_one(table, &plain) {
             return Ok(false);
         }
     }
