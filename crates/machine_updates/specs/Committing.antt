@@ -1,4 +1,5 @@
 -- What a commit asks and leaves.
+pub use Rattle.lock_release.specs.Released.{room_at, times_in}
 use Rattle.std.specs.Prelude.{◌≡◌, ℕ, Option, None, List, [], ◌∷◌}
 use Rattle.gl_base.specs.declared.entries.Entry.{Entry}
 use Rattle.gl_base.specs.declared.entries.Entry.TheVariants.{Go}

@@ -1,7 +1,11 @@
 //! Word of updates elsewhere.
-ghost use Rattle.std.specs.Prelude.{◌≡◌};
+ghost use Rattle.std.specs.Prelude.{◌≡◌, ℕ, ◌+◌, length};
+ghost use Rattle.machine_numbers.specs.Views.{news_of};
+ghost use Rattle.machine_numbers.specs.Steps.{HasLearned};
+ghost use Rattle.machine_parts.specs.Parts.{part_at};
 ghost use Rattle.machine_parts.specs.Order.{IsOrderly, KnowsPlaces};
 ghost use Rattle.machine_parts.specs.Settings.{SameSettings};
+ghost use Rattle.machine_updates.specs.Committing.{HasNoLock, room_at, times_in};
 ghost use Rattle.machine_updates.specs.Learning.{CanLearn, HasReceivedDone};
 
 use lock_release::release_all;
@@ -17,6 +21,11 @@ pub fn receive_done(core: &mut Core, done: &Done)
     ensures orderly { IsOrderly core.new }
     ensures places { KnowsPlaces core.old → KnowsPlaces core.new }
     ensures settings { SameSettings core.old core.new }
+    ensures learned { HasLearned core.old.numbers core.new.numbers (news_of done.now) }
+    ensures released { HasNoLock core.old.locks core.new.locks done.now.scope }
+    ensures room { (x : ℕ) → room_at core.new.locks x ≡ room_at core.old.locks x + times_in (part_at core.old.numbers.local done.now.centre.0) x }
+    ensures tasks { core.new.numbers.tasks ≡ record core.old.numbers.tasks { task = core.new.numbers.tasks.task } }
+    ensures edges { length core.new.numbers.local.numbers ≡ length core.old.numbers.local.numbers }
     ensures local { core.new.numbers.local ≡ record core.old.numbers.local { numbers = core.new.numbers.local.numbers } }
     ensures rest { core.new ≡ record core.old { numbers = core.new.numbers; locks = core.new.locks } }
 {
