@@ -1,0 +1,4 @@
+pub mod Seats
+pub mod Wholes
+pub mod Happenings
+pub mod Inner
