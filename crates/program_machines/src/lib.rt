@@ -1,0 +1,7 @@
+//! A machine with its program, as a cluster knows its machines.
+#![tactic(auto)]
+
+mod machines;
+mod members;
+
+pub use machines::ProgramMachine;
