@@ -1,0 +1,37 @@
+//! Events that happen, or may not happen now.
+ghost use Rattle.std.specs.Prelude.{length};
+ghost use Rattle.cluster_rounds.specs.Ends.{IsSameRun, NamesMachinesOf};
+
+use cluster_step::{Cluster, ClusterMachine, Event};
+use gl_base::{NoMemory, Refused};
+
+/// Makes the event, and says whether it happened.
+pub(crate) fn happens<M: ClusterMachine>(
+    cluster: &mut Cluster<M>,
+    event: Event,
+) -> Result<bool, NoMemory>
+    requires { NamesMachinesOf (length cluster.old.now.machines.items) event }
+    ensures { IsSameRun cluster.old cluster.new }
+{
+    match cluster.apply(event) {
+        Ok(()) => Ok(true),
+        Err(Refused::NotNow) => Ok(false),
+        Err(Refused::NoMemory) => Err(NoMemory),
+    }
+}
+
+/// Makes the event as often as it may happen, and says whether it happened.
+pub(crate) fn exhaust<M: ClusterMachine>(
+    cluster: &mut Cluster<M>,
+    event: Event,
+) -> Result<bool, NoMemory>
+    requires { NamesMachinesOf (length cluster.old.now.machines.items) event }
+    ensures { IsSameRun cluster.old cluster.new }
+{
+    for times in 0..u64::MAX {
+        if !happens(cluster, event)? {
+            return Ok(times > 0);
+        }
+    }
+    Ok(true)
+}
