@@ -2,11 +2,11 @@
 pub use Rattle.cluster_core.specs.Parts.{Part, Stand}
 pub use Rattle.local_graph.specs.Locals.{LocalView, place_at, is_placed, is_own, links_at, sides_at, parts_at, part_at, machine_numbers}
 pub use Rattle.machine_numbers.specs.Views.{TasksView, datum_here, task_here, edge_here, flag_there, number_told, is_named}
-pub use Rattle.scope_pipe.specs.Entered.{EnteredView}
+pub use Rattle.scope_pipe.specs.Entered.{EnteredView, last_asked, lock_asked}
 pub use Rattle.scope_pipe.specs.Pipes.{PipeView, flight_at, is_ready, flight_count, entered_at}
 pub use Rattle.vertex_locks.specs.Tables.{is_owned, holder_at, queue_at}
 pub use Rattle.outboxes.specs.Outboxes.{OutboxesView, MessageView, DoneView, waiting_for}
-use Rattle.std.specs.Prelude.{ℕ, zero, suc, Bool, true, Option, Some, None, List, map, option_map, slice_get}
+use Rattle.std.specs.Prelude.{ℕ, Bool, true, Option, Some, None, List, map, option_map}
 use Rattle.gl_base.specs.declared.scopes.Peer.TheVariants.{Machine}
 use Rattle.gl_base.specs.declared.numbers.Vertex.{Vertex}
 use Rattle.cluster_core.specs.Effects.{nothing_saved}
@@ -49,15 +49,6 @@ messages_for out q = map message_of (waiting_for out (Machine (record { 0 = q })
 
 abbrev pub number_of : Option Vertex → Option ℕ
 number_of o = option_map (λ v. v.0) o
-
--- the last of the locks that were asked for, where there are so many
-abbrev pub last_asked : List Vertex → ℕ → Option Vertex
-last_asked part zero = None
-last_asked part (suc i) = slice_get part i
-
--- the lock that a scope that has come asked for last
-abbrev pub lock_asked : EnteredView → Option Vertex
-lock_asked e = last_asked e.part e.place
 
 -- it stands at the lock that it asked for last
 abbrev pub stand_of : EnteredView → Option Stand

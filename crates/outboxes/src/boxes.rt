@@ -1,5 +1,5 @@
 //! What waits for one peer.
-ghost use Rattle.std.specs.Prelude.{◌≡◌, ◌<◌, ◌≤◌, [], slice_get, option_map, OnOk};
+ghost use Rattle.std.specs.Prelude.{◌≡◌, ◌<◌, ◌≤◌, [], length, slice_get, option_map, OnOk};
 ghost use Rattle.outboxes.specs.Outboxes.{no_outbox, with_message, without_first, emptied, has_waiting, message_view};
 
 use gl_base::NoMemory;
@@ -64,6 +64,13 @@ impl Outbox {
         ensures { result ≡ has_waiting self.now }
     {
         !self.queue.is_empty()
+    }
+
+    /// How many messages wait.
+    pub fn count(&self) -> usize
+        ensures { result ≡ length self.now.messages }
+    {
+        self.queue.len()
     }
 
     /// All messages are gone.

@@ -1,5 +1,5 @@
 //! What waits to be sent.
-ghost use Rattle.std.specs.Prelude.{◌≡◌, ◌<◌, ◌≤◌, [], length, map, slice_get, option_map, IfOk, OnOk};
+ghost use Rattle.std.specs.Prelude.{◌≡◌, ◌<◌, ◌≤◌, [], length, map, slice_get, option_map, sum_by, IfOk, OnOk};
 ghost use Rattle.std.specs.List.{All};
 ghost use Rattle.outboxes.specs.Outboxes.{outbox_to, waiting_for, IsPeerOf, IsNextWaiting, with_outbox, with_message, without_first, emptied, has_waiting, message_view};
 
@@ -115,6 +115,17 @@ impl Outboxes {
         } else {
             None
         }
+    }
+
+    /// How many messages wait for machines. It looks at each machine.
+    pub fn count_for_machines(&self) -> u128
+        ensures { result ≡ sum_by (λ box. length box.messages) self.now.machines }
+    {
+        let mut count = 0;
+        for one in self.machines.iter() {
+            count += one.count() as u128;
+        }
+        count
     }
 
     /// Nothing waits any more. It takes no memory.

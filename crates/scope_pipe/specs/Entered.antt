@@ -1,5 +1,5 @@
 -- A scope that has come to a machine for locks, and what it wants next.
-use Rattle.std.specs.Prelude.{ℕ, ◌+◌, nat_lt, Option, Some, None, List, [], ◌∷◌, length, slice_get, if◌then◌else◌}
+use Rattle.std.specs.Prelude.{ℕ, zero, suc, ◌+◌, nat_lt, Option, Some, None, List, [], ◌∷◌, length, slice_get, if◌then◌else◌}
 use Rattle.gl_base.specs.declared.numbers.MachineNo.{MachineNo}
 use Rattle.gl_base.specs.declared.numbers.Vertex.{Vertex}
 use Rattle.gl_base.specs.declared.scopes.ScopeId.{ScopeId}
@@ -17,6 +17,15 @@ pub record EnteredView : Type 0 where
 
 abbrev pub entered_scope : EnteredView → ScopeId
 entered_scope e = e.scope
+
+-- the last of the locks that were asked for, where there are so many
+abbrev pub last_asked : List Vertex → ℕ → Option Vertex
+last_asked part zero = None
+last_asked part (suc i) = slice_get part i
+
+-- the lock that it asked for last
+abbrev pub lock_asked : EnteredView → Option Vertex
+lock_asked e = last_asked e.part e.place
 
 -- the lock of the next vertex; behind the last one the next machine, and behind the last machine the way home
 abbrev pub next_at : Vertex → Option Vertex → List MachineNo → Next

@@ -1,6 +1,6 @@
 //! A scope that has come to a machine.
 ghost use Rattle.std.specs.Prelude.{◌≡◌};
-ghost use Rattle.scope_pipe.specs.Entered.{next_of, moved_on};
+ghost use Rattle.scope_pipe.specs.Entered.{lock_asked, next_of, moved_on};
 
 use crate::next::{Next, next_at};
 use gl_base::{MachineNo, ScopeId, Vertex};
@@ -10,11 +10,11 @@ use std::marker::Model;
 /// and the machines still to come.
 #[derive(Drop)]
 pub struct Entered {
-    pub scope: ScopeId,
-    pub centre: Vertex,
-    pub part: Vec<Vertex>,
-    pub place: usize,
-    pub rest: Vec<MachineNo>,
+    pub(crate) scope: ScopeId,
+    pub(crate) centre: Vertex,
+    pub(crate) part: Vec<Vertex>,
+    pub(crate) place: usize,
+    pub(crate) rest: Vec<MachineNo>,
 }
 
 impl Model for Entered {
@@ -31,6 +31,16 @@ impl Entered {
         ensures { result ≡ self.now.scope }
     {
         self.scope
+    }
+
+    /// The lock that it asked for last; `None` exactly where it asked for none.
+    pub fn lock(&self) -> Option<Vertex>
+        ensures { result ≡ lock_asked self.now }
+    {
+        match self.place.checked_sub(1) {
+            Some(place) => self.part.get(place).copied(),
+            None => None,
+        }
     }
 
     /// What it wants next.

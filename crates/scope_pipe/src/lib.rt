@@ -8,6 +8,7 @@ mod hints;
 mod next;
 mod pipes;
 
+pub use entered::Entered;
 pub use flights::Flight;
 pub use next::Next;
 pub use pipes::{Left, PipeFault, ScopePipe};

@@ -1,9 +1,9 @@
 //! All scopes of a machine.
 ghost use Rattle.std.specs.Prelude.{◌≡◌, ◌+◌, ◌<◌, ◌↔◌, IsTrue, true, false, Option, Some, None, is_some, IfOk, IfSome, OnErr, IsOk, IsErrOf};
-ghost use Rattle.scope_lists.specs.Found.{by_scope, StandsAt};
+ghost use Rattle.scope_lists.specs.Found.{by_scope, AreOfTwoScopes, StandsAt};
 ghost use Rattle.scope_pipe.specs.Entered.{EnteredView, entered_scope, next_of, moved_on, comes};
 ghost use Rattle.scope_pipe.specs.Pipes.{PipeView, flight_scope, flight_at, is_ready, flight_count, come, entered_at, Flies, next_id, HasAdmitted, HasReadied, HasFinished, HasCome, IsEmpty};
-ghost use Rattle.std.specs.List.{list_any, swap_remove};
+ghost use Rattle.std.specs.List.{AllPairs, list_any, swap_remove};
 ghost use Rattle.std.specs.Prelude.{ℕ, ◌==◌, length, slice_index_or, vec_len};
 ghost use Rattle.std.specs.Vec.{vec_capacity};
 
@@ -185,6 +185,14 @@ impl ScopePipe {
         ensures { result ≡ come self.now }
     {
         self.entered.len()
+    }
+
+    /// The scopes that have come, each once.
+    pub fn entered_ones(&self) -> &[Entered]
+        ensures ones { result.now ≡ self.now.entered }
+        ensures apart { AllPairs (AreOfTwoScopes entered_scope) self.now.entered }
+    {
+        &self.entered
     }
 
     /// Whether one more scope may come.

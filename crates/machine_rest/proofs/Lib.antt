@@ -1,0 +1,4 @@
+pub mod CountLemmas
+pub mod ScopeLemmas
+pub mod TaskLemmas
+pub mod IdleLemmas
