@@ -32,6 +32,7 @@ impl<P: Program> ClusterMachine for ProgramMachine<P> {
     }
 
     fn receive(&mut self, _from: MachineNo, message: Message) -> Result<(), Returned> {
+        // What machines don't tell each other is read as word of a scope of machine 65536, which no machine is.
         let _number = number_of(&self.machine);
         self.machine.receive(self.alloc, message)
     }
