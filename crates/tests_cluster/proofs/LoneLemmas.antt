@@ -10,7 +10,7 @@ use Rattle.cluster_core.specs.Actions.{HasFirst, MayAdmit, MayGrant, MayUpdate}
 use Rattle.cluster_core.specs.Messages.{Message}
 use Rattle.cluster_core.specs.Ranges.{first_passing, all_passing}
 use Rattle.cluster_core.specs.Settings.{Setting}
-use Rattle.cluster_machines.specs.Promises.{IsAdmission, IsGrant, IsUpdate}
+use Rattle.cluster_machines.specs.Promises.{IsAdmission, IsGrant, IsUpdate, is_owner_of}
 use Rattle.tests_cluster.specs.Lone.{asked_part, untouched_part, lone_part, lone_scope, lone_setting, over_part, ready_part}
 use Rattle.tests_cluster.specs.declared.lone.Progress.{Progress}
 use Rattle.tests_cluster.specs.declared.lone.Progress.TheVariants.{Asked, Fresh, Over, Ready}
@@ -162,10 +162,20 @@ over_grants_none entry =
     there (λ st a. (x : ℕ) → MayGrant st a x (over_part entry) → ⊥)
     (λ x may. none_waits may.claim may.behind (sym (over_queue entry) ∙ ap (over_part entry).queue (sym (only x may.vertex)) ∙ may.first))
 
+pub asked_may_grant : (st : Setting) (a : ℕ) → IsHere st a → MayGrant st a 0 asked_part
+asked_may_grant st a here = (asked_grants st a here).may
+
+-- its vertex is its own
+pub lone_owns : (st : Setting) (a : ℕ) → IsHere st a → true ≡ is_owner_of st a 0
+lone_owns = there (λ st a. true ≡ is_owner_of st a 0) refl
+
 -- ---- its update
 
 abbrev ready_may : MayUpdate lone_scope ready_part 1
 ready_may = record { vertex = 0; flight = ready_flight; ready = ready_ready; not_pending = ready_pending; task = ready_task; ticket = lit< tt }
+
+pub ready_may_update : MayUpdate lone_scope ready_part 1
+ready_may_update = ready_may
 
 pub ready_updates : (ticket : ℕ) (st : Setting) → IsHere st 0 → IsUpdate st ready_part lone_scope ticket (over_part (Go (record { 0 = 0 }) (record { 0 = 0 }) ticket))
 ready_updates ticket st here =

@@ -65,6 +65,15 @@ impl ClusterMachine for Lone {
         }
     }
 
+    fn next_grant(&mut self) -> Option<Vertex> {
+        match self.progress {
+            Progress::Asked => Some(Vertex(0)),
+            Progress::Fresh => None,
+            Progress::Ready => None,
+            Progress::Over => None,
+        }
+    }
+
     fn receive(&mut self, _from: MachineNo, message: Message) -> Result<(), Returned> {
         Err(Returned { message })
     }
@@ -95,6 +104,18 @@ impl ClusterMachine for Lone {
             Progress::Fresh => Err(Refused::NotNow),
             Progress::Asked => Err(Refused::NotNow),
             Progress::Over => Err(Refused::NotNow),
+        }
+    }
+
+    fn next_ready(&self) -> Option<ScopeId> {
+        match self.progress {
+            Progress::Ready => Some(ScopeId {
+                home: MachineNo(0),
+                serial: 0,
+            }),
+            Progress::Fresh => None,
+            Progress::Asked => None,
+            Progress::Over => None,
         }
     }
 
