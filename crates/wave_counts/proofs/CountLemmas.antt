@@ -9,7 +9,7 @@ use Rattle.cluster_model.specs.Machines.{count_of}
 use Rattle.cluster_model.specs.Totals.{total, total_from}
 use Rattle.cluster_model.specs.Working.{answers_if, or_zero}
 use Rattle.gl_base.specs.declared.scopes.Counted.{Counted}
-use Rattle.wave_counts.specs.Counts.{CanTell, CountsView, HasAnsweredWave, HasPutOut, IsCountOf, IsOpenCount, Machine, Message, Setting, answer_reports, answer_to, gained, hands, is_done, is_idle, one_more, prompt, waiting_in}
+use Rattle.wave_counts.specs.Counts.{MayTellCounts, CountsView, HasAnsweredWave, HasPutOut, IsCountOf, IsOpenCount, Machine, Message, Setting, answer_reports, answer_to, gained, hands, is_done, is_idle, one_more, prompt, waiting_in}
 use Rattle.wave_counts.specs.declared.answers.WaveAnswer.{WaveAnswer}
 
 -- ---- sums over the machines
@@ -140,7 +140,7 @@ counts_received st w m new is out sent received held =
 -- ---- answers
 
 module _ (st : Setting) (a sent updates : ℕ) (idle : Bool) (old new : CountsView) (answer : Option WaveAnswer) (m : Machine) (is : IsCountOf st old m)
-    (can : CanTell old (waiting_in st m.part)) (sum : sent ≡ old.sent + waiting_in st m.part) (made : updates ≡ length m.part.log) (rests : idle ≡ is_idle st m.part) where
+    (can : MayTellCounts old (waiting_in st m.part)) (sum : sent ≡ old.sent + waiting_in st m.part) (made : updates ≡ length m.part.log) (rests : idle ≡ is_idle st m.part) where
   abbrev told_now : Counted
   told_now = record { sent = sent; received = old.received; updates = updates; idle = idle }
 

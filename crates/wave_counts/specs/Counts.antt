@@ -29,7 +29,7 @@ abbrev pub one_more : ℕ → ℕ
 one_more n = if nat_lt (n + 1) (2 ^ 64) then n + 1 else n
 
 -- no count stands still, and what was sent is a count with what waits
-pub record CanTell (w : CountsView) (waiting : ℕ) : Type 0 where
+pub record MayTellCounts (w : CountsView) (waiting : ℕ) : Type 0 where
   pub sent : IsOpenCount w.sent
   pub received : IsOpenCount w.received
   pub sum : w.sent + waiting < 2 ^ 64

@@ -1,6 +1,6 @@
 //! What a machine counts, and the wave that it has to answer.
 ghost use Rattle.std.specs.Prelude.{◌≡◌, ◌+◌, Some, is_some, IfOk, OnOk, OnErr};
-ghost use Rattle.wave_counts.specs.Counts.{CanTell, HasAnsweredWave, none_counted, one_more};
+ghost use Rattle.wave_counts.specs.Counts.{MayTellCounts, HasAnsweredWave, none_counted, one_more};
 
 use gl_base::{Counted, NoMemory};
 use std::marker::Model;
@@ -63,8 +63,8 @@ impl WaveCounts {
     /// ended.
     pub fn put_out(&self, waiting: u128) -> Result<u64, NoMemory>
         ensures put_out { IfOk result (λ sent. sent ≡ self.now.sent + waiting) }
-        ensures told { OnOk result (CanTell self.now waiting) }
-        ensures ends { OnErr result (CanTell self.now waiting → ⊥) }
+        ensures told { OnOk result (MayTellCounts self.now waiting) }
+        ensures ends { OnErr result (MayTellCounts self.now waiting → ⊥) }
     {
         let room = (u64::MAX - self.sent) as u128;
         if room > 0 && self.received < u64::MAX && waiting <= room {

@@ -1,6 +1,6 @@
 //! Laws about what a machine counts, for every setting of a cluster. Each is the contract of a function that does nothing.
 ghost use Rattle.std.specs.Prelude.{◌≡◌, ◌+◌, ◌<◌, ◌||◌, ◌++◌, ◌∷◌, ℕ, Bool, List, Option, Some, true, is_some, length, suc};
-ghost use Rattle.wave_counts.specs.Counts.{CanTell, CountsView, HasAnsweredWave, HasPutOut, IsCountOf, Machine, Message, Part, Setting, gained, goes_back, hands, is_done, is_idle, none_counted, one_more, prompt, answer_reports, takes_call, waiting_in, Wave};
+ghost use Rattle.wave_counts.specs.Counts.{MayTellCounts, CountsView, HasAnsweredWave, HasPutOut, IsCountOf, Machine, Message, Part, Setting, gained, goes_back, hands, is_done, is_idle, none_counted, one_more, prompt, answer_reports, takes_call, waiting_in, Wave};
 ghost use Rattle.wave_counts.specs.Idle.{AreTasksAndScopesOf, HasNothingToDo, PipeView, TasksView};
 ghost use Rattle.wave_counts.specs.declared.answers.WaveAnswer.{WaveAnswer};
 ghost use Rattle.seq_run.specs.States.{GraphState};
@@ -22,7 +22,7 @@ pub fn counts_follow_events()
 /// the step is done: where it answers it holds no wave any more, and admits nothing more in this step.
 pub fn answers_are_prompt()
     ensures { (st : Setting) (a sent updates : ℕ) (idle : Bool) (old new : CountsView) (answer : Option WaveAnswer) (m : Machine) →
-        IsCountOf st old m → CanTell old (waiting_in st m.part) → sent ≡ old.sent + waiting_in st m.part → updates ≡ length m.part.log →
+        IsCountOf st old m → MayTellCounts old (waiting_in st m.part) → sent ≡ old.sent + waiting_in st m.part → updates ≡ length m.part.log →
         idle ≡ is_idle st m.part → HasAnsweredWave old new (is_done st.engine st a m) sent updates idle answer →
         (prompt st a m ≡ record m { part = record m.part { closed = m.part.closed || is_some answer }; held = new.held; out = m.out ++ answer_reports answer })
         × IsCountOf st new (prompt st a m) }

@@ -1,5 +1,5 @@
 -- A machine acts, and what is counted beside it stays right.
-use Rattle.std.proofs.Common.{◌≡◌, ◌≢◌, ◌⊎◌, ℕ, suc, ◌+◌, ◌<◌, ◌&&◌, Bool, true, false, if◌then◌else◌, is_some, Option, None, Some, List, [], ◌∷◌, ◌++◌, refl, sym, ◌∙◌, ap, subst, ⊎_elim}
+use Rattle.std.proofs.Common.{◌≡◌, ◌≢◌, ℕ, ◌+◌, ◌<◌, ◌&&◌, Bool, false, if◌then◌else◌, is_some, Option, None, List, [], ◌∷◌, ◌++◌, refl, sym, ◌∙◌, ap, subst, ⊎_elim}
 use Rattle.std.specs.Prelude.{nat_le, not}
 use Rattle.std.proofs.lemmas.Bool.{cases_eq}
 use Rattle.gl_base.specs.declared.entries.Entry.{Entry}
@@ -9,11 +9,11 @@ use Rattle.cluster_core.specs.Ranges.{set_at}
 use Rattle.cluster_core.proofs.Basics.{set_at-holds, set_at-other, set_at-same}
 use Rattle.cluster_model.specs.Calls.{Call, Report, Want}
 use Rattle.cluster_model.specs.Machines.{Machine, gained, outside}
-use Rattle.cluster_model.specs.Working.{admits, answers_if, asks, asks_more, grants, half_window, hands, is_done, makes_update, prompt, receives, works_on}
+use Rattle.cluster_model.specs.Working.{admits, answers_if, asks_more, grants, half_window, hands, is_done, makes_update, prompt, receives, works_on}
 use Rattle.cluster_ending.proofs.Growing.{admitted_longer, granted_longer, received_longer, updated_longer}
-use Rattle.wave_counts.specs.Counts.{CountsView, HasPutOut, IsCountOf, one_more}
+use Rattle.wave_counts.specs.Counts.{HasPutOut, IsCountOf, one_more}
 use Rattle.wave_counts.proofs.CountLemmas.{counts_put_out, counts_received, counts_sent}
-use Rattle.whole_clusters.specs.Seats.{IsSeatOf, Setting, seat_at}
+use Rattle.whole_clusters.specs.Seats.{IsSeatOf, Setting, seat_beside}
 use Rattle.whole_clusters.specs.Wholes.{IsSameButClosed, Part}
 use Rattle.whole_clusters.specs.declared.seats.Seat.{Seat}
 
@@ -39,18 +39,18 @@ module _ (st : Setting) where
 
   -- one seat is written, with its machine and links
   pub seats_after : (seats next : List Seat) (f g : ℕ → Machine) (xs zs : ℕ → List Call) (ys vs : ℕ → List Report) (a : ℕ) (s : Seat) (m : Machine) (x : List Call) (y : List Report) →
-      seat_at next a ≡ s → g a ≡ m → zs a ≡ x → vs a ≡ y → IsSeatOf st s m x y →
-      ((b : ℕ) → b ≢ a → (seat_at next b ≡ seat_at seats b) × (g b ≡ f b) × (zs b ≡ xs b) × (vs b ≡ ys b)) →
-      ((b : ℕ) → b < st.machines → IsSeatOf st (seat_at seats b) (f b) (xs b) (ys b)) →
-      (b : ℕ) → b < st.machines → IsSeatOf st (seat_at next b) (g b) (zs b) (vs b)
+      seat_beside next a ≡ s → g a ≡ m → zs a ≡ x → vs a ≡ y → IsSeatOf st s m x y →
+      ((b : ℕ) → b ≢ a → (seat_beside next b ≡ seat_beside seats b) × (g b ≡ f b) × (zs b ≡ xs b) × (vs b ≡ ys b)) →
+      ((b : ℕ) → b < st.machines → IsSeatOf st (seat_beside seats b) (f b) (xs b) (ys b)) →
+      (b : ℕ) → b < st.machines → IsSeatOf st (seat_beside next b) (g b) (zs b) (vs b)
   seats_after seats next f g xs zs ys vs a s m x y at_seat at_machine at_calls at_reports here others all b low =
       ⊎_elim
       (λ (at : b ≡ a).
-      subst (λ (k : ℕ). IsSeatOf st (seat_at next k) (g k) (zs k) (vs k)) (sym at)
-      (seat_as s (seat_at next a) m (g a) x (zs a) y (vs a) at_seat at_machine at_calls at_reports here))
+      subst (λ (k : ℕ). IsSeatOf st (seat_beside next k) (g k) (zs k) (vs k)) (sym at)
+      (seat_as s (seat_beside next a) m (g a) x (zs a) y (vs a) at_seat at_machine at_calls at_reports here))
       (λ (off : b ≢ a).
       let one = others b off in
-      seat_as (seat_at seats b) (seat_at next b) (f b) (g b) (xs b) (zs b) (ys b) (vs b) one.0 one.1 one.2 one.3 (all b low))
+      seat_as (seat_beside seats b) (seat_beside next b) (f b) (g b) (xs b) (zs b) (ys b) (vs b) one.0 one.1 one.2 one.3 (all b low))
       (cases_eq b a)
 
   -- ---- what a machine does by itself

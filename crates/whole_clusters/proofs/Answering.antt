@@ -1,7 +1,6 @@
 -- What each call answers, in every setting in which the machines started.
-use Rattle.std.proofs.Common.{◌≡◌, ◌≢◌, ℕ, zero, suc, ◌+◌, ◌<◌, Bool, true, false, Option, None, Some, List, [], ◌∷◌, ◌++◌, length, slice_get, refl, sym, ◌∙◌, ap, subst}
+use Rattle.std.proofs.Common.{◌≡◌, ◌≢◌, ℕ, zero, suc, ◌+◌, ◌<◌, Bool, true, false, None, Some, List, [], ◌∷◌, length, slice_get, refl, sym, ◌∙◌, ap, subst}
 use Rattle.std.specs.Prelude.{Err, OnErr, OnOk, Ok, Result}
-use Rattle.gl_base.specs.declared.entries.Entry.{Entry}
 use Rattle.gl_base.specs.declared.numbers.MachineNo.{MachineNo}
 use Rattle.gl_base.specs.declared.refusals.Refused.{Refused}
 use Rattle.gl_base.specs.declared.refusals.Refused.TheVariants.{NoMemory, NotNow}
@@ -13,7 +12,6 @@ use Rattle.cluster_model.specs.Events.{MayDo, MayOccur, after_event}
 use Rattle.cluster_model.specs.Events as law
 use Rattle.cluster_model.specs.Machines.{is_idle}
 use Rattle.cluster_step.specs.Events.{CanMakeEvent, CanNotMakeEvent, HoldTheSame, IsWholeGuard, MakesEvent, NamesMachinesOf}
-use Rattle.cluster_step.specs.Links.{told_on}
 use Rattle.cluster_step.specs.Starts.{WasFresh}
 use Rattle.cluster_step.specs.Worlds.{part_of_machine}
 use Rattle.cluster_step.specs.declared.events.Event.{Event}
@@ -24,13 +22,13 @@ use Rattle.coord_core.specs.declared.leading.Due.TheVariants.{Ended}
 use Rattle.coord_core.specs.Coordinators.{CoordinatorView, message_view}
 use Rattle.wire_msgs.specs.Views as wire
 use Rattle.wire_msgs.specs.declared.messages.Message.{Message}
-use Rattle.wave_counts.specs.Counts.{CanTell, waiting_in}
+use Rattle.wave_counts.specs.Counts.{MayTellCounts, waiting_in}
 use Rattle.wave_counts.specs.declared.answers.WaveAnswer.{WaveAnswer}
 use Rattle.whole_clusters.specs.Seats.{with_answer}
-use Rattle.whole_clusters.specs.Happenings.{CanHappen, CanNotHappen, HasBeenFresh, IsEventOf, MakesHappening, MovesMachines, StandsForTheSame}
+use Rattle.whole_clusters.specs.Happenings.{CanHappen, CanNotHappen}
 use Rattle.whole_clusters.specs.Inner.Counted.{SeatsCount}
 use Rattle.whole_clusters.specs.Inner.Keeping.{AnswersHappening, HasMade, HasMadeNothing, IsSameWhole, IsWholeKept}
-use Rattle.whole_clusters.specs.Wholes.{ClusterView, InEachPlain, IsAtEnd, IsClusterOf, LeavesNoTask, OfEachCluster, OfTheOrder, Part, StandsForSome, StartIn, StartPlainIn, WholeView, part_now, seat_at, world_now}
+use Rattle.whole_clusters.specs.Wholes.{ClusterView, InEachPlain, IsAtEnd, IsClusterOf, LeavesNoTask, OfTheOrder, Part, StandsForSome, StartIn, StartPlainIn, WholeView, part_now, seat_beside, world_now}
 use Rattle.whole_clusters.specs.declared.happenings.Happening.{Happening}
 use Rattle.whole_clusters.specs.declared.happenings.Happening.TheVariants.{Among, DeliverCall, DeliverReport, SendCall, SendReport, Stop, Wave}
 use Rattle.whole_clusters.specs.declared.seats.Seat.{Seat}
@@ -117,6 +115,12 @@ module _ {M : Type 0} (belongs : Setting → ℕ → M → Type 0) (part : M →
     nothing_again,
   )
 
+  -- machines that hold the same have made nothing
+  pub held_nothing : (cl : ClusterView M) → cl.start ≡ old.cluster.start → length cl.now.machines.items ≡ length old.cluster.now.machines.items → HoldTheSame part old.cluster.now cl.now →
+      HasMadeNothing belongs part old (record old { cluster = cl })
+  held_nothing cl start machines held =
+      record { stands = λ st begin c of. stands_same part st old c of cl (held st); held = held; same = record { start = start; machines = machines; seats = refl } }
+
   -- as the cluster is seen
   pub seen_as : (view : WholeView M) → old ≡ view → (happening : Happening) (r : Result (Unit {0}) Refused) (new : WholeView M) → AnswersHappening belongs part old happening r new → AnswersHappening belongs part view happening r new
   seen_as view seen happening r new answers = subst (λ v. AnswersHappening belongs part v happening r new) seen answers
@@ -137,7 +141,7 @@ module _ {M : Type 0} (belongs : Setting → ℕ → M → Type 0) (part : M →
           stands = λ st begin. stands st (begin_back new same st begin);
         }
 
-    nothing_kept : (new : WholeView M) → HasMadeNothing belongs part old new → IsWholeKept belongs part new
+    pub nothing_kept : (new : WholeView M) → HasMadeNothing belongs part old new → IsWholeKept belongs part new
     nothing_kept new nothing = kept_with new nothing.same (λ st begin. let one = kept.stands st begin in (one.0, nothing.stands st begin one.0 one.1))
 
     pub kept_after : (happening : Happening) (r : Result (Unit {0}) Refused) (new : WholeView M) → AnswersHappening belongs part old happening r new → IsWholeKept belongs part new
@@ -201,8 +205,7 @@ module _ {M : Type 0} (belongs : Setting → ℕ → M → Type 0) (part : M →
             }
 
         nothing_among : HoldTheSame part old.cluster.now cl.now → HasMadeNothing belongs part old (record old { cluster = cl })
-        nothing_among held =
-            record { stands = λ st begin c of. stands_same part st old c of cl (held st); held = held; same = record { start = start; machines = machines; seats = refl } }
+        nothing_among held = held_nothing cl start machines held
 
         pub among_refused : (refused : Refused) →
             (refused_with refused ≡ Err NotNow → CanNotMakeEvent (StartIn belongs part old.cluster.start.machines.items) part old.cluster.now event) →
@@ -283,7 +286,7 @@ module _ {M : Type 0} (belongs : Setting → ℕ → M → Type 0) (part : M →
 
       module _ (a : MachineNo) (low : a.0 < length old.cluster.now.machines.items) where
         abbrev seat : Seat
-        seat = seat_at old.seats a.0
+        seat = seat_beside old.seats a.0
 
         pub send_call_none : (next : CoordinatorView) → HasHandedOver old.coordinator next a.0 None → AnswersHappening belongs part old (SendCall a) (Err NotNow) (record old { coordinator = next })
         send_call_none next handed = (
@@ -337,8 +340,8 @@ module _ {M : Type 0} (belongs : Setting → ℕ → M → Type 0) (part : M →
           nothing_again,
         )
 
-        module _ (seats : List Seat) (others : (b : ℕ) → b ≢ a.0 → seat_at seats b ≡ seat_at old.seats b) (many : length seats ≡ length old.seats) where
-          pub send_call_answers : (next : CoordinatorView) (m : Message) (k : ℕ) → HasHandedOver old.coordinator next a.0 (Some m) → message_view m ≡ wire.Wave k → seat_at seats a.0 ≡ record seat { call = Some k } →
+        module _ (seats : List Seat) (others : (b : ℕ) → b ≢ a.0 → seat_beside seats b ≡ seat_beside old.seats b) (many : length seats ≡ length old.seats) where
+          pub send_call_answers : (next : CoordinatorView) (m : Message) (k : ℕ) → HasHandedOver old.coordinator next a.0 (Some m) → message_view m ≡ wire.Wave k → seat_beside seats a.0 ≡ record seat { call = Some k } →
               AnswersHappening belongs part old (SendCall a) (Ok tt) (record old { coordinator = next; seats = seats })
           send_call_answers next m k handed told written =
               record {
@@ -350,7 +353,7 @@ module _ {M : Type 0} (belongs : Setting → ℕ → M → Type 0) (part : M →
                 same = record { start = refl; machines = refl; seats = many };
               }
 
-          pub send_report_answers : (x : WaveAnswer) → seat.answer ≡ Some x → seat_at seats a.0 ≡ record seat { answer = None; report = Some x } →
+          pub send_report_answers : (x : WaveAnswer) → seat.answer ≡ Some x → seat_beside seats a.0 ≡ record seat { answer = None; report = Some x } →
               AnswersHappening belongs part old (SendReport a) (Ok tt) (record old { seats = seats })
           send_report_answers x some written =
               record {
@@ -363,7 +366,7 @@ module _ {M : Type 0} (belongs : Setting → ℕ → M → Type 0) (part : M →
               }
 
           pub deliver_report_answers : (next : CoordinatorView) (x : WaveAnswer) → seat.report ≡ Some x → HasTakenReport old.coordinator next a.0 (wire.Count x.wave x.counted) →
-              seat_at seats a.0 ≡ record seat { report = None } → AnswersHappening belongs part old (DeliverReport a) (Ok tt) (record old { coordinator = next; seats = seats })
+              seat_beside seats a.0 ≡ record seat { report = None } → AnswersHappening belongs part old (DeliverReport a) (Ok tt) (record old { coordinator = next; seats = seats })
           deliver_report_answers next x some taken written =
               record {
                 made = λ st begin c of.
@@ -379,7 +382,7 @@ module _ {M : Type 0} (belongs : Setting → ℕ → M → Type 0) (part : M →
               ((st : Setting) → StartIn belongs part old.cluster.start.machines.items st → belongs st a.0 m) →
               (k sent waiting updates : ℕ) (idle : Bool) → seat.call ≡ Some k →
               ((st : Setting) (b : ℕ) → belongs st b m → waiting ≡ waiting_in st (part m)) → ((st : Setting) (b : ℕ) → belongs st b m → idle ≡ is_idle st (part m)) →
-              CanTell seat.counts waiting → sent ≡ seat.counts.sent + waiting → updates ≡ length (part m).log → seat_at seats a.0 ≡ with_answer seat k sent updates idle →
+              MayTellCounts seat.counts waiting → sent ≡ seat.counts.sent + waiting → updates ≡ length (part m).log → seat_beside seats a.0 ≡ with_answer seat k sent updates idle →
               AnswersHappening belongs part old (DeliverCall a) (Ok tt) (record old { seats = seats })
           deliver_call_answers m stands here k sent waiting updates idle some waits rests can sum made written =
               record {
@@ -391,7 +394,7 @@ module _ {M : Type 0} (belongs : Setting → ℕ → M → Type 0) (part : M →
                       is = refl;
                       may = (of.stopped ∙ runs, may_deliver_call part st begin.start.setting begin.start.locks begin.plain old c of seats a.0 (low_is st begin a.0 low) others k some);
                       after = deliver_call_made part st begin.start.setting begin.start.locks begin.plain old c of seats a.0 (low_is st begin a.0 low) others k sent updates idle some
-                          (subst (CanTell seat.counts) waiting_is can) (sum ∙ ap (λ (n : ℕ). seat.counts.sent + n) waiting_is)
+                          (subst (MayTellCounts seat.counts) waiting_is can) (sum ∙ ap (λ (n : ℕ). seat.counts.sent + n) waiting_is)
                           (made ∙ sym (ap (λ (p : Part). length p.log) is_part)) (rests st a.0 (here st begin.start) ∙ sym (ap (is_idle st) is_part)) written;
                     };
                 moved = λ st. refl;

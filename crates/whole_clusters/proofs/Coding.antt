@@ -14,13 +14,12 @@ use Rattle.coord_core.specs.Calls.{HasHandedOver, HasTakenReport}
 use Rattle.coord_core.specs.Coordinators.{CoordinatorView, message_view}
 use Rattle.wire_msgs.specs.Views as wire
 use Rattle.wire_msgs.specs.declared.messages.Message.{Message}
-use Rattle.wave_counts.specs.Counts.{CanTell, waiting_in}
+use Rattle.wave_counts.specs.Counts.{MayTellCounts, waiting_in}
 use Rattle.wave_counts.specs.declared.answers.WaveAnswer.{WaveAnswer}
 use Rattle.whole_clusters.specs.Seats.{with_answer}
 use Rattle.whole_clusters.specs.Inner.Counted.{AsksForCounts}
 use Rattle.whole_clusters.specs.Inner.Keeping.{AnswersHappening, IsWholeKept}
-use Rattle.whole_clusters.specs.Wholes.{Part, StartIn, WholeView, first_seat, seat_at}
-use Rattle.whole_clusters.specs.declared.happenings.Happening.{Happening}
+use Rattle.whole_clusters.specs.Wholes.{Part, StartIn, WholeView, first_seat, seat_beside}
 use Rattle.whole_clusters.specs.declared.happenings.Happening.TheVariants.{DeliverCall, DeliverReport, SendCall, SendReport}
 use Rattle.whole_clusters.specs.declared.seats.Seat.{Seat}
 use Rattle.whole_clusters.proofs.Answering.{deliver_call_answers, deliver_call_full, deliver_call_none, deliver_report_answers, deliver_report_none, report_may_come, runs_seen, send_call_answers, send_call_none, send_report_answers, send_report_none, waits_wave}
@@ -49,13 +48,13 @@ module _ {M : Type 0} (belongs : Setting → ℕ → M → Type 0) (part : M →
     pub low_seat : a.0 < length old.seats
     low_seat = subst (λ (n : ℕ). a.0 < n) (sym kept.seats) low_here
 
-    read : (s : Seat) → s ≡ get_or old.seats a.0 s → s ≡ seat_at old.seats a.0
+    read : (s : Seat) → s ≡ get_or old.seats a.0 s → s ≡ seat_beside old.seats a.0
     read s is = is ∙ get_same old.seats a.0 s first_seat low_seat
 
-    at_set : (new : Seat) → seat_at (slice_set old.seats a.0 new) a.0 ≡ new
+    at_set : (new : Seat) → seat_beside (slice_set old.seats a.0 new) a.0 ≡ new
     at_set new = get_or-set_same old.seats a.0 new first_seat low_seat
 
-    off_set : (new : Seat) (b : ℕ) → b ≢ a.0 → seat_at (slice_set old.seats a.0 new) b ≡ seat_at old.seats b
+    off_set : (new : Seat) (b : ℕ) → b ≢ a.0 → seat_beside (slice_set old.seats a.0 new) b ≡ seat_beside old.seats b
     off_set new b off = get_or-set_other old.seats a.0 b new first_seat off
 
     many_set : (new : Seat) → length (slice_set old.seats a.0 new) ≡ length old.seats
@@ -99,11 +98,11 @@ module _ {M : Type 0} (belongs : Setting → ℕ → M → Type 0) (part : M →
           ((st : Setting) → StartIn belongs part old.cluster.start.machines.items st → belongs st a.0 m) →
           (k sent waiting updates : ℕ) (idle : Bool) → s.call ≡ Some k →
           ((st : Setting) (b : ℕ) → belongs st b m → waiting ≡ waiting_in st (part m)) → ((st : Setting) (b : ℕ) → belongs st b m → idle ≡ is_idle st (part m)) →
-          CanTell s.counts waiting → sent ≡ s.counts.sent + waiting → updates ≡ length (part m).log → new ≡ with_answer t k sent updates idle →
+          MayTellCounts s.counts waiting → sent ≡ s.counts.sent + waiting → updates ≡ length (part m).log → new ≡ with_answer t k sent updates idle →
           AnswersHappening belongs part old (DeliverCall a) (Ok tt) (record old { seats = slice_set old.seats a.0 new })
       wave_answered s t new is also m stands here k sent waiting updates idle some waits rests can sum made written =
           deliver_call_answers belongs part old kept runs a low_here (slice_set old.seats a.0 new) (off_set new) (many_set new) m stands here k sent waiting updates idle
-          (ap (λ (x : Seat). x.call) (sym (read s is)) ∙ some) waits rests (subst (λ (x : Seat). CanTell x.counts waiting) (read s is) can)
+          (ap (λ (x : Seat). x.call) (sym (read s is)) ∙ some) waits rests (subst (λ (x : Seat). MayTellCounts x.counts waiting) (read s is) can)
           (sum ∙ ap (λ (x : Seat). x.counts.sent + waiting) (read s is)) made
           (at_set new ∙ written ∙ ap (λ (x : Seat). with_answer x k sent updates idle) (read t also))
 

@@ -1,8 +1,7 @@
 -- Where the waves have shown the end nothing is left, and the order leaves no task.
-use Rattle.std.proofs.Common.{◌≡◌, ◌⊎◌, ℕ, ◌<◌, ◌≤◌, ◌++◌, Bool, true, false, List, [], refl, sym, ◌∙◌, ap, subst, ⊎_elim, le_antisymm, le_trans}
+use Rattle.std.proofs.Common.{◌≡◌, ℕ, ◌<◌, ◌≤◌, ◌++◌, true, false, List, sym, ◌∙◌, ap, subst, ⊎_elim, le_antisymm, le_trans}
 use Rattle.std.proofs.lemmas.Bool.{both_ways, false_from_ne_true}
 use Rattle.gl_base.specs.declared.entries.Entry.{Entry}
-use Rattle.cluster_core.specs.Messages.{Message}
 use Rattle.cluster_core.specs.Settings.{IsSetting, Setting}
 use Rattle.cluster_core.specs.Ways.{vertex_woken}
 use Rattle.cluster_core.specs.Worlds.{World, way}

@@ -1,16 +1,15 @@
 -- What the coordinator does, and what goes between it and the machines, is an event of the law.
-use Rattle.std.proofs.Common.{◌≡◌, ◌≢◌, ℕ, pred, ◌+◌, ◌<◌, ◌||◌, ◌&&◌, Bool, true, false, is_some, if◌then◌else◌, Option, None, Some, List, [], ◌∷◌, ◌++◌, length, refl, sym, ◌∙◌, ap, subst}
+use Rattle.std.proofs.Common.{◌≡◌, ◌≢◌, ℕ, pred, ◌+◌, ◌<◌, Bool, true, false, Option, None, Some, List, [], ◌∷◌, ◌++◌, length, refl, sym, ◌∙◌, ap, subst}
 use Rattle.std.specs.List.{AllByRecursion}
-use Rattle.gl_base.specs.declared.scopes.Counted.{Counted}
 use Rattle.cluster_core.specs.Ranges.{set_at}
 use Rattle.cluster_core.specs.Settings.{Engine, IsSetting, Locking, Setting}
 use Rattle.cluster_core.proofs.Basics.{set_at-holds, set_at-kept, set_at-other, set_at-same}
 use Rattle.cluster_model.specs.Calls.{Begin, Call, Committed, Count, Report, Step, Wave}
-use Rattle.cluster_model.specs.Clusters.{Cluster, call_way, report_way, with_calls, with_coordinator, with_machine, with_reports}
+use Rattle.cluster_model.specs.Clusters.{Cluster, with_calls, with_coordinator, with_machine, with_reports}
 use Rattle.cluster_model.specs.Counting.{Counting, MayBeCounted}
 use Rattle.cluster_model.specs.Events.{HasNext, MayDo, MayOccur, after_event, delivers_call, delivers_report, sends_call, sends_report}
 use Rattle.cluster_model.specs.Events as law
-use Rattle.cluster_model.specs.Leading.{Coordinator, hands_call, puts_wave, takes_report}
+use Rattle.cluster_model.specs.Leading.{hands_call, takes_report}
 use Rattle.cluster_model.specs.Machines.{Machine, is_idle}
 use Rattle.cluster_model.specs.Working.{hands_report, is_done, prompt, takes_call}
 use Rattle.cluster_whole.specs.Whole.{IsNoRecovery}
@@ -19,15 +18,14 @@ use Rattle.cluster_ending.specs.Ends.{IsFollowed}
 use Rattle.cluster_ending.specs.Watched.{waves_in}
 use Rattle.cluster_ending.proofs.Coming.{may_be_counted}
 use Rattle.coord_core.specs.Calls.{HasHandedOver, HasPutWave, HasTakenReport, IsHandedOver}
-use Rattle.coord_core.specs.Coordinators.{CoordinatorView, IsCoordinatorOf, MessageView, TellsCall, message_view}
+use Rattle.coord_core.specs.Coordinators.{CoordinatorView, MessageView, TellsCall, message_view}
 use Rattle.wire_msgs.specs.Views as wire
 use Rattle.wire_msgs.specs.declared.messages.Message.{Message}
-use Rattle.wave_counts.specs.Counts.{CanTell, CountsView, HasAnsweredWave, IsCountOf, waiting_in}
+use Rattle.wave_counts.specs.Counts.{MayTellCounts, CountsView, HasAnsweredWave, IsCountOf, waiting_in}
 use Rattle.wave_counts.specs.declared.answers.WaveAnswer.{WaveAnswer}
 use Rattle.wave_counts.proofs.CountLemmas.{prompt_counts, prompt_is}
 use Rattle.whole_clusters.specs.Seats.{answer_reports, with_answer, wave_calls}
-use Rattle.whole_clusters.specs.Happenings.{HasHappened}
-use Rattle.whole_clusters.specs.Wholes.{IsClusterOf, IsSameButClosed, IsSeatOf, IsWaveCall, Part, WholeView, World, part_now, seat_at, world_now}
+use Rattle.whole_clusters.specs.Wholes.{IsClusterOf, IsSameButClosed, IsSeatOf, IsWaveCall, Part, WholeView, World, seat_beside, world_now}
 use Rattle.whole_clusters.specs.declared.seats.Seat.{Seat}
 use Rattle.whole_clusters.proofs.Acting.{seats_after}
 use Rattle.whole_clusters.proofs.Working.{followed_after, is_awake}
@@ -103,11 +101,11 @@ module _ {M : Type 0} (part : M → Part) (st : Setting) (is : IsSetting st) (lo
   put_out = pred c.coordinator.rounds.counting.put_out
 
   -- what is on its way to machine a and from it
-  called : (a : ℕ) → a < st.machines → waves_in (wave_calls (seat_at old.seats a).call ++ c.coordinator.out a) ≡ calls_of put_out (of.followed.1.turn a)
+  called : (a : ℕ) → a < st.machines → waves_in (wave_calls (seat_beside old.seats a).call ++ c.coordinator.out a) ≡ calls_of put_out (of.followed.1.turn a)
   called a low =
       ap (λ (calls : List Call). waves_in (calls ++ c.coordinator.out a)) (sym (of.seats a low).call) ∙ (of.followed.2.machines a low).calls
 
-  reported : (a : ℕ) → a < st.machines → counts_in (answer_reports (seat_at old.seats a).report ++ answer_reports (seat_at old.seats a).answer) ≡ reports_of put_out (of.followed.1.turn a)
+  reported : (a : ℕ) → a < st.machines → counts_in (answer_reports (seat_beside old.seats a).report ++ answer_reports (seat_beside old.seats a).answer) ≡ reports_of put_out (of.followed.1.turn a)
   reported a low =
       (λ i. counts_in (sym (of.seats a low).report i ++ sym (of.seats a low).answer i)) ∙ (of.followed.2.machines a low).reports
 
@@ -157,14 +155,14 @@ module _ {M : Type 0} (part : M → Part) (st : Setting) (is : IsSetting st) (lo
   pub none_waits : (next : CoordinatorView) (a : ℕ) → a < st.machines → HasHandedOver old.coordinator next a None → MayDo st c (law.SendCall a) → ⊥
   none_waits next a low handed may = none_next (c.coordinator.out a) (handed.1 st c.coordinator of.coordinator low) may.1
 
-  module _ (seats : List Seat) (a : ℕ) (low : a < st.machines) (others : (b : ℕ) → b ≢ a → seat_at seats b ≡ seat_at old.seats b) where
+  module _ (seats : List Seat) (a : ℕ) (low : a < st.machines) (others : (b : ℕ) → b ≢ a → seat_beside seats b ≡ seat_beside old.seats b) where
     abbrev seat : Seat
-    seat = seat_at old.seats a
+    seat = seat_beside old.seats a
 
     abbrev at : IsSeatOf st seat (c.machine a) (c.calls a) (c.reports a)
     at = of.seats a low
 
-    pub send_call_made : (next : CoordinatorView) (m : Message) (k : ℕ) → HasHandedOver old.coordinator next a (Some m) → message_view m ≡ wire.Wave k → seat_at seats a ≡ record seat { call = Some k } →
+    pub send_call_made : (next : CoordinatorView) (m : Message) (k : ℕ) → HasHandedOver old.coordinator next a (Some m) → message_view m ≡ wire.Wave k → seat_beside seats a ≡ record seat { call = Some k } →
         MayDo st c (law.SendCall a) × IsClusterOf part st (record old { coordinator = next; seats = seats }) (after_event st c (law.SendCall a))
     send_call_made next m k handed told written =
         let over : IsHandedOver st next c.coordinator a (message_view m) = handed st c.coordinator of.coordinator in
@@ -196,7 +194,7 @@ module _ {M : Type 0} (part : M → Part) (st : Setting) (is : IsSetting st) (lo
 
     -- ---- an answer goes onto the link
 
-    pub send_report_made : (x : WaveAnswer) → seat.answer ≡ Some x → seat_at seats a ≡ record seat { answer = None; report = Some x } →
+    pub send_report_made : (x : WaveAnswer) → seat.answer ≡ Some x → seat_beside seats a ≡ record seat { answer = None; report = Some x } →
         MayDo st c (law.SendReport a) × IsClusterOf part st (record old { seats = seats }) (after_event st c (law.SendReport a))
     send_report_made x some written =
         let report : Report = Count x.wave x.counted in
@@ -240,8 +238,8 @@ module _ {M : Type 0} (part : M → Part) (st : Setting) (is : IsSetting st) (lo
     may_deliver_call k some =
         (is_awake part st is locks plain old c of a low, record { message = Wave k; behind = []; first = at.call ∙ ap wave_calls some })
 
-    pub deliver_call_made : (k sent updates : ℕ) (idle : Bool) → seat.call ≡ Some k → CanTell seat.counts (waiting_in st (w.part a)) → sent ≡ seat.counts.sent + waiting_in st (w.part a) →
-        updates ≡ length (w.part a).log → idle ≡ is_idle st (w.part a) → seat_at seats a ≡ with_answer seat k sent updates idle →
+    pub deliver_call_made : (k sent updates : ℕ) (idle : Bool) → seat.call ≡ Some k → MayTellCounts seat.counts (waiting_in st (w.part a)) → sent ≡ seat.counts.sent + waiting_in st (w.part a) →
+        updates ≡ length (w.part a).log → idle ≡ is_idle st (w.part a) → seat_beside seats a ≡ with_answer seat k sent updates idle →
         IsClusterOf part st (record old { seats = seats }) (after_event st c (law.DeliverCall a))
     deliver_call_made k sent updates idle some can sum made_now rests written =
         let first : c.calls a ≡ Wave k ∷ [] = at.call ∙ ap wave_calls some in
@@ -256,7 +254,7 @@ module _ {M : Type 0} (part : M → Part) (st : Setting) (is : IsSetting st) (lo
         let same : (c.machine a).part ≡ record (w.part a) { closed = (c.machine a).part.closed } = of.parts a in
         let count_is : IsCountOf st counts asked = record { sent = at.counts.sent; received = at.counts.received; held = refl } in
         let waiting_is : waiting_in st (w.part a) ≡ waiting_in st (c.machine a).part = sym (ap (waiting_in st) same) in
-        let can_tell : CanTell counts (waiting_in st asked.part) = subst (CanTell counts) waiting_is (record { sent = can.sent; received = can.received; sum = can.sum }) in
+        let can_tell : MayTellCounts counts (waiting_in st asked.part) = subst (MayTellCounts counts) waiting_is (record { sent = can.sent; received = can.received; sum = can.sum }) in
         let done : is_done st.engine st a asked ≡ true = ap (λ (engine : Engine). is_done engine st a asked) locks in
         let told : HasAnsweredWave counts left true sent updates idle (Some answer) = record { told = refl; rest = refl } in
         let has : HasAnsweredWave counts left (is_done st.engine st a asked) sent updates idle (Some answer) =
@@ -305,7 +303,7 @@ module _ {M : Type 0} (part : M → Part) (st : Setting) (is : IsSetting st) (lo
         (may_be_counted st c.coordinator.begun c watch.turn watch.begun_before watch.begun_newest of.followed.2 a low x.wave x.counted [] first)
 
     pub deliver_report_made : (next : CoordinatorView) (x : WaveAnswer) → seat.report ≡ Some x → HasTakenReport old.coordinator next a (wire.Count x.wave x.counted) →
-        seat_at seats a ≡ record seat { report = None } →
+        seat_beside seats a ≡ record seat { report = None } →
         MayDo st c (law.DeliverReport a) × IsClusterOf part st (record old { coordinator = next; seats = seats }) (after_event st c (law.DeliverReport a))
     deliver_report_made next x some taken written =
         let report : Report = Count x.wave x.counted in

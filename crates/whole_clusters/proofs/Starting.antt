@@ -1,12 +1,11 @@
 -- Machines that start, with a coordinator that has put no wave out, are a cluster of the law.
-use Rattle.std.proofs.Common.{◌≡◌, ◌⊎◌, ℕ, zero, suc, ◌+◌, ◌<◌, ◌≤◌, Bool, true, false, Option, None, Some, List, [], ◌++◌, length, slice_index_or, refl, sym, ◌∙◌, ap, ap₂, subst, ⊎_elim, inl, inr, le_refl, arith}
+use Rattle.std.proofs.Common.{◌≡◌, ◌⊎◌, ℕ, zero, suc, ◌+◌, ◌<◌, ◌≤◌, true, false, Option, None, Some, List, [], ◌++◌, length, slice_index_or, refl, sym, ◌∙◌, ap, ap₂, subst, ⊎_elim, inl, inr, le_refl, arith}
 use Rattle.std.proofs.lemmas.Bool.{both_ways, cases_Bool, cases_lt}
 use Rattle.std.specs.Global.{Vec}
 use Rattle.std.specs.List.{All}
 use Rattle.std.proofs.lemmas.List.{get_or-replicate, get_or_past, length-replicate}
 use Rattle.std.proofs.lemmas.List.Elements.{All-get_or}
 use Rattle.gl_base.specs.declared.scopes.Counted.{Counted}
-use Rattle.gl_base.specs.declared.scopes.ScopeId.{ScopeId}
 use Rattle.cluster_core.specs.Messages.{Message}
 use Rattle.cluster_core.specs.Runs.{IsStart}
 use Rattle.cluster_core.specs.Settings.{Engine, IsSetting, Locking, Setting}
@@ -22,7 +21,6 @@ use Rattle.cluster_model.specs.Machines.{Machine}
 use Rattle.cluster_model.specs.Totals.{total}
 use Rattle.cluster_model.specs.TwoWaves.{IsIdleAnswer, TwoWaves, all_answered, no_counts, no_waves, turned}
 use Rattle.cluster_whole.specs.Steps.{Told, under_way}
-use Rattle.cluster_whole.specs.Views.{world_of}
 use Rattle.cluster_whole.specs.Whole.{AreKeptApart, IsWhole}
 use Rattle.cluster_whole.specs.Windows.{StaysWithin, one_where, plan_where, scope_at, sum_below}
 use Rattle.cluster_whole.proofs.Flows.{total_from-none}
@@ -37,7 +35,7 @@ use Rattle.wave_counts.specs.Counts.{waiting_in}
 use Rattle.wave_counts.proofs.CountLemmas.{nothing_counted}
 use Rattle.whole_clusters.specs.Inner.Keeping.{IsWholeKept}
 use Rattle.whole_clusters.specs.declared.seats.Seat.{Seat}
-use Rattle.whole_clusters.specs.Wholes.{IsClusterOf, IsSeatOf, Part, StartIn, StartPlainIn, WholeView, first_seat, part_now, seat_at, world_now}
+use Rattle.whole_clusters.specs.Wholes.{IsClusterOf, IsSeatOf, Part, StartPlainIn, WholeView, first_seat, part_now, seat_beside, world_now}
 
 zero_low : (n : ℕ) → 0 ≤ n
 zero_low n = omega arith
@@ -230,7 +228,7 @@ module _ (st : Setting) (is : IsSetting st) (locks : st.engine ≡ Locking) (par
   followed_first = (whole_first, first_watch st.base, watched_first)
 
 -- seats at which nothing was counted
-pub first_at : (seats : List Seat) → All (λ (seat : Seat). seat ≡ first_seat) seats → (a : ℕ) → seat_at seats a ≡ first_seat
+pub first_at : (seats : List Seat) → All (λ (seat : Seat). seat ≡ first_seat) seats → (a : ℕ) → seat_beside seats a ≡ first_seat
 first_at seats all a =
     ⊎_elim
     (λ (low : a < length seats). All-get_or (λ (seat : Seat). seat ≡ first_seat) seats a first_seat low all)
@@ -240,7 +238,7 @@ first_at seats all a =
 -- ---- the code stands for that
 
 module _ {M : Type 0} (belongs : Setting → ℕ → M → Type 0) (part : M → Part) (view : WholeView M)
-    (none : (p q : ℕ) → told_on view.cluster.now.links p q ≡ []) (seats : (a : ℕ) → seat_at view.seats a ≡ first_seat) (runs : view.stopped ≡ false)
+    (none : (p q : ℕ) → told_on view.cluster.now.links p q ≡ []) (seats : (a : ℕ) → seat_beside view.seats a ≡ first_seat) (runs : view.stopped ≡ false)
     (st : Setting) (begin : StartPlainIn belongs part view.cluster.now.machines.items st) (first : IsFirstOf st.machines view.coordinator) where
   abbrev now : World
   now = world_now part st view.cluster
@@ -280,7 +278,7 @@ module _ {M : Type 0} (belongs : Setting → ℕ → M → Type 0) (part : M →
   some_start some = subst (λ (m : Vec M). (st : Setting) × StartPlainIn belongs part m.items st) (sym same) some
 
   pub kept_first : (st : Setting) × StartPlainIn belongs part machines.items st → view.cluster.start ≡ view.cluster.now → ((p q : ℕ) → told_on view.cluster.now.links p q ≡ []) →
-      ((a : ℕ) → seat_at view.seats a ≡ first_seat) → view.stopped ≡ false → IsFirstOf (length machines.items) view.coordinator → length view.seats ≡ length machines.items → IsWholeKept belongs part view
+      ((a : ℕ) → seat_beside view.seats a ≡ first_seat) → view.stopped ≡ false → IsFirstOf (length machines.items) view.coordinator → length view.seats ≡ length machines.items → IsWholeKept belongs part view
   kept_first some began none seats runs first many =
       let start = some_start some in
       let now_many : length view.cluster.now.machines.items ≡ length machines.items = ap (λ (m : Vec M). length m.items) same in

@@ -1,5 +1,5 @@
 -- What happens among the machines is an event of the law.
-use Rattle.std.proofs.Common.{◌≡◌, ◌≢◌, ℕ, suc, pred, ◌+◌, ◌<◌, ◌||◌, Bool, true, false, Option, None, Some, List, [], ◌∷◌, ◌++◌, length, refl, sym, ◌∙◌, ap, subst, inr}
+use Rattle.std.proofs.Common.{◌≡◌, ◌≢◌, ℕ, suc, pred, ◌+◌, ◌<◌, ◌||◌, Bool, true, false, List, [], ◌∷◌, ◌++◌, refl, sym, ◌∙◌, ap, subst, inr}
 use Rattle.std.specs.Prelude.{nat_lt, not}
 use Rattle.gl_base.specs.declared.entries.Entry.{Entry}
 use Rattle.gl_base.specs.declared.entries.Entry.TheVariants.{Go}
@@ -12,7 +12,6 @@ use Rattle.cluster_core.specs.Ranges.{set_at}
 use Rattle.cluster_core.specs.Settings.{IsSetting, Locking, Setting}
 use Rattle.cluster_core.specs.Worlds.{World, with_link, with_part}
 use Rattle.cluster_core.proofs.Basics.{set_at-other, set_at-same}
-use Rattle.cluster_model.specs.Calls.{Call, Report}
 use Rattle.cluster_model.specs.Clusters.{Cluster, with_machine, with_messages}
 use Rattle.cluster_model.specs.Events.{IsAwake, MayAdmitNow, MayDo, MayOccur, after_event, delivers_message, draws_ticket, makes, sends_message}
 use Rattle.cluster_model.specs.Events as law
@@ -23,13 +22,12 @@ use Rattle.cluster_ending.proofs.Courses.{event_kept}
 use Rattle.cluster_whole.specs.Whole.{IsNoRecovery}
 use Rattle.cluster_whole.proofs.Wholeness.{event_moved}
 use Rattle.cluster_step.specs.Events.{Happens, IsActionOf, MayComeAbout, NamesMachinesOf}
-use Rattle.cluster_step.specs.Links.{told_on}
 use Rattle.cluster_step.specs.declared.events.Event.{Event}
 use Rattle.cluster_step.specs.declared.events.Event.TheVariants.{Admit, Deliver, Grant, Send, Update}
 use Rattle.wave_counts.specs.Counts.{one_more}
 use Rattle.whole_clusters.specs.Inner.Counted.{SeatsCount}
 use Rattle.whole_clusters.specs.Happenings.{HasHappened, IsEventOf, event_of}
-use Rattle.whole_clusters.specs.Wholes.{ClusterView, IsClusterOf, IsSeatOf, IsSameButClosed, Part, WholeView, part_now, seat_at, world_now}
+use Rattle.whole_clusters.specs.Wholes.{ClusterView, IsClusterOf, IsSeatOf, IsSameButClosed, Part, WholeView, seat_beside, world_now}
 use Rattle.whole_clusters.specs.declared.happenings.Happening.TheVariants.{Among}
 use Rattle.whole_clusters.specs.declared.seats.Seat.{Seat}
 use Rattle.whole_clusters.proofs.Acting.{admitted_seat, granted_seat, parts_at, received_seat, seats_after, sent_seat, updated_seat}
@@ -125,12 +123,12 @@ module _ {M : Type 0} (part : M → Part) (st : Setting) (is : IsSetting st) (lo
     v = world_now part st cl
 
     -- a machine does something by itself
-    worked : (a : ℕ) → a < st.machines → (p : Part) (m : Machine) → v ≡ with_part w a p → IsSameButClosed p m.part → IsSeatOf st (seat_at old.seats a) m (c.calls a) (c.reports a) →
+    worked : (a : ℕ) → a < st.machines → (p : Part) (m : Machine) → v ≡ with_part w a p → IsSameButClosed p m.part → IsSeatOf st (seat_beside old.seats a) m (c.calls a) (c.reports a) →
         (event : law.Event) → MayDo st c event → IsNoRecovery event → after_event st c event ≡ with_machine c a m → IsClusterOf part st (record old { cluster = cl }) (after_event st c event)
     worked a low p m world same seat event may other does =
         let made : IsClusterOf part st (record old { cluster = cl }) (with_machine c a m) = record {
           parts = λ b. subst (λ (x : World). IsSameButClosed (x.part b) (set_at c.machine a m b).part) (sym world) (parts_at w.part c.machine a p m of.parts same b);
-          seats = seats_after st old.seats old.seats c.machine (set_at c.machine a m) c.calls c.calls c.reports c.reports a (seat_at old.seats a) m (c.calls a) (c.reports a)
+          seats = seats_after st old.seats old.seats c.machine (set_at c.machine a m) c.calls c.calls c.reports c.reports a (seat_beside old.seats a) m (c.calls a) (c.reports a)
               refl (set_at-same c.machine a m) refl refl seat (λ b off. (refl, set_at-other c.machine a m b off, refl, refl)) of.seats;
           link = of.link ∙ sym (ap (λ (x : World). x.link) world);
           coordinator = of.coordinator;
@@ -147,13 +145,13 @@ module _ {M : Type 0} (part : M → Part) (st : Setting) (is : IsSetting st) (lo
     admit_made a x low may world =
         let m : Machine = prompt st a (admits st a x (c.machine a)) in
         worked a low (admitted st a x (w.part a)) m world (same_admitted st a (w.part a) (c.machine a).part (of.parts a) m.part.closed x)
-        (admitted_seat st a (seat_at old.seats a) (c.machine a) (c.calls a) (c.reports a) (of.seats a low) x) (law.Admit a x) may (λ base is_that. cc) refl
+        (admitted_seat st a (seat_beside old.seats a) (c.machine a) (c.calls a) (c.reports a) (of.seats a low) x) (law.Admit a x) may (λ base is_that. cc) refl
 
     grant_made : (a x : ℕ) → a < st.machines → MayDo st c (law.Grant a x) → v ≡ after st w (core.Grant a x) → IsClusterOf part st (record old { cluster = cl }) (after_event st c (law.Grant a x))
     grant_made a x low may world =
         let m : Machine = prompt st a (grants st a x (c.machine a)) in
         worked a low (granted st a x (w.part a)) m world (same_granted st a (w.part a) (c.machine a).part (of.parts a) m.part.closed x)
-        (granted_seat st a (seat_at old.seats a) (c.machine a) (c.calls a) (c.reports a) (of.seats a low) x) (law.Grant a x) may (λ base is_that. cc) refl
+        (granted_seat st a (seat_beside old.seats a) (c.machine a) (c.calls a) (c.reports a) (of.seats a low) x) (law.Grant a x) may (λ base is_that. cc) refl
 
     update_made : (s : ScopeId) → s.home.0 < st.machines → (may : MayUpdate s (w.part s.home.0) w.left) → MayDo st c (law.Update s) → v ≡ after st w (core.Update s) →
         IsClusterOf part st (record old { cluster = cl }) (after_event st c (law.Update s))
@@ -170,8 +168,8 @@ module _ {M : Type 0} (part : M → Part) (st : Setting) (is : IsSetting st) (lo
         let does : after_event st c (law.Update s) ≡ draws_ticket (with_machine c a m) = ap (makes st c s) (ap (λ (y : Part). y.flight s) (of.parts a) ∙ may.flight) in
         let made : IsClusterOf part st (record old { cluster = cl }) (draws_ticket (with_machine c a m)) = record {
           parts = λ b. subst (λ (y : World). IsSameButClosed (y.part b) (set_at c.machine a m b).part) (sym world_is) (parts_at w.part c.machine a p m of.parts same b);
-          seats = seats_after st old.seats old.seats c.machine (set_at c.machine a m) c.calls c.calls c.reports c.reports a (seat_at old.seats a) m (c.calls a) (c.reports a)
-              refl (set_at-same c.machine a m) refl refl (updated_seat st a (seat_at old.seats a) (c.machine a) (c.calls a) (c.reports a) (of.seats a low) plain s x (entry c.next))
+          seats = seats_after st old.seats old.seats c.machine (set_at c.machine a m) c.calls c.calls c.reports c.reports a (seat_beside old.seats a) m (c.calls a) (c.reports a)
+              refl (set_at-same c.machine a m) refl refl (updated_seat st a (seat_beside old.seats a) (c.machine a) (c.calls a) (c.reports a) (of.seats a low) plain s x (entry c.next))
               (λ b off. (refl, set_at-other c.machine a m b off, refl, refl)) of.seats;
           link = of.link ∙ sym (ap (λ (y : World). y.link) world_is);
           coordinator = of.coordinator;
@@ -189,8 +187,8 @@ module _ {M : Type 0} (part : M → Part) (st : Setting) (is : IsSetting st) (lo
       new = record old { cluster = cl; seats = seats }
 
       send_made : (p q : ℕ) → p < st.machines → q < st.machines → (may : HasFirst ((w.part p).out q)) → MayDo st c (law.Send p q) → v ≡ after st w (core.Send p q) →
-          seat_at seats p ≡ record (seat_at old.seats p) { counts = record (seat_at old.seats p).counts { sent = one_more (seat_at old.seats p).counts.sent } } →
-          ((b : ℕ) → b ≢ p → seat_at seats b ≡ seat_at old.seats b) → IsClusterOf part st new (after_event st c (law.Send p q))
+          seat_beside seats p ≡ record (seat_beside old.seats p) { counts = record (seat_beside old.seats p).counts { sent = one_more (seat_beside old.seats p).counts.sent } } →
+          ((b : ℕ) → b ≢ p → seat_beside seats b ≡ seat_beside old.seats b) → IsClusterOf part st new (after_event st c (law.Send p q))
       send_made p q p_low q_low may may_law world counted others =
           let first : (c.machine p).part.out q ≡ may.message ∷ may.behind = ap (λ (x : Part). x.out q) (of.parts p) ∙ may.first in
           let m : Machine = hands q may.behind (c.machine p) in
@@ -202,9 +200,9 @@ module _ {M : Type 0} (part : M → Part) (st : Setting) (is : IsSetting st) (lo
           let does : after_event st c (law.Send p q) ≡ after_all = ap (sends_message c p q) first in
           let made : IsClusterOf part st new after_all = record {
             parts = λ b. subst (λ (x : World). IsSameButClosed (x.part b) (set_at c.machine p m b).part) (sym world_is) (parts_at w.part c.machine p sent m of.parts same b);
-            seats = seats_after st old.seats seats c.machine (set_at c.machine p m) c.calls c.calls c.reports c.reports p (seat_at seats p) m (c.calls p) (c.reports p)
+            seats = seats_after st old.seats seats c.machine (set_at c.machine p m) c.calls c.calls c.reports c.reports p (seat_beside seats p) m (c.calls p) (c.reports p)
                 refl (set_at-same c.machine p m) refl refl
-                (sent_seat st p (seat_at old.seats p) (c.machine p) (c.calls p) (c.reports p) (of.seats p p_low) q may.message may.behind q_low first (seat_at seats p) counted)
+                (sent_seat st p (seat_beside old.seats p) (c.machine p) (c.calls p) (c.reports p) (of.seats p p_low) q may.message may.behind q_low first (seat_beside seats p) counted)
                 (λ b off. (others b off, set_at-other c.machine p m b off, refl, refl)) of.seats;
             link = ap pushed of.link ∙ sym (ap (λ (x : World). x.link) world_is);
             coordinator = of.coordinator;
@@ -218,8 +216,8 @@ module _ {M : Type 0} (part : M → Part) (st : Setting) (is : IsSetting st) (lo
           subst (IsClusterOf part st new) (sym does) made
 
       deliver_made : (p q : ℕ) → p < st.machines → q < st.machines → (may : HasFirst (w.link p q)) → MayDo st c (law.Deliver p q) → v ≡ after st w (core.Deliver p q) →
-          seat_at seats q ≡ record (seat_at old.seats q) { counts = record (seat_at old.seats q).counts { received = one_more (seat_at old.seats q).counts.received } } →
-          ((b : ℕ) → b ≢ q → seat_at seats b ≡ seat_at old.seats b) → IsClusterOf part st new (after_event st c (law.Deliver p q))
+          seat_beside seats q ≡ record (seat_beside old.seats q) { counts = record (seat_beside old.seats q).counts { received = one_more (seat_beside old.seats q).counts.received } } →
+          ((b : ℕ) → b ≢ q → seat_beside seats b ≡ seat_beside old.seats b) → IsClusterOf part st new (after_event st c (law.Deliver p q))
       deliver_made p q p_low q_low may may_law world counted others =
           let first : c.link p q ≡ may.message ∷ may.behind = ap (λ (link : ℕ → ℕ → List Message). link p q) of.link ∙ may.first in
           let m : Machine = prompt st q (receives st q may.message (c.machine q)) in
@@ -231,9 +229,9 @@ module _ {M : Type 0} (part : M → Part) (st : Setting) (is : IsSetting st) (lo
           let does : after_event st c (law.Deliver p q) ≡ after_all = ap (delivers_message st c p q) first in
           let made : IsClusterOf part st new after_all = record {
             parts = λ b. subst (λ (x : World). IsSameButClosed (x.part b) (set_at c.machine q m b).part) (sym world_is) (parts_at w.part c.machine q come m of.parts same b);
-            seats = seats_after st old.seats seats c.machine (set_at c.machine q m) c.calls c.calls c.reports c.reports q (seat_at seats q) m (c.calls q) (c.reports q)
+            seats = seats_after st old.seats seats c.machine (set_at c.machine q m) c.calls c.calls c.reports c.reports q (seat_beside seats q) m (c.calls q) (c.reports q)
                 refl (set_at-same c.machine q m) refl refl
-                (received_seat st q (seat_at old.seats q) (c.machine q) (c.calls q) (c.reports q) (of.seats q q_low) may.message (seat_at seats q) counted)
+                (received_seat st q (seat_beside old.seats q) (c.machine q) (c.calls q) (c.reports q) (of.seats q q_low) may.message (seat_beside seats q) counted)
                 (λ b off. (others b off, set_at-other c.machine q m b off, refl, refl)) of.seats;
             link = ap taken of.link ∙ sym (ap (λ (x : World). x.link) world_is);
             coordinator = of.coordinator;

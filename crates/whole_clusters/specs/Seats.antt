@@ -12,8 +12,8 @@ abbrev pub first_seat : Seat
 first_seat = record { counts = none_counted; call = None; answer = None; report = None }
 
 -- the seat of machine a
-abbrev pub seat_at : List Seat → ℕ → Seat
-seat_at seats a = slice_index_or seats a first_seat
+abbrev pub seat_beside : List Seat → ℕ → Seat
+seat_beside seats a = slice_index_or seats a first_seat
 
 -- the wave has come, and its answer waits: what was counted
 abbrev pub with_answer : Seat → ℕ → ℕ → ℕ → Bool → Seat

@@ -5,7 +5,7 @@ pub use Rattle.cluster_model.specs.Clusters.{Cluster}
 pub use Rattle.cluster_step.specs.Clusters.{ClusterView, InEachSetting, OfTheOrder, part_now, world_now}
 pub use Rattle.cluster_step.specs.Starts.{IsOrderSince, IsStart, Part, StartIn, size}
 pub use Rattle.coord_core.specs.Coordinators.{CoordinatorView, IsCoordinatorOf}
-pub use Rattle.whole_clusters.specs.Seats.{IsSeatOf, IsWaveCall, Setting, first_seat, seat_at}
+pub use Rattle.whole_clusters.specs.Seats.{IsSeatOf, IsWaveCall, Setting, first_seat, seat_beside}
 use Rattle.std.specs.List.{AllByRecursion}
 use Rattle.std.specs.Prelude.{Bool, List, None, [], false, ℕ, ◌<◌, ◌≡◌}
 use Rattle.gl_base.specs.declared.entries.Entry.{Entry}
@@ -28,7 +28,7 @@ IsSameButClosed old new = new ≡ record old { closed = new.closed }
 -- It stands for this cluster of the law, in which no snapshot was begun; and events have led to that.
 pub record IsClusterOf {M : Type 0} (part : M → Part) (st : Setting) (view : WholeView M) (c : Cluster) : Type 0 where
   pub parts : (a : ℕ) → IsSameButClosed (part_now part st view.cluster a) (c.machine a).part
-  pub seats : (a : ℕ) → a < st.machines → IsSeatOf st (seat_at view.seats a) (c.machine a) (c.calls a) (c.reports a)
+  pub seats : (a : ℕ) → a < st.machines → IsSeatOf st (seat_beside view.seats a) (c.machine a) (c.calls a) (c.reports a)
   pub link : c.link ≡ told_on view.cluster.now.links
   pub coordinator : IsCoordinatorOf st view.coordinator c.coordinator
   pub waves : (a : ℕ) → AllByRecursion IsWaveCall (c.coordinator.out a)

@@ -1,10 +1,11 @@
 //! A cluster with its coordinator.
-ghost use Rattle.std.specs.Prelude.{◌≡◌, ℕ, ◌+◌, ◌^◌, ◌<◌, ◌↔◌, [], false, length, IfOk, OnOk, OnErr, IsErrOf};
+ghost use Rattle.std.specs.Prelude.{◌≡◌, ℕ, ◌+◌, ◌^◌, ◌<◌, ◌↔◌, [], false, length, IfOk, IfSome, IfNone, OnOk, OnErr, IsErrOf};
 ghost use Rattle.coord_core.specs.Calls.{IsDueOf, IsFirstOf};
 ghost use Rattle.cluster_step.specs.Links.{told_on};
-ghost use Rattle.cluster_step.specs.Events.{HoldTheSame};
+ghost use Rattle.cluster_step.specs.Events.{CanMakeEvent, CanNotMakeEvent, HoldTheSame};
 ghost use Rattle.whole_clusters.specs.Happenings.{CanHappen, CanNotHappen, HasBeenFresh, MakesHappening, MovesMachines, NamesSeatsOf, StandsForTheSame};
-ghost use Rattle.whole_clusters.specs.Wholes.{InEachPlain, InEachSetting, IsAtEnd, IsStart, LeavesNoTask, OfTheOrder, Setting, StandsForSome, StartPlainIn, first_seat, seat_at, world_now};
+ghost use Rattle.whole_clusters.specs.Wholes.{InEachPlain, InEachSetting, IsAtEnd, IsStart, LeavesNoTask, OfTheOrder, Setting, StandsForSome, StartIn, StartPlainIn, first_seat, seat_beside, world_now};
+ghost use Rattle.gl_base.specs.declared.numbers.Vertex.{Vertex};
 ghost use Rattle.wire_msgs.specs.Views as wire;
 ghost use Rattle.whole_clusters.specs.Inner.Keeping.{AnswersHappening};
 ghost use Rattle.whole_clusters.specs.Inner.Counted.{AsksForCounts, message_view};
@@ -13,7 +14,7 @@ use crate::happenings::Happening;
 use crate::seats::{Seat, count_event, new_seats};
 use cluster_step::{Cluster, Event};
 use coord_core::{Coordinator, Due};
-use gl_base::{MachineNo, NoMemory, Refused};
+use gl_base::{MachineNo, NoMemory, Refused, Vertex};
 use std::alloc::Global;
 use std::marker::Model;
 use wave_counts::WaveMachine;
@@ -57,7 +58,7 @@ impl<M: WaveMachine> WholeCluster<M> {
         ensures began { IfOk result (λ c. c.cluster.start ≡ c.cluster.now) }
         ensures start { IfOk result (λ c. InEachSetting M.belongs M.part c.cluster (λ st. IsStart st (world_now M.part st c.cluster))) }
         ensures coordinator { IfOk result (λ c. IsFirstOf (length machines.items) c.coordinator) }
-        ensures seats { IfOk result (λ c. (a : ℕ) → seat_at c.seats a ≡ first_seat) }
+        ensures seats { IfOk result (λ c. (a : ℕ) → seat_beside c.seats a ≡ first_seat) }
         ensures runs { IfOk result (λ c. c.stopped ≡ false) }
     {
         let many = machines.len();
@@ -117,6 +118,19 @@ impl<M: WaveMachine> WholeCluster<M> {
         ensures { result.now ≡ self.now.coordinator }
     {
         &self.coordinator
+    }
+
+    /// An own vertex of the machine whose lock may be granted now; `None` exactly where no lock may be.
+    pub fn next_grant(&mut self, at: MachineNo) -> Option<Vertex>
+        requires { at.0 < length self.old.cluster.now.machines.items }
+        ensures some { IfSome result (λ x. CanMakeEvent (StartIn M.belongs M.part self.old.cluster.start.machines.items) M.part self.old.cluster.now (Event.Grant at x)) }
+        ensures none { IfNone result ((x : Vertex) → CanNotMakeEvent (StartIn M.belongs M.part self.old.cluster.start.machines.items) M.part self.old.cluster.now (Event.Grant at x)) }
+        ensures unchanged { StandsForTheSame M.belongs M.part self.old self.new }
+        ensures held { HoldTheSame M.part self.old.cluster.now self.new.cluster.now }
+        ensures start { self.new.cluster.start ≡ self.old.cluster.start }
+        ensures machines { length self.new.cluster.now.machines.items ≡ length self.old.cluster.now.machines.items }
+    {
+        self.cluster.next_grant(at)
     }
 
     /// Whether the run has ended.

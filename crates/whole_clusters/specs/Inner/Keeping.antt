@@ -1,6 +1,5 @@
 -- What a cluster with its coordinator keeps, and what its calls leave.
-use Rattle.std.specs.Prelude.{Err, List, Ok, Result, length, ℕ, ◌≡◌}
-use Rattle.gl_base.specs.declared.entries.Entry.{Entry}
+use Rattle.std.specs.Prelude.{Err, Ok, Result, length, ℕ, ◌≡◌}
 use Rattle.gl_base.specs.declared.refusals.Refused.{Refused}
 use Rattle.gl_base.specs.declared.refusals.Refused.TheVariants.{NoMemory, NotNow}
 use Rattle.whole_clusters.specs.Happenings.{CanHappen, CanNotHappen, HasBeenFresh, HoldTheSame, MakesHappening, MovesMachines, StandsForTheSame}
