@@ -16,14 +16,13 @@ const ROWS: [([(u64, u64); 2], Due); 4] = [
 ];
 
 /// The machine sends and receives so many messages more.
-fn work(counts: &mut WaveCounts, (sent, received): (u64, u64)) -> Result<(), Fail> {
-    counts.check_room(sent)?;
-    counts.add_sent(sent);
+fn work(counts: &mut WaveCounts, (sent, received): (u64, u64)) {
+    for _ in 0..sent {
+        counts.add_sent();
+    }
     for _ in 0..received {
-        counts.check_room(0)?;
         counts.add_received();
     }
-    Ok(())
 }
 
 /// The machine takes its wave, answers it, and the coordinator receives the answer.
@@ -34,13 +33,17 @@ fn answer(coordinator: &mut Coordinator, machine: u16, counts: &mut WaveCounts) 
     };
     counts.hold(wave);
     let held = counts.holds_wave();
-    let Some(message) = counts.answer(true, 1, true) else {
+    let Ok(sent) = counts.put_out(0) else {
         return false;
     };
-    let Message::Count { wave: told, .. } = message else {
+    let Some(answer) = counts.answer(true, sent, 1, true) else {
         return false;
     };
-    let awaited = coordinator.awaits(m, wave) && told == wave;
+    let message = Message::Count {
+        wave: answer.wave,
+        counted: answer.counted,
+    };
+    let awaited = coordinator.awaits(m, answer.wave);
     if awaited && coordinator.receive(m, message).is_err() {
         return false;
     }
@@ -54,8 +57,8 @@ fn of_a_pair(rt: HostRuntime) -> Result<(), Fail> {
     let mut second = WaveCounts::new();
     assert_eq!(rt; coordinator.due(), Due::Wave);
     for (worked, due) in ROWS {
-        work(&mut first, worked[0])?;
-        work(&mut second, worked[1])?;
+        work(&mut first, worked[0]);
+        work(&mut second, worked[1]);
         assert_eq!(rt; coordinator.wave(), Ok(()));
         assert_eq!(rt; coordinator.wave(), Err(Refused::NotNow));
         assert!(rt; answer(&mut coordinator, 0, &mut first));
