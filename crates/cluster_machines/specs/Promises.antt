@@ -4,9 +4,9 @@ pub use Rattle.cluster_core.specs.Actions.{HasFirst, MayAdmit, MayGrant, MayUpda
 pub use Rattle.cluster_core.specs.Parts.{Part}
 pub use Rattle.cluster_core.specs.Receiving.{MayReceive}
 pub use Rattle.cluster_core.specs.Places.{IsAtHome}
-pub use Rattle.cluster_core.specs.Settings.{IsSetting, Setting, is_in_scope}
+pub use Rattle.cluster_core.specs.Settings.{IsSetting, Setting, is_in_scope, is_near}
 pub use Rattle.cluster_machines.specs.Told.{told_by}
-use Rattle.std.specs.Prelude.{Bool, List, None, false, length, nat_lt, ℕ, ⊤, ◌&&◌, ◌==◌, ◌∷◌, ◌≡◌}
+use Rattle.std.specs.Prelude.{Bool, List, None, Some, false, is_some, length, nat_lt, true, ℕ, ◌&&◌, ◌==◌, ◌∷◌, ◌≡◌}
 use Rattle.gl_base.specs.declared.entries.Entry.TheVariants.{Go}
 use Rattle.gl_base.specs.declared.scopes.ScopeId.{ScopeId}
 use Rattle.cluster_core.specs.Effects.{admitted, granted, next_scope, received, updated}
@@ -50,6 +50,10 @@ GrantsIt belongs part m x = (st : Setting) (a : ℕ) → belongs st a m → MayG
 abbrev pub GrantsNot : {M : Type 0} → (Setting → ℕ → M → Type 0) → (M → Part) → M → ℕ → Type 0
 GrantsNot belongs part m x = (st : Setting) (a : ℕ) → belongs st a m → ¬ MayGrant st a x (part m)
 
+-- no lock may be granted
+abbrev pub GrantsNone : {M : Type 0} → (Setting → ℕ → M → Type 0) → (M → Part) → M → Type 0
+GrantsNone belongs part m = (x : ℕ) → GrantsNot belongs part m x
+
 -- scope s was the first that waits for the lock of x, and has it now
 pub record IsGrant (st : Setting) (a x : ℕ) (old : Part) (s : ScopeId) (new : Part) : Type 0 where
   pub may : MayGrant st a x old
@@ -62,18 +66,24 @@ MakesGrant belongs part old x s new = (st : Setting) (a : ℕ) → belongs st a 
 -- ---- Deliver
 
 -- Word of an update, and not of a snapshot: by a scope of the owner of its centre, which waits for no lock here and holds none but
--- those of its own scope. Nothing becomes pending.
+-- those of its own scope. Nothing becomes pending, and whom it wakes is near the centre.
 pub record IsUpdateWord (st : Setting) (a : ℕ) (part : Part) (s : ScopeId) (news : law.News) : Type 0 where
   pub home : IsAtHome st s news.centre
   pub stand : part.stand s ≡ None
   pub others : (x : ℕ) → st.owner x ≡ a → is_in_scope st news.centre x ≡ false → part.holder x s ≡ None
   pub pends : (u : ℕ) → news.pends u ≡ false
   pub number : news.number ≡ 0
+  pub near : (u : ℕ) → news.wakes u ≡ true → is_near st news.centre u ≡ true
 
--- what is known of a message besides, where no snapshots are taken: a scope that asks is of the owner of its centre
+-- the scope holds the locks of the vertices of its scope that the machine owns
+abbrev pub HoldsItsLocks : Setting → ℕ → Part → ScopeId → Type 0
+HoldsItsLocks st a part s = (v x : ℕ) → part.flight s ≡ Some v → is_in_scope st v x ≡ true → st.owner x ≡ a → is_some (part.holder x s) ≡ true
+
+-- what is known of a message besides, where no snapshots are taken: a scope that asks is of the owner of its centre, and one that
+-- has all its locks has those of its home
 abbrev pub IsAsExpected : Setting → ℕ → Part → law.Message → Type 0
 IsAsExpected st a part (law.Ask s v rest) = IsAtHome st s v
-IsAsExpected st a part (law.Ready s) = ⊤
+IsAsExpected st a part (law.Ready s) = HoldsItsLocks st a part s
 IsAsExpected st a part (law.Done s news) = IsUpdateWord st a part s news
 
 -- In some cluster to which the machine belongs it may receive this message from machine p.
@@ -107,6 +117,15 @@ pub record IsUpdate (st : Setting) (old : Part) (s : ScopeId) (ticket : ℕ) (ne
 
 abbrev pub MakesUpdate : {M : Type 0} → (Setting → ℕ → M → Type 0) → (M → Part) → M → ScopeId → ℕ → M → Type 0
 MakesUpdate belongs part old s ticket new = (st : Setting) → belongs st s.home.0 old → IsUpdate st (part old) s ticket (part new)
+
+-- the update of the scope, which is of this home, may be made
+pub record UpdatesIt {M : Type 0} (belongs : Setting → ℕ → M → Type 0) (part : M → Part) (m : M) (s : ScopeId) : Type 0 where
+  pub home : (st : Setting) (a : ℕ) → belongs st a m → s.home.0 ≡ a
+  pub may : MayUpdate s (part m) 1
+
+-- no update may be made
+abbrev pub UpdatesNone : Part → Type 0
+UpdatesNone part = (s : ScopeId) → ¬ MayUpdate s part 1
 
 -- ---- what is read
 

@@ -1,6 +1,6 @@
 //! A machine, as a cluster knows it.
 ghost use Rattle.std.specs.Prelude.{◌≡◌, ℕ, ◌+◌, ◌↔◌, [], length, true, false, is_some, IsTrue, IfOk, IfErr, OnOk, OnErr, IfSome, IfNone, IsErrOf};
-ghost use Rattle.cluster_machines.specs.Promises.{Part, Setting, HasFirst, MayUpdate, told_by, IsSameMachine, AdmitsSome, AdmitsNone, MakesAdmission, GrantsIt, GrantsNot, MakesGrant, CanReceive, MakesReceipt, IsSending, MakesUpdate, is_owner_of, is_owner_with, SaysWhether};
+ghost use Rattle.cluster_machines.specs.Promises.{Part, Setting, HasFirst, MayUpdate, told_by, IsSameMachine, AdmitsSome, AdmitsNone, MakesAdmission, GrantsIt, GrantsNot, GrantsNone, MakesGrant, CanReceive, MakesReceipt, IsSending, MakesUpdate, UpdatesIt, UpdatesNone, is_owner_of, is_owner_with, SaysWhether};
 
 use gl_base::{EdgeNo, Entry, MachineNo, Refused, ScopeId, Vertex};
 use wire_msgs::{Message, Returned};
@@ -34,6 +34,13 @@ pub trait ClusterMachine: Drop {
         ensures unchanged { OnErr result (part self.new ≡ part self.old) }
         ensures same { IsSameMachine belongs earlier self.old self.new };
 
+    /// An own vertex whose lock may be granted now; `None` exactly where no lock may be.
+    fn next_grant(&mut self) -> Option<Vertex>
+        ensures some { IfSome result (λ x. GrantsIt belongs part self.old x.0) }
+        ensures none { IfNone result (GrantsNone belongs part self.old) }
+        ensures unchanged { part self.new ≡ part self.old }
+        ensures same { IsSameMachine belongs earlier self.old self.new };
+
     /// Receives a message from another machine. For want of memory the message comes back.
     fn receive(&mut self, from: MachineNo, message: Message) -> Result<(), Returned>
         requires { CanReceive belongs part self.old from.0 message }
@@ -61,6 +68,11 @@ pub trait ClusterMachine: Drop {
         ensures unchanged { OnErr result (part self.new ≡ part self.old) }
         ensures same { IsSameMachine belongs earlier self.old self.new };
 
+    /// A scope of this home whose update may be made now; `None` exactly where there is none.
+    fn next_ready(&self) -> Option<ScopeId>
+        ensures some { IfSome result (λ s. UpdatesIt belongs part self.now s) }
+        ensures none { IfNone result (UpdatesNone (part self.now)) };
+
     /// The updates that it made since its log begins.
     fn log(&self) -> &[Entry]
         ensures { result.now ≡ (part self.now).log };
@@ -76,9 +88,10 @@ pub trait ClusterMachine: Drop {
         ensures number { IfSome result (λ x. x ≡ (part self.now).edge e.0) }
         ensures held { SaysWhether belongs self.now (λ st a. is_owner_with st a end.0 e.0) (is_some result) };
 
-    /// A vertex that is a task of this machine; `None` exactly where none is.
+    /// A vertex of its own that is a task; `None` exactly where this machine has no task.
     fn task(&self) -> Option<Vertex>
         ensures some { IfSome result (λ v. (part self.now).task v.0 ≡ true) }
+        ensures owned { IfSome result (λ v. SaysWhether belongs self.now (λ st a. is_owner_of st a v.0) true) }
         ensures none { IfNone result ((u : ℕ) → (part self.now).task u ≡ false) };
 
     /// How many updates it has made.

@@ -146,6 +146,13 @@ impl LocalGraph {
         }
     }
 
+    /// How many edges the graph has.
+    pub fn edge_count(&self) -> usize
+        ensures { result ≡ length self.now.numbers }
+    {
+        self.numbers.len()
+    }
+
     /// The number of an edge.
     pub fn number(&self, edge: EdgeNo) -> u64
         requires { HasEdge self.now edge.0 }

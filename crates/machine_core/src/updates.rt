@@ -22,6 +22,7 @@ impl Machine {
         requires room { HasRoom spare (length (sides_at self.old.numbers.local flight.centre.0)) }
         ensures scope { (result.scope ≡ flight.scope) × (result.vertex ≡ flight.centre) }
         ensures out { IsOut self.new result }
+        ensures links { links_at self.old.numbers.local flight.centre.0 ≡ Some result.row.links.items }
         ensures row { (st : Setting) → IsPartOf st self.old → HasItsRow st self.new result }
         ensures others { (w : Work) → IsOut self.old w → IsOut self.new w }
         ensures rows { (x : ℕ) → links_at self.new.numbers.local x ≡ (if x == flight.centre.0 then None else links_at self.old.numbers.local x) }

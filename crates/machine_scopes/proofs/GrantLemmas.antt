@@ -1,5 +1,5 @@
 -- A lock that is granted, at the machine and as the cluster sees it.
-use Rattle.std.proofs.Common.{Result, Ok, Err, OnErr, ◌≡◌, ◌≢◌, ℕ, suc, pred, ◌<◌, Bool, true, false, if◌then◌else◌, Option, None, Some, is_some, List, ◌∷◌, length, drop, get_or, slice_get, nat_lt, refl, sym, ap, ◌∙◌, subst, All, arith, inl, inr}
+use Rattle.std.proofs.Common.{Result, Ok, Err, OnErr, ◌≡◌, ◌≢◌, ℕ, suc, pred, ◌<◌, Bool, true, false, if◌then◌else◌, Option, None, Some, is_some, IfNone, IfSome, MatchOption, List, ◌∷◌, length, drop, get_or, slice_get, nat_lt, refl, sym, ap, ◌∙◌, subst, All, arith, inl, inr}
 use Rattle.std.specs.List.{AllPairs}
 use Rattle.std.proofs.lemmas.Bool.{cases_eq, cases_lt, eq-eqb, ne_eqb, lt-ltb, le-ltb}
 use Rattle.std.proofs.lemmas.List.Elements.{All-tail}
@@ -19,18 +19,18 @@ use Rattle.lock_release.specs.Released.{is_one_of}
 use Rattle.scope_pipe.specs.Entered.{EnteredView}
 use Rattle.scope_pipe.specs.Pipes.{PipeView, entered_at, flight_at}
 use Rattle.vertex_locks.specs.Locks.{LockView, IsNext, WaitOnce, claimant}
-use Rattle.vertex_locks.specs.Tables.{HasTaken, holder_at, queue_at}
+use Rattle.vertex_locks.specs.Tables.{HasTaken, IsGrantable, holder_at, queue_at}
 use Rattle.machine_parts.specs.declared.cores.Core.{Core}
 use Rattle.machine_parts.specs.Parts.{part_of, part_at, stand_at, lock_asked, machine_numbers, number_of}
 use Rattle.machine_parts.specs.Order.{HasComeRight, StandsAtLock, IsOrderly, IsOrderlyBut, got, nobody}
 use Rattle.machine_parts.specs.Rooms.{HasOnlyMadeRoom}
 use Rattle.machine_parts.proofs.RoomLemmas.{part_room, settings_room}
-use Rattle.machine_scopes.specs.Granting.{MayNotGrantLock, HasGrantedLock}
+use Rattle.machine_scopes.specs.Granting.{MayGrantLock, MayNotGrantLock, HasGrantedLock}
 use Rattle.machine_scopes.specs.Inner.Going.{HasGoneOn}
 use Rattle.machine_scopes.proofs.EffectLemmas.{taken_part}
 use Rattle.machine_scopes.proofs.MoveLemmas.{is_this, stands_keep}
 use Rattle.machine_scopes.proofs.OwnLemmas.{next_own}
-use Rattle.machine_scopes.proofs.HeldLemmas.{one_of, last_is, first_stands, holds_here, holds_there, holds_as, holds_still, held_or}
+use Rattle.machine_scopes.proofs.HeldLemmas.{one_of, last_is, first_stands, own_in, own_from_setting, holds_here, holds_there, holds_as, holds_still, held_or}
 
 -- ---- the machine once the lock is granted
 
@@ -174,6 +174,27 @@ module _ (m : Core) (x : ℕ) (c : Claim) (is : IsOrderly m) (first : IsNext (ho
 
 pub may_not_grant : (m : Core) (x : ℕ) → ((c : Claim) → IsNext (holder_at m.locks x) (queue_at m.locks x) c → ⊥) → MayNotGrantLock m x
 may_not_grant m x none st part may = none may.claim (record { behind = may.behind; first = may.first; together = may.together })
+
+pub may_grant : (m : Core) (x : ℕ) → IsOrderly m → IsGrantable m.locks x → MayGrantLock m x
+may_grant m x is can st part =
+    let own = own_in st m.numbers.local x part.local (sym (is.locks.owned x) ∙ can.owned) in
+    record { vertex = own.0; owned = own.1; claim = can.claim; behind = can.next.behind; first = can.next.first; together = can.next.together }
+
+pub may_grant_none : (m : Core) → IsOrderly m → ((x : ℕ) → IsGrantable m.locks x → ⊥) → (x : ℕ) → MayNotGrantLock m x
+may_grant_none m is none x st part may = none x (record {
+  owned = is.locks.owned x ∙ own_from_setting st m.numbers.local x part.local may.vertex may.owned;
+  claim = may.claim;
+  next = record { behind = may.behind; first = may.first; together = may.together };
+})
+
+-- what the table of locks answers is so of the machine
+pub next_some : (m : Core) (o : Option Vertex) → IsOrderly m → MatchOption o ((x : ℕ) → IsGrantable m.locks x → ⊥) (λ x. IsGrantable m.locks x.0) → IfSome o (λ x. MayGrantLock m x.0)
+next_some m None is next = tt
+next_some m (Some x) is next = may_grant m x.0 is next
+
+pub next_none : (m : Core) (o : Option Vertex) → IsOrderly m → MatchOption o ((x : ℕ) → IsGrantable m.locks x → ⊥) (λ x. IsGrantable m.locks x.0) → IfNone o ((x : ℕ) → MayNotGrantLock m x)
+next_none m None is next = may_grant_none m is next
+next_none m (Some x) is next = tt
 
 -- ---- where room was made before
 

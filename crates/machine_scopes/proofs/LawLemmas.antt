@@ -8,6 +8,7 @@ use Rattle.gl_base.specs.declared.numbers.MachineNo.{MachineNo}
 use Rattle.gl_base.specs.declared.numbers.Vertex.{Vertex}
 use Rattle.gl_base.specs.declared.scopes.Mode.{Mode}
 use Rattle.gl_base.specs.declared.scopes.ScopeId.{ScopeId}
+use Rattle.cluster_core.specs.Places.{IsAtHome}
 use Rattle.cluster_core.specs.Ranges.{all_passing}
 use Rattle.cluster_core.specs.Receiving.{MayAsk, MayBecomeReady}
 use Rattle.cluster_core.specs.Scopes.{is_found, machines_from, own_from, takes_part}
@@ -152,3 +153,6 @@ ask_goes_on st m s centre rest setting part home may = record {
       subst (λ (n : ℕ). b.0 < n) (sym part.machines) (part_low st setting centre.0 b.0 (passing_at (takes_part st centre.0) from (st.machines - from) i b.0 number));
   home = subst (λ (n : ℕ). s.home.0 < n) (sym part.machines) home;
 }
+
+pub home_within : (st : Setting) (s : ScopeId) (v : ℕ) → IsSetting st → IsAtHome st s v → s.home.0 < st.machines
+home_within st s v setting at = subst (λ (k : ℕ). k < st.machines) at.owned (setting.owner v at.vertex)

@@ -1,6 +1,7 @@
 -- What the messages of scopes ask of a machine, and what it promises for each setting of which it is a part.
 pub use Rattle.cluster_core.specs.Effects.{received}
 pub use Rattle.cluster_core.specs.Messages.{Message, Ask, Ready}
+pub use Rattle.cluster_core.specs.Places.{IsAtHome}
 pub use Rattle.cluster_core.specs.Receiving.{MayAsk, MayBecomeReady}
 pub use Rattle.cluster_core.specs.Settings.{Setting, IsSetting, is_in_scope}
 pub use Rattle.machine_parts.specs.Order.{IsOrderly, is_one_of}

@@ -1,6 +1,6 @@
 //! Admitting scopes.
-ghost use Rattle.std.specs.Prelude.{◌≡◌, ◌<◌, IfOk, OnErr, IsErrOf};
-ghost use Rattle.machine_scopes.specs.Admitting.{IsOrderly, KnowsPlaces, SameSettings, CanAdmitPick, MayAdmitNone, HasAdmittedPick, come, next_id, part_of};
+ghost use Rattle.std.specs.Prelude.{◌≡◌, IfOk, OnErr, IsErrOf};
+ghost use Rattle.machine_scopes.specs.Admitting.{IsOrderly, KnowsPlaces, SameSettings, CanAdmitPick, MayAdmitNone, HasAdmittedPick, next_id, part_of};
 
 use crate::picking::{put_back, take_pick};
 use crate::starting::{prepare, set_out};
@@ -9,12 +9,11 @@ use machine_parts::Core;
 use std::alloc::Global;
 
 /// Admits a scope of the vertex that the tasks pick, where fewer scopes are in flight than may be: it asks for its first lock here,
-/// or sets out to the first machine of its scope.
+/// or sets out to the first machine of its scope. There is no memory for it also where no serial is left, or where it would come here
+/// and as many scopes have come as may.
 pub fn admit(alloc: Global, core: &mut Core) -> Result<ScopeId, Refused>
     requires orderly { IsOrderly core.old }
     requires places { KnowsPlaces core.old }
-    requires serial { core.old.pipe.serial < 18446744073709551615 }
-    requires few { come core.old.pipe < 4096 }
     ensures orderly { IsOrderly core.new }
     ensures places { KnowsPlaces core.new }
     ensures settings { SameSettings core.old core.new }
@@ -23,6 +22,7 @@ pub fn admit(alloc: Global, core: &mut Core) -> Result<ScopeId, Refused>
     ensures not_now { IsErrOf result Refused.NotNow → MayAdmitNone core.old }
     ensures no_memory { IsErrOf result Refused.NoMemory → CanAdmitPick core.old }
     ensures unchanged { OnErr result (part_of core.new ≡ part_of core.old) }
+    ensures local { core.new.numbers.local ≡ core.old.numbers.local }
 {
     if core.pipe.flight_count() >= core.terms.pipeline as usize {
         return Err(Refused::NotNow);

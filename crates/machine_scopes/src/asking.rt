@@ -10,7 +10,7 @@ use scope_pipe::Next;
 use std::alloc::Global;
 
 /// The scope of this centre has come, and has the machines `rest` still to come: it asks for its locks here, or goes on at once
-/// where there is none. Want of memory hands `rest` back.
+/// where there is none. Where there is not enough memory, or as many scopes have come as may, `rest` comes back.
 pub fn receive_ask(
     alloc: Global,
     core: &mut Core,
@@ -21,14 +21,17 @@ pub fn receive_ask(
     requires orderly { IsOrderly core.old }
     requires is_new { IsNewAt core.old scope centre }
     requires machines { AreMachinesFor core.old scope rest.items }
-    requires few { come core.old.pipe < 4096 }
     ensures orderly { IsOrderly core.new }
     ensures settings { SameSettings core.old core.new }
+    ensures place { OnOk result (come core.old.pipe < 4096) }
     ensures received { OnOk result (HasReceivedMessage core.old core.new (Ask scope centre.0 (machine_numbers rest.items))) }
     ensures back { IfErr result (λ same. same ≡ rest) }
     ensures rest { core.new ≡ record core.old { pipe = core.new.pipe; locks = core.new.locks; out = core.new.out; spare = core.new.spare } }
     ensures unchanged { OnErr result (HasOnlyMadeRoom core.old core.new × (part_of core.new ≡ part_of core.old)) }
 {
+    if !core.pipe.has_place() {
+        return Err(rest);
+    }
     let Ok(part) = core.spare.copy(alloc, core.numbers.local.part(centre)) else {
         return Err(rest);
     };

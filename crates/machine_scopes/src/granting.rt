@@ -1,5 +1,5 @@
 //! Granting locks.
-ghost use Rattle.std.specs.Prelude.{◌≡◌, true, IfOk, IfErr, OnErr, IsErrOf};
+ghost use Rattle.std.specs.Prelude.{◌≡◌, ℕ, true, IfOk, IfErr, IfSome, IfNone, OnErr, IsErrOf};
 ghost use Rattle.machine_scopes.specs.Granting.{IsOrderly, SameSettings, HasOnlyMadeRoom, MayGrantLock, MayNotGrantLock, HasGrantedLock, WaitsFirst, WantedNext, IsNext, WaitOnce, part_of, is_owned, holder_at, queue_at};
 
 use crate::going::{go_on, reserve_next};
@@ -36,6 +36,16 @@ pub fn grant(core: &mut Core, x: Vertex) -> Result<Moved, Refused>
         Turn::Granted(claim) => grant_first(core, x, claim),
         Turn::Waiting => Err(Refused::NotNow),
     }
+}
+
+/// A vertex whose lock may be granted, and `None` exactly where there is none. It takes no memory, and no claim changes.
+pub fn next_grant(core: &mut Core) -> Option<Vertex>
+    requires { IsOrderly core.old }
+    ensures some { IfSome result (λ x. MayGrantLock core.old x.0) }
+    ensures none { IfNone result ((x : ℕ) → MayNotGrantLock core.old x) }
+    ensures same { core.new ≡ core.old }
+{
+    core.locks.next_grant()
 }
 
 /// The first that waits for the lock of x, which goes together with each holder, holds it and goes on.

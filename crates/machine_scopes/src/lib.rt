@@ -12,6 +12,6 @@ mod starting;
 
 pub use admitting::admit;
 pub use asking::receive_ask;
-pub use granting::{Moved, grant};
+pub use granting::{Moved, grant, next_grant};
 pub use laws::{asks_are_new, words_come_home};
 pub use readying::receive_ready;

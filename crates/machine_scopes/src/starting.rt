@@ -1,6 +1,6 @@
 //! How new scopes set out.
-ghost use Rattle.std.specs.Prelude.{◌≡◌, ◌<◌, ◌∷◌, ℕ, true, length, IfOk};
-ghost use Rattle.machine_scopes.specs.Asking.{IsOrderly, SameSettings, HasOnlyMadeRoom, IsNewAt, come};
+ghost use Rattle.std.specs.Prelude.{◌≡◌, ◌<◌, ◌∷◌, ℕ, true, length, IfOk, OnOk};
+ghost use Rattle.machine_scopes.specs.Asking.{IsOrderly, SameSettings, HasOnlyMadeRoom, IsNewAt};
 ghost use Rattle.machine_scopes.specs.Inner.Setting.{IsGraphInOrder, CanSetOut, HasSetOut, is_own, is_owned, parts_at};
 
 use crate::asking::{come_here, wants_first};
@@ -27,16 +27,21 @@ pub enum Start {
     },
 }
 
-/// What a new scope of v sets out with, and room for it.
+/// What a new scope of v sets out with, and room for it. There is none where no serial is left for it, or where it would come here
+/// at once and as many have come as may.
 pub fn prepare(alloc: Global, core: &mut Core, scope: ScopeId, v: Vertex) -> Result<Start, NoMemory>
     requires own { is_own core.old.numbers.local v.0 ≡ true }
     requires graph { IsGraphInOrder core.old.numbers.local (length core.old.out.machines) }
     requires locks { (x : ℕ) → is_owned core.old.locks x ≡ is_own core.old.numbers.local x }
     requires home { scope.home.0 < length core.old.out.machines }
     ensures can { IfOk result (λ start. CanSetOut core.new scope v start) }
+    ensures serial { OnOk result (core.old.pipe.serial < 18446744073709551615) }
     ensures same { HasOnlyMadeRoom core.old core.new }
     ensures rest { core.new ≡ record core.old { locks = core.new.locks; out = core.new.out; spare = core.new.spare } }
 {
+    if !core.pipe.has_serial() {
+        return Err(NoMemory);
+    }
     let me = core.numbers.local.me();
     let parts = core.numbers.local.parts(v);
     let first = parts[0];
@@ -66,6 +71,9 @@ fn prepare_here(
     ensures same { HasOnlyMadeRoom core.old core.new }
     ensures rest { core.new ≡ record core.old { locks = core.new.locks; out = core.new.out; spare = core.new.spare } }
 {
+    if !core.pipe.has_place() {
+        return Err(NoMemory);
+    }
     let part = core.spare.copy(alloc, core.numbers.local.part(v))?;
     let next = wants_first(v, &part, &rest);
     reserve_next(core, scope, next)?;
@@ -76,7 +84,6 @@ fn prepare_here(
 pub fn set_out(core: &mut Core, scope: ScopeId, v: Vertex, start: Start)
     requires orderly { IsOrderly core.old }
     requires is_new { IsNewAt core.old scope v }
-    requires few { come core.old.pipe < 4096 }
     requires own { is_own core.old.numbers.local v.0 ≡ true }
     requires home { scope.home.0 < length core.old.out.machines }
     requires can { CanSetOut core.old scope v start }

@@ -13,3 +13,4 @@ pub mod TurnLemmas
 pub mod BatchLemmas
 pub mod DueLemmas
 pub mod ApartLemmas
+pub mod WordLemmas

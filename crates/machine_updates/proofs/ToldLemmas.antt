@@ -75,7 +75,7 @@ told_many done (p ∷ ps) out =
 
 -- ---- who takes part
 
-any_passes : (test : ℕ → Bool) (a n q : ℕ) → list_any (λ k. k == q) (all_passing test a n) ≡ true → test q ≡ true
+pub any_passes : (test : ℕ → Bool) (a n q : ℕ) → list_any (λ k. k == q) (all_passing test a n) ≡ true → test q ≡ true
 unfolding all_passing
 any_passes test a zero q any = absurd (true≢false (sym any))
 any_passes test a (suc n) q any = step (any_passes test (suc a) n q) (test a) refl any
@@ -87,7 +87,7 @@ any_passes test a (suc n) q any = step (any_passes test (suc a) n q) (test a) re
     ]
     step behind false fails any = behind any
 
-passes_any : (test : ℕ → Bool) (a n q : ℕ) → a ≤ q → q < a + n → test q ≡ true → list_any (λ k. k == q) (all_passing test a n) ≡ true
+pub passes_any : (test : ℕ → Bool) (a n q : ℕ) → a ≤ q → q < a + n → test q ≡ true → list_any (λ k. k == q) (all_passing test a n) ≡ true
 unfolding all_passing
 passes_any test a zero q from below passes = absurd (omega arith)
 passes_any test a (suc n) q from below passes = elim (cases_eq a q) [
@@ -105,7 +105,7 @@ passes_any test a (suc n) q from below passes = elim (cases_eq a q) [
         or_true false = refl
     either false any = any
 
-found_one : (o : Option ℕ) → is_found o ≡ true → (x : ℕ) × (o ≡ Some x)
+pub found_one : (o : Option ℕ) → is_found o ≡ true → (x : ℕ) × (o ≡ Some x)
 found_one None is = absurd (true≢false (sym is))
 found_one (Some x) is = (x, refl)
 

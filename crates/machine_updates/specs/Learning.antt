@@ -1,4 +1,6 @@
 -- Word of an update elsewhere.
+pub use Rattle.cluster_core.specs.Places.{IsAtHome}
+pub use Rattle.cluster_core.specs.Receiving.{MayLearn}
 use Rattle.std.specs.Prelude.{◌≡◌, ◌≢◌, ℕ, ◌==◌, true, false, None, is_some, []}
 use Rattle.std.specs.List.{All, list_any}
 use Rattle.wire_msgs.specs.declared.messages.Done.{Done}

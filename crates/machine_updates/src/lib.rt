@@ -13,7 +13,7 @@ mod works;
 
 pub use batches::take_batch;
 pub use committing::commit;
-pub use laws::works_of_strangers_are_apart;
+pub use laws::{dones_can_be_learned, works_of_strangers_are_apart};
 pub use receiving::receive_done;
 pub use reserving::{Prepared, reserve_commit};
 pub use spares::Spares;

@@ -17,6 +17,7 @@ pub fn receive_done(core: &mut Core, done: &Done)
     ensures orderly { IsOrderly core.new }
     ensures places { KnowsPlaces core.old → KnowsPlaces core.new }
     ensures settings { SameSettings core.old core.new }
+    ensures local { core.new.numbers.local ≡ record core.old.numbers.local { numbers = core.new.numbers.local.numbers } }
     ensures rest { core.new ≡ record core.old { numbers = core.new.numbers; locks = core.new.locks } }
 {
     core.numbers.learn(done);

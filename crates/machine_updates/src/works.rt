@@ -20,6 +20,7 @@ pub fn take_work(core: &mut Core, flight: Flight, spare: Spare) -> Work
     requires room { HasRoom spare (length (sides_at core.old.numbers.local flight.centre.0)) }
     ensures scope { (result.scope ≡ flight.scope) × (result.vertex ≡ flight.centre) }
     ensures out { IsOut core.new result }
+    ensures links { links_at core.old.numbers.local flight.centre.0 ≡ Some result.row.links.items }
     ensures row { (st : Setting) → IsPartOf st core.old → HasItsRow st core.new result }
     ensures others { (w : Work) → IsOut core.old w → IsOut core.new w }
     ensures rows { (x : ℕ) → links_at core.new.numbers.local x ≡ (if x == flight.centre.0 then None else links_at core.old.numbers.local x) }

@@ -1,5 +1,5 @@
 //! All scopes of a machine.
-ghost use Rattle.std.specs.Prelude.{◌≡◌, ◌+◌, ◌<◌, true, false, Option, Some, None, is_some, IfOk, IfSome, OnErr, IsOk, IsErrOf};
+ghost use Rattle.std.specs.Prelude.{◌≡◌, ◌+◌, ◌<◌, ◌↔◌, IsTrue, true, false, Option, Some, None, is_some, IfOk, IfSome, OnErr, IsOk, IsErrOf};
 ghost use Rattle.scope_lists.specs.Found.{by_scope, StandsAt};
 ghost use Rattle.scope_pipe.specs.Entered.{EnteredView, entered_scope, next_of, moved_on, comes};
 ghost use Rattle.scope_pipe.specs.Pipes.{PipeView, flight_scope, flight_at, is_ready, flight_count, come, entered_at, Flies, next_id, HasAdmitted, HasReadied, HasFinished, HasCome, IsEmpty};
@@ -145,6 +145,15 @@ impl ScopePipe {
         scope
     }
 
+    /// The next scope is passed over, as if it had been admitted and were over.
+    pub fn pass(&mut self)
+        requires { self.old.serial < 18446744073709551615 }
+        ensures { self.new ≡ record self.old { serial = self.old.serial + 1 } }
+    {
+        let next = self.serial + 1;
+        self.serial = next;
+    }
+
     /// The scope has come to this machine: `part` are this machine's vertices of it and `rest` the machines still to come, both
     /// ascending.
     pub fn enter(&mut self, scope: ScopeId, centre: Vertex, part: Vec<Vertex>, rest: Vec<MachineNo>)
@@ -176,6 +185,20 @@ impl ScopePipe {
         ensures { result ≡ come self.now }
     {
         self.entered.len()
+    }
+
+    /// Whether one more scope may come.
+    pub fn has_place(&self) -> bool
+        ensures { IsTrue result ↔ (come self.now < 4096) }
+    {
+        self.entered.len() < MAX_ENTERED
+    }
+
+    /// Whether a serial is left for one more scope to be admitted.
+    pub fn has_serial(&self) -> bool
+        ensures { IsTrue result ↔ (self.now.serial < 18446744073709551615) }
+    {
+        self.serial < u64::MAX
     }
 
     /// How many scopes are in flight.

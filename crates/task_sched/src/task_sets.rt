@@ -282,8 +282,8 @@ impl TaskSet {
         self.stages.settle();
     }
 
-    /// Admits a task for an update.
-    fn admit_task(&mut self, v: Vertex)
+    /// Admits a task for an update, where it is not pending and the window has room: as `next` does with the one that it picks.
+    pub fn admit_task(&mut self, v: Vertex)
         requires within { v.0 < length self.old.task }
         requires task { is_free self.old.task self.old.admitted v.0 ≡ true }
         requires quiet { is_flagged self.old.pending v.0 ≡ false }

@@ -1,3 +1,4 @@
 pub mod LockLemmas
 pub mod TableLemmas
 pub mod MakingLemmas
+pub mod ListedLemmas

@@ -1,9 +1,9 @@
 -- What becomes of a lock's lists.
-use Rattle.std.proofs.Common.{◌≡◌, ◌≢◌, ℕ, suc, ◌+◌, ◌-◌, ◌<◌, ◌≤◌, Bool, true, false, Option, Some, None, is_some, option_map, List, [], ◌∷◌, ◌++◌, length, slice_index_or, take, drop, refl, sym, ◌∙◌, ap, subst, ⊎_elim, arith}
+use Rattle.std.proofs.Common.{◌≡◌, ◌≢◌, ℕ, zero, suc, ◌+◌, ◌-◌, ◌<◌, ◌≤◌, Bool, true, false, Option, Some, None, is_some, option_map, List, [], ◌∷◌, ◌++◌, length, slice_index_or, take, drop, refl, sym, ◌∙◌, ap, subst, ⊎_elim, arith}
 use Rattle.std.specs.List.{AllPairs, remove, position, position_or_len}
 use Rattle.std.proofs.lemmas.Bool.{cases_Bool, cases_lt, cases_eq, true≢false, lt-ltb}
 use Rattle.std.proofs.lemmas.Option.{none-some, same_Some}
-use Rattle.std.proofs.lemmas.List.{length-take-le, get_or-take, get_or-drop, get_or_default, drop_more, drop_all, drop-drop, take_more, take_at, drop_at, take-append-drop, take-append-le, length_push}
+use Rattle.std.proofs.lemmas.List.{length-take-le, take_all, get_or-take, get_or-drop, get_or_default, drop_more, drop_all, drop-drop, take_more, take_at, drop_at, take-append-drop, take-append-le, length_push}
 use Rattle.std.proofs.lemmas.List.Sums.{fails_before_first}
 use Rattle.std.proofs.lemmas.List.Edits.{length-remove, remove-append_left}
 use Rattle.std.proofs.lemmas.List.Elements.{recursion_from_All}
@@ -20,7 +20,7 @@ use Rattle.scope_lists.proofs.FoundLemmas.{found_at, none_found, found_place, fo
 use Rattle.scope_lists.proofs.Edited.{found_removed, apart_removed}
 use Rattle.vertex_locks.specs.Inner.KeptLocks.{ReadTogether, IsLock, IsTaken, IsReleased}
 use Rattle.scope_lists.specs.Scopes.{GoTogether}
-use Rattle.vertex_locks.specs.Locks.{LockView, claimant, has, mode_of, IsNext, WritesAlone, WaitOnce, view_of}
+use Rattle.vertex_locks.specs.Locks.{LockView, claimant, has, mode_of, IsNext, IsFreeLock, WritesAlone, WaitOnce, view_of}
 
 -- ---- holders
 
@@ -349,3 +349,19 @@ release_shows s claims held place room more is at one =
       queue = cut-drop claims held place is.within at.holds;
       room = one;
     }
+
+-- ---- locks that nobody claims
+
+pub none_there : (claims : List Claim) (held : ℕ) → length claims ≡ 0 → IsFreeLock (mode_of (take held claims)) (drop held claims)
+none_there [] held is =
+    record { unheld = λ s. ap (λ (cs : List Claim). mode_of cs s) (take_all held [] (omega arith)); none_waits = drop_all held [] (omega arith) }
+none_there (c ∷ claims) held is = absurd (omega arith)
+
+pub some_there : (claims : List Claim) (held : ℕ) → IsLock claims held → length claims ≢ 0 → IsFreeLock (mode_of (take held claims)) (drop held claims) → ⊥
+some_there [] held lock many is = many (omega arith)
+some_there (c ∷ claims) zero lock many is = let none : c ∷ claims ≡ [] = is.none_waits in cc
+some_there (c ∷ claims) (suc held) lock many is =
+    let apart = apart_taken (c ∷ claims) (suc held) lock.within lock.once in
+    let long = length-take-le (suc held) (c ∷ claims) lock.within in
+    let holds = holds_at (take (suc held) (c ∷ claims)) 0 c apart (omega arith) in
+    absurd (none-some (slice_index_or (take (suc held) (c ∷ claims)) 0 c).mode (sym (is.unheld (slice_index_or (take (suc held) (c ∷ claims)) 0 c).scope) ∙ holds))

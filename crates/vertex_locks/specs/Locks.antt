@@ -1,9 +1,9 @@
 -- A lock: who holds it, and who waits for it.
-use Rattle.std.specs.Prelude.{◌≡◌, ℕ, ◌+◌, ◌-◌, ◌≤◌, Bool, Option, Some, None, is_some, option_map, List, [], ◌∷◌, ◌++◌, length, take, drop, if◌then◌else◌}
+use Rattle.std.specs.Prelude.{◌≡◌, ℕ, Bool, Option, Some, None, is_some, option_map, List, [], ◌∷◌, take, drop}
 use Rattle.std.specs.List.{AllPairs, AllByRecursion}
 use Rattle.gl_base.specs.declared.scopes.Claim.{Claim}
 use Rattle.gl_base.specs.declared.scopes.Mode.{Mode}
-use Rattle.gl_base.specs.declared.scopes.Mode.TheVariants.{Reader, Writer}
+use Rattle.gl_base.specs.declared.scopes.Mode.TheVariants.{Writer}
 use Rattle.gl_base.specs.declared.scopes.ScopeId.{ScopeId}
 use Rattle.scope_lists.specs.Scopes.{GoTogether}
 use Rattle.scope_lists.specs.Found.{by_scope, AreOfTwoScopes}
@@ -31,6 +31,11 @@ pub record IsNext (holder : ScopeId → Option Mode) (queue : List Claim) (c : C
   pub behind : List Claim
   pub first : queue ≡ c ∷ behind
   pub together : (s : ScopeId) (mode : Mode) → holder s ≡ Some mode → GoTogether mode c.mode
+
+-- nobody holds the lock, and nobody waits for it
+pub record IsFreeLock (holder : ScopeId → Option Mode) (queue : List Claim) : Type 0 where
+  pub unheld : (s : ScopeId) → holder s ≡ None
+  pub none_waits : queue ≡ []
 
 -- where a writer holds the lock, it is the only holder
 abbrev pub WritesAlone : (ScopeId → Option Mode) → Type 0

@@ -1,5 +1,5 @@
 -- The locks of a machine's vertices, by the vertex's number.
-use Rattle.std.specs.Prelude.{◌≡◌, ℕ, ◌+◌, ◌-◌, ◌<◌, ◌≤◌, Bool, Option, Some, None, is_some, List, [], ◌∷◌, ◌++◌, length, drop, map, slice_index, slice_index_or, slice_set, nat_lt, if◌then◌else◌}
+use Rattle.std.specs.Prelude.{◌≡◌, ℕ, ◌+◌, ◌-◌, ◌≤◌, Bool, true, Option, Some, None, is_some, List, [], ◌∷◌, ◌++◌, length, drop, map, slice_index_or, nat_lt, if◌then◌else◌}
 use Rattle.gl_base.specs.declared.scopes.Claim.{Claim}
 use Rattle.gl_base.specs.declared.scopes.Mode.{Mode}
 use Rattle.gl_base.specs.declared.scopes.ScopeId.{ScopeId}
@@ -81,6 +81,12 @@ IsTurn holder queue Waiting = (c : Claim) → IsNext holder queue c → ⊥
 abbrev pub HasGranted : List (Option LockView) → List (Option LockView) → ℕ → Turn → Type 0
 HasGranted old new x (Granted c) = HasTaken old new x c
 HasGranted old new x Waiting = new ≡ old
+
+-- x has a lock here, and the first that waits for it goes together with each holder
+pub record IsGrantable (table : List (Option LockView)) (x : ℕ) : Type 0 where
+  pub owned : is_owned table x ≡ true
+  pub claim : Claim
+  pub next : IsNext (holder_at table x) (queue_at table x) claim
 
 -- ---- how a table is kept: the place of each vertex's lock
 

@@ -1,9 +1,9 @@
 //! One lock.
-ghost use Rattle.std.specs.Prelude.{◌≡◌, ◌+◌, ◌<◌, ◌≤◌, true, false, None, [], ◌∷◌, ◌++◌, take, drop, OnOk, IfSome};
+ghost use Rattle.std.specs.Prelude.{◌≡◌, ◌+◌, ◌<◌, ◌≤◌, ◌==◌, true, false, None, [], ◌∷◌, ◌++◌, length, take, drop, OnOk, IfSome};
 ghost use Rattle.std.specs.List.{position, list_any};
 ghost use Rattle.gl_base.specs.declared.scopes.Claim.{Claim};
 ghost use Rattle.scope_lists.specs.Scopes.{is_scope};
-ghost use Rattle.vertex_locks.specs.Locks.{LockView, has, mode_of, IsNext, WritesAlone, WaitOnce};
+ghost use Rattle.vertex_locks.specs.Locks.{LockView, has, mode_of, IsNext, IsFreeLock, WritesAlone, WaitOnce};
 ghost use Rattle.scope_lists.specs.Scopes.{GoTogether};
 ghost use Rattle.vertex_locks.specs.Inner.KeptLocks.{IsLock, requested, IsTaken, IsReleased, SameClaims};
 
@@ -112,6 +112,14 @@ impl Lock {
         is_among(waiting, scope)
     }
 
+    /// Whether nobody holds the lock, and nobody waits for it.
+    pub fn is_free(&self) -> bool
+        ensures free { result ≡ true → IsFreeLock (mode_of self.now.holders) self.now.queue }
+        ensures claimed { result ≡ false → IsFreeLock (mode_of self.now.holders) self.now.queue → ⊥ }
+    {
+        are_none(&self.claims)
+    }
+
     /// Nobody claims the lock any more.
     pub fn reset(&mut self)
         ensures holders { self.new.holders ≡ [] }
@@ -141,6 +149,13 @@ fn first_waiting(claims: &[Claim], held: usize) -> Option<Claim>
     } else {
         None
     }
+}
+
+/// Whether there is no claim.
+fn are_none(claims: &[Claim]) -> bool
+    ensures { result ≡ (length claims.now == 0) }
+{
+    claims.is_empty()
 }
 
 /// Whether two may hold one lock.

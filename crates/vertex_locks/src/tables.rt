@@ -1,35 +1,38 @@
 //! The locks of all vertices of a machine.
-ghost use Rattle.std.specs.Prelude.{◌≡◌, ℕ, ◌+◌, ◌<◌, ◌≤◌, ◌==◌, true, false, is_some, None, length, slice_index_or, IfOk, OnOk, OnErr};
+ghost use Rattle.std.specs.Prelude.{◌≡◌, ℕ, ◌+◌, ◌<◌, ◌≤◌, ◌==◌, true, false, is_some, None, length, slice_index_or, IfOk, OnOk, OnErr, MatchOption};
 ghost use Rattle.std.specs.List.{All, list_any};
-ghost use Rattle.vertex_locks.specs.Locks.{has, WritesAlone, WaitOnce};
-ghost use Rattle.vertex_locks.specs.Tables.{is_owned, holder_at, queue_at, room_at, HasAsked, HasTaken, HasReleased, HasRoomFor, HasGranted, IsUnclaimed, IsTurn, no_lock};
-ghost use Rattle.vertex_locks.specs.Inner.KeptTables.{IsFree};
+ghost use Rattle.vertex_locks.specs.Locks.{has, IsFreeLock, WritesAlone, WaitOnce};
+ghost use Rattle.vertex_locks.specs.Tables.{is_owned, holder_at, queue_at, room_at, HasAsked, HasTaken, HasReleased, HasRoomFor, HasGranted, IsUnclaimed, IsTurn, IsGrantable, no_lock};
+ghost use Rattle.vertex_locks.specs.Inner.KeptTables.{IsFree, IsTable, table_of};
 
 use crate::locks::Lock;
 use crate::turns::Turn;
 use gl_base::{Claim, NoMemory, ScopeId, Vertex};
 use std::alloc::Global;
 use std::marker::Model;
+use vertex_queue::VertexQueue;
 
 /// A reader-writer lock for each vertex that a machine owns, with a queue of the claims that wait for it. Contracts see
-/// whether a vertex has a lock, how each scope holds it, who waits for it, and for how many more claims there is room.
+/// whether a vertex has a lock, how each scope holds it, who waits for it, and for how many more claims there is room. Vertices at
+/// whose lock a claim came or went are listed, until a look finds that nothing would be granted there.
 #[derive(Drop)]
 pub struct LockTable {
     places: Vec<u32>,
     locks: Vec<Lock>,
+    listed: VertexQueue,
 }
 
 impl Model for LockTable {
-    ghost use Rattle.std.specs.Prelude.{List, Option, length};
+    ghost use Rattle.std.specs.Prelude.{List, Option};
     ghost use Rattle.vertex_locks.specs.Locks.{LockView};
-    ghost use Rattle.vertex_locks.specs.Inner.KeptTables.{ArePlacesApart};
+    ghost use Rattle.vertex_locks.specs.Inner.KeptTables.{IsTable};
     ghost use Rattle.vertex_locks.specs.Tables.{table_of};
 
     ghost Value = { List (Option LockView) };
 
     ghost view = { λ t. table_of t.places.items t.locks.items };
 
-    ghost invariant = { λ t. ArePlacesApart t.places.items (length t.locks.items) };
+    ghost invariant = { λ t. IsTable t.places.items t.locks.items t.listed };
 }
 
 impl LockTable {
@@ -46,7 +49,12 @@ impl LockTable {
             places[vertex.0 as usize] = place as u32;
             locks.push_reserved(Lock::free(alloc));
         }
-        Ok(LockTable { places, locks })
+        let listed = VertexQueue::none(alloc, count)?;
+        Ok(LockTable {
+            places,
+            locks,
+            listed,
+        })
     }
 
     /// Whether x has a lock here.
@@ -79,6 +87,7 @@ impl LockTable {
     {
         let place = self.places[x.0 as usize] as usize;
         self.locks[place].request(claim);
+        self.listed.add(x);
     }
 
     /// Whether the scope holds the lock of x.
@@ -97,6 +106,16 @@ impl LockTable {
     {
         let place = self.places[x.0 as usize] as usize;
         self.locks[place].waits(scope)
+    }
+
+    /// Whether nobody holds the lock of x, and nobody waits for it.
+    pub fn is_free(&self, x: Vertex) -> bool
+        requires { is_owned self.now x.0 ≡ true }
+        ensures free { result ≡ true → IsFreeLock (holder_at self.now x.0) (queue_at self.now x.0) }
+        ensures claimed { result ≡ false → IsFreeLock (holder_at self.now x.0) (queue_at self.now x.0) → ⊥ }
+    {
+        let place = self.places[x.0 as usize] as usize;
+        self.locks[place].is_free()
     }
 
     /// What `grant` would answer.
@@ -126,6 +145,15 @@ impl LockTable {
         }
     }
 
+    /// A vertex whose lock `grant` would grant, and `None` exactly where there is none. It takes no memory, and looks at no lock twice at
+    /// which nothing would be granted and no claim has come or gone since.
+    pub fn next_grant(&mut self) -> Option<Vertex>
+        ensures next { MatchOption result ((x : ℕ) → IsGrantable self.old x → ⊥) (λ x. IsGrantable self.old x.0) }
+        ensures same { self.new ≡ self.old }
+    {
+        first_listed(&self.places, &self.locks, &mut self.listed)
+    }
+
     /// The scope holds the lock of x no more, which makes room for one claim.
     pub fn release(&mut self, x: Vertex, scope: ScopeId)
         requires owned { is_owned self.old x.0 ≡ true }
@@ -134,6 +162,7 @@ impl LockTable {
     {
         let place = self.places[x.0 as usize] as usize;
         self.locks[place].release(scope);
+        self.listed.add(x);
     }
 
     /// Nobody claims a lock any more, as after `new`. The room stays. It takes time for each lock.
@@ -144,6 +173,31 @@ impl LockTable {
     {
         reset_all(&mut self.locks);
     }
+}
+
+/// The first of the listed vertices whose lock would be granted. Those before it are listed no more.
+fn first_listed(places: &[u32], locks: &[Lock], listed: &mut VertexQueue) -> Option<Vertex>
+    requires { IsTable places.now locks.now listed.old }
+    ensures next { MatchOption result ((x : ℕ) → IsGrantable (table_of places.now locks.now) x → ⊥) (λ x. IsGrantable (table_of places.now locks.now) x.0) }
+    ensures kept { IsTable places.now locks.now listed.new }
+{
+    while let Some(x) = listed.front() {
+        if is_grantable(places, locks, x) {
+            return Some(x);
+        }
+        listed.remove(x);
+    }
+    None
+}
+
+/// Whether the lock of x would be granted.
+fn is_grantable(places: &[u32], locks: &[Lock], x: Vertex) -> bool
+    requires { is_owned (table_of places.now locks.now) x.0 ≡ true }
+    ensures yes { result ≡ true → IsGrantable (table_of places.now locks.now) x.0 }
+    ensures not { result ≡ false → IsGrantable (table_of places.now locks.now) x.0 → ⊥ }
+{
+    let place = places[x.0 as usize] as usize;
+    locks[place].next().is_some()
 }
 
 /// Nobody claims one of these locks any more.

@@ -1,13 +1,14 @@
 -- How a new scope sets out.
 pub use Rattle.machine_parts.specs.Order.{IsGraphInOrder}
 pub use Rattle.machine_parts.specs.Parts.{is_own, is_owned, parts_at}
-use Rattle.std.specs.Prelude.{◌≡◌, ◌≢◌, ◌∷◌, List, slice_get}
+use Rattle.std.specs.Prelude.{◌≡◌, ◌≢◌, ◌<◌, ◌∷◌, List, slice_get}
 use Rattle.gl_base.specs.declared.numbers.MachineNo.{MachineNo}
 use Rattle.gl_base.specs.declared.numbers.Vertex.{Vertex}
 use Rattle.gl_base.specs.declared.scopes.ScopeId.{ScopeId}
 use Rattle.cluster_core.specs.Effects.{sets_out}
 use Rattle.cluster_core.specs.Settings.{Setting}
 use Rattle.scope_pipe.specs.Entered.{next_at}
+use Rattle.scope_pipe.specs.Pipes.{come}
 use Rattle.scope_pipe.specs.declared.next.Next.{Next}
 use Rattle.machine_parts.specs.declared.cores.Core.{Core}
 use Rattle.machine_parts.specs.Parts.{part_of, part_at, machine_numbers}
@@ -16,11 +17,12 @@ use Rattle.machine_scopes.specs.declared.starting.Start.{Start}
 use Rattle.machine_scopes.specs.declared.starting.Start.TheVariants.{Here, Away}
 use Rattle.machine_scopes.specs.Inner.Going.{HasNextRoom, HasPlaceFor}
 
--- the scope of v has this machine first, and there is room for what it wants first here
+-- the scope of v has this machine first, one more may come here, and there is room for what it wants first
 pub record StartsHere (m : Core) (s : ScopeId) (v : Vertex) (part : List Vertex) (rest : List MachineNo) (next : Next) : Type 0 where
   pub machines : parts_at m.numbers.local v.0 ≡ m.numbers.local.me ∷ rest
   pub vertices : part ≡ part_at m.numbers.local v.0
   pub first : next ≡ next_at v (slice_get part 0) rest
+  pub few : come m.pipe < 4096
   pub room : HasNextRoom m s next
 
 -- the scope of v has another machine first, and there is room for a message to it

@@ -1,6 +1,10 @@
 -- How a table is kept.
-use Rattle.std.specs.Prelude.{◌≡◌, ℕ, ◌<◌, List, [], length, slice_index}
-use Rattle.vertex_locks.specs.Locks.{LockView}
+pub use Rattle.vertex_locks.specs.Tables.{table_of}
+use Rattle.std.specs.Prelude.{◌≡◌, ℕ, ◌<◌, Bool, true, Option, List, [], length, slice_index}
+use Rattle.vertex_queue.specs.Flags.{is_flagged}
+use Rattle.gl_base.specs.declared.scopes.Claim.{Claim}
+use Rattle.vertex_locks.specs.Locks.{LockView, IsNext}
+use Rattle.vertex_locks.specs.Tables.{is_owned, holder_at, queue_at}
 
 -- nobody claims this lock
 abbrev pub IsFree : LockView → Type 0
@@ -9,3 +13,14 @@ IsFree l = (l.holders ≡ []) × (l.queue ≡ [])
 -- no two vertices have the same lock
 abbrev pub ArePlacesApart : List ℕ → ℕ → Type 0
 ArePlacesApart places count = (x y : ℕ) → x < length places → y < length places → slice_index places x < count → slice_index places x ≡ slice_index places y → x ≡ y
+
+-- the vertices that are listed have locks, and each whose lock would be granted is listed
+pub record ListsGrantable (table : List (Option LockView)) (listed : List Bool) : Type 0 where
+  pub owned : (x : ℕ) → is_flagged listed x ≡ true → is_owned table x ≡ true
+  pub waits : (x : ℕ) (c : Claim) → IsNext (holder_at table x) (queue_at table x) c → is_flagged listed x ≡ true
+
+-- no two vertices have the same lock, and the list of vertices has a place for each
+pub record IsTable (places : List ℕ) (locks : List LockView) (flags : List Bool) : Type 0 where
+  pub apart : ArePlacesApart places (length locks)
+  pub many : length flags ≡ length places
+  pub listed : ListsGrantable (table_of places locks) flags

@@ -5,6 +5,8 @@ use Rattle.machine_numbers.specs.declared.keeping.Numbers.{Numbers}
 use Rattle.machine_scopes.proofs.AdmitLemmas.{admit_done, admit_new, admit_orderly, admit_own, can_admit, few_flights, flags_back, picked_at, places_keep, refused_orderly, refused_part}
 use Rattle.machine_scopes.proofs.FlownLemmas.{admitted_is, task_stays}
 use Rattle.machine_scopes.proofs.PickLemmas.{none_may, pick_own}
+use Rattle.machine_scopes.proofs.StartLemmas.{can_with_pipe}
+use Rattle.scope_pipe.specs.Pipes.{PipeView, come}
 use Rattle.std.proofs.lemmas.List.{length-set}
 use Rattle.machine_scopes.proofs.admitting.admit.Goals as goal
 
@@ -45,6 +47,10 @@ set_out-requires-clause-own c =
     let can = (c.in-Some.ensures).can in
     admit_own m pick v c.take_pick.new.tasks c.prepare.new.core c.admit_now.new.self c.requires.orderly c.requires.places can (picked_at m pick v c.requires.places can c.index-v.ensures)
     (c.in-Some.ensures).taken c.prepare.ensures.same c.admit_now.ensures.is_new c.admit_now.ensures.admitted c.admit_now.ensures.rest
+
+pub set_out-requires-clause-can : goal.set_out-requires-clause-can
+set_out-requires-clause-can c =
+    can_with_pipe c.prepare.new.core c.admit_now.new.self c.next_id-scope.result c.index-v.result.now c.in-Ok.start (ap (λ (p : PipeView). come p) c.admit_now.ensures.rest) (c.in-Ok.ensures).can
 
 pub returns-in-Ok-clause-places : goal.returns-in-Ok-clause-places
 returns-in-Ok-clause-places c =

@@ -15,6 +15,13 @@ come_here-requires-clause-machines c =
     let can : StartsHere m c.args.scope v c.in-Here.part.items c.in-Here.rest.items c.in-Here.next = subst (CanSetOut m c.args.scope v) c.in-Here.is c.requires.can in
     rest_machines m c.args.scope v.0 m.numbers.local.me c.in-Here.rest.items c.requires.orderly.graph c.requires.own c.requires.home can.machines
 
+pub come_here-requires-clause-few : goal.come_here-requires-clause-few
+come_here-requires-clause-few c =
+    let m = c.args.core.now in
+    let v = c.args.v in
+    let can : StartsHere m c.args.scope v c.in-Here.part.items c.in-Here.rest.items c.in-Here.next = subst (CanSetOut m c.args.scope v) c.in-Here.is c.requires.can in
+    can.few
+
 pub returns-in-Away-clause-orderly : goal.returns-in-Away-clause-orderly
 returns-in-Away-clause-orderly c =
     let m = c.args.core.now in

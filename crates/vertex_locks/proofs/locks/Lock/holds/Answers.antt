@@ -1,4 +1,4 @@
-use Rattle.std.proofs.Common.{◌≡◌, ◌∙◌, List, is_some, sym, ap, take, drop}
+use Rattle.std.proofs.Common.{◌∙◌, List, sym, ap, take}
 use Rattle.std.specs.List.{list_any}
 use Rattle.gl_base.specs.declared.scopes.Claim.{Claim}
 use Rattle.scope_lists.specs.Scopes.{is_scope}

@@ -1,5 +1,5 @@
-use Rattle.std.proofs.Common.{◌≡◌, ◌∙◌, is_some, sym, ap}
-use Rattle.vertex_locks.specs.Locks.{LockView, has, mode_of}
+use Rattle.std.proofs.Common.{◌∙◌, sym, ap}
+use Rattle.vertex_locks.specs.Locks.{LockView, has}
 use Rattle.vertex_locks.proofs.TableLemmas.{is_read, some_mode}
 use Rattle.vertex_locks.proofs.tables.LockTable.holds.Goals as goal
 

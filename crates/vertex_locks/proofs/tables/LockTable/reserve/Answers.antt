@@ -4,10 +4,12 @@ use Rattle.vertex_locks.specs.Inner.KeptLocks.{SameClaims}
 use Rattle.vertex_locks.specs.Locks.{LockView}
 use Rattle.vertex_locks.specs.Tables.{lock_at, room_at, HasRoomFor}
 use Rattle.vertex_locks.proofs.TableLemmas.{IsWritten, is_written, lock-here, has_room}
+use Rattle.std.proofs.Math.ListN.{length-set}
+use Rattle.vertex_locks.proofs.ListedLemmas.{table_room}
 use Rattle.vertex_locks.proofs.tables.LockTable.reserve.Goals as goal
 
 written : (c : goal.After-self-1) → IsWritten c.self.inside.places.items c.args.self.now c.args.x.0 c.index_mut.result.now (slice_set c.self.inside.locks.items c.index.result.now c.reserve.new.self) c.reserve.new.self
-written c = is_written c.self.inside.places.items c.self.inside.locks.items c.args.self.now c.args.x.0 c.index.result.now c.index_mut.result.now c.reserve.new.self c.self.view_is c.requires c.self.invariant c.index.ensures c.index_mut.ensures.value
+written c = is_written c.self.inside.places.items c.self.inside.locks.items c.args.self.now c.args.x.0 c.index.result.now c.index_mut.result.now c.reserve.new.self c.self.view_is c.requires c.self.invariant.apart c.index.ensures c.index_mut.ensures.value
 
 pub returns-clause-room : goal.returns-clause-room
 returns-clause-room c =
@@ -28,3 +30,6 @@ returns-clause-same c =
     let more : (lock_at table x).room ≤ c.reserve.new.self.room = subst (λ (k : LockView). k.room ≤ c.reserve.new.self.room) w.old c.reserve.ensures.more in
     let same : SameClaims (lock_at table x) c.reserve.new.self = subst (λ (k : LockView). SameClaims k c.reserve.new.self) w.old c.reserve.ensures.same in
     subst (λ (t : List (Option LockView)). HasRoomFor table t x) (sym w.new) (has_room table x c.reserve.new.self w.owned more same)
+
+pub invariant_of-self : goal.invariant_of-self
+invariant_of-self c = table_room c.self.inside.places.items c.self.inside.locks.items (slice_set c.self.inside.locks.items c.index.result.now c.reserve.new.self) c.args.self.now c.self.inside.listed c.self.view_is (length-set c.self.inside.locks.items c.index.result.now c.reserve.new.self) c.self.invariant c.args.x.0 (returns-clause-same c)

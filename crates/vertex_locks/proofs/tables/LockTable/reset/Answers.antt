@@ -4,6 +4,8 @@ use Rattle.std.proofs.lemmas.List.{with_items_is}
 use Rattle.vertex_locks.specs.Locks.{LockView}
 use Rattle.vertex_locks.specs.Tables.{is_owned, room_at, table_of, IsUnclaimed, no_lock}
 use Rattle.vertex_locks.proofs.MakingLemmas.{owned_reset, room_reset, unclaimed}
+use Rattle.vertex_locks.specs.Inner.KeptTables.{IsTable}
+use Rattle.vertex_locks.proofs.ListedLemmas.{table_reset}
 use Rattle.vertex_locks.proofs.tables.LockTable.reset.Goals as goal
 
 many : (c : goal.After-self-1) → length c.reset_all.new.locks ≡ length c.self.inside.locks.items
@@ -31,3 +33,8 @@ returns-clause-room c = λ y.
     subst (λ (t : List (Option LockView)). room_at t y ≤ room_at (table_of c.self.inside.places.items (with_items c.self.inside.locks c.reset_all.new.locks).items) y) c.self.view_is
     (subst (λ (locks : List LockView). room_at (table_of c.self.inside.places.items old) y ≤ room_at (table_of c.self.inside.places.items locks) y) (sym (items c))
     (room_reset c.self.inside.places.items old c.reset_all.new.locks more y))
+
+pub invariant_of-self : goal.invariant_of-self
+invariant_of-self c =
+    subst (λ (locks : List LockView). IsTable c.self.inside.places.items locks c.self.inside.listed) (sym (items c))
+    (table_reset c.self.inside.places.items c.self.inside.locks.items c.reset_all.new.locks c.args.self.now c.self.inside.listed c.self.view_is (many c) c.self.invariant c.reset_all.ensures.free)

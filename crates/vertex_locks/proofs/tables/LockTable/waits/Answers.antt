@@ -1,6 +1,6 @@
-use Rattle.std.proofs.Common.{◌≡◌, ◌∙◌, is_some, sym, ap}
-use Rattle.vertex_locks.specs.Locks.{LockView, has, mode_of}
-use Rattle.vertex_locks.proofs.TableLemmas.{is_read, some_mode}
+use Rattle.std.proofs.Common.{◌∙◌, ap}
+use Rattle.vertex_locks.specs.Locks.{LockView, has}
+use Rattle.vertex_locks.proofs.TableLemmas.{is_read}
 use Rattle.vertex_locks.proofs.tables.LockTable.waits.Goals as goal
 
 pub returns : goal.returns
