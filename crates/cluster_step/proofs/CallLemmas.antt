@@ -1,6 +1,6 @@
 -- What a call of one machine makes of the cluster.
-use Rattle.std.proofs.Common.{◌≡◌, ℕ, ◌+◌, ◌-◌, ◌<◌, List, [], ◌∷◌, ◌++◌, length, get_or, Some, None, sym, refl, ap, ◌∙◌, subst, arith, add-one, sub-one, length-set, lit<}
-use Rattle.std.specs.Prelude.{Result, Ok, Err, IsErr, IsErrAnd, IsErrOf, OnErr}
+use Rattle.std.proofs.Common.{◌≡◌, ℕ, ◌+◌, ◌-◌, ◌<◌, List, [], ◌∷◌, ◌++◌, length, get_or, Option, Some, None, sym, refl, ap, ◌∙◌, subst, arith, add-one, sub-one, length-set, lit<}
+use Rattle.std.specs.Prelude.{Result, Ok, Err, IfNone, IfSome, IsErr, IsErrAnd, IsErrOf, OnErr}
 use Rattle.std.specs.Vec.{with_item}
 use Rattle.std.proofs.lemmas.Option.{slice_get_read}
 use Rattle.gl_base.specs.declared.entries.Entry.TheVariants.{Go}
@@ -17,7 +17,7 @@ use Rattle.cluster_core.specs.Receiving.{MayReceive}
 use Rattle.cluster_core.specs.Settings.{Setting}
 use Rattle.cluster_core.specs.Worlds.{World, with_part, with_link}
 use Rattle.cluster_numbers.proofs.Keeping.{updates_is}
-use Rattle.cluster_machines.specs.Promises.{AdmitsNone, AdmitsSome, GrantsIt, GrantsNot, IsAdmission, IsGrant, IsSameMachine, IsUpdate, MakesAdmission, MakesGrant, MakesUpdate}
+use Rattle.cluster_machines.specs.Promises.{AdmitsNone, AdmitsSome, GrantsIt, GrantsNone, GrantsNot, IsAdmission, IsGrant, IsSameMachine, IsUpdate, MakesAdmission, MakesGrant, MakesUpdate, UpdatesIt, UpdatesNone}
 use Rattle.cluster_step.specs.Links.{LinkView, told_on}
 use Rattle.cluster_step.specs.Worlds.{part_of_machine, world_of_parts}
 use Rattle.cluster_step.specs.Inner.Writing.{HaveLinks}
@@ -40,6 +40,15 @@ handed_on {X} {Y} {E} (Err y) e x h is =
 pub on_err : {X E : Type 0} (r : Result X E) (P : Type 0) → P → OnErr r P
 on_err (Ok v) P p = tt
 on_err (Err e) P p = p
+
+-- what holds of a value that is there, and what holds where none is
+pub for_some : {X : Type 0} (o : Option X) (P Q : X → Type 0) → ((x : X) → P x → Q x) → IfSome o P → IfSome o Q
+for_some (Some x) P Q by holds = by x holds
+for_some None P Q by holds = tt
+
+pub for_none : {X : Type 0} (o : Option X) (P Q : Type 0) → (P → Q) → IfNone o P → IfNone o Q
+for_none (Some x) P Q by holds = tt
+for_none None P Q by holds = by holds
 
 -- one machine and the links are others
 abbrev pub with_both : {M : Type 0} → Parts M → ℕ → M → List (List LinkView) → Parts M
@@ -180,6 +189,12 @@ module _ {M : Type 0} (belongs : Setting → ℕ → M → Type 0) (part : M →
       subst (MayHappen st (world_of_parts part st old)) (may.is ∙ ap (λ (k : ℕ). law.Grant k x.0) named) may.may in
       not_it st a (here_belongs st go) (subst (MayGrant st a x.0) (here st) grants)
 
+  pub grants_can : (at : MachineNo) → at.0 ≡ a → (o : Option Vertex) → IfSome o (λ x. GrantsIt belongs part m x.0) → IfSome o (λ x. CanMakeEvent (CanGoOn belongs part old) part old (Grant at x))
+  grants_can at named o = for_some o (λ x. GrantsIt belongs part m x.0) (λ x. CanMakeEvent (CanGoOn belongs part old) part old (Grant at x)) (λ x may. grant_can at x named may)
+
+  pub grants_cannot : (at : MachineNo) → at.0 ≡ a → (o : Option Vertex) → IfNone o (GrantsNone belongs part m) → IfNone o ((x : Vertex) → CanNotMakeEvent (CanGoOn belongs part old) part old (Grant at x))
+  grants_cannot at named o = for_none o (GrantsNone belongs part m) ((x : Vertex) → CanNotMakeEvent (CanGoOn belongs part old) part old (Grant at x)) (λ none x. grant_cannot at x named (none x.0))
+
   -- ---- Update
 
   -- the world asks for the same, with as many tickets as are left
@@ -245,6 +260,24 @@ module _ {M : Type 0} (belongs : Setting → ℕ → M → Type 0) (part : M →
   update_cannot s home not_it st go stored may =
       let updates_it : MayHappen st (world_of_parts part st old) (law.Update s) = subst (MayHappen st (world_of_parts part st old)) may.is may.may in
       not_it (may_there st s old.left (subst (λ (k : ℕ). MayUpdate s (part_of_machine part st old.machines.items k) old.left) home updates_it))
+
+  -- what is ready
+  module _ (at : MachineNo) (named : at.0 ≡ a) (some : (st : Setting) × CanGoOn belongs part old st) (o : Option ScopeId) where
+    ready_here : (s : ScopeId) → UpdatesIt belongs part m s → s.home.0 ≡ a
+    ready_here s it = it.home some.0 a (here_belongs some.0 some.1)
+
+    pub ready_home : IfSome o (UpdatesIt belongs part m) → IfSome o (λ s. s.home ≡ at)
+    ready_home = for_some o (UpdatesIt belongs part m) (λ s. s.home ≡ at) (λ s it. let number : s.home.0 ≡ at.0 = ready_here s it ∙ sym named in λ i. record { 0 = number i })
+
+    pub ready_can : IfSome o (UpdatesIt belongs part m) → IfSome o (λ s. 0 < old.left → CanMakeEvent (CanGoOn belongs part old) part old (Update s))
+    ready_can =
+        for_some o (UpdatesIt belongs part m) (λ s. 0 < old.left → CanMakeEvent (CanGoOn belongs part old) part old (Update s))
+        (λ s it left. update_can s (ready_here s it) left it.may)
+
+    pub ready_cannot : IfNone o (UpdatesNone (part m)) → IfNone o ((s : ScopeId) → s.home ≡ at → CanNotMakeEvent (CanGoOn belongs part old) part old (Update s))
+    ready_cannot =
+        for_none o (UpdatesNone (part m)) ((s : ScopeId) → s.home ≡ at → CanNotMakeEvent (CanGoOn belongs part old) part old (Update s))
+        (λ none s home. update_cannot s (ap (λ (n : MachineNo). n.0) home ∙ named) (none s))
 
   -- ---- Send
 

@@ -1,5 +1,5 @@
 -- A cluster goes on as the cluster's law says.
-use Rattle.std.proofs.Common.{◌≡◌, ℕ, Bool, List, [], ◌∷◌, ◌++◌, ◌&&◌, sym, refl, ap, ap₂, ◌∙◌, subst}
+use Rattle.std.proofs.Common.{◌≡◌, ℕ, Bool, true, false, List, [], ◌∷◌, ◌++◌, ◌&&◌, Some, is_some, sym, refl, ap, ap₂, ◌∙◌, subst}
 use Rattle.std.specs.List.{AllByRecursion}
 use Rattle.gl_base.specs.declared.entries.Entry.{Entry}
 use Rattle.gl_base.specs.declared.scopes.ScopeId.{ScopeId}
@@ -9,18 +9,19 @@ use Rattle.cluster_core.specs.Places.{IsExclusive}
 use Rattle.cluster_core.specs.Receiving.{MayReceive}
 use Rattle.cluster_core.specs.Replays.{IsFresh, IsReplay, replay_of}
 use Rattle.cluster_core.specs.Runs.{IsStart}
-use Rattle.cluster_core.specs.Settings.{Locking, Setting, IsSetting}
+use Rattle.cluster_core.specs.Settings.{Locking, Setting, IsSetting, is_in_scope}
 use Rattle.cluster_core.specs.Snapshots.{IsUnmarked}
 use Rattle.cluster_core.specs.Scopes.{mode_at}
-use Rattle.cluster_core.specs.Stages.{Asks, Ends, Idle, IsAsked, IsDone, some_if, tokens_of}
+use Rattle.cluster_core.specs.Stages.{Asks, Ends, Idle, IsAsked, IsDone, IsReady, Returns, some_if, tokens_of}
+use Rattle.cluster_core.specs.Ways.{IsToldTo}
 use Rattle.cluster_core.specs.Worlds.{World, way}
 use Rattle.cluster_core.proofs.Taking.{taken, taken-here}
 use Rattle.cluster_numbers.proofs.Keeping.{update_fresh}
 use Rattle.cluster_places.proofs.Delivering.{done_here, told}
 use Rattle.cluster_places.proofs.Excluding.{exclusive}
 use Rattle.cluster_places.proofs.Fronts.{front}
-use Rattle.cluster_places.proofs.Going.{asked_here}
-use Rattle.cluster_places.proofs.Seen.{asked_stage, done_stage}
+use Rattle.cluster_places.proofs.Going.{asked_here, ready_here}
+use Rattle.cluster_places.proofs.Seen.{asked_stage, done_stage, ready_stage, some_centre}
 use Rattle.cluster_places.proofs.Standing.{shows_as, stage_as}
 use Rattle.cluster_places.proofs.PlacesKept.{action_keeps, start_placed}
 use Rattle.cluster_cuts.specs.Goings.{IsOneStep}
@@ -39,6 +40,10 @@ begins_going st is w start unmarked =
     let nothing : (p q : ℕ) → way w p q ≡ [] = λ p q. ap₂ (λ xs ys. xs ++ ys) (start.links p q) (start.outboxes p q) in
     let plain : AreAllPlain w = λ p q. subst (AllByRecursion IsPlain) (sym (nothing p q)) tt in
     record { stage = λ s. Idle; places = start_placed st w start; plain = plain; kept = kept; none = refl; gone = goes_not st w kept }
+
+some_then : {X : Type 0} (b : Bool) (x : X) → is_some (some_if b x) ≡ b
+some_then true x = refl
+some_then false x = refl
 
 module _ (st : Setting) (is : IsSetting st) (locks : st.engine ≡ Locking) (from now : World) (going : IsGoingOn st from now) where
   pub goes_on_by : (event : Event) (action : Action) (new : World) → IsActionOf event action → IsActionStep st now action new → IsGoingOn st from new
@@ -64,13 +69,23 @@ module _ (st : Setting) (is : IsSetting st) (locks : st.engine ≡ Locking) (fro
   front_expected p q (Ask s v rest) behind first =
       let h = asked_stage st s (going.stage s) p q v rest (tokens_of s (way (taken now p q (Ask s v rest) behind first) p q)) (told st is now going.stage going.places p q (Ask s v rest) behind first s (IsAsked v rest) (asked_here s v rest)) in
       (stage_as st now going.stage going.places s (Asks v p q) h.0).0
-  front_expected p q (Ready s) behind first = tt
+  front_expected p q (Ready s) behind first =
+      let h = ready_stage st s (going.stage s) p q (tokens_of s (way (taken now p q (Ready s) behind first) p q)) (told st is now going.stage going.places p q (Ready s) behind first s IsReady (ready_here s)) in
+      let c : ℕ = h.0 in
+      let seen = shows_as st now going.stage going.places s (Returns c p) h.1 in
+      λ v x flies near owned.
+      let here : (now.part q).flight s ≡ Some c = ap (λ (a : ℕ). (now.part a).flight s) h.2 ∙ seen.flight in
+      let centre : v ≡ c = some_centre v c (sym flies ∙ here) in
+      ap (λ (a : ℕ). is_some ((now.part a).holder x s)) (sym owned) ∙ ap is_some (seen.holder x)
+      ∙ some_then (is_in_scope st c x) (mode_at c x) ∙ ap (λ (k : ℕ). is_in_scope st k x) (sym centre) ∙ near
   front_expected p q (Done s news) behind first =
       let c : ℕ = news.centre in
       let h = done_stage st s (going.stage s) p q c (tokens_of s (way (taken now p q (Done s news) behind first) p q)) (told st is now going.stage going.places p q (Done s news) behind first s (IsDone c) (done_here s news)) in
       let seen = shows_as st now going.stage going.places s (Ends c h.0) h.1 in
       let plain : AllByRecursion IsPlain (Done s news ∷ way (taken now p q (Done s news) behind first) p q) =
       subst (AllByRecursion IsPlain) (taken-here now p q (Done s news) behind first) (going.plain p q) in
+      let heard : AllByRecursion (IsToldTo st p q) (Done s news ∷ way (taken now p q (Done s news) behind first) p q) =
+      subst (AllByRecursion (IsToldTo st p q)) (taken-here now p q (Done s news) behind first) (going.gone.next.copies.told p q) in
       record {
         home = (stage_as st now going.stage going.places s (Ends c h.0) h.1).0;
         stand = seen.stand q;
@@ -79,6 +94,7 @@ module _ (st : Setting) (is : IsSetting st) (locks : st.engine ≡ Locking) (fro
             ∙ ap (λ (test : Bool). some_if (test && h.0 (st.owner x)) (mode_at c x)) outside;
         pends = plain.0.1;
         number = plain.0.0;
+        near = λ u woken. (heard.0.wakes u woken).0;
       }
 
   -- each update that may happen is lent what the order has there

@@ -1,9 +1,12 @@
 -- A cluster keeps what it keeps, whatever happens in it.
-use Rattle.std.proofs.Common.{◌≡◌, ℕ, suc, ◌+◌, ◌<◌, ◌≤◌, ◌^◌, le_of_eq, List, [], ◌∷◌, length, sym, refl, ◌∙◌, subst, arith}
+use Rattle.std.proofs.Common.{◌≡◌, ℕ, suc, ◌+◌, ◌<◌, ◌≤◌, ◌^◌, le_of_eq, List, [], ◌∷◌, Option, length, sym, refl, ◌∙◌, subst, arith}
 use Rattle.std.specs.List.{AllByRecursion}
-use Rattle.std.specs.Prelude.{Result, Ok, Err, OnOk, OnErr}
+use Rattle.std.specs.Prelude.{Result, Ok, Err, IfNone, IfSome, OnOk, OnErr}
 use Rattle.gl_base.specs.declared.refusals.Refused.{Refused}
 use Rattle.gl_base.specs.declared.entries.Entry.{Entry}
+use Rattle.gl_base.specs.declared.numbers.MachineNo.{MachineNo}
+use Rattle.gl_base.specs.declared.numbers.Vertex.{Vertex}
+use Rattle.gl_base.specs.declared.scopes.ScopeId.{ScopeId}
 use Rattle.gl_base.specs.declared.entries.Entry.TheVariants.{Go, Restart}
 use Rattle.cluster_core.specs.Actions.{MayHappen}
 use Rattle.cluster_core.specs.Actions as law
@@ -23,6 +26,7 @@ use Rattle.cluster_step.specs.Starts.{IsOrderSince, StartIn, WasFresh}
 use Rattle.cluster_step.specs.declared.events.Event.TheVariants.{Admit, Deliver, Grant, Send, Update}
 use Rattle.cluster_step.specs.declared.events.Event.{Event}
 use Rattle.cluster_step.specs.declared.parts.Parts.{Parts}
+use Rattle.cluster_step.proofs.CallLemmas.{for_none, for_some}
 use Rattle.cluster_step.proofs.GoingLemmas.{begins_going, fresh_now, front_comes, front_expected, goes_on_by}
 use Rattle.cluster_step.proofs.StartLemmas.{world_starts, world_unmarked}
 
@@ -76,6 +80,10 @@ module _ {M : Type 0} (belongs : Setting → ℕ → M → Type 0) (part : M →
           few = kept.few;
         }
 
+    -- where the world is the same
+    pub kept_same : (new : Parts M) → HoldTheSame part old new → IsSameCluster belongs earlier old new → IsKept belongs part earlier start new
+    kept_same new same_world same = next_kept new same (λ st begin. subst (IsGoingOn st (world_of_parts part st start)) (sym (same_world st)) (kept.going st begin))
+
     -- after an event, and where it didn't happen
     pub kept_after : (event : Event) (r : Result (Unit {0}) Refused) (new : Parts M) → OnOk r (MakesEvent (CanGoOn belongs part old) part old event new) → OnErr r (HoldTheSame part old new) →
         IsSameCluster belongs earlier old new → IsKept belongs part earlier start new
@@ -83,8 +91,7 @@ module _ {M : Type 0} (belongs : Setting → ℕ → M → Type 0) (part : M →
         next_kept new same (λ st begin.
         let one : Happens st (world_of_parts part st old) event (world_of_parts part st new) = made st (can_go st begin) in
         goes_on_by st begin.setting begin.locks (world_of_parts part st start) (world_of_parts part st old) (kept.going st begin) event one.action (world_of_parts part st new) one.is one.step)
-    kept_after event (Err refused) new made same_world same =
-        next_kept new same (λ st begin. subst (IsGoingOn st (world_of_parts part st start)) (sym (same_world st)) (kept.going st begin))
+    kept_after event (Err refused) new made same_world same = kept_same new same_world same
 
     -- each update was fresh
     tickets_below : (next : ℕ) (order : List Entry) (high : ℕ) → AreUpdatesFrom next order → next + length order ≤ high → AllByRecursion (λ entry. ticket_of entry < high) order
@@ -143,3 +150,34 @@ module _ {M : Type 0} (belongs : Setting → ℕ → M → Type 0) (part : M →
     pub same_seen : (r : Result (Unit {0}) Refused) (new : Parts M) → OnErr r (HoldTheSame part old new) → OnErr r (HoldTheSame part view.now new)
     same_seen (Ok done) new same = tt
     same_seen (Err refused) new same = subst (λ (v : ClusterView M). HoldTheSame part v.now new) seen same
+
+    pub world_seen : (new : Parts M) → HoldTheSame part old new → HoldTheSame part view.now new
+    world_seen new same = subst (λ (v : ClusterView M). HoldTheSame part v.now new) seen same
+
+    -- ---- what may happen next
+
+    pub grants_seen : (at : MachineNo) (o : Option Vertex) → IfSome o (λ x. CanMakeEvent (CanGoOn belongs part old) part old (Grant at x)) →
+        IfSome o (λ x. CanMakeEvent (StartIn belongs part view.start.machines.items) part view.now (Grant at x))
+    grants_seen at o =
+        for_some o (λ x. CanMakeEvent (CanGoOn belongs part old) part old (Grant at x)) (λ x. CanMakeEvent (StartIn belongs part view.start.machines.items) part view.now (Grant at x))
+        (λ x can. can_seen (Grant at x) can)
+
+    pub no_grants_seen : (at : MachineNo) (o : Option Vertex) → IfNone o ((x : Vertex) → CanNotMakeEvent (CanGoOn belongs part old) part old (Grant at x)) →
+        IfNone o ((x : Vertex) → CanNotMakeEvent (StartIn belongs part view.start.machines.items) part view.now (Grant at x))
+    no_grants_seen at o =
+        for_none o ((x : Vertex) → CanNotMakeEvent (CanGoOn belongs part old) part old (Grant at x)) ((x : Vertex) → CanNotMakeEvent (StartIn belongs part view.start.machines.items) part view.now (Grant at x))
+        (λ none x. cannot_seen (Grant at x) (none x))
+
+    pub ready_seen : (o : Option ScopeId) → IfSome o (λ s. 0 < old.left → CanMakeEvent (CanGoOn belongs part old) part old (Update s)) →
+        IfSome o (λ s. 0 < view.now.left → CanMakeEvent (StartIn belongs part view.start.machines.items) part view.now (Update s))
+    ready_seen o =
+        for_some o (λ s. 0 < old.left → CanMakeEvent (CanGoOn belongs part old) part old (Update s))
+        (λ s. 0 < view.now.left → CanMakeEvent (StartIn belongs part view.start.machines.items) part view.now (Update s))
+        (λ s can left. can_seen (Update s) (can (subst (λ (v : ClusterView M). 0 < v.now.left) (sym seen) left)))
+
+    pub no_ready_seen : (at : MachineNo) (o : Option ScopeId) → IfNone o ((s : ScopeId) → s.home ≡ at → CanNotMakeEvent (CanGoOn belongs part old) part old (Update s)) →
+        IfNone o ((s : ScopeId) → s.home ≡ at → CanNotMakeEvent (StartIn belongs part view.start.machines.items) part view.now (Update s))
+    no_ready_seen at o =
+        for_none o ((s : ScopeId) → s.home ≡ at → CanNotMakeEvent (CanGoOn belongs part old) part old (Update s))
+        ((s : ScopeId) → s.home ≡ at → CanNotMakeEvent (StartIn belongs part view.start.machines.items) part view.now (Update s))
+        (λ none s home. cannot_seen (Update s) (none s home))

@@ -1,9 +1,13 @@
 -- One link is written; and links with nothing on them.
-use Rattle.std.proofs.Common.{◌≡◌, ℕ, zero, suc, ◌<◌, List, [], ◌∷◌, length, map, set, get_or, sym, refl, ap, ◌∙◌, subst, arith, get_or-set_same}
+use Rattle.std.proofs.Common.{◌≡◌, ℕ, zero, suc, ◌<◌, ◌==◌, Bool, not, true≢false, List, [], ◌∷◌, length, map, set, get_or, sym, refl, ap, ◌∙◌, subst, arith, get_or-set_same}
+use Rattle.std.proofs.lemmas.Bool.{ne_eqb}
 use Rattle.std.proofs.lemmas.List.{get_or-map, get_or_default, length-map, map-set}
 use Rattle.std.specs.List.{All}
+use Rattle.std.specs.Prelude.{IsTrue, ◌↔◌}
+use Rattle.cluster_core.specs.Actions.{HasFirst}
+use Rattle.cluster_core.specs.Messages.{Message}
 use Rattle.cluster_step.specs.Inner.Writing.{with_link_between, HasLinkBetween}
-use Rattle.cluster_step.specs.Links.{LinkView, empty_link, link_between, message_read, told_on}
+use Rattle.cluster_step.specs.Links.{LinkView, MessageView, empty_link, link_between, message_read, told_on}
 use Rattle.cluster_step.specs.Inner.Writing.{HaveLinks}
 
 -- a row of links is read as `items` says
@@ -63,3 +67,15 @@ pub have_links : (links : List (List LinkView)) (n m : ℕ) → n ≡ m → leng
 have_links links n m same rows columns =
     let have : HaveLinks links n = record { rows = rows; columns = columns } in
     subst (HaveLinks links) same have
+
+-- ---- the first of them
+
+pub first_read : (messages : List MessageView) (none : Bool) → none ≡ (length messages == 0) → IsTrue (not none) ↔ HasFirst (map message_read messages)
+first_read [] none is = (λ some. absurd (true≢false (sym some ∙ ap not is)), λ has. absurd (nothing has.message has.behind has.first))
+  where
+    nothing : (m : Message) (behind : List Message) → [] ≡ m ∷ behind → ⊥
+    nothing m behind same = cc
+first_read (m ∷ messages) none is = (λ some. record { message = message_read m; behind = map message_read messages; first = refl }, λ has. ap not (is ∙ ne_eqb (suc (length messages)) 0 (λ (same : suc (length messages) ≡ 0). omega arith)))
+
+pub first_told : (links : List (List LinkView)) (p q : ℕ) (none : Bool) → none ≡ (length (link_between links p q).messages == 0) → IsTrue (not none) ↔ HasFirst (told_on links p q)
+first_told links p q none is = first_read (link_between links p q).messages none is

@@ -1,12 +1,14 @@
 -- What is read of a cluster is what its order says.
-use Rattle.std.proofs.Common.{◌≡◌, ℕ, zero, suc, ◌+◌, ◌<◌, ◌==◌, ◌&&◌, Bool, true, false, List, [], ◌∷◌, length, map, get_or, Option, Some, None, slice_get, is_some, sym, refl, ap, ◌∙◌, subst, ⊎_elim, true≢false, arith}
+use Rattle.std.proofs.Common.{◌≡◌, ℕ, zero, suc, ◌+◌, ◌<◌, ◌≤◌, ◌==◌, ◌&&◌, Bool, true, false, List, [], ◌∷◌, ◌++◌, length, map, get_or, Option, Some, None, slice_get, is_some, slice_index_or, sym, refl, ap, ap₂, ◌∙◌, subst, inl, ⊎_elim, true≢false, arith}
 use Rattle.std.specs.List.{All, list_any}
-use Rattle.std.specs.Prelude.{IfSome, IfNone, nat_lt}
-use Rattle.std.proofs.lemmas.Bool.{and_parts, and_from, eq-eqb, eqb-true, false_from_ne_true, ltb-true}
-use Rattle.std.proofs.lemmas.List.{get_or-map}
+use Rattle.std.specs.Prelude.{IfSome, IfNone, IsTrue, nat_lt, ◌↔◌}
+use Rattle.std.proofs.lemmas.Bool.{and_parts, and_from, cases_lt, eq-eqb, eqb-true, false_from_ne_true, ltb-true}
+use Rattle.std.proofs.lemmas.List.{get_or-map, get_or_past, length-map}
+use Rattle.std.proofs.lemmas.Option.{slice_get_read}
 use Rattle.gl_base.specs.declared.entries.Entry.{Entry}
 use Rattle.gl_base.specs.declared.numbers.Vertex.{Vertex}
-use Rattle.graph_core.specs.DataGraph.{size}
+use Rattle.graph_core.specs.DataGraph.{IsEdge, size}
+use Rattle.cluster_core.specs.Actions.{HasFirst}
 use Rattle.cluster_core.specs.Copies.{edge_to_come, from_owner, to_owner}
 use Rattle.cluster_core.specs.Messages.{Ask, Done, Message, Ready}
 use Rattle.cluster_core.specs.Parts.{Part}
@@ -14,13 +16,17 @@ use Rattle.cluster_core.specs.Replays.{IsReplay, replay_of, tasks_of}
 use Rattle.cluster_core.specs.Settings.{Setting, nth_edge}
 use Rattle.cluster_core.specs.Ways.{edge_told, vertex_woken}
 use Rattle.cluster_core.specs.Worlds.{World, way}
+use Rattle.cluster_numbers.proofs.EdgeEnds.{edge_fits}
+use Rattle.cluster_step.specs.Links.{LinkView, empty_link, message_read}
 use Rattle.cluster_step.specs.Clusters.{ClusterView}
 use Rattle.cluster_step.specs.Inner.Asking.{HasTaskAt, IsFoundAt, NoneSays, is_owner_of, is_owner_with}
 use Rattle.cluster_step.specs.Inner.Going.{IsGoingOn, IsKept}
+use Rattle.cluster_step.specs.Inner.Writing.{HasLinkBetween}
 use Rattle.cluster_step.specs.Starts.{AllHaveHeard, IsEndOf, IsOrderSince, StartIn, is_word_of_update}
 use Rattle.cluster_step.specs.Worlds.{earlier_at, no_part, part_of_machine, world_of_parts}
 use Rattle.cluster_step.specs.declared.parts.Parts.{Parts}
 use Rattle.cluster_step.proofs.GoingLemmas.{replay_is}
+use Rattle.cluster_step.proofs.WorldLemmas.{part_here}
 
 -- ---- machines by their place
 
@@ -156,15 +162,18 @@ module _ {M : Type 0} (belongs : Setting → ℕ → M → Type 0) (part : M →
 
     edge_replayed : (o : Option ℕ) → IfSome o (λ x. IsFoundAt belongs (λ m. (part m).edge e) now.machines.items (λ st a. is_owner_with st a v e) x) →
         IfSome o (λ x. (st : Setting) → StartIn belongs part start.machines.items st → (order : List Entry) → IsOrderSince part st start now order →
-        IsEndOf st v e → AllHaveHeard (world_of_parts part st now) → x ≡ (replay_of st order).edge e)
+        IsEndOf st v e → AllHaveHeard st (world_of_parts part st now) → x ≡ (replay_of st order).edge e)
     edge_replayed (Some x) found = λ st begin order since end heard.
         let w : World = world_of_parts part st now in
         let from : ℕ = from_owner st e in
         let to : ℕ = to_owner st e in
         let is = edge_found x found st begin in
         let within : e < length st.graph.edges = ltb-true e (length st.graph.edges) (and_parts (nat_lt v (size st.graph)) (nat_lt e (length st.graph.edges)) is.0).1 in
-        let from_comes : edge_to_come w e from to ≡ (w.part from).edge e = edge_quiet e (way w to from) ((w.part from).edge e) (heard to from) in
-        let to_comes : edge_to_come w e to from ≡ (w.part to).edge e = edge_quiet e (way w from to) ((w.part to).edge e) (heard from to) in
+        let edge : IsEdge (size st.graph) st.graph.directed (nth_edge st e) = edge_fits st begin.setting e within in
+        let from_low : from < st.machines = begin.setting.owner (nth_edge st e).from edge.from in
+        let to_low : to < st.machines = begin.setting.owner (nth_edge st e).to edge.to in
+        let from_comes : edge_to_come w e from to ≡ (w.part from).edge e = edge_quiet e (way w to from) ((w.part from).edge e) (heard to from to_low from_low) in
+        let to_comes : edge_to_come w e to from ≡ (w.part to).edge e = edge_quiet e (way w from to) ((w.part to).edge e) (heard from to from_low to_low) in
         let agree : edge_to_come w e from to ≡ edge_to_come w e to from = (kept.going st begin).gone.next.copies.edges_agree e within in
         ⊎_elim
         (λ (at : v ≡ (nth_edge st e).from). is.1 ∙ ap (λ (u : ℕ). (w.part (st.owner u)).edge e) at ∙ sym from_comes ∙ since.edges e within)
@@ -179,26 +188,54 @@ module _ {M : Type 0} (belongs : Setting → ℕ → M → Type 0) (part : M →
   none_task (m ∷ machines) none st zero u = none 0 m (omega arith) u
   none_task (m ∷ machines) none st (suc a) u = none_task machines (λ k d within. none (suc k) d (omega arith)) st a u
 
-  task_some : (o : Option Vertex) → IfSome o (λ v. HasTaskAt part now.machines.items v.0) → IfSome o (λ v. (a : ℕ) × ((st : Setting) → (part_of_machine part st now.machines.items a).task v.0 ≡ true))
+  task_some : (o : Option Vertex) → IfSome o (λ v. HasTaskAt belongs part now.machines.items v.0) → IfSome o (λ v. (a : ℕ) × ((st : Setting) → (part_of_machine part st now.machines.items a).task v.0 ≡ true))
   task_some (Some v) has =
       let at : ℕ = has.place in
       (at, λ (st : Setting). ap (λ (p : Part). p.task v.0) (read_item part now.machines.items at has.machine (no_part st) has.stands) ∙ has.is)
   task_some None has = tt
 
+  task_left : (o : Option Vertex) → IfSome o (λ v. HasTaskAt belongs part now.machines.items v.0) →
+      IfSome o (λ v. (st : Setting) → StartIn belongs part start.machines.items st → (order : List Entry) → IsOrderSince part st start now order → (v.0 < size st.graph) × (tasks_of st order v.0 ≡ true))
+  task_left (Some v) has = λ st begin order since.
+      let at : ℕ = has.place in
+      let says : is_owner_of st at v.0 ≡ true = sym (has.owned st at (kept.machines st begin at has.machine has.stands)) in
+      let both = and_parts (nat_lt v.0 (size st.graph)) (st.owner v.0 == at) says in
+      let within : v.0 < size st.graph = ltb-true v.0 (size st.graph) both.0 in
+      let here : (part_of_machine part st now.machines.items (st.owner v.0)).task v.0 ≡ true =
+      ap (λ (k : ℕ). (part_of_machine part st now.machines.items k).task v.0) (eqb-true (st.owner v.0) at both.1)
+      ∙ ap (λ (p : Part). p.task v.0) (read_item part now.machines.items at has.machine (no_part st) has.stands) ∙ has.is in
+      (within, (since.tasks v.0 within).1 (inl here))
+  task_left None has = tt
+
   task_none : (o : Option Vertex) → IfNone o (All (λ m. (u : ℕ) → (part m).task u ≡ false) now.machines.items) → IfNone o ((st : Setting) (a u : ℕ) → (part_of_machine part st now.machines.items a).task u ≡ false)
   task_none (Some v) none = tt
   task_none None none = none_task now.machines.items none
 
+  -- nothing is on the way from where there is no machine
+  module _ (st : Setting) (begin : StartIn belongs part start.machines.items st) where
+    none_beyond : (a q : ℕ) → length now.machines.items ≤ a → way (world_of_parts part st now) a q ≡ []
+    none_beyond a q high =
+        let row : slice_index_or now.links a [] ≡ [] = get_or_past now.links a [] (subst (λ n. n ≤ a) (sym kept.links.rows) high) in
+        let machine : part_of_machine part st now.machines.items a ≡ no_part st = get_or_past (map part now.machines.items) a (no_part st) (subst (λ n. n ≤ a) (sym (length-map now.machines.items part)) high) in
+        ap₂ (λ (links : List LinkView) (p : Part). map message_read (slice_index_or links q empty_link).messages ++ p.out q) row machine
+
+    heard_from : AllHaveHeard st (world_of_parts part st now) → (a q : ℕ) → q < st.machines → list_any is_word_of_update (way (world_of_parts part st now) a q) ≡ false
+    heard_from heard a q low =
+        ⊎_elim
+        (λ (within : a < st.machines). heard a q within low)
+        (λ (high : st.machines ≤ a). ap (list_any is_word_of_update) (none_beyond a q (subst (λ n. n ≤ a) (sym (kept.many ∙ begin.many)) high)))
+        (cases_lt a st.machines)
+
   task_finished : (o : Option Vertex) → IfNone o (All (λ m. (u : ℕ) → (part m).task u ≡ false) now.machines.items) →
       IfNone o ((st : Setting) → StartIn belongs part start.machines.items st → (order : List Entry) → IsOrderSince part st start now order →
-      AllHaveHeard (world_of_parts part st now) → (u : ℕ) → u < size st.graph → tasks_of st order u ≡ false)
+      AllHaveHeard st (world_of_parts part st now) → (u : ℕ) → u < size st.graph → tasks_of st order u ≡ false)
   task_finished (Some v) none = tt
   task_finished None none = λ st begin order since heard u within.
       let w : World = world_of_parts part st now in
       false_from_ne_true (tasks_of st order u) (λ task. ⊎_elim
       (λ (here : (w.part (st.owner u)).task u ≡ true). not_both ((w.part (st.owner u)).task u) (sym (none_task now.machines.items none st (st.owner u) u)) here)
       (λ (comes : (p : ℕ) × (vertex_woken u (way w p (st.owner u)) ≡ true)).
-      not_both (vertex_woken u (way w comes.0 (st.owner u))) (sym (woken_quiet u (way w comes.0 (st.owner u)) (heard comes.0 (st.owner u)))) comes.1)
+      not_both (vertex_woken u (way w comes.0 (st.owner u))) (sym (woken_quiet u (way w comes.0 (st.owner u)) (heard_from st begin heard comes.0 (st.owner u) (begin.setting.owner u within)))) comes.1)
       ((since.tasks u within).0 task))
 
   -- ---- updates made
@@ -220,12 +257,44 @@ module _ {M : Type 0} (belongs : Setting → ℕ → M → Type 0) (part : M →
       subst (λ (v : ClusterView M). (st : Setting) → StartIn belongs part v.start.machines.items st → (order : List Entry) × IsOrderSince part st v.start v.now order) seen
       (order_since belongs part earlier start now kept)
 
+  pub began_seen : (st : Setting) × StartIn belongs part view.start.machines.items st
+  began_seen = subst (λ (v : ClusterView M). (st : Setting) × StartIn belongs part v.start.machines.items st) seen (kept.setting, kept.began)
+
+  pub many_seen : length view.now.machines.items ≡ length view.start.machines.items
+  many_seen = subst (λ (v : ClusterView M). length v.now.machines.items ≡ length v.start.machines.items) seen kept.many
+
   low_now : (a : ℕ) → a < length view.now.machines.items → a < length now.machines.items
   low_now a low = subst (λ (v : ClusterView M). a < length v.now.machines.items) (sym seen) low
 
   pub log_seen : (a : ℕ) (m : M) → a < length view.now.machines.items → m ≡ get_or now.machines.items a m → (st : Setting) → (part m).log ≡ (part_of_machine part st view.now.machines.items a).log
   log_seen a m low is =
       subst (λ (v : ClusterView M). (st : Setting) → (part m).log ≡ (part_of_machine part st v.now.machines.items a).log) seen (log_here belongs part earlier start now kept a m (low_now a low) is)
+
+  -- ---- a machine
+
+  pub part_seen : (a : ℕ) (m : M) → a < length view.now.machines.items → m ≡ get_or now.machines.items a m → (st : Setting) → part_of_machine part st view.now.machines.items a ≡ part m
+  part_seen a m low is st =
+      subst (λ (v : ClusterView M). part_of_machine part st v.now.machines.items a ≡ part m) seen (part_here part st now.machines.items a m (low_now a low) is)
+
+  pub waits_seen : (a q : ℕ) (m : M) → a < length view.now.machines.items → m ≡ get_or now.machines.items a m → (r : Bool) → IsTrue r ↔ HasFirst ((part m).out q) →
+      (st : Setting) → IsTrue r ↔ HasFirst ((part_of_machine part st view.now.machines.items a).out q)
+  waits_seen a q m low is r whether st = subst (λ (p : Part). IsTrue r ↔ HasFirst (p.out q)) (sym (part_seen a m low is st)) whether
+
+  pub stands_seen : (a : ℕ) (m : M) → a < length view.now.machines.items → m ≡ get_or now.machines.items a m → slice_get view.now.machines.items a ≡ Some m
+  stands_seen a m low is =
+      subst (λ (v : ClusterView M). slice_get v.now.machines.items a ≡ Some m) seen (slice_get_read now.machines.items (length now.machines.items) a m refl (low_now a low) is)
+
+  pub belongs_seen : (a : ℕ) (m : M) → a < length view.now.machines.items → m ≡ get_or now.machines.items a m → (st : Setting) → StartIn belongs part view.start.machines.items st → belongs st a m
+  belongs_seen a m low is =
+      subst (λ (v : ClusterView M). (st : Setting) → StartIn belongs part v.start.machines.items st → belongs st a m) seen
+      (λ st begin. kept.machines st begin a m (slice_get_read now.machines.items (length now.machines.items) a m refl (low_now a low) is))
+
+  pub links_seen : (p q : ℕ) → p < length view.now.machines.items → q < length view.now.machines.items → HasLinkBetween now.links p q
+  links_seen p q from to =
+      record {
+        from = subst (λ n. p < n) (sym kept.links.rows) (low_now p from);
+        to = subst (λ n. q < n) (sym (kept.links.columns p (low_now p from))) (low_now q to);
+      }
 
   pub made_count : (a : ℕ) (m : M) → a < length view.now.machines.items → m ≡ get_or now.machines.items a m → (many : ℕ) → many ≡ earlier m + length (part m).log →
       (st : Setting) → many ≡ earlier_at earlier view.start.machines.items a + length (part_of_machine part st view.now.machines.items a).log
@@ -268,20 +337,26 @@ module _ {M : Type 0} (belongs : Setting → ℕ → M → Type 0) (part : M →
         (edge_number belongs part earlier start now kept v e o found_e)
 
     pub edge_replayed_seen : IfSome o (λ x. (st : Setting) → StartIn belongs part view.start.machines.items st → (order : List Entry) → IsOrderSince part st view.start view.now order →
-        IsEndOf st v e → AllHaveHeard (world_of_parts part st view.now) → x ≡ (replay_of st order).edge e)
+        IsEndOf st v e → AllHaveHeard st (world_of_parts part st view.now) → x ≡ (replay_of st order).edge e)
     edge_replayed_seen =
         subst (λ (c : ClusterView M). IfSome o (λ x. (st : Setting) → StartIn belongs part c.start.machines.items st → (order : List Entry) → IsOrderSince part st c.start c.now order →
-        IsEndOf st v e → AllHaveHeard (world_of_parts part st c.now) → x ≡ (replay_of st order).edge e)) seen
+        IsEndOf st v e → AllHaveHeard st (world_of_parts part st c.now) → x ≡ (replay_of st order).edge e)) seen
         (edge_replayed belongs part earlier start now kept v e o found_e)
 
   module _ (machines : List M) (same : machines ≡ now.machines.items) (o : Option Vertex) where
     none_now : IfNone o (All (λ m. (u : ℕ) → (part m).task u ≡ false) machines) → IfNone o (All (λ m. (u : ℕ) → (part m).task u ≡ false) now.machines.items)
     none_now none = subst (λ (ms : List M). IfNone o (All (λ m. (u : ℕ) → (part m).task u ≡ false) ms)) same none
 
-    pub task_some_seen : IfSome o (λ v. HasTaskAt part machines v.0) → IfSome o (λ v. (a : ℕ) × ((st : Setting) → (part_of_machine part st view.now.machines.items a).task v.0 ≡ true))
+    pub task_some_seen : IfSome o (λ v. HasTaskAt belongs part machines v.0) → IfSome o (λ v. (a : ℕ) × ((st : Setting) → (part_of_machine part st view.now.machines.items a).task v.0 ≡ true))
     task_some_seen has =
         subst (λ (c : ClusterView M). IfSome o (λ v. (a : ℕ) × ((st : Setting) → (part_of_machine part st c.now.machines.items a).task v.0 ≡ true))) seen
-        (task_some belongs part earlier start now kept o (subst (λ (ms : List M). IfSome o (λ v. HasTaskAt part ms v.0)) same has))
+        (task_some belongs part earlier start now kept o (subst (λ (ms : List M). IfSome o (λ v. HasTaskAt belongs part ms v.0)) same has))
+
+    pub task_left_seen : IfSome o (λ v. HasTaskAt belongs part machines v.0) →
+        IfSome o (λ v. (st : Setting) → StartIn belongs part view.start.machines.items st → (order : List Entry) → IsOrderSince part st view.start view.now order → (v.0 < size st.graph) × (tasks_of st order v.0 ≡ true))
+    task_left_seen has =
+        subst (λ (c : ClusterView M). IfSome o (λ v. (st : Setting) → StartIn belongs part c.start.machines.items st → (order : List Entry) → IsOrderSince part st c.start c.now order → (v.0 < size st.graph) × (tasks_of st order v.0 ≡ true))) seen
+        (task_left belongs part earlier start now kept o (subst (λ (ms : List M). IfSome o (λ v. HasTaskAt belongs part ms v.0)) same has))
 
     pub task_none_seen : IfNone o (All (λ m. (u : ℕ) → (part m).task u ≡ false) machines) → IfNone o ((st : Setting) (a u : ℕ) → (part_of_machine part st view.now.machines.items a).task u ≡ false)
     task_none_seen none =
@@ -290,8 +365,8 @@ module _ {M : Type 0} (belongs : Setting → ℕ → M → Type 0) (part : M →
 
     pub task_finished_seen : IfNone o (All (λ m. (u : ℕ) → (part m).task u ≡ false) machines) →
         IfNone o ((st : Setting) → StartIn belongs part view.start.machines.items st → (order : List Entry) → IsOrderSince part st view.start view.now order →
-        AllHaveHeard (world_of_parts part st view.now) → (u : ℕ) → u < size st.graph → tasks_of st order u ≡ false)
+        AllHaveHeard st (world_of_parts part st view.now) → (u : ℕ) → u < size st.graph → tasks_of st order u ≡ false)
     task_finished_seen none =
         subst (λ (c : ClusterView M). IfNone o ((st : Setting) → StartIn belongs part c.start.machines.items st → (order : List Entry) → IsOrderSince part st c.start c.now order →
-        AllHaveHeard (world_of_parts part st c.now) → (u : ℕ) → u < size st.graph → tasks_of st order u ≡ false)) seen
+        AllHaveHeard st (world_of_parts part st c.now) → (u : ℕ) → u < size st.graph → tasks_of st order u ≡ false)) seen
         (task_finished belongs part earlier start now kept o (none_now none))

@@ -1,5 +1,5 @@
 -- The events of a cluster, as actions of the cluster's law.
-pub use Rattle.cluster_core.specs.Actions.{Action, IsActionStep, MayHappen}
+pub use Rattle.cluster_core.specs.Actions.{Action, HasFirst, IsActionStep, MayHappen}
 use Rattle.std.specs.Prelude.{false, ℕ, ⊤, ◌<◌, ◌≡◌}
 use Rattle.cluster_core.specs.Actions as law
 use Rattle.cluster_step.specs.Worlds.{Part, Setting, World, world_of_parts}

@@ -84,6 +84,6 @@ is_word_of_update (Ask s v rest) = false
 is_word_of_update (Ready s) = false
 is_word_of_update (Done s news) = true
 
--- no word of an update is on the way
-abbrev pub AllHaveHeard : World → Type 0
-AllHaveHeard w = (p q : ℕ) → list_any is_word_of_update (way w p q) ≡ false
+-- no word of an update is on the way from one machine to another
+abbrev pub AllHaveHeard : Setting → World → Type 0
+AllHaveHeard st w = (p q : ℕ) → p < st.machines → q < st.machines → list_any is_word_of_update (way w p q) ≡ false

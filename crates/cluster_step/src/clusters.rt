@@ -1,9 +1,11 @@
 //! A cluster on one thread.
-ghost use Rattle.std.specs.Prelude.{◌≡◌, ℕ, ◌+◌, ◌^◌, ◌<◌, ◌&&◌, [], false, length, is_some, nat_lt, IfOk, OnOk, OnErr, IfSome, IfNone, IsErrOf, List, true};
+ghost use Rattle.std.specs.Prelude.{◌≡◌, ◌↔◌, ℕ, ◌+◌, ◌^◌, ◌<◌, ◌&&◌, [], Some, false, length, is_some, nat_lt, slice_get, IfOk, OnOk, OnErr, IfSome, IfNone, IsErrOf, IsTrue, List, true};
+ghost use Rattle.gl_base.specs.declared.numbers.Vertex.{Vertex};
+ghost use Rattle.gl_base.specs.declared.scopes.ScopeId.{ScopeId};
 ghost use Rattle.gl_base.specs.declared.entries.Entry.{Entry};
 ghost use Rattle.cluster_step.specs.Links.{told_on};
 ghost use Rattle.cluster_step.specs.Worlds.{Setting, earlier_at};
-ghost use Rattle.cluster_step.specs.Events.{NamesMachinesOf, MakesEvent, CanMakeEvent, CanNotMakeEvent, HoldTheSame};
+ghost use Rattle.cluster_step.specs.Events.{NamesMachinesOf, MakesEvent, CanMakeEvent, CanNotMakeEvent, HasFirst, HoldTheSame};
 ghost use Rattle.cluster_step.specs.Starts.{StartIn, IsOrderSince, IsStart, IsEndOf, WasFresh, AllHaveHeard, replay_of, tasks_of, size};
 ghost use Rattle.cluster_step.specs.Clusters.{InEachSetting, OfTheOrder, part_now, world_now};
 ghost use Rattle.cluster_step.specs.Inner.Asking.{IsFoundAt, NoneSays, HasTaskAt, is_owner_of, is_owner_with};
@@ -13,7 +15,7 @@ use crate::events::Event;
 use crate::links::Links;
 use crate::parts::Parts;
 use cluster_machines::ClusterMachine;
-use gl_base::{EdgeNo, Entry, MachineNo, NoMemory, Refused, Vertex};
+use gl_base::{EdgeNo, Entry, MachineNo, NoMemory, Refused, ScopeId, Vertex};
 use std::alloc::Global;
 use std::marker::Model;
 use std::snapshot::Snapshot;
@@ -79,9 +81,60 @@ impl<M: ClusterMachine> Cluster<M> {
         self.parts.make(event)
     }
 
-    /// How many machines there are.
+    /// A lock that may be granted at the machine; `None` exactly where none may be.
+    pub fn next_grant(&mut self, at: MachineNo) -> Option<Vertex>
+        requires { at.0 < length self.old.now.machines.items }
+        ensures some { IfSome result (λ x. CanMakeEvent (StartIn M.belongs M.part self.old.start.machines.items) M.part self.old.now (Event.Grant at x)) }
+        ensures none { IfNone result ((x : Vertex) → CanNotMakeEvent (StartIn M.belongs M.part self.old.start.machines.items) M.part self.old.now (Event.Grant at x)) }
+        ensures unchanged { HoldTheSame M.part self.old.now self.new.now }
+        ensures start { self.new.start ≡ self.old.start }
+        ensures machines { length self.new.now.machines.items ≡ length self.old.now.machines.items }
+    {
+        self.parts.next_grant(at)
+    }
+
+    /// A scope of the machine whose update may be made where a ticket is left; `None` exactly where there is none.
+    pub fn next_ready(&self, at: MachineNo) -> Option<ScopeId>
+        requires { at.0 < length self.now.now.machines.items }
+        ensures home { IfSome result (λ s. s.home ≡ at) }
+        ensures some { IfSome result (λ s. 0 < self.now.now.left → CanMakeEvent (StartIn M.belongs M.part self.now.start.machines.items) M.part self.now.now (Event.Update s)) }
+        ensures none { IfNone result ((s : ScopeId) → s.home ≡ at → CanNotMakeEvent (StartIn M.belongs M.part self.now.start.machines.items) M.part self.now.now (Event.Update s)) }
+    {
+        self.parts.next_ready(at)
+    }
+
+    /// Whether a message waits at the one machine to be sent to the other.
+    pub fn waits(&self, from: MachineNo, to: MachineNo) -> bool
+        requires { from.0 < length self.now.now.machines.items }
+        ensures { (st : Setting) → IsTrue result ↔ HasFirst ((part_now M.part st self.now from.0).out to.0) }
+    {
+        self.parts.machines[from.0 as usize].waits(to)
+    }
+
+    /// Whether a message is on the link from the one machine to the other.
+    pub fn has_message(&self, from: MachineNo, to: MachineNo) -> bool
+        requires from { from.0 < length self.now.now.machines.items }
+        requires to { to.0 < length self.now.now.machines.items }
+        ensures { IsTrue result ↔ HasFirst (told_on self.now.now.links from.0 to.0) }
+    {
+        self.parts.links.has_message(from, to)
+    }
+
+    /// A machine, to be read.
+    pub fn machine(&self, m: MachineNo) -> &M
+        requires { m.0 < length self.now.now.machines.items }
+        ensures stands { slice_get self.now.now.machines.items m.0 ≡ Some result.now }
+        ensures belongs { InEachSetting M.belongs M.part self.now (λ st. M.belongs st m.0 result.now) }
+    {
+        &self.parts.machines[m.0 as usize]
+    }
+
+    /// How many machines there are. In some setting they started, and since then there is one order of their updates.
     pub fn machines(&self) -> usize
-        ensures { result ≡ length self.now.now.machines.items }
+        ensures count { result ≡ length self.now.now.machines.items }
+        ensures same { length self.now.now.machines.items ≡ length self.now.start.machines.items }
+        ensures began { (st : Setting) × StartIn M.belongs M.part self.now.start.machines.items st }
+        ensures serial { InEachSetting M.belongs M.part self.now (λ st. (order : List Entry) × IsOrderSince M.part st self.now.start self.now.now order) }
     {
         self.parts.machines.len()
     }
@@ -132,18 +185,19 @@ impl<M: ClusterMachine> Cluster<M> {
         ensures some { InEachSetting M.belongs M.part self.now (λ st. is_some result ≡ (nat_lt end.0 (size st.graph) && nat_lt e.0 (length st.graph.edges))) }
         ensures number { IfSome result (λ x. InEachSetting M.belongs M.part self.now (λ st. x ≡ (part_now M.part st self.now (st.owner end.0)).edge e.0)) }
         ensures replayed { IfSome result (λ x. OfTheOrder M.belongs M.part self.now (λ st order.
-            IsEndOf st end.0 e.0 → AllHaveHeard (world_now M.part st self.now) → x ≡ (replay_of st order).edge e.0)) }
+            IsEndOf st end.0 e.0 → AllHaveHeard st (world_now M.part st self.now) → x ≡ (replay_of st order).edge e.0)) }
     {
         edge_at(&self.parts.machines, end, e)
     }
 
-    /// A vertex that is a task of some machine; `None` exactly where none is. Once all machines have heard of all updates, the order
-    /// then leaves no task.
+    /// A vertex that is a task of some machine, and so a task after the order; `None` exactly where none is. Once all machines have
+    /// heard of all updates, the order then leaves no task.
     pub fn task(&self) -> Option<Vertex>
         ensures some { IfSome result (λ v. (a : ℕ) × ((st : Setting) → (part_now M.part st self.now a).task v.0 ≡ true)) }
         ensures none { IfNone result ((st : Setting) (a u : ℕ) → (part_now M.part st self.now a).task u ≡ false) }
+        ensures left { IfSome result (λ v. OfTheOrder M.belongs M.part self.now (λ st order. (v.0 < size st.graph) × (tasks_of st order v.0 ≡ true))) }
         ensures finished { IfNone result (OfTheOrder M.belongs M.part self.now (λ st order.
-            AllHaveHeard (world_now M.part st self.now) → (u : ℕ) → u < size st.graph → tasks_of st order u ≡ false)) }
+            AllHaveHeard st (world_now M.part st self.now) → (u : ℕ) → u < size st.graph → tasks_of st order u ≡ false)) }
     {
         first_task(&self.parts.machines)
     }
@@ -177,7 +231,7 @@ fn edge_at<M: ClusterMachine>(machines: &[M], end: Vertex, e: EdgeNo) -> Option<
 
 /// The task of the first machine that has one.
 fn first_task<M: ClusterMachine>(machines: &[M]) -> Option<Vertex>
-    ensures some { IfSome result (λ v. HasTaskAt M.part machines.now v.0) }
+    ensures some { IfSome result (λ v. HasTaskAt M.belongs M.part machines.now v.0) }
     ensures none { IfNone result (All (λ m. (u : ℕ) → (M.part m).task u ≡ false) machines.now) }
 {
     for machine in machines {

@@ -1,5 +1,5 @@
 //! What is on the way from one machine to another.
-ghost use Rattle.std.specs.Prelude.{◌≡◌, ◌<◌, ◌++◌, ◌∷◌, [], slice_get, option_map, OnSome, OnOk};
+ghost use Rattle.std.specs.Prelude.{◌≡◌, ◌==◌, ◌<◌, ◌++◌, ◌∷◌, [], length, slice_get, option_map, OnSome, OnOk};
 ghost use Rattle.cluster_step.specs.Inner.Writing.{behind_first};
 ghost use Rattle.cluster_step.specs.Links.{message_view};
 
@@ -34,7 +34,14 @@ impl Link {
         }
     }
 
-    /// MakesEvent room for one more message.
+    /// Whether nothing is on it.
+    pub fn is_empty(&self) -> bool
+        ensures { result ≡ (length self.now.messages == 0) }
+    {
+        self.queue.is_empty()
+    }
+
+    /// Makes room for one more message.
     pub fn reserve(&mut self) -> Result<(), NoMemory>
         ensures room { OnOk result (0 < self.new.room) }
         ensures same { self.new.messages ≡ self.old.messages }

@@ -1,8 +1,9 @@
 //! The links between machines.
-ghost use Rattle.std.specs.Prelude.{◌≡◌, ℕ, ◌<◌, ◌++◌, ◌∷◌, [], length, slice_get, slice_index_or, option_map, OnOk, OnSome, IfOk};
+ghost use Rattle.std.specs.Prelude.{◌≡◌, ◌↔◌, ℕ, ◌<◌, ◌++◌, ◌∷◌, [], length, slice_get, slice_index_or, option_map, OnOk, OnSome, IfOk, IsTrue};
 ghost use Rattle.std.specs.List.{All};
 ghost use Rattle.cluster_step.specs.Inner.Writing.{behind_first, with_link_between, HasLinkBetween};
-ghost use Rattle.cluster_step.specs.Links.{LinkView, message_view, link_between};
+ghost use Rattle.cluster_step.specs.Links.{LinkView, message_view, link_between, told_on};
+ghost use Rattle.cluster_step.specs.Events.{HasFirst};
 
 use crate::link::Link;
 use gl_base::{MachineNo, NoMemory};
@@ -39,7 +40,15 @@ impl Links {
         Ok(Links { rows })
     }
 
-    /// MakesEvent room for one more message on the link.
+    /// Whether a message is on the link.
+    pub(crate) fn has_message(&self, from: MachineNo, to: MachineNo) -> bool
+        requires { HasLinkBetween self.now from.0 to.0 }
+        ensures { IsTrue result ↔ HasFirst (told_on self.now from.0 to.0) }
+    {
+        !self.rows[from.0 as usize][to.0 as usize].is_empty()
+    }
+
+    /// Makes room for one more message on the link.
     pub(crate) fn reserve(&mut self, from: MachineNo, to: MachineNo) -> Result<(), NoMemory>
         requires { HasLinkBetween self.old from.0 to.0 }
         ensures room { OnOk result (0 < (link_between self.new from.0 to.0).room) }

@@ -1,5 +1,7 @@
 //! A cluster's machines, links and tickets.
-ghost use Rattle.std.specs.Prelude.{◌≡◌, ◌+◌, ◌^◌, ◌<◌, length, OnOk, OnErr, IsErrOf};
+ghost use Rattle.std.specs.Prelude.{◌≡◌, ◌+◌, ◌^◌, ◌<◌, length, OnOk, OnErr, IfSome, IfNone, IsErrOf};
+ghost use Rattle.gl_base.specs.declared.numbers.Vertex.{Vertex};
+ghost use Rattle.gl_base.specs.declared.scopes.ScopeId.{ScopeId};
 ghost use Rattle.cluster_step.specs.Inner.Writing.{HasLinkBetween};
 ghost use Rattle.cluster_step.specs.Worlds.{Setting};
 ghost use Rattle.cluster_step.specs.Inner.Writing.{HaveLinks};
@@ -41,6 +43,29 @@ impl<M: ClusterMachine> Parts<M> {
             Event::Deliver { from, to } => self.deliver(from, to),
             Event::Update(scope) => self.update(scope),
         }
+    }
+
+    /// A lock that may be granted at the machine; `None` exactly where none may be.
+    pub(crate) fn next_grant(&mut self, at: MachineNo) -> Option<Vertex>
+        requires { at.0 < length self.old.machines.items }
+        ensures some { IfSome result (λ x. CanMakeEvent (CanGoOn M.belongs M.part self.old) M.part self.old (Event.Grant at x)) }
+        ensures none { IfNone result ((x : Vertex) → CanNotMakeEvent (CanGoOn M.belongs M.part self.old) M.part self.old (Event.Grant at x)) }
+        ensures unchanged { HoldTheSame M.part self.old self.new }
+        ensures same { IsSameCluster M.belongs M.earlier self.old self.new }
+        ensures links { self.new.links ≡ self.old.links }
+    {
+        self.machines[at.0 as usize].next_grant()
+    }
+
+    /// A scope of the machine whose update may be made where a ticket is left; `None` exactly where there is none.
+    pub(crate) fn next_ready(&self, at: MachineNo) -> Option<ScopeId>
+        requires at { at.0 < length self.now.machines.items }
+        requires some { (st : Setting) × CanGoOn M.belongs M.part self.now st }
+        ensures home { IfSome result (λ s. s.home ≡ at) }
+        ensures some { IfSome result (λ s. 0 < self.now.left → CanMakeEvent (CanGoOn M.belongs M.part self.now) M.part self.now (Event.Update s)) }
+        ensures none { IfNone result ((s : ScopeId) → s.home ≡ at → CanNotMakeEvent (CanGoOn M.belongs M.part self.now) M.part self.now (Event.Update s)) }
+    {
+        self.machines[at.0 as usize].next_ready()
     }
 
     /// The machine admits a scope.

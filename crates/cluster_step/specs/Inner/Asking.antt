@@ -16,9 +16,10 @@ pub record IsFoundAt {M : Type 0} (belongs : Setting → ℕ → M → Type 0) (
 abbrev pub NoneSays : {M : Type 0} → (Setting → ℕ → M → Type 0) → List M → (Setting → ℕ → Bool) → Type 0
 NoneSays belongs machines test = All (λ m. SaysWhether belongs m test false) machines
 
--- it is a task of some machine
-pub record HasTaskAt {M : Type 0} (part : M → Part) (machines : List M) (v : ℕ) : Type 0 where
+-- it is a task of some machine, which owns it
+pub record HasTaskAt {M : Type 0} (belongs : Setting → ℕ → M → Type 0) (part : M → Part) (machines : List M) (v : ℕ) : Type 0 where
   pub place : ℕ
   pub machine : M
   pub stands : slice_get machines place ≡ Some machine
   pub is : (part machine).task v ≡ true
+  pub owned : SaysWhether belongs machine (λ st a. is_owner_of st a v) true
