@@ -2,22 +2,32 @@
 pub use Rattle.cluster_core.specs.Actions.{MayUpdate}
 pub use Rattle.cluster_core.specs.Effects.{updated}
 pub use Rattle.cluster_core.specs.Settings.{IsSetting}
-pub use Rattle.local_parts.specs.Parts.{AreIn}
+pub use Rattle.local_parts.specs.Parts.{IsLocalOf, AreIn}
 pub use Rattle.machine_parts.specs.Order.{IsOrderly, KnowsPlaces}
-pub use Rattle.machine_parts.specs.Parts.{part_of, is_own, links_at, sides_at, task_here, pending_here}
+pub use Rattle.machine_parts.specs.Parts.{LocalView, part_of, is_ready, is_own, links_at, sides_at, task_here, pending_here}
 pub use Rattle.machine_parts.specs.Rooms.{HasOnlyMadeRoom}
 pub use Rattle.machine_parts.specs.Settings.{Setting, IsPartOf, SameSettings}
 pub use Rattle.machine_updates.specs.Works.{IsOut}
-use Rattle.std.specs.Prelude.{◌≡◌, ℕ}
+use Rattle.std.specs.Prelude.{◌≡◌, ℕ, true, Option, Some, None, List, length}
 use Rattle.gl_base.specs.declared.entries.Entry.TheVariants.{Go}
 use Rattle.gl_base.specs.declared.scopes.ScopeId.{ScopeId}
+use Rattle.local_graph.specs.Works.{IsRow}
 use Rattle.update_api.specs.Updates.{Update}
+use Rattle.update_api.specs.declared.links.Link.{Link}
 use Rattle.machine_parts.specs.declared.cores.Core.{Core}
 
--- the machine is a part of some cluster
-pub record HasSetting (m : Core) : Type 0 where
-  pub setting : Setting
-  pub here : IsPartOf setting m
+-- ---- rows
+
+-- the row is in, with so many links, each at its own place
+abbrev pub IsRowIn : Option (List Link) → ℕ → Type 0
+IsRowIn None many = ⊥
+IsRowIn (Some links) many = IsRow links many
+
+-- the row of each own vertex is in, with a link for each side
+abbrev pub HasEachRow : LocalView → Type 0
+HasEachRow l = (v : ℕ) → is_own l v ≡ true → IsRowIn (links_at l v) (length (sides_at l v))
+
+-- ---- the update
 
 -- The scope might make its update. For each setting of which the machine is a part, and whose program is this one, the part is what
 -- the law makes of it: the update is logged under this ticket.

@@ -1,7 +1,7 @@
 //! The update of a scope.
 ghost use Rattle.std.specs.Prelude.{◌≡◌, ℕ, ◌==◌, Some, length, if◌then◌else◌, OnOk, OnErr, IsErrOf};
 ghost use Rattle.local_graph.specs.Works.{IsRow};
-ghost use Rattle.machine_turns.specs.Turns.{IsOrderly, KnowsPlaces, SameSettings, AreIn, HasSetting, MayUpdate, HasMadeUpdate, IsAsBefore, IsOut, Setting, IsPartOf, part_of, is_own, links_at, sides_at};
+ghost use Rattle.machine_turns.specs.Turns.{IsOrderly, KnowsPlaces, SameSettings, HasEachRow, MayUpdate, HasMadeUpdate, IsAsBefore, IsOut, Setting, IsPartOf, part_of, is_own, links_at, sides_at};
 ghost use Rattle.machine_turns.specs.Inner.Taking.{CanBeTaken, HasItsRow, IsReserved, HasCompleted};
 
 use crate::waiting::centre_to_update;
@@ -24,14 +24,15 @@ pub fn update<P: Program>(
     ticket: u64,
 ) -> Result<(), Refused>
     requires orderly { IsOrderly core.old }
-    requires rows { AreIn core.old.numbers.local }
-    requires setting { HasSetting core.old }
+    requires rows { HasEachRow core.old.numbers.local }
     ensures updated { OnOk result (HasMadeUpdate (P.meaning program.now) core.old core.new scope ticket) }
     ensures not_now { IsErrOf result Refused.NotNow → MayUpdate scope (part_of core.old) 1 → ⊥ }
     ensures no_memory { IsErrOf result Refused.NoMemory → MayUpdate scope (part_of core.old) 1 }
     ensures same { IsErrOf result Refused.NotNow → core.new ≡ core.old }
     ensures unchanged { OnErr result (IsAsBefore core.old core.new) }
-    ensures rows { AreIn core.new.numbers.local }
+    ensures rows { HasEachRow core.new.numbers.local }
+    ensures links { (x : ℕ) → links_at core.new.numbers.local x ≡ links_at core.old.numbers.local x }
+    ensures local { let old = core.old.numbers.local in let new = core.new.numbers.local in new ≡ record old { kept = new.kept; rows = new.rows; numbers = new.numbers } }
     ensures orderly { IsOrderly core.new }
     ensures places { KnowsPlaces core.old → KnowsPlaces core.new }
     ensures settings { SameSettings core.old core.new }
@@ -64,12 +65,13 @@ fn make<P: Program>(
     ticket: u64,
 ) -> Result<(), NoMemory>
     requires orderly { IsOrderly core.old }
-    requires rows { AreIn core.old.numbers.local }
-    requires setting { HasSetting core.old }
+    requires rows { HasEachRow core.old.numbers.local }
     requires can { CanBeTaken core.old flight.scope flight.centre }
     ensures made { OnOk result (HasMadeUpdate (P.meaning program.now) core.old core.new flight.scope ticket) }
     ensures unchanged { OnErr result (IsAsBefore core.old core.new) }
-    ensures rows { AreIn core.new.numbers.local }
+    ensures rows { HasEachRow core.new.numbers.local }
+    ensures links { (x : ℕ) → links_at core.new.numbers.local x ≡ links_at core.old.numbers.local x }
+    ensures local { let old = core.old.numbers.local in let new = core.new.numbers.local in new ≡ record old { kept = new.kept; rows = new.rows; numbers = new.numbers } }
     ensures orderly { IsOrderly core.new }
     ensures places { KnowsPlaces core.old → KnowsPlaces core.new }
     ensures settings { SameSettings core.old core.new }
@@ -101,6 +103,7 @@ fn complete<P: Program>(
     ensures part { OnErr result (part_of core.new ≡ part_of core.old) }
     ensures back { OnErr result (core.new ≡ record core.old { numbers = record core.old.numbers { local = record core.old.numbers.local { rows = core.new.numbers.local.rows; numbers = core.new.numbers.local.numbers } } }) }
     ensures rows { (x : ℕ) → links_at core.new.numbers.local x ≡ (if x == work.vertex.0 then Some work.row.links.items else links_at core.old.numbers.local x) }
+    ensures local { let old = core.old.numbers.local in let new = core.new.numbers.local in new ≡ record old { kept = new.kept; rows = new.rows; numbers = new.numbers } }
     ensures own { (x : ℕ) → is_own core.new.numbers.local x ≡ is_own core.old.numbers.local x }
     ensures orderly { IsOrderly core.new }
     ensures places { KnowsPlaces core.old → KnowsPlaces core.new }

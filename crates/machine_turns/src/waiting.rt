@@ -1,6 +1,7 @@
 //! Which scopes wait for their update.
-ghost use Rattle.std.specs.Prelude.{◌≡◌, ◌&&◌, not, None, IfSome};
-ghost use Rattle.machine_turns.specs.Turns.{IsOrderly, AreIn, MayUpdate, part_of, task_here, pending_here};
+ghost use Rattle.std.specs.Prelude.{◌≡◌, ◌&&◌, true, false, not, None, IfSome, IfNone};
+ghost use Rattle.gl_base.specs.declared.scopes.ScopeId.{ScopeId};
+ghost use Rattle.machine_turns.specs.Turns.{IsOrderly, HasEachRow, MayUpdate, part_of, is_ready, task_here, pending_here};
 ghost use Rattle.machine_turns.specs.Inner.Taking.{CanBeTaken};
 
 use gl_base::{ScopeId, Vertex};
@@ -10,7 +11,7 @@ use machine_parts::Core;
 /// The vertex of a scope that may make its update now.
 pub fn centre_to_update(core: &Core, scope: ScopeId) -> Option<Vertex>
     requires orderly { IsOrderly core.now }
-    requires rows { AreIn core.now.numbers.local }
+    requires rows { HasEachRow core.now.numbers.local }
     ensures some { IfSome result (λ centre. CanBeTaken core.now scope centre) }
     ensures none { result ≡ None → MayUpdate scope (part_of core.now) 1 → ⊥ }
 {
@@ -23,6 +24,32 @@ pub fn centre_to_update(core: &Core, scope: ScopeId) -> Option<Vertex>
     } else {
         None
     }
+}
+
+/// A scope of this home that may make its update now; `None` exactly where none may. It looks at the ready scopes alone.
+pub fn next_ready(core: &Core) -> Option<ScopeId>
+    requires { IsOrderly core.now }
+    ensures some { IfSome result (λ s. MayUpdate s (part_of core.now) 1) }
+    ensures home { IfSome result (λ s. s.home ≡ core.now.numbers.local.me) }
+    ensures none { IfNone result ((s : ScopeId) → MayUpdate s (part_of core.now) 1 → ⊥) }
+{
+    let ready = core.pipe.ready_ones();
+    for place in 0..ready.len() {
+        let scope = ready[place].scope;
+        if may_update(core, scope) {
+            return Some(scope);
+        }
+    }
+    None
+}
+
+/// Whether a ready scope may make its update now.
+fn may_update(core: &Core, scope: ScopeId) -> bool
+    requires { is_ready core.now.pipe scope ≡ true }
+    ensures yes { result ≡ true → MayUpdate scope (part_of core.now) 1 }
+    ensures no { result ≡ false → MayUpdate scope (part_of core.now) 1 → ⊥ }
+{
+    waits(&core.numbers, core.pipe.centre(scope))
 }
 
 /// Whether v is a task that is not pending.

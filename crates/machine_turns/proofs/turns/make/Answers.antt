@@ -3,7 +3,7 @@ use Rattle.std.proofs.Common.{sym, subst}
 use Rattle.gl_base.specs.declared.numbers.Vertex.{Vertex}
 use Rattle.gl_base.specs.declared.scopes.ScopeId.{ScopeId}
 use Rattle.machine_turns.specs.Inner.Taking.{IsReserved}
-use Rattle.machine_turns.proofs.TurnLemmas.{on_ok, reserved_still, rows_in, has_made}
+use Rattle.machine_turns.proofs.TurnLemmas.{on_ok, reserved_still, row_taken, links_same, local_same, rows_in, has_made}
 use Rattle.machine_turns.proofs.turns.make.Goals as goal
 
 pub complete-requires-clause-reserved : goal.complete-requires-clause-reserved
@@ -27,9 +27,40 @@ returns-clause-made g c =
     (g.P.Program.meaning c.args.program.now) c.args.ticket c.requires.orderly c.requires.can e.orderly e.out e.part r.part r.settings e.settings e.row)
     c.complete.ensures.completed
 
+pub complete-requires-clause-row : goal.complete-requires-clause-row
+complete-requires-clause-row g c =
+    let f = c.args.flight in
+    let m = c.args.core.now in
+    let e = c.take_work-work.ensures in
+    row_taken m c.reserve_commit.new.core c.take_work-work.new.core m c.take_work-work.result f.scope f.centre e.scope.0 e.scope.1 c.reserve_commit.ensures.same e.rest
+    e.links (c.requires.orderly.flights.own f.scope f.centre c.requires.can.flight) c.requires.rows
+
+pub returns-clause-links : goal.returns-clause-links
+returns-clause-links g c =
+    let f = c.args.flight in
+    let e = c.take_work-work.ensures in
+    links_same c.args.core.now c.reserve_commit.new.core c.take_work-work.new.core c.complete.new.core c.take_work-work.result f.scope f.centre e.scope.0 e.scope.1 c.reserve_commit.ensures.same e.rest
+    e.links e.rows c.complete.ensures.rows
+
 pub returns-clause-rows : goal.returns-clause-rows
 returns-clause-rows g c =
     let f = c.args.flight in
     let e = c.take_work-work.ensures in
     rows_in c.args.core.now c.reserve_commit.new.core c.take_work-work.new.core c.complete.new.core c.take_work-work.result f.scope f.centre e.scope.0 e.scope.1 c.reserve_commit.ensures.same e.rest
-    e.rows c.complete.ensures.rows c.complete.ensures.own c.requires.rows
+    c.complete.ensures.local
+    (links_same c.args.core.now c.reserve_commit.new.core c.take_work-work.new.core c.complete.new.core c.take_work-work.result f.scope f.centre e.scope.0 e.scope.1 c.reserve_commit.ensures.same e.rest
+    e.links e.rows c.complete.ensures.rows)
+    c.complete.ensures.own c.requires.rows
+
+pub returns-clause-local : goal.returns-clause-local
+returns-clause-local g c =
+    let f = c.args.flight in
+    let e = c.take_work-work.ensures in
+    local_same c.args.core.now c.reserve_commit.new.core c.take_work-work.new.core c.complete.new.core c.take_work-work.result f.scope f.centre e.scope.0 e.scope.1 c.reserve_commit.ensures.same e.rest
+    c.complete.ensures.local
+
+pub returns-clause-settings : goal.returns-clause-settings
+returns-clause-settings g c st here =
+    let e = c.take_work-work.ensures in
+    let roomy = c.reserve_commit.ensures.settings st here in
+    c.complete.ensures.settings st (e.settings st roomy) (e.row st roomy)
