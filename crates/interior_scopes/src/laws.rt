@@ -1,0 +1,33 @@
+//! Laws of updates that are made at once. Each is the contract of a function that does nothing.
+ghost use Rattle.std.specs.Prelude.{◌≡◌, ℕ, ◌<◌, ◌++◌, ◌∷◌, [], false, List};
+ghost use Rattle.cluster_core.specs.Runs.{IsActionRun, IsStart};
+ghost use Rattle.graph_core.specs.DataGraph.{size};
+ghost use Rattle.interior_scopes.specs.AtOnce.{Action, IsInterior, IsSetting, Locking, MayUpdateAtOnce, Setting, World, actions_at_once, after_at_once};
+ghost use Rattle.interior_scopes.specs.Moves.{AreMoves, MayMove, Move, actions_of, moved};
+
+/// Where scopes take locks, admission, the grant of each lock in turn and the update are a run: each may happen in its turn, and they
+/// lead to the update made at once.
+pub fn at_once_is_a_run()
+    ensures { (st : Setting) (w : World) (a v : ℕ) → IsSetting st → st.engine ≡ Locking → MayUpdateAtOnce st a v (w.part a) w.left →
+        IsActionRun st w (actions_at_once st a v (w.part a)) (after_at_once st w a v) }
+{}
+
+/// Actions and updates at once, mixed in any order, are a run of the actions that they stand for. So each law about runs is one about
+/// them.
+pub fn moves_are_runs()
+    ensures { (st : Setting) (moves : List Move) (actions : List Action) (old new : World) → IsSetting st → st.engine ≡ Locking →
+        AreMoves st old moves actions new → IsActionRun st old actions new }
+{}
+
+/// One move more goes on at the end.
+pub fn moves_go_on()
+    ensures { (st : Setting) (moves : List Move) (actions : List Action) (old between : World) (move : Move) →
+        AreMoves st old moves actions between → MayMove st between move →
+        AreMoves st old (moves ++ move ∷ []) (actions ++ actions_of st between move) (moved st between move) }
+{}
+
+/// As a cluster starts, where no vertex is pending, each vertex whose scope lies on one machine may be updated at once.
+pub fn starts_may_update_at_once()
+    ensures { (st : Setting) (w : World) (v : ℕ) → st.engine ≡ Locking → IsStart st w → v < size st.graph → IsInterior st (st.owner v) v →
+        (w.part (st.owner v)).pending v ≡ false → 0 < st.pipeline → 0 < w.left → MayUpdateAtOnce st (st.owner v) v (w.part (st.owner v)) w.left }
+{}
