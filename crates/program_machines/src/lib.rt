@@ -3,5 +3,6 @@
 
 mod machines;
 mod members;
+mod waves;
 
 pub use machines::ProgramMachine;
