@@ -1,13 +1,13 @@
 -- No run makes more updates than the step bound.
 use Rattle.std.proofs.Common.{◌≡◌, ◌≤◌, ◌+◌, ℕ, suc, true, List, [], ◌∷◌, ◌++◌, length, Option, refl, sym, ap, ◌∙◌, subst, arith}
 use Rattle.gl_base.specs.declared.entries.Entry.{Entry}
-use Rattle.gl_base.specs.declared.entries.Entry.TheVariants.{Go}
+use Rattle.gl_base.specs.declared.entries.Entry.TheVariants.{Go, Restart}
 use Rattle.gl_base.specs.declared.jobs.Algorithm.{Algorithm}
 use Rattle.gl_base.specs.declared.jobs.Algorithm.TheVariants.{Levels, Components, Paths, Colours}
 use Rattle.gl_base.specs.declared.numbers.Vertex.{Vertex}
 use Rattle.graph_core.specs.DataGraph.{DataGraph, IsDataGraph}
 use Rattle.seq_run.specs.Orders.{IsValidOrder, all_tasks, tasks_after}
-use Rattle.seq_run.specs.Runs.{IsUpdates, updates_in_turn}
+use Rattle.job_runs.specs.Plays.{AreUpdatesFrom}
 use Rattle.seq_run.specs.States.{start_state}
 use Rattle.seq_run.specs.StepBound.{step_bound, updates_from, updates_since_restart}
 use Rattle.seq_run.proofs.GoingOn.{updates_from-push, valid_append}
@@ -23,22 +23,19 @@ pub one-more : (g : DataGraph) (p : Update) (order : List Entry) (left : Vertex)
 one-more g p order left valid task =
     valid_append g p (start_state g p) (all_tasks g) order (Go (record { 0 = 0 }) left 0 ∷ []) valid (task, tt)
 
-counted : (count ticket : ℕ) (vertices : List ℕ) → updates_from count (updates_in_turn ticket vertices) ≡ count + length vertices
-counted count ticket [] = omega arith
-counted count ticket (v ∷ vs) = let rest = counted (count + 1) (suc ticket) vs in omega (arith, rest)
-
-length-updates : (ticket : ℕ) (vertices : List ℕ) → length (updates_in_turn ticket vertices) ≡ length vertices
-length-updates ticket [] = refl
-length-updates ticket (v ∷ vs) = ap (λ n. suc n) (length-updates (suc ticket) vs)
+-- updates alone are counted one by one
+counted : (count ticket : ℕ) (order : List Entry) → AreUpdatesFrom ticket order → updates_from count order ≡ count + length order
+counted count ticket [] made = omega arith
+counted count ticket (Go machine vertex t ∷ order) made = let rest = counted (count + 1) (suc ticket) order made.1 in omega (arith, rest)
+counted count ticket (Restart t ∷ order) made = absurd made
 
 -- one update more behind updates alone
-pub since-one-more : (order : List Entry) (left : Vertex) → IsUpdates order
+pub since-one-more : (order : List Entry) (left : Vertex) → AreUpdatesFrom 0 order
     → updates_since_restart (order ++ Go (record { 0 = 0 }) left 0 ∷ []) ≡ length order + 1
 since-one-more order left made =
-    let count = counted 0 0 made.0 in
-    let before : updates_from 0 order ≡ length made.0 = ap (updates_from 0) made.1 ∙ omega (arith, count) in
-    let long : length order ≡ length made.0 = ap (λ (o : List Entry). length o) made.1 ∙ length-updates 0 made.0 in
-    updates_from-push 0 order 0 (record { 0 = 0 }) left ∙ ap (λ n. n + 1) (before ∙ sym long)
+    let count = counted 0 0 order made in
+    let pushed = updates_from-push 0 order 0 (record { 0 = 0 }) left in
+    omega (arith, count, pushed)
 
 -- the step bound of an algorithm
 pub bound-of : (algorithm : Algorithm) (source : Option ℕ) (g : DataGraph) (order : List Entry) → IsDataGraph g → HasStart algorithm source g

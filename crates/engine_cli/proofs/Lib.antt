@@ -4,9 +4,9 @@ pub mod OneCommand
 pub mod FilesMade
 pub mod CutMade
 pub mod PlansInRange
-pub mod PlaysTo
 pub mod Results
 pub mod RunsSay
 pub mod Bounds
 pub mod EntriesInside
 pub mod OneGraph
+pub mod OneMachine

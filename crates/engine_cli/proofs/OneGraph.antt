@@ -148,7 +148,7 @@ unspent job left order vertices edges enough bad =
     let next : Entry = Go (record { 0 = 0 }) left 0 in
     let longer : IsValidOrder bad.graph p (order ++ next ∷ []) = one-more bad.graph p order left bad.play.valid bad.spent.task in
     let few = bound-of job.algorithm job.source bad.graph (order ++ next ∷ []) is bad.start longer in
-    omega (arith, few, bad.spent.spent, enough bad.graph bad.graph_is, since-one-more order left bad.play.updates)
+    omega (arith, few, bad.spent.spent, enough bad.graph bad.graph_is, since-one-more order left bad.play.tickets)
 
 -- what a valid job and valid texts come to
 pub sound_is_done : (file : List ℕ) (report : Bool) (before now : Moment) (tells : List ℕ → Type 0) (order : List Entry) (status : Status)

@@ -24,7 +24,7 @@ use Rattle.engine_cli.specs.declared.status.Status.{Status}
 use Rattle.engine_cli.specs.declared.status.Status.TheVariants.{Done, Usage, BadJob, BadGraph, BadAtoms, ReadFault, WriteFault, BudgetSpent, NoMemory}
 use Rattle.engine_cli.specs.Answer.{IsAnswer, Printed, SpendsBudget}
 use Rattle.job_files.specs.JobTexts.{DescribeJobGraph, SaysJob}
-use Rattle.engine_cli.specs.Ended.{CountsUpdates}
+use Rattle.engine_cli.specs.Ended.{CountsUpdates, IsCount}
 use Rattle.whole_files.specs.FilesUsed.{HandsOver, WritesFiles}
 use Rattle.job_files.specs.NamesRead.{names_of}
 use Rattle.engine_cli.specs.NamesWritten.{order_names}
@@ -86,7 +86,7 @@ answers files file report prepared holds is none kept =
                 play = is.run.play;
                 few = is.run.few;
                 finished = finished;
-                results = results-of prepared.job.algorithm prepared.job.source prepared.graph prepared.run.order.items prepared.run.numbers.items is.graph is.start is.run.play finished;
+                results = results-of prepared.job.algorithm prepared.job.source prepared.graph prepared.job.atoms prepared.job.machines prepared.run.order.items prepared.run.numbers.items is.graph is.start is.run.play finished;
                 spelled = refl;
                 reported = refl;
                 listed = refl;
@@ -197,12 +197,17 @@ unprepared-names file old new (why.BadAtoms fault) hands refused = absurd refuse
 unprepared-names file old new why.ReadFault hands refused = absurd refused
 unprepared-names file old new why.NoMemory hands refused = absurd refused
 
-pub unprepared-counts : (why : NoInput) → CountsUpdates [] [] (status_of_no_input why)
-unprepared-counts (why.BadJob fault) = (refl, refl)
-unprepared-counts (why.BadGraph fault) = (refl, refl)
-unprepared-counts (why.BadAtoms fault) = (refl, refl)
-unprepared-counts why.ReadFault = (refl, refl)
-unprepared-counts why.NoMemory = (refl, refl)
+pub unprepared-counts : (files : FilesState) (file : List ℕ) (why : NoInput) → CountsUpdates files file [] [] (status_of_no_input why)
+unprepared-counts files file (why.BadJob fault) = (refl, refl)
+unprepared-counts files file (why.BadGraph fault) = (refl, refl)
+unprepared-counts files file (why.BadAtoms fault) = (refl, refl)
+unprepared-counts files file why.ReadFault = (refl, refl)
+unprepared-counts files file why.NoMemory = (refl, refl)
+
+-- a run that was made counts its updates
+pub prepared-counts : (files : FilesState) (file : List ℕ) (prepared : Prepared) → IsPreparedFrom files file prepared
+    → IsCount files file prepared.run.order.items prepared.run.done.items
+prepared-counts files file prepared is = (job_view prepared.job, is.job, is.counts)
 
 -- what is told of an answer may be said in another way
 pub told-says : (file : List ℕ) (report : Bool) (before now : Moment) (tells retells : List ℕ → Type 0) (order : List Entry) (status : Status)
@@ -226,7 +231,7 @@ pub record HasRead (file : List ℕ) (old new : FilesState) : Type 0 where
 
 -- What a run leaves that ended before it wrote.
 pub ends-early : (file : List ℕ) (report : Bool) (before now : Moment) (tells : List ℕ → Type 0) (order : List Entry) (done : List ℕ) (status : Status)
-    → Says file report before now tells order status → CountsUpdates order done status → HasRead file before.files now.files
+    → Says file report before now tells order status → CountsUpdates before.files file order done status → HasRead file before.files now.files
     → (IsRefusedInput status → HandsOver before.files.sources.names now.files.sources.names (names_of verb.Run before.files file))
     → IsRun file report before now tells order done status
 ends-early file report before now tells order done status says counts read refused =
@@ -245,7 +250,7 @@ ends-early file report before now tells order done status says counts read refus
 
 -- What a run leaves that came to write, after it read.
 pub ends-late : (file : List ℕ) (report : Bool) (before mid now : Moment) (tells : List ℕ → Type 0) (job : JobSayings) (order : List Entry) (done : List ℕ) (status : Status)
-    → Says file report before now tells order status → CountsUpdates order done status → HasRead file before.files mid.files
+    → Says file report before now tells order status → CountsUpdates before.files file order done status → HasRead file before.files mid.files
     → SaysJob verb.Run before.files file job → WritesFiles (order_names job.fields.order) mid.files now.files
     → (IsBeforeMaking status → ⊥) → (IsRefusedInput status → ⊥) → (IsBeforeWriting status → now.files.contents ≡ mid.files.contents)
     → IsRun file report before now tells order done status

@@ -28,7 +28,7 @@ pub record IsAnswer (job : JobFields) (report : Bool) (vertices edges : List ℕ
   pub graph : DataGraph
   pub graph_is : DescribeJobGraph job vertices edges graph
   pub numbers : List ℕ
-  pub play : IsPlay graph (update_of job.algorithm job.source) order numbers
+  pub play : IsPlay graph (update_of job.algorithm job.source) job.atoms job.machines order numbers
   pub few : length order ≤ job.budget
   pub finished : IsFinished graph (update_of job.algorithm job.source) order
   pub results : AreResults job.algorithm job.source graph numbers
@@ -43,7 +43,7 @@ pub record SpendsBudget (job : JobFields) (left : Vertex) (order : List Entry) (
   pub graph_is : DescribeJobGraph job vertices edges graph
   pub start : HasStart job.algorithm job.source graph
   pub numbers : List ℕ
-  pub play : IsPlay graph (update_of job.algorithm job.source) order numbers
+  pub play : IsPlay graph (update_of job.algorithm job.source) job.atoms job.machines order numbers
   pub spent : IsSpent graph (update_of job.algorithm job.source) job.budget order left
 
 -- The two texts tell a graph, and where the algorithm needs the job's source it is one of the vertices.

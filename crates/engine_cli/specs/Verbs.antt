@@ -26,7 +26,7 @@ use Rattle.job_files.specs.declared.jobs.JobVerb.TheVariants as verb
 -- order's file ever gives anything else.
 pub record IsRun (file : List ℕ) (report : Bool) (before now : Moment) (tells : List ℕ → Type 0) (order : List Entry) (done : List ℕ) (status : Status) : Type 0 where
   pub says : Says file report before now tells order status
-  pub counts : CountsUpdates order done status
+  pub counts : CountsUpdates before.files file order done status
   pub complete : IsSound file before now → IsDoneOrNoMemory status
   pub sources : HandsForRun before.files now.files file
   pub refused : IsRefusedInput status → HandsOver before.files.sources.names now.files.sources.names (names_of verb.Run before.files file)

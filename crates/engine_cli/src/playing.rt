@@ -1,43 +1,40 @@
 //! Runs the job's algorithm on its graph.
 ghost use Rattle.std.specs.Prelude.{◌≡◌, IfOk, is_some, true};
 ghost use Rattle.job_files.specs.JobTexts.{HasStart};
-ghost use Rattle.engine_cli.specs.Plays.{RunsTo, source_id, update_of};
+ghost use Rattle.engine_cli.specs.Plays.{CountsByMachine, RunsTo, source_id, update_of};
 
-use gl_base::{Algorithm, Entry, Job, NoMemory, Vertex};
+use gl_base::{Algorithm, Job, NoMemory};
 use graph_core::Graph;
+use job_runs::{Run, RunPlan, run_program};
 use prog_colours::Colours;
 use prog_labels::{Components, Levels};
 use prog_paths::Paths;
-use seq_run::{Played, RunFault, SeqRun};
 use std::alloc::Global;
-use update_api::Program;
-
-/// A run that was made: the order of its updates, the numbers of the vertices, and where its budget was spent a vertex
-/// that is a task all the same.
-#[derive(Drop)]
-pub struct Run {
-    pub order: Vec<Entry>,
-    pub numbers: Vec<u64>,
-    pub left: Option<Vertex>,
-}
 
 /// Runs the job's algorithm until no task is left or the job's budget is spent.
 pub fn run_on(alloc: Global, graph: &Graph, job: &Job) -> Result<Run, NoMemory>
-    requires { HasStart job.now.algorithm job.now.source graph.now }
-    ensures { IfOk result (λ run. RunsTo graph.now (update_of job.now.algorithm job.now.source) job.now.budget run.order.items run.numbers.items run.left) }
+    requires start { HasStart job.now.algorithm job.now.source graph.now }
+    requires machines { job.now.machines ≡ 1 }
+    ensures run { IfOk result (λ run. RunsTo graph.now (update_of job.now.algorithm job.now.source) job.now.atoms job.now.machines job.now.budget run.order.items run.numbers.items run.left) }
+    ensures done { IfOk result (λ run. CountsByMachine job.now.machines run.order.items run.done.items) }
 {
-    let budget = job.budget;
+    let plan = RunPlan {
+        atoms: job.atoms,
+        machines: job.machines,
+        pipeline: job.pipeline,
+        budget: job.budget,
+    };
     match job.algorithm {
         Algorithm::Levels => {
             let source = source_of(job);
-            play(alloc, graph, Levels { source }, budget)
+            run_program(alloc, graph, Levels { source }, plan)
         }
-        Algorithm::Components => play(alloc, graph, Components, budget),
+        Algorithm::Components => run_program(alloc, graph, Components, plan),
         Algorithm::Paths => {
             let source = source_of(job);
-            play(alloc, graph, Paths { source }, budget)
+            run_program(alloc, graph, Paths { source }, plan)
         }
-        Algorithm::Colours => play(alloc, graph, Colours, budget),
+        Algorithm::Colours => run_program(alloc, graph, Colours, plan),
     }
 }
 
@@ -50,22 +47,4 @@ fn source_of(job: &Job) -> u64
         unreachable!()
     };
     source
-}
-
-/// Runs a program until no task is left or the budget is spent.
-fn play<P: Program>(alloc: Global, graph: &Graph, program: P, budget: u64) -> Result<Run, NoMemory>
-    ensures { IfOk result (λ run. RunsTo graph.now (P.meaning program) budget run.order.items run.numbers.items run.left) }
-{
-    let mut run = SeqRun::new(alloc, graph, program)?;
-    let left = match run.run(budget) {
-        Ok(()) => None,
-        Err(RunFault::Spent) => run.waiting(),
-        Err(RunFault::NoMemory) => return Err(NoMemory),
-    };
-    let Played { order, values, .. } = run.finish();
-    Ok(Run {
-        order,
-        numbers: values,
-        left,
-    })
 }

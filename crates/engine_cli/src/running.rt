@@ -9,17 +9,18 @@ ghost use Rattle.engine_cli.specs.Status.{IsBeforeWriting};
 ghost use Rattle.engine_cli.specs.Verbs.{IsRun};
 
 use crate::Status;
-use crate::playing::{Run, run_on};
+use crate::playing::run_on;
 use crate::printing::print_run;
 use gl_base::{Entry, Job, NoMemory};
 use gl_outside::{Files, Sink};
 use graph_core::Graph;
 use job_files::{Input, NoInput, read_run_input};
+use job_runs::Run;
 use made_graphs::Writing;
 use std::alloc::Global;
 
 /// How a run ended: its status, what is to be reported of it, and where it was made the order of its updates and how many
-/// there were.
+/// each machine made.
 #[derive(Drop)]
 pub struct RunEnd {
     pub status: Status,
@@ -59,20 +60,12 @@ pub fn run_job<F: Files, K: Sink>(
         Ok(prepared) => prepared,
         Err(why) => return refused(alloc, why.into()),
     };
-    let Ok(done) = Vec::from_elem(alloc, prepared.run.order.len() as u64, 1) else {
-        return refused(alloc, Status::NoMemory);
-    };
     if let Some(left) = prepared.run.left {
-        return ended(
-            Status::BudgetSpent { left },
-            Vec::new(alloc),
-            prepared,
-            done,
-        );
+        return ended(Status::BudgetSpent { left }, Vec::new(alloc), prepared);
     }
     match print_run(alloc, files, out, &prepared, is_reported) {
-        Ok(report) => ended(Status::Done, report, prepared, done),
-        Err(Writing::WriteFault) => ended(Status::WriteFault, Vec::new(alloc), prepared, done),
+        Ok(report) => ended(Status::Done, report, prepared),
+        Err(Writing::WriteFault) => ended(Status::WriteFault, Vec::new(alloc), prepared),
         Err(Writing::NoMemory) => refused(alloc, Status::NoMemory),
     }
 }
@@ -93,18 +86,18 @@ fn prepare<F: Files>(alloc: Global, file: &str, files: &mut F) -> Result<Prepare
 }
 
 /// The end of a run that was made, with what is to be told of it.
-fn ended(status: Status, report: Vec<u8>, prepared: Prepared, done: Vec<u64>) -> RunEnd
+fn ended(status: Status, report: Vec<u8>, prepared: Prepared) -> RunEnd
     ensures status { result.status ≡ status }
     ensures report { result.report.items ≡ report.items }
     ensures order { result.order.items ≡ prepared.run.order.items }
-    ensures done { result.done.items ≡ done.items }
+    ensures done { result.done.items ≡ prepared.run.done.items }
 {
     let Prepared { run, .. } = prepared;
     RunEnd {
         status,
         report,
         order: run.order,
-        done,
+        done: run.done,
     }
 }
 

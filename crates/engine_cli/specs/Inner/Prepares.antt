@@ -8,7 +8,7 @@ use Rattle.job_files.specs.declared.inputs.NoInput.{NoInput}
 use Rattle.job_files.specs.Atoms.{HasAtoms, RefusesAtoms}
 use Rattle.job_files.specs.JobTexts.{DescribeJobGraph, HasStart, OfJob, OfTexts, RefusesJob, RefusesTexts, SaysJob}
 use Rattle.engine_cli.specs.declared.running.Prepared.{Prepared}
-use Rattle.engine_cli.specs.Plays.{RunsTo, update_of}
+use Rattle.engine_cli.specs.Plays.{CountsByMachine, RunsTo, update_of}
 use Rattle.job_files.specs.declared.inputs.NoInput.TheVariants as why
 use Rattle.job_files.specs.declared.jobs.JobVerb.TheVariants as verb
 
@@ -19,7 +19,8 @@ pub record IsPreparedFrom (files : FilesState) (file : List ℕ) (prepared : Pre
   pub atoms : HasAtoms files (job_view prepared.job).fields
   pub graph : IsDataGraph prepared.graph
   pub start : HasStart prepared.job.algorithm prepared.job.source prepared.graph
-  pub run : RunsTo prepared.graph (update_of prepared.job.algorithm prepared.job.source) prepared.job.budget prepared.run.order.items prepared.run.numbers.items prepared.run.left
+  pub run : RunsTo prepared.graph (update_of prepared.job.algorithm prepared.job.source) prepared.job.atoms prepared.job.machines prepared.job.budget prepared.run.order.items prepared.run.numbers.items prepared.run.left
+  pub counts : CountsByMachine prepared.job.machines prepared.run.order.items prepared.run.done.items
 
 -- a run that was made; or why none was
 abbrev pub IsPrepared : FilesState → ℕ → List ℕ → Result Prepared NoInput → Type 0
