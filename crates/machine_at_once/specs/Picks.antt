@@ -1,0 +1,45 @@
+-- What an update at once asks of a machine, and what it leaves.
+pub use Rattle.cluster_core.specs.Settings.{IsSetting}
+pub use Rattle.interior_scopes.specs.AtOnce.{MayUpdateAtOnce, at_once, entry_at_once}
+pub use Rattle.machine_parts.specs.Order.{IsOrderly, KnowsPlaces}
+pub use Rattle.machine_parts.specs.Parts.{LocalView, part_of, is_own, links_at, sides_at}
+pub use Rattle.machine_parts.specs.Settings.{Setting, IsPartOf, SameSettings}
+pub use Rattle.machine_turns.specs.Turns.{HasEachRow, IsRowIn}
+pub use Rattle.task_sched.specs.Tasks.{IsNextPick}
+use Rattle.std.specs.Prelude.{◌≡◌, ◌⊎◌, ℕ, Some, None, slice_get}
+use Rattle.gl_base.specs.declared.numbers.Vertex.{Vertex}
+use Rattle.update_api.specs.Updates.{Update}
+use Rattle.task_sched.specs.declared.task_sets.Pick.{Pick}
+use Rattle.machine_parts.specs.declared.cores.Core.{Core}
+
+-- the tasks pick this vertex next
+pub record PicksNext (m : Core) (v : Vertex) : Type 0 where
+  pub pick : Pick
+  pub next : IsNextPick m.numbers.tasks (Some pick)
+  pub place : slice_get m.by_place.items pick.vertex.0 ≡ Some v
+
+-- for each setting of which the machine is a part, v may be updated at once while a ticket is left
+abbrev pub MayUpdateHere : Core → Vertex → Type 0
+MayUpdateHere m v = (st : Setting) → IsSetting st → IsPartOf st m → MayUpdateAtOnce st m.numbers.local.me.0 v.0 (part_of m) 1
+
+-- for none of them
+abbrev pub MayNotUpdateHere : Core → Vertex → Type 0
+MayNotUpdateHere m v = (st : Setting) → IsSetting st → IsPartOf st m → MayUpdateAtOnce st m.numbers.local.me.0 v.0 (part_of m) 1 → ⊥
+
+-- the tasks pick a vertex next that may be updated at once
+pub record CanUpdatePick (m : Core) : Type 0 where
+  pub vertex : Vertex
+  pub picked : PicksNext m vertex
+  pub may : MayUpdateHere m vertex
+
+-- they pick nothing, or a vertex that may not
+abbrev pub CanNotUpdatePick : Core → Type 0
+CanNotUpdatePick m = IsNextPick m.numbers.tasks None ⊎ ((v : Vertex) × PicksNext m v × MayNotUpdateHere m v)
+
+-- The tasks picked v, which might be updated at once. For each setting of which the machine is a part, and whose program is this
+-- one, the part is what the law makes of it: the update is logged under this ticket.
+pub record HasUpdatedPick (program : Update) (old new : Core) (v : Vertex) (ticket : ℕ) : Type 0 where
+  pub picked : PicksNext old v
+  pub may : MayUpdateHere old v
+  pub after : (st : Setting) → IsSetting st → IsPartOf st old → st.program ≡ program →
+      part_of new ≡ at_once st old.numbers.local.me.0 v.0 (entry_at_once old.numbers.local.me.0 v.0 ticket) (part_of old)
