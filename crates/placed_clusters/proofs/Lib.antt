@@ -1,0 +1,4 @@
+pub mod OntoLemmas
+pub mod PlaceLemmas
+pub mod NewLemmas
+pub mod ManyLemmas

@@ -1,0 +1,141 @@
+-- The parts of a new machine are in order, and begin as the run does.
+use Rattle.std.proofs.Common.{◌≡◌, ◌<◌, ◌≤◌, ◌==◌, ◌&&◌, All, ℕ, ◌∙◌, Bool, true, false, nat_lt, if◌then◌else◌, Option, Some, None, List, [], length, map, ap, sym, subst, refl}
+use Rattle.std.specs.List.{list_any}
+use Rattle.std.proofs.lemmas.Bool.{and_from, eq-eqb, lt-ltb}
+use Rattle.gl_base.specs.declared.numbers.Vertex.{Vertex}
+use Rattle.gl_base.specs.declared.scopes.Datum.{Datum}
+use Rattle.gl_base.specs.declared.scopes.Peer.TheVariants.{Machine}
+use Rattle.graph_core.specs.DataGraph.{size}
+use Rattle.cluster_core.specs.Scopes.{takes_part}
+use Rattle.cluster_core.proofs.Nearness.{owner_takes_part, scoped_itself}
+use Rattle.local_graph.specs.Locals.{place_at}
+use Rattle.local_parts.proofs.FoundLemmas.{any_mapped}
+use Rattle.machine_core.proofs.NewLemmas.{new_is}
+use Rattle.machine_numbers.specs.Views.{datum_here, flag_there, is_flagged}
+use Rattle.machine_parts.specs.declared.cores.Core.{Core}
+use Rattle.machine_parts.specs.declared.cores.Terms.{Terms}
+use Rattle.machine_parts.specs.Order.{StandByPlace}
+use Rattle.machine_parts.specs.Parts.{is_owned, is_own, message_of, number_of, stand_at}
+use Rattle.machine_scopes.proofs.HeldLemmas.{own_in}
+use Rattle.placed_graphs.proofs.BeginLemmas.{ghost_listed, listed_is, owned_by}
+use Rattle.machine_core.specs.Machines.{IsNewMachine, IsOrderly, KnowsPlaces}
+use Rattle.placed_graphs.specs.Beginnings.{AreFirstNumbers, AreFreshTasks, BeginsAt, IsReadyPart}
+use Rattle.placed_graphs.proofs.BeginLemmas.{owned_few, owned_low}
+use Rattle.placed_clusters.specs.Beginning.{GoesBy, IsNewIn, IsPartOf, IsStartPart, Setting, part_of}
+use Rattle.placed_clusters.specs.Inner.Making.{IsMadeWith}
+use Rattle.machine_numbers.specs.declared.keeping.Numbers.{Numbers}
+use Rattle.placed_clusters.specs.declared.cores.NewTerms.{NewTerms}
+
+never : (flags : List Bool) → ((u : ℕ) → is_flagged flags u ≡ false) → (o : Option ℕ) → flag_there flags o ≡ false
+never flags clear None = refl
+never flags clear (Some k) = clear k
+
+module _ (st : Setting) (terms : NewTerms) (m : Core) (goes : GoesBy st terms) (begins : BeginsAt st m.numbers.local.me.0 None m.numbers) (made : IsMadeWith terms m.numbers m) where
+  base_is : m.terms.base ≡ st.base
+  base_is = ap (λ (t : Terms). t.base) made.terms_are ∙ sym goes.base
+
+  own_first : (v : ℕ) → is_own m.numbers.local v ≡ true → datum_here m.numbers v ≡ record { value = st.start.vertex v; version = 0; mark = st.base }
+  own_first v own =
+      let there = own_in st m.numbers.local v begins.part.local own in
+      let takes : takes_part st v m.numbers.local.me.0 ≡ true = ap (takes_part st v) (sym there.1) ∙ owner_takes_part st goes.is v v there.0 (scoped_itself st goes.is v) in
+      begins.numbers.vertices v there.0 takes
+
+  owned_is : (x : ℕ) → is_owned m.locks x ≡ is_own m.numbers.local x
+  owned_is x =
+      made.owned x ∙ sym (any_mapped (λ (y : ℕ). y == x) (λ (v : Vertex). v.0) m.numbers.local.owned)
+      ∙ ap (list_any (λ (y : ℕ). y == x)) begins.part.local.owned ∙ listed_is (owned_by st m.numbers.local.me.0) (size st.graph) x ∙ sym (begins.part.local.own x)
+
+  pub part_is : IsPartOf st m
+  part_is =
+      record {
+        local = begins.part.local;
+        machines = made.machines ∙ sym goes.machines;
+        engine = goes.engine;
+        pipeline = ap (λ (t : Terms). t.pipeline) made.terms_are ∙ sym goes.pipeline;
+        base = base_is;
+        window = begins.fresh.bound ∙ ap (λ (b : Bool). if b then Some st.window else None) (sym goes.stored);
+      }
+
+  pub is_new : IsNewMachine m
+  is_new =
+      record {
+        rows = begins.part.rows;
+        tasks = begins.part.tasks_of;
+        admitted = begins.fresh.admitted;
+        outside = begins.fresh.outside;
+        ghosts = λ x. begins.part.copies x ∙ sym (ghost_listed st m.numbers.local begins.part.local x);
+        versions = λ v own. ap (λ (d : Datum). d.version) (own_first v own);
+        marks = λ v own. ap (λ (d : Datum). d.mark) (own_first v own) ∙ sym base_is;
+        home = made.home;
+        width = made.width ∙ sym (ap (λ (t : Terms). t.pipeline) made.terms_are);
+        empty = made.empty;
+        owned = owned_is;
+        unclaimed = made.unclaimed;
+      }
+
+  pub in_order : IsOrderly m
+  in_order = new_is st m goes.is part_is is_new
+
+  pub knows : KnowsPlaces m
+  knows =
+      record {
+        vertices = subst (λ (k : ℕ). StandByPlace m.numbers.local k m.by_place.items) (sym begins.part.many) made.by_place;
+        flags = begins.fresh.flags;
+      }
+
+  pub starts : IsStartPart st m.numbers.local.me.0 (part_of m)
+  starts =
+      record {
+        vertices = begins.numbers.vertices;
+        edges = λ e low either. begins.numbers.edges e low;
+        tasks = λ u low owner.
+            begins.numbers.tasks u ∙ and_from (nat_lt u (size st.graph)) (st.owner u == m.numbers.local.me.0) (lt-ltb u (size st.graph) low) (eq-eqb (st.owner u) m.numbers.local.me.0 owner);
+        log = begins.numbers.log;
+        flying = made.empty.count;
+        flights = λ s. ap number_of (made.empty.flight s);
+        stands = λ s. ap stand_at (made.empty.entered s);
+        ready = made.empty.ready;
+        holders = made.unclaimed.holder;
+        queues = made.unclaimed.queue;
+        outboxes = λ q. ap (map message_of) (made.none (Machine (record { 0 = q })));
+        known = base_is;
+        sent = base_is;
+        pending = λ u. never m.numbers.tasks.pending begins.fresh.pending (place_at m.numbers.local u);
+      }
+
+-- ---- with the numbers with which the run begins
+
+begins_at : (st : Setting) (a : ℕ) (n : Numbers) → AreFirstNumbers st a n → IsReadyPart st a n → AreFreshTasks None n.tasks → BeginsAt st n.local.me.0 None n
+begins_at st a n first ready fresh =
+    subst (λ (b : ℕ). BeginsAt st b None n) (sym ready.machine) (record { numbers = first; part = ready; fresh = fresh })
+
+-- the machine has just these numbers
+made_itself : (terms : NewTerms) (n : Numbers) (m : Core) → IsMadeWith terms n m → IsMadeWith terms m.numbers m
+made_itself terms n m made = subst (λ (k : Numbers). IsMadeWith terms k m) (sym made.numbers_are) made
+
+module _ (st : Setting) (terms : NewTerms) (a : ℕ) (n : Numbers) (m : Core) (goes : GoesBy st terms) (first : AreFirstNumbers st a n) (ready : IsReadyPart st a n) (fresh : AreFreshTasks None n.tasks) (made : IsMadeWith terms n m) where
+  begins_here : BeginsAt st m.numbers.local.me.0 None m.numbers
+  begins_here = subst (λ (k : Numbers). BeginsAt st k.local.me.0 None k) (sym made.numbers_are) (begins_at st a n first ready fresh)
+
+  pub orderly_here : IsOrderly m
+  orderly_here = in_order st terms m goes begins_here (made_itself terms n m made)
+
+  pub places_here : KnowsPlaces m
+  places_here = knows st terms m goes begins_here (made_itself terms n m made)
+
+  pub new_in : IsNewIn st a m
+  new_in =
+      let number : m.numbers.local.me.0 ≡ a = ap (λ (k : Numbers). k.local.me.0) made.numbers_are ∙ ready.machine in
+      record {
+        number = number;
+        part = part_is st terms m goes begins_here (made_itself terms n m made);
+        rows = begins_here.part.rows;
+        start = subst (λ (b : ℕ). IsStartPart st b (part_of m)) number (starts st terms m goes begins_here (made_itself terms n m made));
+      }
+
+-- own vertices are of the graph, and no more than it has
+pub low_here : (st : Setting) (terms : NewTerms) (a : ℕ) (n : Numbers) → GoesBy st terms → IsReadyPart st a n → All (λ (v : Vertex). v.0 < terms.vertices) n.local.owned
+low_here st terms a n goes ready = subst (λ (k : ℕ). All (λ (v : Vertex). v.0 < k) n.local.owned) goes.vertices (owned_low st n.local ready.local)
+
+pub few_here : (st : Setting) (terms : NewTerms) (a : ℕ) (n : Numbers) → GoesBy st terms → IsReadyPart st a n → length n.local.owned ≤ terms.vertices
+few_here st terms a n goes ready = subst (λ (k : ℕ). length n.local.owned ≤ k) goes.vertices (owned_few st n.local ready.local)

@@ -1,0 +1,3 @@
+-- What clauses of private functions cite.
+pub mod Places
+pub mod Making
