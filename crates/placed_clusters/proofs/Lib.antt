@@ -2,3 +2,5 @@ pub mod OntoLemmas
 pub mod PlaceLemmas
 pub mod NewLemmas
 pub mod ManyLemmas
+pub mod ProgramLemmas
+pub mod RunLemmas

@@ -1,9 +1,12 @@
-//! New machines of a graph that is placed on them.
+//! New machines, and clusters of them, of a graph that is placed on them.
 #![tactic(auto)]
 
+mod clusters;
 mod cores;
 mod machines;
 mod places;
+mod programs;
 
+pub use clusters::{Run, placed_cluster};
 pub use cores::NewTerms;
 pub use machines::{new_machine, new_machines};
