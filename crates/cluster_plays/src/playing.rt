@@ -1,13 +1,14 @@
 //! Runs on a cluster of several machines.
-ghost use Rattle.std.specs.Prelude.{◌<◌, IfOk};
+ghost use Rattle.std.specs.Prelude.{◌≡◌, ℕ, ◌<◌, ◌≤◌, length, slice_index, IfOk};
 ghost use Rattle.graph_core.specs.DataGraph.{IsDataGraph};
+ghost use Rattle.placed_clusters.specs.Running.{IsBaseFor};
 ghost use Rattle.cluster_plays.specs.Inner.Beginnings.{BeginsPlaced};
 ghost use Rattle.cluster_plays.specs.Plans.{CountsByMachine, IsInRange, RunsTo};
 
 use cluster_rounds::{End, drive};
 use cluster_step::Cluster;
 use gathered_runs::{GatheredRun, gather};
-use gl_base::{NoMemory, Vertex};
+use gl_base::{Base, NoMemory, Vertex};
 use graph_core::Graph;
 use job_runs::{Run, RunPlan};
 use placed_clusters::placed_cluster;
@@ -59,7 +60,7 @@ fn cluster_of<P: Program>(
     ensures { IfOk result (BeginsPlaced graph.now P.meaning program plan) }
 {
     let base = first_base(alloc, graph, &program)?;
-    let first = middle_of(graph);
+    let first = first_of(graph, &base);
     let placed = placed_by_cut(alloc, graph, plan.atoms, plan.machines, first)?;
     let run = placed_clusters::Run {
         machines: plan.machines,
@@ -71,9 +72,25 @@ fn cluster_of<P: Program>(
     placed_cluster(alloc, graph, program, &base, &placed.of, &placed.owner, run)
 }
 
-/// A vertex in the middle, by its number.
-fn middle_of(graph: &Graph) -> Vertex
+/// The vertex at which the machine that owns it begins: of those that start with the least number the first.
+fn first_of(graph: &Graph, base: &Base) -> Vertex
+    requires { IsBaseFor graph.now base.now }
     ensures { IsDataGraph graph.now }
 {
-    Vertex(graph.n() / 2)
+    least_start(&base.values, graph.n())
+}
+
+/// The first of the vertices with the least number, and vertex 0 where there is none.
+fn least_start(values: &[u64], count: u32) -> Vertex
+    requires { length values.now ≡ count }
+    ensures inside { 0 < count → result.0 < count }
+    ensures least { (v : ℕ) → v < count → slice_index values.now result.0 ≤ slice_index values.now v }
+{
+    let mut least = 0;
+    for v in 0..count {
+        if values[v as usize] < values[least as usize] {
+            least = v;
+        }
+    }
+    Vertex(least)
 }

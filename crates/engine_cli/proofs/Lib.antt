@@ -9,4 +9,3 @@ pub mod RunsSay
 pub mod Bounds
 pub mod EntriesInside
 pub mod OneGraph
-pub mod OneMachine

@@ -18,6 +18,7 @@ use job_files::{Input, NoInput, read_run_input};
 use job_runs::Run;
 use made_graphs::Writing;
 use std::alloc::Global;
+use std::sync::Wait;
 
 /// How a run ended: its status, what is to be reported of it, and where it was made the order of its updates and how many
 /// each machine made.
@@ -39,7 +40,8 @@ pub struct Prepared {
 
 /// Reads the job and its graph, runs the job's algorithm, and writes the order of its updates and the numbers of the
 /// vertices.
-pub fn run_job<F: Files, K: Sink>(
+pub fn run_job<R: Wait, F: Files, K: Sink>(
+    rt: &R,
     alloc: Global,
     file: &str,
     is_reported: bool,
@@ -56,7 +58,7 @@ pub fn run_job<F: Files, K: Sink>(
     ensures faults { K.faults out.old ≤ K.faults out.new }
     ensures same { K.same out.old out.new }
 {
-    let prepared = match prepare(alloc, file, files) {
+    let prepared = match prepare(rt, alloc, file, files) {
         Ok(prepared) => prepared,
         Err(why) => return refused(alloc, why.into()),
     };
@@ -71,7 +73,12 @@ pub fn run_job<F: Files, K: Sink>(
 }
 
 /// Reads the job and its graph, and runs the job's algorithm.
-fn prepare<F: Files>(alloc: Global, file: &str, files: &mut F) -> Result<Prepared, NoInput>
+fn prepare<R: Wait, F: Files>(
+    rt: &R,
+    alloc: Global,
+    file: &str,
+    files: &mut F,
+) -> Result<Prepared, NoInput>
     ensures answer { IsPrepared (F.state files.old) (F.state files.new).sources.faults file.now result }
     ensures frame { ChangesSources (F.state files.old) (F.state files.new) }
     ensures handed { HandsForRun (F.state files.old) (F.state files.new) file.now }
@@ -79,7 +86,7 @@ fn prepare<F: Files>(alloc: Global, file: &str, files: &mut F) -> Result<Prepare
     ensures later { (F.state files.old).sources.faults ≤ (F.state files.new).sources.faults }
 {
     let Input { job, graph } = read_run_input(alloc, files, file)?;
-    match run_on(alloc, &graph, &job) {
+    match run_on(rt, alloc, &graph, &job) {
         Ok(run) => Ok(Prepared { job, graph, run }),
         Err(NoMemory) => Err(NoInput::NoMemory),
     }

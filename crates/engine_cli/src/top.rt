@@ -19,11 +19,12 @@ use crate::{Ended, Status};
 use gl_outside::{Files, Gate, Sink, write_all};
 use job_words::{Words, WordsReading, read_words};
 use std::alloc::Global;
+use std::sync::Wait;
 
 /// Does what the words after the program's name ask.
 ///
-/// `run JOB` reads the job in the file JOB and the graph that it names, runs the job's algorithm on it, and prints to
-/// `out`, for each vertex by ascending identifier, its identifier and its number: its level from the job's source, the
+/// `run JOB` reads the job in the file JOB and the graph that it names, runs the job's algorithm on it, on as many machines as the
+/// job has, and prints to `out`, for each vertex by ascending identifier, its identifier and its number: its level from the job's source, the
 /// least identifier in its component, its distance from the source, or a colour. Where the job names a file for the order
 /// of the updates, that is written before `out`. With `--report` the report goes to `note`. `make PREFIX ..` writes a graph
 /// to the files PREFIX.v and PREFIX.e. `cut JOB` cuts the job's graph into atoms and writes the index and the atoms at the job's
@@ -33,9 +34,10 @@ use std::alloc::Global;
 /// built, the vertex file, the edge file, a source that is no vertex, the index and the atoms, and a run whose budget is spent;
 /// then the order's file and `out` are written, and last one line to `note` for every status but `Done`. A fault of `note` is passed over. `gate` is not passed yet.
 ///
-/// `order` holds the updates of the run and `done` how many there were, where the status is `Done`, `WriteFault` or
-/// `BudgetSpent`; the other lists are empty.
-pub fn engine<F: Files, K: Sink, N: Sink, G: Gate + Sync>(
+/// `order` holds the updates of the run and `done` how many of them each machine made, where the status is `Done`, `WriteFault` or
+/// `BudgetSpent`; the other lists are empty. A run on several machines goes on until its end is seen, and no clause says that it is.
+pub fn engine<R: Wait, F: Files, K: Sink, N: Sink, G: Gate + Sync>(
+    rt: &R,
     alloc: Global,
     words: &[String],
     files: &mut F,
@@ -71,14 +73,15 @@ pub fn engine<F: Files, K: Sink, N: Sink, G: Gate + Sync>(
     ensures lists { HasNoLosses result }
 {
     match read_words(alloc, words) {
-        Ok(asked) => do_command(alloc, &asked, files, out, note),
+        Ok(asked) => do_command(rt, alloc, &asked, files, out, note),
         Err(WordsReading::Fault(fault)) => no_run(alloc, refuse(note, Status::Usage(fault))),
         Err(WordsReading::NoMemory) => no_run(alloc, refuse(note, Status::NoMemory)),
     }
 }
 
 /// Does what the command line asks.
-fn do_command<F: Files, K: Sink, N: Sink>(
+fn do_command<R: Wait, F: Files, K: Sink, N: Sink>(
+    rt: &R,
     alloc: Global,
     asked: &Words,
     files: &mut F,
@@ -102,14 +105,23 @@ fn do_command<F: Files, K: Sink, N: Sink>(
     ensures lists { HasNoLosses result }
 {
     match asked {
-        Words::Run { file, report } => run_file(alloc, file.as_str(), *report, files, out, note),
+        Words::Run { file, report } => run_file(
+            rt,
+            alloc,
+            file.as_str(),
+            *report,
+            files,
+            out,
+            note,
+        ),
         Words::Make { .. } => no_run(alloc, files_only(alloc, asked, files, out, note)),
         Words::Cut { .. } => no_run(alloc, files_only(alloc, asked, files, out, note)),
     }
 }
 
 /// Runs the job in a file, and tells what is reported of it or why it was refused.
-fn run_file<F: Files, K: Sink, N: Sink>(
+fn run_file<R: Wait, F: Files, K: Sink, N: Sink>(
+    rt: &R,
     alloc: Global,
     file: &str,
     is_reported: bool,
@@ -136,7 +148,7 @@ fn run_file<F: Files, K: Sink, N: Sink>(
         report,
         order,
         done,
-    } = run_job(alloc, file, is_reported, files, out);
+    } = run_job(rt, alloc, file, is_reported, files, out);
     let status = match status {
         Status::Done => tell_report(note, &report),
         status => refuse(note, status),

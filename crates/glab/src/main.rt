@@ -24,6 +24,7 @@ fn main(rt: HostRuntime) -> ExitCode {
     let mut out = OutSink::new(io::writer(&rt));
     let mut note = NoteSink::new(rt.stderr());
     let ended = engine(
+        &rt,
         rt.alloc(),
         &words,
         &mut files,

@@ -19,10 +19,9 @@ is_locking Chromatic = false
 abbrev pub not_built : JobSayings → Option Key
 not_built job =
     if not (is_locking job.fields.engine) then Some key.Engine
-    else (if nat_lt 1 job.fields.machines then Some key.Machines
     else (if is_some job.fields.store then Some key.Store
     else (if nat_lt 0 (length job.failures) then Some key.Failures
-    else None)))
+    else None))
 
 -- the job, where such a key is not there
 abbrev pub if_built : JobSayings → Option Key → Result JobSayings JobFault

@@ -95,9 +95,6 @@ fn not_built(job: &Job) -> Option<Key>
     if job.engine != EngineKind::Locking {
         return Some(Key::Engine);
     }
-    if job.machines > 1 {
-        return Some(Key::Machines);
-    }
     if job.store.is_some() {
         return Some(Key::Store);
     }

@@ -10,7 +10,7 @@ use seq_run::{Played, RunFault, SeqRun};
 use std::alloc::Global;
 use update_api::Program;
 
-/// Runs a program on one machine, one update after another.
+/// Runs a program on one machine, one update after another, until no task is left or the budget is spent.
 pub fn run_alone<P: Program>(
     alloc: Global,
     graph: &Graph,

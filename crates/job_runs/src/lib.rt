@@ -1,7 +1,8 @@
-//! The run of a program on a graph: on one machine, or on a cluster of several.
+//! What the run of a program on a graph is, and the run on one machine.
 #![tactic(auto)]
 
 mod alone;
 mod runs;
 
-pub use runs::{Run, RunPlan, run_program};
+pub use alone::run_alone;
+pub use runs::{Run, RunPlan};

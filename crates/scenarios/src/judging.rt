@@ -5,6 +5,7 @@ use crate::scenario::Scenario;
 use crate::sections::read_sections;
 use std::alloc::{AllocError, Global};
 use std::rt::Files;
+use std::sync::Wait;
 use std::{fs, io};
 
 /// What a scenario has to do.
@@ -36,7 +37,7 @@ impl Hope {
 }
 
 /// Plays the scenarios of a file, and prints a line for whatever is not as it had to be.
-pub fn play_file<R: Files + Print + AllocGlobal>(
+pub fn play_file<R: Files + Print + AllocGlobal + Wait>(
     rt: &R,
     file: &str,
     hope: Hope,
@@ -45,7 +46,7 @@ pub fn play_file<R: Files + Print + AllocGlobal>(
     let text = fs::read_to_string(rt, file)?;
     let sections = read_sections(rt.alloc(), text.as_str())?;
     for scenario in read_scenarios(rt.alloc(), &sections)?.iter() {
-        let complaints = judge(rt.alloc(), scenario, hope)?;
+        let complaints = judge(rt, rt.alloc(), scenario, hope)?;
         for complaint in complaints.iter() {
             let (line, name) = (scenario.line, scenario.name);
             println!(rt; "{file}:{line}: {name}: {complaint}")?;
@@ -60,7 +61,12 @@ pub fn play_file<R: Files + Print + AllocGlobal>(
 }
 
 /// What is not as it had to be.
-fn judge(alloc: Global, scenario: &Scenario<'_>, hope: Hope) -> Result<Vec<String>, AllocError> {
+fn judge<R: Wait>(
+    rt: &R,
+    alloc: Global,
+    scenario: &Scenario<'_>,
+    hope: Hope,
+) -> Result<Vec<String>, AllocError> {
     let mut complaints = Vec::new(alloc);
     match (&scenario.wrong, hope) {
         (Some(_), Hope::IsRefused) => {}
@@ -71,9 +77,9 @@ fn judge(alloc: Global, scenario: &Scenario<'_>, hope: Hope) -> Result<Vec<Strin
         (None, Hope::IsRefused) => {
             complaints.push(String::from_str(alloc, "it is not refused")?)?;
         }
-        (None, Hope::Passes) => complaints = play(alloc, scenario)?,
+        (None, Hope::Passes) => complaints = play(rt, alloc, scenario)?,
         (None, Hope::Fails) => {
-            let count = play(alloc, scenario)?.len();
+            let count = play(rt, alloc, scenario)?.len();
             if count != 1 {
                 complaints.push(format!(in alloc; "{count} differences in place of one")?)?;
             }

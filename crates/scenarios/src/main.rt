@@ -17,6 +17,7 @@ mod trouble;
 use judging::{Hope, Tally, play_file};
 use std::process::ExitCode;
 use std::rt::{Env, Files};
+use std::sync::Wait;
 use std::{env, io};
 
 fn main(rt: HostRuntime) -> io::Result<ExitCode> {
@@ -30,7 +31,7 @@ fn main(rt: HostRuntime) -> io::Result<ExitCode> {
 }
 
 /// Plays the files that the words name.
-fn play_files<R: Env + Files + Print + AllocGlobal>(rt: &R) -> io::Result<Tally> {
+fn play_files<R: Env + Files + Print + AllocGlobal + Wait>(rt: &R) -> io::Result<Tally> {
     let mut tally = Tally {
         passed: 0,
         failed: 0,

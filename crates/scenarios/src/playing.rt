@@ -5,6 +5,7 @@ use crate::scenario::{Calls, Fault, Scenario, Step, Want};
 use engine_cli::{Ended, engine};
 use gl_outside::{MemFiles, MemSink, OpenGate};
 use std::alloc::{AllocError, Global};
+use std::sync::Wait;
 
 /// As many words as the engine does not take.
 const TOO_MANY_WORDS: usize = 4294967295;
@@ -40,7 +41,11 @@ impl Scene<'_> {
 }
 
 /// Makes the calls of a scenario, and tells each difference between what they left and what they had to.
-pub fn play(alloc: Global, scenario: &Scenario<'_>) -> Result<Vec<String>, AllocError> {
+pub fn play<R: Wait>(
+    rt: &R,
+    alloc: Global,
+    scenario: &Scenario<'_>,
+) -> Result<Vec<String>, AllocError> {
     let names = names_of(alloc, scenario)?;
     let mut differences = Vec::new(alloc);
     let mut files = MemFiles::new(
@@ -56,7 +61,7 @@ pub fn play(alloc: Global, scenario: &Scenario<'_>) -> Result<Vec<String>, Alloc
             names: &names,
             files: &files,
         };
-        files = play_step(alloc, &scene, &mut differences)?;
+        files = play_step(rt, alloc, &scene, &mut differences)?;
     }
     Ok(differences)
 }
@@ -97,7 +102,8 @@ fn add_name<'a>(names: &mut Vec<&'a str>, name: &'a str) -> Result<(), AllocErro
 }
 
 /// Makes the call of a step, before it those in which one call fails, and answers the files that it left.
-fn play_step(
+fn play_step<R: Wait>(
+    rt: &R,
     alloc: Global,
     scene: &Scene<'_>,
     differences: &mut Vec<String>,
@@ -107,20 +113,25 @@ fn play_step(
         let calls = turns.calls;
         for place in 0..turns.count {
             let number = place.saturating_add(1);
-            let left = make_call(alloc, scene, Some(Fault { calls, number }))?;
+            let left = make_call(rt, alloc, scene, Some(Fault { calls, number }))?;
             compare(alloc, scene, &left, &turns.wants, differences)?;
         }
         let number = turns.count.saturating_add(1);
         fault = Some(Fault { calls, number });
     }
-    let left = make_call(alloc, scene, fault)?;
+    let left = make_call(rt, alloc, scene, fault)?;
     compare(alloc, scene, &left, &scene.step.wants, differences)?;
     let Left { files, .. } = left;
     Ok(files)
 }
 
 /// Makes a call, where one more call may fail.
-fn make_call(alloc: Global, scene: &Scene<'_>, fault: Option<Fault>) -> Result<Left, AllocError> {
+fn make_call<R: Wait>(
+    rt: &R,
+    alloc: Global,
+    scene: &Scene<'_>,
+    fault: Option<Fault>,
+) -> Result<Left, AllocError> {
     let step = scene.step;
     let mut faults = Vec::from_slice(alloc, &step.faults)?;
     if let Some(fault) = fault {
@@ -141,7 +152,7 @@ fn make_call(alloc: Global, scene: &Scene<'_>, fault: Option<Fault>) -> Result<L
         Some(words) if words.len() < TOO_MANY_WORDS => words.as_slice(),
         _ => &[],
     };
-    let ended = engine(alloc, words, &mut files, &mut out, &mut note, &OpenGate);
+    let ended = engine(rt, alloc, words, &mut files, &mut out, &mut note, &OpenGate);
     Ok(Left {
         ended,
         files,

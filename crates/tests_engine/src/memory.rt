@@ -12,7 +12,7 @@ const JOB: &str =
 const ANSWER: &str = "1 0\n2 1\n3 2\n4 9223372036854775807\n";
 
 /// Makes the call, and answers how it ended and what `out` holds.
-fn made(rt: &impl Abort, alloc: Global) -> Result<(Ended, MemSink), NoMemory> {
+fn made(rt: &HostRuntime, alloc: Global) -> Result<(Ended, MemSink), NoMemory> {
     let mut files = MemFiles::new(
         alloc,
         Vec::new(alloc),
@@ -30,7 +30,9 @@ fn made(rt: &impl Abort, alloc: Global) -> Result<(Ended, MemSink), NoMemory> {
     assert!(rt; words.len() < 4294967295);
     let mut out = MemSink::new(alloc, Vec::new(alloc), 1000);
     let mut note = MemSink::new(alloc, Vec::new(alloc), 1000);
-    let ended = engine(alloc, &words, &mut files, &mut out, &mut note, &OpenGate);
+    let ended = engine(
+        rt, alloc, &words, &mut files, &mut out, &mut note, &OpenGate,
+    );
     Ok((ended, out))
 }
 

@@ -1,4 +1,5 @@
-//! A path of four vertices on one machine and on two, driven to its end, beside the replay of its updates on the undivided graph.
+//! A path of four vertices on one machine and on two, driven to its end and played by a plan, beside the replay of its updates on the undivided
+//! graph.
 #![tactic(auto)]
 
 mod graphs;
@@ -6,7 +7,7 @@ mod runs;
 mod trouble;
 
 use gl_base::{AtomNo, MachineNo};
-use runs::path_on;
+use runs::{path_on, path_played};
 use std::io;
 use std::process::ExitCode;
 use trouble::Trouble;
@@ -19,6 +20,7 @@ fn main(rt: HostRuntime) -> io::Result<ExitCode> {
     println!(rt; "a path on one machine: {}", said(one))?;
     let two = path_on(&rt, alloc, &apart, &[MachineNo(0), MachineNo(1)]);
     println!(rt; "a path on two machines: {}", said(two))?;
+    println!(rt; "a path played together: {}", said(path_played(&rt, alloc)))?;
     Ok(ExitCode::SUCCESS)
 }
 

@@ -1,11 +1,13 @@
 //! Runs of clusters, and beside them the replay of their updates on the undivided graph.
 use crate::graphs::path;
 use crate::trouble::Trouble;
+use cluster_plays::play_together;
 use cluster_rounds::{End, drive};
 use cluster_step::Cluster;
 use gathered_runs::{GatheredRun, gather};
 use gl_base::{AtomNo, EdgeNo, Entry, MachineNo, Vertex};
 use graph_core::Graph;
+use job_runs::RunPlan;
 use placed_clusters::{Run, placed_cluster};
 use placed_graphs::first_base;
 use prog_labels::Components;
@@ -29,7 +31,24 @@ pub fn path_on<R: Wait>(
         return Err(Trouble::Differs);
     }
     has_edges(&cluster)?;
-    is_replay(alloc, &graph, gathered(alloc, &cluster)?)
+    let run = gathered(alloc, &cluster)?;
+    is_replay(alloc, &graph, &run.order, &run.numbers)
+}
+
+/// The path of four, cut into two atoms and played on two machines.
+pub fn path_played<R: Wait>(rt: &R, alloc: Global) -> Result<(), Trouble> {
+    let graph = path(alloc)?;
+    let plan = RunPlan {
+        atoms: 2,
+        machines: 2,
+        pipeline: 2,
+        budget: 100,
+    };
+    let run = play_together(rt, alloc, &graph, Components, plan)?;
+    if run.left.is_some() || run.done.len() != 2 {
+        return Err(Trouble::Differs);
+    }
+    is_replay(alloc, &graph, &run.order, &run.numbers)
 }
 
 /// The cluster, where atoms and machines are in range.
@@ -90,17 +109,22 @@ fn has_edges(cluster: &Paths) -> Result<(), Trouble> {
 }
 
 /// The updates in their order give the same numbers on the undivided graph, and leave no task.
-fn is_replay(alloc: Global, graph: &Graph, run: GatheredRun) -> Result<(), Trouble> {
+fn is_replay(
+    alloc: Global,
+    graph: &Graph,
+    order: &[Entry],
+    numbers: &[u64],
+) -> Result<(), Trouble> {
     let mut replay = SeqRun::new(alloc, graph, Components)?;
-    for entry in &run.order {
+    for entry in order {
         if let Entry::Go { vertex, .. } = entry {
             if replay.step(*vertex).is_err() {
                 return Err(Trouble::Differs);
             }
         }
     }
-    let same = replay.values() == run.numbers.as_slice();
-    if !same || run.numbers.as_slice() != [1u64, 1, 1, 1].as_slice() || replay.waiting().is_some() {
+    let same = replay.values() == numbers;
+    if !same || numbers != [1u64, 1, 1, 1].as_slice() || replay.waiting().is_some() {
         return Err(Trouble::Differs);
     }
     Ok(())

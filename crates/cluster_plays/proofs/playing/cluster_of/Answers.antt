@@ -19,6 +19,6 @@ returns g c =
     let st = first_setting graph (meaning c.args.program) (placed_owner of on) c.args.plan in
     begins_placed graph c.args.plan of on made.cut made.placing made.atoms made.machines meaning c.args.program c.placed_cluster.result
     (c.placed_cluster.ensures.starts st
-    (run_placed graph c.args.plan of on made.cut made.placing made.atoms made.machines (meaning c.args.program) c.in_ok-base.base c.middle_of-first.result c.deref.result.now c.deref-2.result.now
-    c.deref.ensures.value c.deref-2.ensures.value c.middle_of-first.ensures (c.in_ok-base.ensures.begins st refl refl refl)))
+    (run_placed graph c.args.plan of on made.cut made.placing made.atoms made.machines (meaning c.args.program) c.in_ok-base.base c.first_of-first.result c.deref.result.now c.deref-2.result.now
+    c.deref.ensures.value c.deref-2.ensures.value c.first_of-first.ensures (c.in_ok-base.ensures.begins st refl refl refl)))
     c.placed_cluster.ensures.began c.placed_cluster.ensures.tickets

@@ -1,6 +1,4 @@
 use Rattle.std.proofs.lemmas.Result.{err_from_is_err_and}
-use Rattle.job_config.specs.Views.{job_view}
-use Rattle.engine_cli.proofs.OneMachine.{one_machine}
 use Rattle.engine_cli.proofs.RunsSay.{input-unprepared, retold-early}
 use Rattle.engine_cli.proofs.running.prepare.Goals as goal
 
@@ -14,5 +12,5 @@ returns-in_err-job-clause-refused g c =
     let exit = err_from_is_err_and c.from_residual.result c.from_residual.ensures.1 in
     rw (exit.1, exit.2) (retold-early c.args.file.now (g.F.Files.state c.args.files.now) (g.F.Files.state c.read_run_input.new.files) c.in_err-job.field-0.0 c.in_err-job.ensures.refused)
 
-pub run_on-requires-clause-machines : goal.run_on-requires-clause-machines
-run_on-requires-clause-machines g c = one_machine (job_view c.in_ok-job.field-0.job) c.in_ok-job.ensures.answer.0.ready
+pub run_on-requires-clause-numbers : goal.run_on-requires-clause-numbers
+run_on-requires-clause-numbers g c = c.in_ok-job.ensures.answer.0.ready.numbers
