@@ -4,6 +4,7 @@ use gl_base::NoMemory;
 use gl_outside::{MemFiles, MemSink, OpenGate};
 use std::alloc::Global;
 use std::process::Abort;
+use std::sync::Wait;
 
 /// Levels from 1, where edges have no direction.
 const JOB: &str =
@@ -12,7 +13,7 @@ const JOB: &str =
 const ANSWER: &str = "1 0\n2 1\n3 2\n4 9223372036854775807\n";
 
 /// Makes the call, and answers how it ended and what `out` holds.
-fn made(rt: &HostRuntime, alloc: Global) -> Result<(Ended, MemSink), NoMemory> {
+fn made<R: Abort + Wait>(rt: &R, alloc: Global) -> Result<(Ended, MemSink), NoMemory> {
     let mut files = MemFiles::new(
         alloc,
         Vec::new(alloc),
