@@ -12,7 +12,7 @@ use gl_base::{Base, NoMemory, Vertex};
 use graph_core::Graph;
 use job_runs::{Run, RunPlan};
 use placed_clusters::placed_cluster;
-use placed_graphs::{first_base, placed_by_cut};
+use placed_graphs::{first_base, placement_by_cut};
 use program_machines::ProgramMachine;
 use std::alloc::Global;
 use std::sync::Wait;
@@ -61,7 +61,7 @@ fn cluster_of<P: Program>(
 {
     let base = first_base(alloc, graph, &program)?;
     let first = first_of(graph, &base);
-    let placed = placed_by_cut(alloc, graph, plan.atoms, plan.machines, first)?;
+    let placed = placement_by_cut(alloc, graph, plan.atoms, plan.machines)?;
     let run = placed_clusters::Run {
         machines: plan.machines,
         pipeline: plan.pipeline,

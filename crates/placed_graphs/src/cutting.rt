@@ -13,6 +13,13 @@ use graph_core::Graph;
 use local_graph::LocalGraph;
 use std::alloc::Global;
 
+/// The atom of each vertex, and the machine of each atom.
+#[derive(Drop)]
+pub struct Placement {
+    pub of: Vec<AtomNo>,
+    pub owner: Vec<MachineNo>,
+}
+
 /// The atom of each vertex, the machine of each atom, and the part of the graph that each machine holds.
 #[derive(Drop)]
 pub struct PlacedGraph {
@@ -22,7 +29,30 @@ pub struct PlacedGraph {
 }
 
 /// Cuts a graph by its growth into so many atoms, and places these on so many machines by their weights: each atom weighs as much as
-/// it has vertices and edges. Each machine's order of vertices begins at `first`, where it owns that.
+/// it has vertices and edges.
+pub fn placement_by_cut(
+    alloc: Global,
+    graph: &Graph,
+    atoms: u16,
+    machines: u16,
+) -> Result<Placement, NoMemory>
+    requires some { 1 ≤ atoms }
+    requires some_machine { 1 ≤ machines }
+    ensures each { IfOk result (λ made. length made.of.items ≡ size graph.now) }
+    ensures cut { IfOk result (λ made. IsGrowthCut graph.now atoms (atom_numbers made.of.items)) }
+    ensures atoms { IfOk result (λ made. All (λ a. a.0 < atoms) made.of.items) }
+    ensures count { IfOk result (λ made. length made.owner.items ≡ atoms) }
+    ensures placing { IfOk result (λ made. IsPlacing (atom_weights graph.now (atom_numbers made.of.items) atoms) machines (machine_numbers made.owner.items)) }
+    ensures balanced { IfOk result (λ made. IsBalanced (atom_weights graph.now (atom_numbers made.of.items) atoms) machines (machine_numbers made.owner.items)) }
+    ensures machines { IfOk result (λ made. All (λ m. m.0 < machines) made.owner.items) }
+{
+    let of = atoms_by_growth(alloc, graph, atoms)?;
+    let owner = owners_by_weight(alloc, graph, &of, atoms, machines)?;
+    Ok(Placement { of, owner })
+}
+
+/// Cuts and places a graph as `placement_by_cut` does, and makes each machine's part. Its order of vertices begins at `first`, where the
+/// machine owns that.
 pub fn placed_by_cut(
     alloc: Global,
     graph: &Graph,
