@@ -1,5 +1,5 @@
 -- The tasks of a machine, and which vertex it admits next.
-use Rattle.std.specs.Prelude.{◌≡◌, ℕ, ◌+◌, ◌≤◌, Bool, true, false, ◌&&◌, not, Option, Some, None, List, [], nat_lt, slice_get}
+use Rattle.std.specs.Prelude.{◌≡◌, ℕ, ◌+◌, ◌<◌, ◌≤◌, Bool, true, false, ◌&&◌, not, Option, Some, None, List, [], length, nat_lt, slice_get}
 use Rattle.std.specs.List.{list_any}
 use Rattle.gl_base.specs.declared.numbers.Vertex.{Vertex}
 use Rattle.task_sched.specs.declared.task_sets.Pick.{Pick}
@@ -21,6 +21,12 @@ pub record TasksView : Type 0 where
 -- the vertex has this flag and is not admitted
 abbrev pub is_free : List Bool → List Bool → ℕ → Bool
 is_free flags admitted u = is_flagged flags u && not (is_flagged admitted u)
+
+-- some vertex is pending
+pub record HasPending (t : TasksView) : Type 0 where
+  pub vertex : ℕ
+  pub within : vertex < length t.task
+  pub pending : is_flagged t.pending vertex ≡ true
 
 -- so many are fewer than there may be, or no more
 abbrev pub is_below : Option ℕ → ℕ → Bool

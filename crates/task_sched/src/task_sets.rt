@@ -2,7 +2,7 @@
 ghost use Rattle.std.specs.Prelude.{◌≡◌, ℕ, ◌+◌, ◌<◌, ◌≤◌, ◌==◌, ◌&&◌, true, false, Some, None, [], ◌∷◌, ◌++◌, drop, not, length, slice_get, slice_set, nat_lt, if◌then◌else◌, IfOk, IfSome, MatchOption};
 ghost use Rattle.std.specs.List.{list_any};
 ghost use Rattle.task_sched.specs.Inner.Picking.{IsFreeTask, pick_of};
-ghost use Rattle.task_sched.specs.Tasks.{TasksView, is_flagged, is_free, is_below, is_open, IsUpTo, IsNextPick};
+ghost use Rattle.task_sched.specs.Tasks.{TasksView, is_flagged, is_free, is_below, is_open, HasPending, IsUpTo, IsNextPick};
 
 use crate::stages::Stages;
 use gl_base::{NoMemory, Vertex};
@@ -95,6 +95,7 @@ impl TaskSet {
     /// Makes v pending.
     pub fn pend(&mut self, v: Vertex)
         requires { v.0 < length self.old.task }
+        ensures is_pending { is_flagged self.new.pending v.0 ≡ true }
         ensures pending { self.new.pending ≡ slice_set self.old.pending v.0 true }
         ensures asked { self.new.asked ≡ (if is_flagged self.old.pending v.0 then self.old.asked else if is_flagged self.old.admitted v.0 then self.old.asked else self.old.asked ++ v ∷ []) }
         ensures rest { self.new ≡ record self.old { pending = self.new.pending; asked = self.new.asked } }
@@ -248,6 +249,15 @@ impl TaskSet {
             Some(vertex) => Some(vertex),
             None => first_flag(&self.pending, self.count),
         }
+    }
+
+    /// Whether a vertex is pending, admitted or not. It looks at each vertex where all pending ones are admitted.
+    pub fn has_pending(&self) -> bool
+        ensures some { result ≡ true → HasPending self.now }
+        ensures none { result ≡ false → (u : ℕ) → is_flagged self.now.pending u ≡ false }
+    {
+        let _ = &self.count;
+        self.some_pending().is_some()
     }
 
     /// As after `new`: every vertex is a task, none is pending or admitted, and no update is outside.

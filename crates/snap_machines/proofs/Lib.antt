@@ -1,0 +1,4 @@
+pub mod PendLemmas
+pub mod SeedLemmas
+pub mod BeginLemmas
+pub mod ApartLemmas

@@ -1,0 +1,14 @@
+-- A machine's part together with what it keeps for snapshots.
+pub use Rattle.cluster_core.specs.Messages.{Section}
+pub use Rattle.cluster_core.specs.Parts.{Part}
+pub use Rattle.machine_parts.specs.Parts.{part_of}
+pub use Rattle.snap_update.specs.Snaps.{SnapView}
+use Rattle.snap_update.specs.Holding.{last_of_edge, last_of_vertex}
+
+-- the numbers that were saved
+abbrev pub saved_in : SnapView → Section
+saved_in w = record { vertices = last_of_vertex w.vertices; edges = last_of_edge w.edges }
+
+-- the part, where this is kept for snapshots
+abbrev pub with_snaps : SnapView → Part → Part
+with_snaps w part = record part { known = w.known; saved = saved_in w; sent = w.sent }

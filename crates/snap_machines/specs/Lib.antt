@@ -1,0 +1,4 @@
+pub mod Keeping
+pub mod Seeding
+pub mod Hearing
+pub mod Apart

@@ -1,0 +1,28 @@
+-- Which own vertices have the mark of a snapshot.
+use Rattle.std.specs.Prelude.{◌≡◌, ℕ, ◌<◌, ◌≤◌, true, Some, slice_get}
+use Rattle.gl_base.specs.declared.numbers.Vertex.{Vertex}
+use Rattle.cluster_core.specs.Effects.{part_seeded}
+use Rattle.machine_numbers.specs.declared.keeping.Numbers.{Numbers}
+use Rattle.machine_numbers.specs.Views.{datum_here, is_own}
+use Rattle.machine_parts.specs.declared.cores.Core.{Core}
+use Rattle.machine_parts.specs.Settings.{Setting, IsPartOf}
+use Rattle.snap_machines.specs.Keeping.{SnapView, part_of, with_snaps}
+
+-- the own vertices before this place, ascending, have the mark of snapshot k
+abbrev pub AreMarkedBelow : Numbers → ℕ → ℕ → Type 0
+AreMarkedBelow n k place = (i : ℕ) (v : Vertex) → i < place → slice_get n.local.owned i ≡ Some v → is_own n.local v.0 ≡ true → k ≤ (datum_here n v.0).mark
+
+-- the one at this place has not
+abbrev pub IsFirstUnmarked : Numbers → ℕ → ℕ → Type 0
+IsFirstUnmarked n k place = (v : Vertex) → slice_get n.local.owned place ≡ Some v → (datum_here n v.0).mark < k
+
+-- the first unmarked vertex is pending where none was, whatever else is kept for snapshots
+abbrev pub HasSeeded : Core → Core → ℕ → Type 0
+HasSeeded old new k =
+    (st : Setting) (w : SnapView) → IsPartOf st old → w.known ≡ k →
+    with_snaps w (part_of new) ≡ part_seeded st old.numbers.local.me.0 (with_snaps w (part_of old))
+
+-- of the machine the pending vertices alone have changed
+abbrev pub HasOtherPending : Core → Core → Type 0
+HasOtherPending old new =
+    new ≡ record old { numbers = record old.numbers { tasks = record old.numbers.tasks { pending = new.numbers.tasks.pending; asked = new.numbers.tasks.asked } } }
