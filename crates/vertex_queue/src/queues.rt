@@ -97,21 +97,30 @@ impl VertexQueue {
         self.queue.len()
     }
 
-    /// A number up to which some of the numbers of the vertices in the queue are, and above which the greatest is, where they differ:
-    /// the greater of their mean and of the middle between the least and the greatest.
+    /// A number up to which some of the numbers of the members are, and above which the greatest is, where they differ: the greater of
+    /// their mean and of the middle between the least and the greatest.
     pub fn middle(&self, numbers: &[u64]) -> u64 {
         let mut least = u64::MAX;
         let mut greatest = 0;
         let mut mean = Mean { sum: 0, count: 0 };
         for vertex in self.queue.iter() {
-            if let Some(number) = numbers.get(vertex.0 as usize) {
-                least = least.min(*number);
-                greatest = greatest.max(*number);
-                mean = mean.with(*number);
+            if let Some(number) = self.number_of(*vertex, numbers) {
+                least = least.min(number);
+                greatest = greatest.max(number);
+                mean = mean.with(number);
             }
         }
         mean.value()
             .max(least.saturating_add(greatest.saturating_sub(least) / 2))
+    }
+
+    /// The number of a member; `None` where the vertex is none, or has no number.
+    fn number_of(&self, vertex: Vertex, numbers: &[u64]) -> Option<u64> {
+        if self.contains(vertex) {
+            numbers.get(vertex.0 as usize).copied()
+        } else {
+            None
+        }
     }
 
     /// Makes the vertex a member, behind the others.
