@@ -6,7 +6,8 @@ pub use Rattle.cluster_core.specs.Receiving.{MayReceive}
 pub use Rattle.cluster_core.specs.Places.{IsAtHome}
 pub use Rattle.cluster_core.specs.Settings.{IsSetting, Setting, is_in_scope, is_near}
 pub use Rattle.cluster_machines.specs.Told.{told_by}
-use Rattle.std.specs.Prelude.{Bool, List, None, Some, false, is_some, length, nat_lt, true, ℕ, ◌&&◌, ◌==◌, ◌∷◌, ◌≡◌}
+pub use Rattle.interior_scopes.specs.AtOnce.{MayUpdateAtOnce, at_once, entry_at_once}
+use Rattle.std.specs.Prelude.{Bool, List, None, Some, false, is_some, length, nat_lt, true, ℕ, ◌&&◌, ◌==◌, ◌∷◌, ◌≡◌, ◌⊎◌}
 use Rattle.gl_base.specs.declared.entries.Entry.TheVariants.{Go}
 use Rattle.gl_base.specs.declared.scopes.ScopeId.{ScopeId}
 use Rattle.cluster_core.specs.Effects.{admitted, granted, next_scope, received, updated}
@@ -126,6 +127,29 @@ pub record UpdatesIt {M : Type 0} (belongs : Setting → ℕ → M → Type 0) (
 -- no update may be made
 abbrev pub UpdatesNone : Part → Type 0
 UpdatesNone part = (s : ScopeId) → ¬ MayUpdate s part 1
+
+-- ---- Update at once
+
+-- v may be updated at once
+abbrev pub UpdatesAtOnce : {M : Type 0} → (Setting → ℕ → M → Type 0) → (M → Part) → M → ℕ → Type 0
+UpdatesAtOnce belongs part m v = (st : Setting) (a : ℕ) → belongs st a m → MayUpdateAtOnce st a v (part m) 1
+
+-- v may be admitted, and may not be updated at once
+pub record IsInTheWay {M : Type 0} (belongs : Setting → ℕ → M → Type 0) (part : M → Part) (m : M) (v : ℕ) : Type 0 where
+  pub may : (st : Setting) (a : ℕ) → belongs st a m → MayAdmit st a v (part m)
+  pub not_at_once : (st : Setting) (a : ℕ) → belongs st a m → ¬ MayUpdateAtOnce st a v (part m) 1
+
+-- no vertex may be admitted, or one that may be admitted may not be updated at once
+abbrev pub UpdatesNoneAtOnce : {M : Type 0} → (Setting → ℕ → M → Type 0) → (M → Part) → M → Type 0
+UpdatesNoneAtOnce belongs part m = AdmitsNone belongs part m ⊎ ((v : ℕ) × IsInTheWay belongs part m v)
+
+-- v might be updated at once, and is: the update is logged under this ticket
+pub record IsUpdateAtOnce (st : Setting) (a : ℕ) (old : Part) (v ticket : ℕ) (new : Part) : Type 0 where
+  pub may : MayUpdateAtOnce st a v old 1
+  pub after : new ≡ at_once st a v (entry_at_once a v ticket) old
+
+abbrev pub MakesUpdateAtOnce : {M : Type 0} → (Setting → ℕ → M → Type 0) → (M → Part) → M → ℕ → ℕ → M → Type 0
+MakesUpdateAtOnce belongs part old v ticket new = (st : Setting) (a : ℕ) → belongs st a old → IsUpdateAtOnce st a (part old) v ticket (part new)
 
 -- ---- what is read
 

@@ -1,6 +1,6 @@
 //! A machine, as a cluster knows it.
 ghost use Rattle.std.specs.Prelude.{◌≡◌, ℕ, ◌+◌, ◌↔◌, [], length, true, false, is_some, IsTrue, IfOk, IfErr, OnOk, OnErr, IfSome, IfNone, IsErrOf};
-ghost use Rattle.cluster_machines.specs.Promises.{Part, Setting, HasFirst, MayUpdate, told_by, IsSameMachine, AdmitsSome, AdmitsNone, MakesAdmission, GrantsIt, GrantsNot, GrantsNone, MakesGrant, CanReceive, MakesReceipt, IsSending, MakesUpdate, UpdatesIt, UpdatesNone, is_owner_of, is_owner_with, SaysWhether};
+ghost use Rattle.cluster_machines.specs.Promises.{Part, Setting, HasFirst, MayUpdate, told_by, IsSameMachine, AdmitsSome, AdmitsNone, MakesAdmission, GrantsIt, GrantsNot, GrantsNone, MakesGrant, CanReceive, MakesReceipt, IsSending, MakesUpdate, MakesUpdateAtOnce, UpdatesAtOnce, UpdatesIt, UpdatesNone, UpdatesNoneAtOnce, is_owner_of, is_owner_with, SaysWhether};
 
 use gl_base::{EdgeNo, Entry, MachineNo, Refused, ScopeId, Vertex};
 use wire_msgs::{Message, Returned};
@@ -72,6 +72,16 @@ pub trait ClusterMachine: Drop {
     fn next_ready(&self) -> Option<ScopeId>
         ensures some { IfSome result (λ s. UpdatesIt belongs part self.now s) }
         ensures none { IfNone result (UpdatesNone (part self.now)) };
+
+    /// Makes the update of a vertex that is a task and not pending, all of whose scope is this machine's, and of whose scope nobody holds
+    /// or waits for a lock: as if a scope of it were admitted, took each lock in turn and made its update. It is logged under the
+    /// ticket. Of the vertices that may be admitted the machine looks at one of its choice.
+    fn update_at_once(&mut self, ticket: u64) -> Result<Vertex, Refused>
+        ensures updated { IfOk result (λ v. MakesUpdateAtOnce belongs part self.old v.0 ticket self.new) }
+        ensures not_now { IsErrOf result Refused.NotNow → UpdatesNoneAtOnce belongs part self.old }
+        ensures no_memory { IsErrOf result Refused.NoMemory → (v : ℕ) × UpdatesAtOnce belongs part self.old v }
+        ensures unchanged { OnErr result (part self.new ≡ part self.old) }
+        ensures same { IsSameMachine belongs earlier self.old self.new };
 
     /// The updates that it made since its log begins.
     fn log(&self) -> &[Entry]

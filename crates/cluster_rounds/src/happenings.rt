@@ -1,9 +1,9 @@
 //! Events that happen, or may not happen now.
-ghost use Rattle.std.specs.Prelude.{length};
+ghost use Rattle.std.specs.Prelude.{◌<◌, length};
 ghost use Rattle.cluster_rounds.specs.Ends.{IsSameRun, NamesMachinesOf};
 
 use cluster_step::{Cluster, ClusterMachine, Event};
-use gl_base::{NoMemory, Refused};
+use gl_base::{MachineNo, NoMemory, Refused};
 
 /// Makes the event, and says whether it happened.
 pub(crate) fn happens<M: ClusterMachine>(
@@ -15,6 +15,21 @@ pub(crate) fn happens<M: ClusterMachine>(
 {
     match cluster.apply(event) {
         Ok(()) => Ok(true),
+        Err(Refused::NotNow) => Ok(false),
+        Err(Refused::NoMemory) => Err(NoMemory),
+    }
+}
+
+/// Makes an update at once at the machine, and says whether one was made.
+pub(crate) fn is_made_at_once<M: ClusterMachine>(
+    cluster: &mut Cluster<M>,
+    at: MachineNo,
+) -> Result<bool, NoMemory>
+    requires { at.0 < length cluster.old.now.machines.items }
+    ensures { IsSameRun cluster.old cluster.new }
+{
+    match cluster.update_at_once(at) {
+        Ok(_) => Ok(true),
         Err(Refused::NotNow) => Ok(false),
         Err(Refused::NoMemory) => Err(NoMemory),
     }

@@ -2,12 +2,12 @@
 ghost use Rattle.std.specs.Prelude.{◌≡◌, ◌^◌, ◌<◌, length};
 ghost use Rattle.cluster_rounds.specs.Ends.{IsSameRun};
 
-use crate::happenings::{exhaust, happens};
+use crate::happenings::{exhaust, happens, is_made_at_once};
 use cluster_step::{Cluster, ClusterMachine, Event};
 use gl_base::{MachineNo, NoMemory};
 
-/// How many scopes a machine admits in one turn.
-const SCOPES_IN_A_TURN: u32 = 64;
+/// How many tasks a machine takes up in one turn.
+const TASKS_IN_A_TURN: u32 = 64;
 
 /// Each machine that is stirred has its turn, and stirs those to which it sends something. Says whether there was one.
 pub(crate) fn round<M: ClusterMachine>(
@@ -51,19 +51,33 @@ fn turn<M: ClusterMachine>(
     Ok(())
 }
 
-/// What has come is settled; then scopes are admitted one after another, and each goes as far as it may before the next. Says
-/// whether the machine might go on.
+/// What has come is settled; then one task after another is taken up. Says whether the machine might go on.
 fn work<M: ClusterMachine>(cluster: &mut Cluster<M>, at: MachineNo) -> Result<bool, NoMemory>
     requires { at.0 < length cluster.old.now.machines.items }
     ensures { IsSameRun cluster.old cluster.new }
 {
     settle(cluster, at)?;
-    for _ in 0..SCOPES_IN_A_TURN {
-        if cluster.left() == 0 || !happens(cluster, Event::Admit(at))? {
+    for _ in 0..TASKS_IN_A_TURN {
+        if cluster.left() == 0 || !take_up(cluster, at)? {
             return Ok(false);
         }
-        settle(cluster, at)?;
     }
+    Ok(true)
+}
+
+/// A vertex is updated at once, or where the machine's pick may not be a scope of it is admitted and goes as far as it may. Says
+/// whether there was one.
+fn take_up<M: ClusterMachine>(cluster: &mut Cluster<M>, at: MachineNo) -> Result<bool, NoMemory>
+    requires { at.0 < length cluster.old.now.machines.items }
+    ensures { IsSameRun cluster.old cluster.new }
+{
+    if is_made_at_once(cluster, at)? {
+        return Ok(true);
+    }
+    if !happens(cluster, Event::Admit(at))? {
+        return Ok(false);
+    }
+    settle(cluster, at)?;
     Ok(true)
 }
 

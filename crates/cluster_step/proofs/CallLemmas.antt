@@ -208,6 +208,21 @@ module _ {M : Type 0} (belongs : Setting → ℕ → M → Type 0) (part : M →
       let at_m : MayUpdate s (part m) other = subst (λ (p : Part). MayUpdate s p other) (here st) may in
       record { vertex = at_m.vertex; flight = at_m.flight; ready = at_m.ready; not_pending = at_m.not_pending; task = at_m.task; ticket = lit< tt }
 
+  -- one ticket is drawn
+  pub draws_one : (st : Setting) (new : M) → world_of_parts part st (record { machines = with_item old.machines a new; links = old.links; next = old.next + 1; left = old.left - 1 }) ≡ draws (world_of_parts part st (with_one old a new))
+  draws_one st new =
+      λ i. record {
+        part = part_of_machine part st (with_item old.machines a new).items;
+        link = told_on old.links;
+        next = add-one old.next i;
+        left = sub-one old.left i;
+        begun = st.base;
+        acknowledged = st.base;
+        orders = λ b. [];
+        reports = λ b. [];
+        collected = λ b. None;
+      }
+
   pub update_made : (s : ScopeId) → s.home.0 ≡ a → 0 < old.left → (new : M) → MakesUpdate belongs part m s old.next new →
       MakesEvent (CanGoOn belongs part old) part old (Update s) (record { machines = with_item old.machines a new; links = old.links; next = old.next + 1; left = old.left - 1 })
   update_made s home some new made st go =
@@ -224,22 +239,10 @@ module _ {M : Type 0} (belongs : Setting → ℕ → M → Type 0) (part : M →
       world_one st new (updated st s.home.0 s v entry (part m)) one.after
       ∙ ap (λ (k : ℕ). with_part w k (updated st s.home.0 s v entry (part m))) (sym home)
       ∙ ap (λ (p : Part). with_part w s.home.0 (updated st s.home.0 s v entry p)) (sym at_home) in
-      let drawn : world_of_parts part st (record { machines = with_item old.machines a new; links = old.links; next = old.next + 1; left = old.left - 1 }) ≡ draws (world_of_parts part st (with_one old a new)) =
-      λ i. record {
-        part = part_of_machine part st (with_item old.machines a new).items;
-        link = told_on old.links;
-        next = add-one old.next i;
-        left = sub-one old.left i;
-        begun = st.base;
-        acknowledged = st.base;
-        orders = λ b. [];
-        reports = λ b. [];
-        collected = λ b. None;
-      } in
       record {
         action = law.Update s;
         is = refl;
-        step = (may, drawn ∙ ap draws written ∙ sym (updates_is st w s v flies));
+        step = (may, draws_one st new ∙ ap draws written ∙ sym (updates_is st w s v flies));
       }
 
   pub update_same : 0 < old.left → (new : M) → IsSameMachine belongs earlier m new →

@@ -65,7 +65,7 @@ module _ {M : Type 0} (belongs : Setting → ℕ → M → Type 0) (part : M →
     pub cannot_from : (event : Event) → CanNotMakeEvent (CanGoOn belongs part old) part old event → CanNotMakeEvent (StartIn belongs part start.machines.items) part old event
     cannot_from event cannot st begin = cannot st (can_go st begin)
 
-    next_kept : (new : Parts M) → IsSameCluster belongs earlier old new →
+    pub next_kept : (new : Parts M) → IsSameCluster belongs earlier old new →
         ((st : Setting) → StartIn belongs part start.machines.items st → IsGoingOn st (world_of_parts part st start) (world_of_parts part st new)) → IsKept belongs part earlier start new
     next_kept new same going =
         record {
@@ -101,7 +101,7 @@ module _ {M : Type 0} (belongs : Setting → ℕ → M → Type 0) (part : M →
         (omega arith, tickets_below (suc next) order high from.1 (omega arith))
     tickets_below next (Restart ticket ∷ order) high from within = absurd from
 
-    replay_from_since : (st : Setting) (order : List Entry) → IsOrderSince part st start old order → IsReplay st (world_of_parts part st old) order
+    pub replay_from_since : (st : Setting) (order : List Entry) → IsOrderSince part st start old order → IsReplay st (world_of_parts part st old) order
     replay_from_since st order since =
         record {
           valid = since.valid;

@@ -6,3 +6,5 @@ pub mod CallLemmas
 pub mod StartLemmas
 pub mod KeptLemmas
 pub mod ReadLemmas
+pub mod GrantedLemmas
+pub mod AtOnceLemmas

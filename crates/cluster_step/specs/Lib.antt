@@ -1,6 +1,7 @@
 pub mod Links
 pub mod Worlds
 pub mod Events
+pub mod AtOnce
 pub mod Starts
 pub mod Clusters
 pub mod Inner

@@ -5,8 +5,9 @@ ghost use Rattle.gl_base.specs.declared.scopes.ScopeId.{ScopeId};
 ghost use Rattle.gl_base.specs.declared.entries.Entry.{Entry};
 ghost use Rattle.cluster_step.specs.Links.{told_on};
 ghost use Rattle.cluster_step.specs.Worlds.{Setting, earlier_at};
+ghost use Rattle.cluster_step.specs.AtOnce.{CanMoveAtOnce, CanNotMoveAtOnce, IsActionRun, MovesAtOnce, actions_at_once};
 ghost use Rattle.cluster_step.specs.Events.{NamesMachinesOf, MakesEvent, CanMakeEvent, CanNotMakeEvent, HasFirst, HoldTheSame};
-ghost use Rattle.cluster_step.specs.Starts.{StartIn, IsOrderSince, IsStart, IsEndOf, WasFresh, AllHaveHeard, replay_of, tasks_of, size};
+ghost use Rattle.cluster_step.specs.Starts.{StartIn, IsFresh, IsOrderSince, IsStart, IsEndOf, WasFresh, AllHaveHeard, replay_of, tasks_of, size};
 ghost use Rattle.cluster_step.specs.Clusters.{InEachSetting, OfTheOrder, part_now, world_now};
 ghost use Rattle.cluster_step.specs.Inner.Asking.{IsFoundAt, NoneSays, HasTaskAt, is_owner_of, is_owner_with};
 ghost use Rattle.std.specs.List.{All};
@@ -79,6 +80,26 @@ impl<M: ClusterMachine> Cluster<M> {
         ensures machines { length self.new.now.machines.items ≡ length self.old.now.machines.items }
     {
         self.parts.make(event)
+    }
+
+    /// The machine updates a vertex at once, where no lock of its scope has to be waited for and all of it is the machine's: as if a
+    /// scope of it were admitted, took each lock in turn and made its update. It draws one ticket. Of the vertices that may be
+    /// admitted the machine looks at one of its choice.
+    pub fn update_at_once(&mut self, at: MachineNo) -> Result<Vertex, Refused>
+        requires { at.0 < length self.old.now.machines.items }
+        ensures made { IfOk result (λ v. MovesAtOnce (StartIn M.belongs M.part self.old.start.machines.items) M.part self.old.now at.0 v.0 self.new.now) }
+        // It is a run of actions of the law: the admission, the grant of each lock, and the update.
+        ensures run { IfOk result (λ v. InEachSetting M.belongs M.part self.old (λ st.
+            IsActionRun st (world_now M.part st self.old) (actions_at_once st at.0 v.0 (part_now M.part st self.old at.0)) (world_now M.part st self.new))) }
+        ensures not_now { IsErrOf result Refused.NotNow → CanNotMoveAtOnce (StartIn M.belongs M.part self.old.start.machines.items) M.part self.old.now at }
+        ensures no_memory { IsErrOf result Refused.NoMemory → CanMoveAtOnce (StartIn M.belongs M.part self.old.start.machines.items) M.part self.old.now at.0 }
+        ensures unchanged { OnErr result (HoldTheSame M.part self.old.now self.new.now) }
+        // It was lent what the order so far has there.
+        ensures fresh { IfOk result (λ v. OfTheOrder M.belongs M.part self.old (λ st order. IsFresh st (replay_of st order) (part_now M.part st self.old at.0) v.0)) }
+        ensures start { self.new.start ≡ self.old.start }
+        ensures machines { length self.new.now.machines.items ≡ length self.old.now.machines.items }
+    {
+        self.parts.update_at_once(at)
     }
 
     /// A lock that may be granted at the machine; `None` exactly where none may be.

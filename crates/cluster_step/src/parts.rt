@@ -1,11 +1,12 @@
 //! A cluster's machines, links and tickets.
-ghost use Rattle.std.specs.Prelude.{◌≡◌, ◌+◌, ◌^◌, ◌<◌, length, OnOk, OnErr, IfSome, IfNone, IsErrOf};
+ghost use Rattle.std.specs.Prelude.{◌≡◌, ◌+◌, ◌-◌, ◌^◌, ◌<◌, length, IfOk, OnOk, OnErr, IfSome, IfNone, IsErrOf};
 ghost use Rattle.gl_base.specs.declared.numbers.Vertex.{Vertex};
 ghost use Rattle.gl_base.specs.declared.scopes.ScopeId.{ScopeId};
 ghost use Rattle.cluster_step.specs.Inner.Writing.{HasLinkBetween};
 ghost use Rattle.cluster_step.specs.Worlds.{Setting};
 ghost use Rattle.cluster_step.specs.Inner.Writing.{HaveLinks};
 ghost use Rattle.cluster_step.specs.Inner.Steps.{CanGoOn, IsSameCluster};
+ghost use Rattle.cluster_step.specs.AtOnce.{CanMoveAtOnce, CanNotMoveAtOnce, MovesAtOnce};
 ghost use Rattle.cluster_step.specs.Events.{NamesMachinesOf, MakesEvent, CanMakeEvent, CanNotMakeEvent, HoldTheSame};
 
 use crate::events::Event;
@@ -43,6 +44,24 @@ impl<M: ClusterMachine> Parts<M> {
             Event::Deliver { from, to } => self.deliver(from, to),
             Event::Update(scope) => self.update(scope),
         }
+    }
+
+    /// The machine updates a vertex at once, under the next ticket.
+    pub(crate) fn update_at_once(&mut self, at: MachineNo) -> Result<Vertex, Refused>
+        requires at { at.0 < length self.old.machines.items }
+        requires few { self.old.next + self.old.left < 2 ^ 64 }
+        ensures made { IfOk result (λ v. MovesAtOnce (CanGoOn M.belongs M.part self.old) M.part self.old at.0 v.0 self.new) }
+        ensures not_now { IsErrOf result Refused.NotNow → CanNotMoveAtOnce (CanGoOn M.belongs M.part self.old) M.part self.old at }
+        ensures no_memory { IsErrOf result Refused.NoMemory → CanMoveAtOnce (CanGoOn M.belongs M.part self.old) M.part self.old at.0 }
+        ensures unchanged { OnErr result (HoldTheSame M.part self.old self.new) }
+        ensures same { IsSameCluster M.belongs M.earlier self.old self.new }
+    {
+        if self.left == 0 {
+            return Err(Refused::NotNow);
+        }
+        let v = self.machines[at.0 as usize].update_at_once(self.next)?;
+        self.draw();
+        Ok(v)
     }
 
     /// A lock that may be granted at the machine; `None` exactly where none may be.
@@ -153,8 +172,17 @@ impl<M: ClusterMachine> Parts<M> {
             return Err(Refused::NotNow);
         }
         self.machines[scope.home.0 as usize].update(scope, self.next)?;
+        self.draw();
+        Ok(())
+    }
+
+    /// The next ticket is drawn.
+    fn draw(&mut self)
+        requires some { 0 < self.old.left }
+        requires few { self.old.next + self.old.left < 2 ^ 64 }
+        ensures { self.new ≡ record self.old { next = self.old.next + 1; left = self.old.left - 1 } }
+    {
         self.next += 1;
         self.left -= 1;
-        Ok(())
     }
 }

@@ -1,5 +1,5 @@
 -- What a machine looks at is the guard of an update at once, for every setting of which it is a part.
-use Rattle.std.proofs.Common.{◌≡◌, ◌≢◌, ℕ, zero, suc, ◌+◌, ◌<◌, ◌≤◌, ◌==◌, ◌&&◌, Bool, true, false, Option, None, Some, is_some, List, [], ◌∷◌, length, get_or, slice_get, refl, sym, ap, ◌∙◌, subst, ⊎_elim, arith, inr, All, true≢false}
+use Rattle.std.proofs.Common.{◌≡◌, ◌≢◌, ℕ, zero, suc, ◌+◌, ◌<◌, ◌≤◌, ◌==◌, ◌&&◌, Bool, true, false, Option, None, Some, is_some, List, [], ◌∷◌, length, get_or, slice_get, refl, sym, ap, ◌∙◌, subst, ⊎_elim, arith, inl, inr, All, true≢false}
 use Rattle.std.specs.Option.{option_map}
 use Rattle.std.proofs.lemmas.Bool.{cases_Bool, cases_eq, cases_lt, eq-eqb, and_from, both_ways, false_from_ne_true}
 use Rattle.std.proofs.lemmas.List.{length-map}
@@ -32,10 +32,10 @@ use Rattle.machine_scopes.specs.Inner.Picking.{CanTake, StandInLine}
 use Rattle.machine_scopes.proofs.AdmitLemmas.{picked_at}
 use Rattle.machine_scopes.proofs.HeldLemmas.{own_in, one_of}
 use Rattle.machine_scopes.proofs.LawLemmas.{part_is, some_number}
-use Rattle.machine_scopes.proofs.PickLemmas.{can_take, free_parts, pick_own, pick_place}
+use Rattle.machine_scopes.proofs.PickLemmas.{can_take, free_parts, may_pick, none_may, pick_own, pick_place}
 use Rattle.machine_updates.proofs.LeaveLemmas.{none_or}
 use Rattle.machine_at_once.specs.declared.finding.Found.{Found}
-use Rattle.machine_at_once.specs.Picks.{CanNotUpdatePick, CanUpdatePick, MayUpdateHere, MayNotUpdateHere, PicksNext}
+use Rattle.machine_at_once.specs.Picks.{CanNotUpdatePick, CanUpdatePick, HasNoneAtOnce, MayAdmitNone, MayUpdateHere, MayNotUpdateHere, PicksNext}
 use Rattle.machine_at_once.specs.Inner.Finding.{IsFoundPick, IsFreeScope}
 
 -- ---- the vertices of a scope
@@ -179,6 +179,17 @@ full_not m v full st setting part may =
     let width = part.pipeline in
     absurd (omega (arith, turn, width))
 
+-- ---- none is admitted
+
+pub full_none : (m : Core) → m.terms.pipeline ≤ flight_count m.pipe → MayAdmitNone m
+full_none m full st part v room may =
+    let turn : flight_count m.pipe < st.pipeline = subst (λ (engine : Engine). IsItsTurn engine st.pipeline v (part_of m)) part.engine may.turn in
+    let width = part.pipeline in
+    absurd (omega (arith, turn, width))
+
+pub picks_none : (m : Core) → IsOrderly m → StandInLine m.numbers.tasks → IsNextPick m.numbers.tasks None → HasNoneAtOnce m
+picks_none m is line next = inl (none_may m is line next)
+
 -- ---- the pick
 
 module _ (m : Core) (pick : Pick) (v : Vertex) (is : IsOrderly m) (knows : KnowsPlaces m) (next : IsNextPick m.numbers.tasks (Some pick)) (within : pick.vertex.0 < length m.numbers.tasks.task) (line : StandInLine m.numbers.tasks)
@@ -203,6 +214,22 @@ module _ (m : Core) (pick : Pick) (v : Vertex) (is : IsOrderly m) (knows : Knows
 
   pub held_not : (IsFreeScope m v → ⊥) → CanNotUpdatePick m
   held_not not = inr (v, picks, claimed_not m v not own_pick)
+
+  -- where it may not be updated at once, one is admitted or none
+  refused : MayNotUpdateHere m v → HasNoneAtOnce m
+  refused not = ⊎_elim
+      (λ (few : flight_count m.pipe < m.terms.pipeline). inr (v, may_pick m pick v is knows can at few, not))
+      (λ (full : m.terms.pipeline ≤ flight_count m.pipe). inl (full_none m full))
+      (cases_lt (flight_count m.pipe) m.terms.pipeline)
+
+  pub snapshot_refused : pick.snapshot ≡ true → HasNoneAtOnce m
+  snapshot_refused snapshot = refused (pending_not m v pick.vertex.0 (pick_place m pick v is knows can at) (can.kind ∙ snapshot))
+
+  pub crowded_refused : m.terms.pipeline ≤ flight_count m.pipe → HasNoneAtOnce m
+  crowded_refused full = inl (full_none m full)
+
+  pub held_refused : (IsFreeScope m v → ⊥) → HasNoneAtOnce m
+  held_refused not = refused (claimed_not m v not own_pick)
 
   pub found_pick : pick.snapshot ≡ false → flight_count m.pipe < m.terms.pipeline → IsFreeScope m v → IsFoundPick m (record { place = pick.vertex; vertex = v })
   found_pick update few scope =

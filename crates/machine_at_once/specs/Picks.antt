@@ -4,6 +4,7 @@ pub use Rattle.interior_scopes.specs.AtOnce.{MayUpdateAtOnce, at_once, entry_at_
 pub use Rattle.machine_parts.specs.Order.{IsOrderly, KnowsPlaces}
 pub use Rattle.machine_parts.specs.Parts.{LocalView, part_of, is_own, links_at, sides_at}
 pub use Rattle.machine_parts.specs.Settings.{Setting, IsPartOf, SameSettings}
+pub use Rattle.machine_scopes.specs.Admitting.{MayAdmitNone, MayAdmitVertex}
 pub use Rattle.machine_turns.specs.Turns.{HasEachRow, IsRowIn}
 pub use Rattle.task_sched.specs.Tasks.{IsNextPick}
 use Rattle.std.specs.Prelude.{◌≡◌, ◌⊎◌, ℕ, Some, None, slice_get}
@@ -35,6 +36,10 @@ pub record CanUpdatePick (m : Core) : Type 0 where
 -- they pick nothing, or a vertex that may not
 abbrev pub CanNotUpdatePick : Core → Type 0
 CanNotUpdatePick m = IsNextPick m.numbers.tasks None ⊎ ((v : Vertex) × PicksNext m v × MayNotUpdateHere m v)
+
+-- of no vertex may a scope be admitted, or of one may a scope be admitted that may not be updated at once
+abbrev pub HasNoneAtOnce : Core → Type 0
+HasNoneAtOnce m = MayAdmitNone m ⊎ ((v : Vertex) × MayAdmitVertex m v.0 × MayNotUpdateHere m v)
 
 -- The tasks picked v, which might be updated at once. For each setting of which the machine is a part, and whose program is this
 -- one, the part is what the law makes of it: the update is logged under this ticket.

@@ -1,7 +1,7 @@
 //! Which vertex may be updated at once.
 ghost use Rattle.std.specs.Prelude.{◌≡◌, true, false, None, IfSome};
 ghost use Rattle.std.specs.List.{All};
-ghost use Rattle.machine_at_once.specs.Picks.{CanNotUpdatePick, IsOrderly, KnowsPlaces, is_own};
+ghost use Rattle.machine_at_once.specs.Picks.{CanNotUpdatePick, HasNoneAtOnce, IsOrderly, KnowsPlaces, is_own};
 ghost use Rattle.machine_at_once.specs.Inner.Finding.{AreFreeLocks, IsFoundPick, IsFreeScope, is_owned};
 
 use gl_base::Vertex;
@@ -21,6 +21,7 @@ pub fn find(core: &Core) -> Option<Found>
     requires places { KnowsPlaces core.now }
     ensures found { IfSome result (λ f. IsFoundPick core.now f) }
     ensures none { result ≡ None → CanNotUpdatePick core.now }
+    ensures refused { result ≡ None → HasNoneAtOnce core.now }
 {
     let pick = core.numbers.tasks.look()?;
     let vertex = core.by_place[pick.vertex.0 as usize];

@@ -1,6 +1,6 @@
 //! Updates at once.
 ghost use Rattle.std.specs.Prelude.{◌≡◌, ℕ, IfOk, OnErr, IsErrOf};
-ghost use Rattle.machine_at_once.specs.Picks.{CanNotUpdatePick, CanUpdatePick, HasEachRow, HasUpdatedPick, IsOrderly, KnowsPlaces, SameSettings, links_at, part_of};
+ghost use Rattle.machine_at_once.specs.Picks.{CanNotUpdatePick, CanUpdatePick, HasEachRow, HasNoneAtOnce, HasUpdatedPick, IsOrderly, KnowsPlaces, SameSettings, links_at, part_of};
 
 use crate::finding::find;
 use crate::making::make;
@@ -27,10 +27,12 @@ pub fn update_at_once<P: Program>(
     requires rows { HasEachRow core.old.numbers.local }
     ensures updated { IfOk result (λ v. HasUpdatedPick (P.meaning program.now) core.old core.new v ticket) }
     ensures not_now { IsErrOf result Refused.NotNow → CanNotUpdatePick core.old }
+    ensures refused { IsErrOf result Refused.NotNow → HasNoneAtOnce core.old }
     ensures no_memory { IsErrOf result Refused.NoMemory → CanUpdatePick core.old }
     ensures same { IsErrOf result Refused.NotNow → core.new ≡ core.old }
     ensures unchanged { OnErr result (part_of core.new ≡ part_of core.old) }
     ensures rows { HasEachRow core.new.numbers.local }
+    ensures local { let old = core.old.numbers.local in let new = core.new.numbers.local in new ≡ record old { kept = new.kept; rows = new.rows; numbers = new.numbers } }
     ensures links { (x : ℕ) → links_at core.new.numbers.local x ≡ links_at core.old.numbers.local x }
     ensures orderly { IsOrderly core.new }
     ensures places { KnowsPlaces core.new }

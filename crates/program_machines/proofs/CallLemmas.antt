@@ -1,5 +1,5 @@
 -- From what the calls of a machine promise of its parts to what a cluster is promised of its machines.
-use Rattle.std.proofs.Common.{◌≡◌, ℕ, ◌+◌, false, true, None, Some, refl, sym, ap, ◌∙◌, subst, inr}
+use Rattle.std.proofs.Common.{◌≡◌, ℕ, ◌+◌, false, true, None, Some, refl, sym, ap, ◌∙◌, subst, inl, inr}
 use Rattle.std.specs.Prelude.{Option, Result, Ok, Err, IfNone, IfOk, IfSome, IsErr, IsErrAnd, IsErrOf, OnErr, OnOk}
 use Rattle.gl_base.specs.declared.numbers.MachineNo.{MachineNo}
 use Rattle.gl_base.specs.declared.numbers.Vertex.{Vertex}
@@ -15,8 +15,9 @@ use Rattle.machine_parts.specs.Settings.{SameSettings, window_of}
 use Rattle.machine_scopes.specs.Admitting.{CanAdmitPick, HasAdmittedPick, MayAdmitNone, is_open}
 use Rattle.machine_scopes.specs.Granting.{HasGrantedLock, MayGrantLock, MayNotGrantLock, WaitsFirst}
 use Rattle.machine_turns.specs.Turns.{HasMadeUpdate, IsAsBefore}
+use Rattle.machine_at_once.specs.Picks.{CanUpdatePick, HasNoneAtOnce, HasUpdatedPick}
 use Rattle.task_sched.specs.Tasks.{is_below}
-use Rattle.cluster_machines.specs.Promises.{AdmitsNone, AdmitsSome, GrantsIt, GrantsNone, GrantsNot, IsAdmission, IsGrant, IsSameMachine, MakesAdmission, MakesGrant, MakesUpdate, UpdatesIt}
+use Rattle.cluster_machines.specs.Promises.{AdmitsNone, AdmitsSome, GrantsIt, GrantsNone, GrantsNot, IsAdmission, IsGrant, IsSameMachine, IsUpdateAtOnce, MakesAdmission, MakesGrant, MakesUpdate, MakesUpdateAtOnce, MayUpdateAtOnce, UpdatesAtOnce, UpdatesIt, UpdatesNoneAtOnce}
 use Rattle.program_machines.specs.Machines.{HasEachRow, IsMachineOf, IsPartOf, ProgramMachineView, Setting, part_of}
 
 -- ---- answers of calls
@@ -122,6 +123,28 @@ module _ {P : Type 0} (meaning : P → Update) where
   pub updates_where : (old new : ProgramMachineView P) (s : ScopeId) (ticket : ℕ) (r : Result (Unit {0}) Refused) → OnOk r (HasMadeUpdate (meaning old.program) old.core new.core s ticket) → OnOk r (MakesUpdate belongs_to holds old s ticket new)
   updates_where old new s ticket (Ok done) has = makes_update old new s ticket has
   updates_where old new s ticket (Err e) has = tt
+
+  -- ---- updates at once
+
+  pub at_once_where : (old new : ProgramMachineView P) (ticket : ℕ) (r : Result Vertex Refused) → IfOk r (λ v. HasUpdatedPick (meaning old.program) old.core new.core v ticket)
+      → IfOk r (λ v. MakesUpdateAtOnce belongs_to holds old v.0 ticket new)
+  at_once_where old new ticket (Ok v) has = λ st a here.
+      subst (λ (k : ℕ). IsUpdateAtOnce st k (part_of old.core) v.0 ticket (part_of new.core)) here.number
+      (record { may = has.may st here.setting here.part; after = has.after st here.setting here.part here.program })
+  at_once_where old new ticket (Err e) has = tt
+
+  pub at_once_some : (m : ProgramMachineView P) → CanUpdatePick m.core → (v : ℕ) × UpdatesAtOnce belongs_to holds m v
+  at_once_some m can = (can.vertex.0, λ st a here. subst (λ (k : ℕ). MayUpdateAtOnce st k can.vertex.0 (part_of m.core) 1) here.number (can.may st here.setting here.part))
+
+  pub at_once_none : (m : ProgramMachineView P) → HasNoneAtOnce m.core → UpdatesNoneAtOnce belongs_to holds m
+  at_once_none m (inl none) = inl (admits_none m none)
+  at_once_none m (inr one) = inr (
+    one.0.0,
+    record {
+      may = λ st a here. subst (λ (k : ℕ). MayAdmit st k one.0.0 (part_of m.core)) here.number (one.1 st here.part);
+      not_at_once = λ st a here may. one.2 st here.setting here.part (subst (λ (k : ℕ). MayUpdateAtOnce st k one.0.0 (part_of m.core) 1) (sym here.number) may);
+    },
+  )
 
 pub same_part : {X E : Type 0} (old new : Core) (r : Result X E) → OnErr r (IsAsBefore old new) → OnErr r (part_of new ≡ part_of old)
 same_part old new (Ok x) as_before = tt

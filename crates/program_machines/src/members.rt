@@ -54,6 +54,11 @@ impl<P: Program> ClusterMachine for ProgramMachine<P> {
         self.machine.next_ready()
     }
 
+    fn update_at_once(&mut self, ticket: u64) -> Result<Vertex, Refused> {
+        self.machine
+            .update_at_once(self.alloc, &mut self.spares, &self.program, ticket)
+    }
+
     fn log(&self) -> &[Entry] {
         self.machine.log()
     }

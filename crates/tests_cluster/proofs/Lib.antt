@@ -1,2 +1,3 @@
 pub mod LoneLemmas
 pub mod StartLemmas
+pub mod AtOnceLemmas

@@ -15,7 +15,7 @@ use Rattle.tests_cluster.specs.Lone.{asked_part, untouched_part, lone_part, lone
 use Rattle.tests_cluster.specs.declared.lone.Progress.{Progress}
 use Rattle.tests_cluster.specs.declared.lone.Progress.TheVariants.{Asked, Fresh, Over, Ready}
 
-none_some : {X : Type 0} (x : X) → None ≡ Some x → ⊥
+pub none_some : {X : Type 0} (x : X) → None ≡ Some x → ⊥
 none_some x is = cc
 
 none_waits : (c : Claim) (cs : List Claim) → [] ≡ c ∷ cs → ⊥
@@ -98,7 +98,7 @@ over_flight entry s = gone (s.home.0 == 0 && s.serial == 0)
 abbrev pub IsHere : Setting → ℕ → Type 0
 IsHere st a = (a ≡ 0) × (st ≡ lone_setting)
 
-there : (P : Setting → ℕ → Type 0) → P lone_setting 0 → (st : Setting) (a : ℕ) → IsHere st a → P st a
+pub there : (P : Setting → ℕ → Type 0) → P lone_setting 0 → (st : Setting) (a : ℕ) → IsHere st a → P st a
 there P base st a here = subst (P st) (sym here.0) (subst (λ s. P s 0) (sym here.1) base)
 
 pub fresh_admits : (st : Setting) (a : ℕ) → IsHere st a → IsAdmission st a untouched_part lone_scope asked_part

@@ -15,7 +15,7 @@ first_id : All (λ (id : ℕ). id ≤ MAX_ID) (1 ∷ [])
 first_id zero d low = omega arith
 first_id (suc k) d low = absurd (omega arith)
 
-setting_is : IsSetting lone_setting
+pub setting_is : IsSetting lone_setting
 setting_is =
     record {
       graph = record {

@@ -119,6 +119,23 @@ impl ClusterMachine for Lone {
         }
     }
 
+    fn update_at_once(&mut self, ticket: u64) -> Result<Vertex, Refused> {
+        match self.progress {
+            Progress::Fresh => {
+                self.progress = Progress::Over;
+                self.entry = [Entry::Go {
+                    machine: MachineNo(0),
+                    vertex: Vertex(0),
+                    ticket,
+                }];
+                Ok(Vertex(0))
+            }
+            Progress::Asked => Err(Refused::NotNow),
+            Progress::Ready => Err(Refused::NotNow),
+            Progress::Over => Err(Refused::NotNow),
+        }
+    }
+
     fn log(&self) -> &[Entry] {
         match self.progress {
             Progress::Over => &self.entry,

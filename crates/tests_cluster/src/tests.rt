@@ -64,6 +64,18 @@ fn one_update_is_made(rt: HostRuntime) -> Result<(), Fail> {
     Ok(())
 }
 
+#[test]
+fn one_update_is_made_at_once(rt: HostRuntime) -> Result<(), Fail> {
+    let mut cluster = lone_cluster(rt.alloc(), 1)?;
+    let here = MachineNo(0);
+    assert_eq!(rt; cluster.update_at_once(here), Ok(Vertex(0)));
+    assert_eq!(rt; cluster.update_at_once(here), Err(Refused::NotNow));
+    assert_eq!(rt; cluster.next(), 4);
+    assert_eq!(rt; cluster.completed(here), 1);
+    assert_eq!(rt; cluster.task(), None);
+    Ok(())
+}
+
 /// How a run with so many tickets ends, and what is gathered then.
 fn driven<R: Wait>(rt: &R, alloc: Global, left: u64) -> Result<(End, GatheredRun), NoMemory>
     requires { left < 100 }

@@ -1,7 +1,7 @@
 -- What is found is the pick, and what is not may not be updated at once.
 use Rattle.std.proofs.Common.{◌≤◌, subst, ℕ}
 use Rattle.machine_scopes.proofs.AdmitLemmas.{few_flights}
-use Rattle.machine_at_once.proofs.Scopes.{crowded_not, found_pick, held_not, own_pick, snapshot_not}
+use Rattle.machine_at_once.proofs.Scopes.{crowded_not, crowded_refused, found_pick, held_not, held_refused, own_pick, picks_none, snapshot_not, snapshot_refused}
 use Rattle.machine_at_once.proofs.finding.find.Goals as goal
 use Rattle.machine_at_once.proofs.finding.find.Goals.{then-pick-via-then-pick, then-pick-via-else-pick+then-flight_count-core}
 
@@ -33,4 +33,25 @@ pub returns-else-is_free_scope-clause-none : goal.returns-else-is_free_scope-cla
 returns-else-is_free_scope-clause-none c = λ none.
     let e = c.in_ok-pick.ensures in
     held_not c.args.core.now c.in_ok-pick.pick c.index-vertex.result.now c.requires.orderly c.requires.places e.pick e.within e.asked c.index-vertex.ensures
+    (c.is_free_scope.ensures.claimed c.if-is_free_scope.false)
+
+pub returns-in_err-pick-clause-refused : goal.returns-in_err-pick-clause-refused
+returns-in_err-pick-clause-refused c = λ none. picks_none c.args.core.now c.requires.orderly c.in_err-pick.ensures.asked c.in_err-pick.ensures.pick
+
+pub returns-then-pick-clause-refused : goal.returns-then-pick-clause-refused
+returns-then-pick-clause-refused c = λ none.
+    let m = c.args.core.now in
+    let p = c.in_ok-pick.pick in
+    let e = c.in_ok-pick.ensures in
+    elim c.then-pick.branch [
+      | then-pick-via-then-pick w ↦ snapshot_refused m p c.index-vertex.result.now c.requires.orderly c.requires.places e.pick e.within e.asked c.index-vertex.ensures w.if-pick.true
+      | then-pick-via-else-pick+then-flight_count-core w ↦
+          crowded_refused m p c.index-vertex.result.now c.requires.orderly c.requires.places e.pick e.within e.asked c.index-vertex.ensures
+          (subst (λ (k : ℕ). m.terms.pipeline ≤ k) w.flight_count.ensures w.if-flight_count-core.true)
+    ]
+
+pub returns-else-is_free_scope-clause-refused : goal.returns-else-is_free_scope-clause-refused
+returns-else-is_free_scope-clause-refused c = λ none.
+    let e = c.in_ok-pick.ensures in
+    held_refused c.args.core.now c.in_ok-pick.pick c.index-vertex.result.now c.requires.orderly c.requires.places e.pick e.within e.asked c.index-vertex.ensures
     (c.is_free_scope.ensures.claimed c.if-is_free_scope.false)

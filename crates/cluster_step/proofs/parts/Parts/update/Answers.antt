@@ -30,10 +30,12 @@ returns-in_err-update-clause-same g c =
 
 pub returns-clause-made : goal.returns-clause-made
 returns-clause-made g c =
-    update_made g.M.ClusterMachine.belongs g.M.ClusterMachine.part g.M.ClusterMachine.earlier c.args.self.now c.args.scope.home.0 c.index_mut.result.now c.requires.home c.index_mut.ensures.value
-    c.args.scope refl (some c.if-self-eq0.false) c.update.new.self c.in_ok-update.ensures.updated
+    rw c.draw.ensures
+    (update_made g.M.ClusterMachine.belongs g.M.ClusterMachine.part g.M.ClusterMachine.earlier c.args.self.now c.args.scope.home.0 c.index_mut.result.now c.requires.home c.index_mut.ensures.value
+    c.args.scope refl (some c.if-self-eq0.false) c.update.new.self c.in_ok-update.ensures.updated)
 
 pub returns-clause-same : goal.returns-clause-same
 returns-clause-same g c =
-    update_same g.M.ClusterMachine.belongs g.M.ClusterMachine.part g.M.ClusterMachine.earlier c.args.self.now c.args.scope.home.0 c.index_mut.result.now c.requires.home c.index_mut.ensures.value
-    (some c.if-self-eq0.false) c.update.new.self c.in_ok-update.ensures.same
+    rw c.draw.ensures
+    (update_same g.M.ClusterMachine.belongs g.M.ClusterMachine.part g.M.ClusterMachine.earlier c.args.self.now c.args.scope.home.0 c.index_mut.result.now c.requires.home c.index_mut.ensures.value
+    (some c.if-self-eq0.false) c.update.new.self c.in_ok-update.ensures.same)
