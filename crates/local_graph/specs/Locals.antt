@@ -1,6 +1,6 @@
 -- What a machine holds of the graph, as lists, and what is asked of them.
 pub use Rattle.vertex_places.specs.Placing.{place_of_vertex, AreTheirPlaces}
-use Rattle.std.specs.Prelude.{ℕ, ◌==◌, ◌<◌, Bool, Option, Some, None, is_some, List, [], ◌∷◌, length, map, if◌then◌else◌, slice_get, slice_index, slice_index_or}
+use Rattle.std.specs.Prelude.{ℕ, ◌==◌, ◌<◌, Bool, Option, Some, None, is_some, List, [], ◌∷◌, length, map, if◌then◌else◌, slice_get, slice_index, slice_index_or, slice_set}
 use Rattle.gl_base.specs.declared.atoms.GhostLine.{GhostLine}
 use Rattle.gl_base.specs.declared.numbers.MachineNo.{MachineNo}
 use Rattle.gl_base.specs.declared.numbers.Vertex.{Vertex}
@@ -33,6 +33,11 @@ at_place xs (Some k) d = slice_index_or xs k d
 abbrev pub got_at : {X : Type 0} → List X → Option ℕ → Option X
 got_at xs None = None
 got_at xs (Some k) = slice_get xs k
+
+-- the list with x at a place, where that is one
+abbrev pub set_where : {X : Type 0} → List X → Option ℕ → X → List X
+set_where xs None x = xs
+set_where xs (Some k) x = slice_set xs k x
 
 -- ---- of vertex v
 

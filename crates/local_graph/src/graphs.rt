@@ -1,6 +1,6 @@
 //! The part of the graph that a machine owns.
 ghost use Rattle.std.specs.Prelude.{◌≡◌, ℕ, ◌<◌, ◌≤◌, ◌==◌, true, None, Some, is_some, length, if◌then◌else◌, vec_capacity};
-ghost use Rattle.local_graph.specs.Locals.{place_at, is_placed, is_own, own_datum, id_at, links_at, sides_at, parts_at, part_at, edge_number_at, HasEdge, numbers_along, written};
+ghost use Rattle.local_graph.specs.Locals.{place_at, is_placed, is_own, own_datum, id_at, links_at, sides_at, parts_at, part_at, edge_number_at, HasEdge, numbers_along, set_where, written};
 
 use crate::numbers::{fill_numbers, write_numbers};
 use crate::{Row, Side};
@@ -107,6 +107,7 @@ impl LocalGraph {
     pub fn set_datum(&mut self, v: Vertex, datum: Datum)
         requires { is_own self.old v.0 ≡ true }
         ensures datum { (x : ℕ) → own_datum self.new x ≡ (if x == v.0 then Some datum else own_datum self.old x) }
+        ensures exact { self.new.kept ≡ set_where self.old.kept (place_at self.old v.0) datum }
         ensures rest { self.new ≡ record self.old { kept = self.new.kept } }
     {
         match self.places.place(v) {
@@ -212,6 +213,7 @@ impl LocalGraph {
         ensures numbers { (e : ℕ) → edge_number_at self.new e ≡ written (sides_at self.old v.0) row.numbers.items (edge_number_at self.old) e }
         ensures edges { (e : ℕ) → HasEdge self.old e → HasEdge self.new e }
         ensures many { length self.new.numbers ≡ length self.old.numbers }
+        ensures exact { self.new.rows ≡ set_where self.old.rows (place_at self.old v.0) (Some row.links.items) }
         ensures rest { self.new ≡ record self.old { rows = self.new.rows; numbers = self.new.numbers } }
     {
         let Row { links, numbers } = row;

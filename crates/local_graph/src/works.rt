@@ -46,8 +46,21 @@ impl Outcome {
         ensures woken { IfOk result (λ o. o.woken ≡ Woken.Nobody) }
         ensures back { IfErr result (λ same. same ≡ work) }
     {
-        match Vec::from_slice(alloc, &work.row.numbers) {
-            Ok(edges) => Ok(Outcome {
+        Outcome::in_list(Vec::new(alloc), work)
+    }
+
+    /// The same, with the numbers of edges in this list. It takes memory only where the list has no room for them.
+    pub fn in_list(list: Vec<u64>, work: Work) -> Result<Outcome, Work>
+        ensures work { IfOk result (λ o. o.work ≡ work) }
+        ensures value { IfOk result (λ o. o.value ≡ work.value) }
+        ensures edges { IfOk result (λ o. o.edges.items ≡ work.row.numbers.items) }
+        ensures woken { IfOk result (λ o. o.woken ≡ Woken.Nobody) }
+        ensures back { IfErr result (λ same. same ≡ work) }
+    {
+        let mut edges = list;
+        edges.clear();
+        match edges.extend_from_slice(&work.row.numbers) {
+            Ok(()) => Ok(Outcome {
                 value: work.value,
                 work,
                 edges,

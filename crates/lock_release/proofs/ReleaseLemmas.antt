@@ -9,8 +9,8 @@ use Rattle.gl_base.specs.declared.scopes.ScopeId.{ScopeId}
 use Rattle.scope_lists.specs.Scopes.{is_scope}
 use Rattle.scope_lists.proofs.SameScope.{same_scope, one_or_two, set_for-there}
 use Rattle.vertex_locks.specs.Locks.{LockView, mode_of}
-use Rattle.vertex_locks.specs.Tables.{HasReleased, lock_or}
-use Rattle.lock_release.specs.Released.{set_for, is_owned, holder_at, queue_at, room_at, is_one_of, times_in}
+use Rattle.vertex_locks.specs.Tables.{HasReleased, lock_or, released_at}
+use Rattle.lock_release.specs.Released.{set_for, is_owned, holder_at, queue_at, room_at, is_one_of, times_in, released_all}
 
 -- the first i are released
 pub record AreReleased (old now : List (Option LockView)) (vertices : List Vertex) (s : ScopeId) (i : ℕ) : Type 0 where
@@ -19,6 +19,14 @@ pub record AreReleased (old now : List (Option LockView)) (vertices : List Verte
   pub others : (x : ℕ) (t : ScopeId) → is_scope t s ≡ false → holder_at now x t ≡ holder_at old x t
   pub queue : (x : ℕ) → queue_at now x ≡ queue_at old x
   pub room : (x : ℕ) → room_at now x + times_in (drop i vertices) x ≡ room_at old x + times_in vertices x
+  pub exact : released_all s (drop i vertices) now ≡ released_all s vertices old
+
+-- the next one is released
+left_more : (vertices : List Vertex) (s : ScopeId) (i : ℕ) (v : Vertex) (now : List (Option LockView)) → i < length vertices → v ≡ get_or vertices i v → released_all s (drop i vertices) now ≡ released_all s (drop (i + 1) vertices) (released_at now v.0 s)
+left_more vertices s i v now inside is_v = ap (λ (vs : List Vertex). released_all s vs now) (drop_more vertices i v inside ∙ ap (λ (w : Vertex). w ∷ drop (i + 1) vertices) (sym is_v))
+
+pub left_none : (vertices : List Vertex) (s : ScopeId) (i : ℕ) (now : List (Option LockView)) → length vertices ≤ i → released_all s (drop i vertices) now ≡ now
+left_none vertices s i now all = ap (λ (vs : List Vertex). released_all s vs now) (drop_all i vertices all)
 
 lock_there : (o : Option LockView) (s : ScopeId) → is_some (mode_of (lock_or o).holders s) ≡ true → is_some o ≡ true
 lock_there None s holds = absurd (true≢false (sym holds))
@@ -53,8 +61,8 @@ module _ (vertices : List Vertex) (i : ℕ) (v : Vertex) (inside : i < length ve
       ∙ not_after vertices i v inside apart
 
 pub released_more : (old now new : List (Option LockView)) (vertices : List Vertex) (s : ScopeId) (i : ℕ) (v : Vertex) → i < length vertices → v ≡ get_or vertices i v
-    → AllPairs (λ (one other : Vertex). one.0 ≢ other.0) vertices → AreReleased old now vertices s i → HasReleased now new v.0 s → AreReleased old new vertices s (i + 1)
-released_more old now new vertices s i v inside is_v apart are has =
+    → AllPairs (λ (one other : Vertex). one.0 ≢ other.0) vertices → AreReleased old now vertices s i → HasReleased now new v.0 s → new ≡ released_at now v.0 s → AreReleased old new vertices s (i + 1)
+released_more old now new vertices s i v inside is_v apart are has exact =
     let cleared = set_for (holder_at now v.0) s None in
     let behind = drop (i + 1) vertices in
     let last = is_last vertices i v inside is_v apart in
@@ -87,15 +95,16 @@ released_more old now new vertices s i v inside is_v apart are has =
             ap (λ (n : ℕ). n + times_in behind x) (has.room x ∙ ap (λ b. if b then room_at now v.0 + 1 else room_at now x) (ne_eqb x v.0 other))
             ∙ sym (ap (λ (b : Bool). room_at now x + (if b then 1 else 0)) (later x other)) ∙ are.room x
       ];
+      exact = ap (released_all s behind) exact ∙ sym (left_more vertices s i v now inside is_v) ∙ are.exact;
     }
 
 none_held : (o : Option Mode) → is_some o ≡ false → o ≡ None
 none_held None not_some = refl
 none_held (Some mode) not_some = absurd (true≢false not_some)
 
-pub released_all : (old now : List (Option LockView)) (vertices : List Vertex) (s : ScopeId) (i : ℕ) → length vertices ≤ i → AreReleased old now vertices s i
+pub none_held_after : (old now : List (Option LockView)) (vertices : List Vertex) (s : ScopeId) (i : ℕ) → length vertices ≤ i → AreReleased old now vertices s i
     → (x : ℕ) (t : ScopeId) → holder_at now x t ≡ set_for (holder_at old x) s None t
-released_all old now vertices s i all are x t = elim (one_or_two t s) [
+none_held_after old now vertices s i all are x t = elim (one_or_two t s) [
   | inl same ↦
       let nobody : holder_at now x s ≡ None = none_held (holder_at now x s) (are.holds x ∙ ap (λ (vs : List Vertex). is_one_of vs x) (drop_all i vertices all)) in
       ap (holder_at now x) same ∙ nobody ∙ sym (ap (λ b. if b then None else holder_at old x s) (same_scope s)) ∙ ap (set_for (holder_at old x) s None) (sym same)

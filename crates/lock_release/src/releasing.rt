@@ -1,7 +1,7 @@
 //! Releasing locks.
 ghost use Rattle.std.specs.Prelude.{◌≡◌, ◌≢◌, ℕ, ◌+◌, None, is_some};
 ghost use Rattle.std.specs.List.{AllPairs};
-ghost use Rattle.lock_release.specs.Released.{set_for, is_owned, holder_at, queue_at, room_at, is_one_of, times_in};
+ghost use Rattle.lock_release.specs.Released.{set_for, is_owned, holder_at, queue_at, room_at, is_one_of, times_in, released_all};
 
 use gl_base::{ScopeId, Vertex};
 use vertex_locks::LockTable;
@@ -15,6 +15,7 @@ pub fn release_all(locks: &mut LockTable, vertices: &[Vertex], scope: ScopeId)
     ensures holder { (x : ℕ) (s : ScopeId) → holder_at locks.new x s ≡ set_for (holder_at locks.old x) scope None s }
     ensures queue { (x : ℕ) → queue_at locks.new x ≡ queue_at locks.old x }
     ensures room { (x : ℕ) → room_at locks.new x ≡ room_at locks.old x + times_in vertices.now x }
+    ensures exact { locks.new ≡ released_all scope vertices.now locks.old }
 {
     for place in 0..vertices.len() {
         locks.release(vertices[place], scope);

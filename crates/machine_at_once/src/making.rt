@@ -8,7 +8,7 @@ ghost use Rattle.machine_at_once.specs.Inner.Making.{CanBeKept, CanBeMade, HasMa
 use crate::finding::Found;
 use gl_base::{Entry, NoMemory, ScopeId, Vertex};
 use local_graph::Outcome;
-use machine_numbers::{Numbers, Spare};
+use machine_numbers::{Numbers, Spent};
 use machine_updates::Spares;
 use std::alloc::Global;
 use update_api::Program;
@@ -36,10 +36,10 @@ pub fn make<P: Program>(
     let degree = numbers.local.sides(found.vertex).len();
     let spare = spares.fitted(alloc, degree)?;
     let work = numbers.take_work(scope, found.vertex, spare);
-    match Outcome::of(alloc, work) {
+    match Outcome::in_list(spares.for_outcome(alloc), work) {
         Ok(mut outcome) => {
             outcome.update(program);
-            spares.keep(keep(numbers, outcome, found.place, ticket));
+            spares.keep_all(keep(numbers, outcome, found.place, ticket));
             Ok(())
         }
         Err(work) => {
@@ -63,7 +63,7 @@ fn reserve_log(log: &mut Vec<Entry>) -> Result<(), NoMemory>
 }
 
 /// Keeps an update that was made, of the task at this place, under this ticket. It takes no memory.
-fn keep(numbers: &mut Numbers, outcome: Outcome, place: Vertex, ticket: u64) -> Spare
+fn keep(numbers: &mut Numbers, outcome: Outcome, place: Vertex, ticket: u64) -> Spent
     requires { CanBeKept numbers.old outcome place }
     ensures updated { HasUpdated numbers.old numbers.new outcome (Go numbers.old.local.me outcome.work.vertex ticket) }
     ensures back { (x : ℕ) → links_at numbers.new.local x ≡ (if x == outcome.work.vertex.0 then Some outcome.work.row.links.items else links_at numbers.old.local x) }

@@ -60,6 +60,7 @@ impl Machine {
 
     /// The first that waits for the lock of x holds it and goes on, where it goes together with each holder: it asks for the next
     /// lock of its scope here, or leaves.
+    #[inline(always)]
     pub fn grant(&mut self, x: Vertex) -> Result<Moved, Refused>
         ensures settings { SameSettings self.old self.new }
         ensures granted { IfOk result (λ moved. MayGrantLock self.old x.0 × HasGrantedLock self.old self.new x.0) }
@@ -74,6 +75,7 @@ impl Machine {
     }
 
     /// A vertex whose lock may be granted, and `None` exactly where there is none. It takes no memory, and no claim changes.
+    #[inline(always)]
     pub fn next_grant(&mut self) -> Option<Vertex>
         ensures some { IfSome result (λ x. MayGrantLock self.old x.0) }
         ensures none { IfNone result ((x : ℕ) → MayNotGrantLock self.old x) }

@@ -3,12 +3,12 @@ ghost use Rattle.std.specs.Prelude.{◌≡◌, ◌≢◌, ℕ, ◌==◌, true, N
 ghost use Rattle.gl_base.specs.declared.numbers.Vertex.{Vertex};
 ghost use Rattle.local_graph.specs.declared.works.Work.{Work};
 ghost use Rattle.machine_core.specs.Machines.{Setting, IsPartOf, SameSettings, HasOnlyMadeRoom, part_of};
-ghost use Rattle.machine_core.specs.Updates.{HasRoom, CanBeTaken, IsOut, IsApartFrom, HasItsRow, AreSomeOf, scopes_of_works, scopes_of_flights, NoneToTake, HasTakenAll, IsReserved, HasCommitted, HasUpdated, HasFinished, HasNoLock, done_told, after_told, entry_logged, CanLearn, HasReceivedDone, links_at, sides_at, flight_at};
+ghost use Rattle.machine_core.specs.Updates.{HasRoom, CanBeTaken, IsOut, IsApartFrom, HasItsRow, AreSomeOf, scopes_of_works, scopes_of_flights, NoneToTake, HasTakenAll, IsReserved, HasCommitted, HasUpdated, HasFinished, HasNoLock, done_told, after_told, entry_logged, machine_left, with_log_of, CanLearn, HasReceivedDone, links_at, sides_at, flight_at};
 
 use crate::machines::Machine;
 use gl_base::{NoMemory, Refused, ScopeId};
 use local_graph::{Batch, Outcome, Work};
-use machine_numbers::Spare;
+use machine_numbers::{Spare, Spent};
 use machine_updates::{Prepared, Spares};
 use scope_pipe::Flight;
 use std::alloc::Global;
@@ -77,12 +77,14 @@ impl Machine {
     }
 
     /// Commits an update that was made: the other machines of the scope are told, its locks here are released, it is in flight no
-    /// more, and its numbers are kept under this ticket. It takes no memory, and hands back the lists of the work's numbers.
-    pub fn commit(&mut self, outcome: Outcome, prepared: Vec<Prepared>, ticket: u64) -> Spare
+    /// more, and its numbers are kept under this ticket. It takes no memory, and hands back the lists of the work's and the outcome's
+    /// numbers.
+    pub fn commit(&mut self, outcome: Outcome, prepared: Vec<Prepared>, ticket: u64) -> Spent
         requires out { IsOut self.old outcome.work }
         requires edges { length outcome.edges.items ≡ length (sides_at self.old.numbers.local outcome.work.vertex.0) }
         requires reserved { IsReserved self.old outcome.work.scope outcome.work.vertex prepared.items }
         ensures committed { HasCommitted self.old self.new outcome ticket }
+        ensures whole { self.new ≡ with_log_of self.new (machine_left self.old outcome prepared.items) }
         ensures numbers { HasUpdated self.old.numbers self.new.numbers outcome (entry_logged outcome ticket) }
         ensures finished { HasFinished self.old.pipe self.new.pipe outcome.work.scope }
         ensures released { HasNoLock self.old.locks self.new.locks outcome.work.scope }
@@ -95,6 +97,7 @@ impl Machine {
         ensures rest { self.new ≡ record self.old { numbers = self.new.numbers; pipe = self.new.pipe; locks = self.new.locks; out = self.new.out } }
         ensures settings { (st : Setting) → IsPartOf st self.old → HasItsRow st self.old outcome.work → IsPartOf st self.new }
         ensures spare { (result.edges ≡ outcome.work.row.numbers) × (result.near ≡ outcome.work.near) }
+        ensures made { result.made ≡ outcome.edges }
     {
         machine_updates::commit(&mut self.core, outcome, prepared, ticket)
     }

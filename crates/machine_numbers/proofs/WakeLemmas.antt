@@ -9,7 +9,7 @@ use Rattle.update_api.specs.declared.woken.Woken.{Woken}
 use Rattle.local_graph.specs.declared.sides.Side.{Side}
 use Rattle.local_graph.proofs.PlaceLemmas.{at_written}
 use Rattle.machine_numbers.specs.Views.{LocalView, TasksView, AreTasksOf, is_own, place_at, flag_there, is_named}
-use Rattle.machine_numbers.specs.Steps.{IsSideHere, wakes_there, wakes_of, wakes_along}
+use Rattle.machine_numbers.specs.Steps.{IsSideHere, wakes_there, wakes_of, wakes_along, woken_flags}
 
 pub own_inside : (l : LocalView) (t : TasksView) (v k : ℕ) → AreTasksOf l t → is_own l v ≡ true → place_at l v ≡ Some k → k < length t.task
 own_inside l t v k are own at = ltb-true k (length t.task) (sym (are.own v k at) ∙ own)
@@ -87,3 +87,14 @@ along_more to woken sides links i s link u inside same =
 
 pub along_none : (to : ℕ) (woken : Woken) (sides : List Side) (links : List Link) (i u : ℕ) → length sides ≤ i → wakes_of to woken (drop i sides) (drop i links) u ≡ false
 along_none to woken sides links i u all = ap (λ (ss : List Side). wakes_of to woken ss (drop i links) u) (drop_all i sides all)
+
+-- the flags when one more side is gone through
+pub flags_more : (to : ℕ) (woken : Woken) (sides : List Side) (links : List Link) (i : ℕ) (s : Side) (link : Link) (flags : List Bool) → i < length sides → length links ≡ length sides
+    → woken_flags to woken (drop i sides) (drop i links) flags
+    ≡ woken_flags to woken (drop (i + 1) sides) (drop (i + 1) links) (if wakes_there to woken (get_or sides i s) (get_or links i link) then slice_set flags (get_or sides i s).place true else flags)
+flags_more to woken sides links i s link flags inside same =
+    ap (λ (ss : List Side). woken_flags to woken ss (drop i links) flags) (drop_more sides i s inside)
+    ∙ ap (λ (ls : List Link). woken_flags to woken (get_or sides i s ∷ drop (i + 1) sides) ls flags) (drop_more links i link (omega arith))
+
+pub flags_all : (to : ℕ) (woken : Woken) (sides : List Side) (links : List Link) (i : ℕ) (flags : List Bool) → length sides ≤ i → woken_flags to woken (drop i sides) (drop i links) flags ≡ flags
+flags_all to woken sides links i flags all = ap (λ (ss : List Side). woken_flags to woken ss (drop i links) flags) (drop_all i sides all)

@@ -18,7 +18,8 @@ use Rattle.local_graph.specs.declared.works.Work.{Work}
 use Rattle.wire_msgs.specs.declared.messages.Done.{Done}
 use Rattle.machine_numbers.specs.declared.keeping.Numbers.{Numbers}
 use Rattle.machine_numbers.specs.declared.keeping.Spare.{Spare}
-use Rattle.machine_numbers.specs.Views.{LocalView, TasksView, News, place_at, is_own, id_at, links_at, sides_at, numbers_along, near_along, written, datum_here, value_here, task_here, edge_here, flag_there}
+use Rattle.local_graph.specs.Locals.{set_where}
+use Rattle.machine_numbers.specs.Views.{own_datum, datum_or, LocalView, TasksView, News, place_at, is_own, id_at, links_at, sides_at, numbers_along, near_along, written, datum_here, value_here, task_here, edge_here, flag_there}
 
 -- ---- whom an update wakes
 
@@ -37,6 +38,12 @@ abbrev pub wakes_of : ℕ → Woken → List Side → List Link → ℕ → Bool
 wakes_of to woken [] links u = false
 wakes_of to woken (s ∷ sides) [] u = false
 wakes_of to woken (s ∷ sides) (link ∷ links) u = (wakes_there to woken s link && s.other.0 == u) || wakes_of to woken sides links u
+
+-- the flags when those are set that an update wakes along these sides and machine `to` owns, one after another
+abbrev pub woken_flags : ℕ → Woken → List Side → List Link → List Bool → List Bool
+woken_flags to woken [] links flags = flags
+woken_flags to woken (s ∷ sides) [] flags = flags
+woken_flags to woken (s ∷ sides) (link ∷ links) flags = woken_flags to woken sides links (if wakes_there to woken s link then slice_set flags s.place true else flags)
 
 -- ---- works
 
@@ -97,6 +104,12 @@ pub record HasRun (old new : TasksView) (place : ℕ) : Type 0 where
     plans = new.plans;
     outside = old.outside + 1;
   }
+
+-- what of the machine's lists an update writes: the vertex's datum and row, and the flags of tasks
+pub record HasWritten (old new : Numbers) (o : Outcome) : Type 0 where
+  pub kept : new.local.kept ≡ set_where old.local.kept (place_at old.local o.work.vertex.0) (renewed (datum_or (own_datum old.local o.work.vertex.0)) o.value)
+  pub rows : new.local.rows ≡ set_where old.local.rows (place_at old.local o.work.vertex.0) (Some o.work.row.links.items)
+  pub task : new.tasks.task ≡ woken_flags old.local.me.0 o.woken (sides_at old.local o.work.vertex.0) o.work.row.links.items (set_where old.tasks.task (place_at old.local o.work.vertex.0) false)
 
 -- the update is kept
 pub record HasUpdated (old new : Numbers) (o : Outcome) (entry : Entry) : Type 0 where

@@ -26,6 +26,14 @@ pub struct Spare {
     pub near: Vec<u64>,
 }
 
+/// Lists that a work leaves behind whose update was kept: those of the work, and the one in which the new numbers of its edges stood.
+#[derive(Debug, Drop)]
+pub struct Spent {
+    pub edges: Vec<u64>,
+    pub near: Vec<u64>,
+    pub made: Vec<u64>,
+}
+
 impl Spare {
     /// Lists with room for a work of a vertex with so many edges.
     pub fn with_room(alloc: Global, degree: usize) -> Result<Spare, NoMemory>

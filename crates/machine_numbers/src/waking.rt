@@ -1,8 +1,8 @@
 //! Vertices that are made tasks.
-ghost use Rattle.std.specs.Prelude.{◌≡◌, ℕ, ◌<◌, ◌==◌, ◌&&◌, ◌||◌, true, length, slice_set};
+ghost use Rattle.std.specs.Prelude.{◌≡◌, ℕ, ◌<◌, ◌==◌, ◌&&◌, ◌||◌, true, length, slice_set, if◌then◌else◌};
 ghost use Rattle.std.specs.List.{All};
 ghost use Rattle.machine_numbers.specs.Views.{AreTasksOf, is_own, place_at, flag_there, is_named};
-ghost use Rattle.machine_numbers.specs.Steps.{IsSideHere, wakes_along, wakes_there, wakes_of};
+ghost use Rattle.machine_numbers.specs.Steps.{IsSideHere, wakes_along, wakes_there, wakes_of, woken_flags};
 
 use gl_base::{MachineNo, Vertex};
 use local_graph::{LocalGraph, Side};
@@ -36,6 +36,7 @@ pub fn wake_along(
     requires sides { All (IsSideHere local.now) sides.now }
     requires tasks { AreTasksOf local.now tasks.old }
     ensures each { (u : ℕ) → flag_there tasks.new.task (place_at local.now u) ≡ (wakes_of local.now.me.0 woken sides.now links.now u || flag_there tasks.old.task (place_at local.now u)) }
+    ensures exact { tasks.new.task ≡ woken_flags local.now.me.0 woken sides.now links.now tasks.old.task }
     ensures rest { tasks.new ≡ record tasks.old { task = tasks.new.task } }
     ensures many { length tasks.new.task ≡ length tasks.old.task }
     ensures tasks { AreTasksOf local.now tasks.new }
@@ -72,6 +73,7 @@ fn wake_end(
     requires side { IsSideHere local.now side.now }
     requires tasks { AreTasksOf local.now tasks.old }
     ensures each { (u : ℕ) → flag_there tasks.new.task (place_at local.now u) ≡ ((wakes_there local.now.me.0 woken side.now link.now && side.now.other.0 == u) || flag_there tasks.old.task (place_at local.now u)) }
+    ensures exact { tasks.new.task ≡ (if wakes_there local.now.me.0 woken side.now link.now then slice_set tasks.old.task side.now.place true else tasks.old.task) }
     ensures rest { tasks.new ≡ record tasks.old { task = tasks.new.task } }
     ensures many { length tasks.new.task ≡ length tasks.old.task }
     ensures tasks { AreTasksOf local.now tasks.new }

@@ -9,6 +9,7 @@ use scope_pipe::{Left, Next};
 use wire_msgs::Message;
 
 /// Makes room for what a scope wants next.
+#[inline(always)]
 pub fn reserve_next(core: &mut Core, scope: ScopeId, next: Next) -> Result<(), NoMemory>
     requires { LeadsWithin core.old scope next }
     ensures room { OnOk result (HasNextRoom core.new scope next) }
@@ -37,6 +38,7 @@ fn reserve_home(core: &mut Core, scope: ScopeId) -> Result<(), NoMemory>
 }
 
 /// A scope that is moving on asks for its next lock here, or goes on to the next machine or home.
+#[inline(always)]
 pub fn go_on(core: &mut Core, scope: ScopeId, next: Next)
     requires orderly { IsOrderlyBut (λ s. is_scope s scope) core.old }
     requires come { is_some (entered_at core.old.pipe scope) ≡ true }
@@ -55,6 +57,7 @@ pub fn go_on(core: &mut Core, scope: ScopeId, next: Next)
 }
 
 /// It asks for the lock of a vertex here.
+#[inline(always)]
 fn ask_for(core: &mut Core, scope: ScopeId, y: Vertex, mode: Mode)
     requires orderly { IsOrderlyBut (λ s. is_scope s scope) core.old }
     requires come { is_some (entered_at core.old.pipe scope) ≡ true }

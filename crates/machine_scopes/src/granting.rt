@@ -17,6 +17,7 @@ pub struct Moved {
 
 /// The first that waits for the lock of x holds it and goes on, where it goes together with each holder: it asks for the next
 /// lock of its scope here, or leaves.
+#[inline(always)]
 pub fn grant(core: &mut Core, x: Vertex) -> Result<Moved, Refused>
     requires { IsOrderly core.old }
     ensures orderly { IsOrderly core.new }
@@ -39,6 +40,7 @@ pub fn grant(core: &mut Core, x: Vertex) -> Result<Moved, Refused>
 }
 
 /// A vertex whose lock may be granted, and `None` exactly where there is none. It takes no memory, and no claim changes.
+#[inline(always)]
 pub fn next_grant(core: &mut Core) -> Option<Vertex>
     requires { IsOrderly core.old }
     ensures some { IfSome result (λ x. MayGrantLock core.old x.0) }
@@ -49,6 +51,7 @@ pub fn next_grant(core: &mut Core) -> Option<Vertex>
 }
 
 /// The first that waits for the lock of x, which goes together with each holder, holds it and goes on.
+#[inline(always)]
 fn grant_first(core: &mut Core, x: Vertex, claim: Claim) -> Result<Moved, Refused>
     requires orderly { IsOrderly core.old }
     requires owned { is_owned core.old.locks x.0 ≡ true }

@@ -111,10 +111,10 @@ fn complete<P: Program>(
     ensures pipe { core.new.pipe ≡ record core.old.pipe { waiting = core.new.pipe.waiting; ready = core.new.pipe.ready } }
     ensures rest { core.new ≡ record core.old { numbers = core.new.numbers; pipe = core.new.pipe; locks = core.new.locks; out = core.new.out; spare = core.new.spare } }
 {
-    match Outcome::of(alloc, work) {
+    match Outcome::in_list(spares.for_outcome(alloc), work) {
         Ok(mut outcome) => {
             outcome.update(program);
-            spares.keep(commit(core, outcome, prepared, ticket));
+            spares.keep_all(commit(core, outcome, prepared, ticket));
             Ok(())
         }
         Err(work) => {

@@ -14,3 +14,4 @@ pub mod BatchLemmas
 pub mod DueLemmas
 pub mod ApartLemmas
 pub mod WordLemmas
+pub mod WholeLemmas

@@ -8,24 +8,25 @@ ghost use Rattle.machine_parts.specs.Order.{IsOrderly, KnowsPlaces};
 ghost use Rattle.machine_parts.specs.Settings.{Setting, IsPartOf};
 ghost use Rattle.machine_updates.specs.Works.{IsOut, IsApartFrom, HasItsRow};
 ghost use Rattle.machine_updates.specs.Reserving.{IsReserved};
-ghost use Rattle.machine_updates.specs.Committing.{HasNoLock, room_at, times_in, HasCommitted, done_told, after_told, entry_logged};
+ghost use Rattle.machine_updates.specs.Committing.{HasNoLock, room_at, times_in, HasCommitted, done_told, after_told, entry_logged, machine_left, with_log_of};
 
 use crate::reserving::Prepared;
 use crate::telling::tell_all;
 use gl_base::Entry;
 use local_graph::Outcome;
 use lock_release::release_all;
-use machine_numbers::Spare;
+use machine_numbers::Spent;
 use machine_parts::Core;
 
 /// Commits an update that was made: the other machines of the scope are told, its locks here are released, it is in flight no
-/// more, and its numbers are kept under this ticket. It takes no memory, and hands back the lists of the work's numbers.
-pub fn commit(core: &mut Core, outcome: Outcome, prepared: Vec<Prepared>, ticket: u64) -> Spare
+/// more, and its numbers are kept under this ticket. It takes no memory, and hands back the lists of the work's and the outcome's numbers.
+pub fn commit(core: &mut Core, outcome: Outcome, prepared: Vec<Prepared>, ticket: u64) -> Spent
     requires orderly { IsOrderly core.old }
     requires out { IsOut core.old outcome.work }
     requires edges { length outcome.edges.items ≡ length (sides_at core.old.numbers.local outcome.work.vertex.0) }
     requires reserved { IsReserved core.old outcome.work.scope outcome.work.vertex prepared.items }
     ensures committed { HasCommitted core.old core.new outcome ticket }
+    ensures whole { core.new ≡ with_log_of core.new (machine_left core.old outcome prepared.items) }
     ensures numbers { HasUpdated core.old.numbers core.new.numbers outcome (entry_logged outcome ticket) }
     ensures finished { HasFinished core.old.pipe core.new.pipe outcome.work.scope }
     ensures released { HasNoLock core.old.locks core.new.locks outcome.work.scope }
@@ -44,6 +45,7 @@ pub fn commit(core: &mut Core, outcome: Outcome, prepared: Vec<Prepared>, ticket
     ensures places { KnowsPlaces core.old → KnowsPlaces core.new }
     ensures settings { (st : Setting) → IsPartOf st core.old → HasItsRow st core.old outcome.work → IsPartOf st core.new }
     ensures spare { (result.edges ≡ outcome.work.row.numbers) × (result.near ≡ outcome.work.near) }
+    ensures made { result.made ≡ outcome.edges }
 {
     let scope = outcome.work.scope;
     let vertex = outcome.work.vertex;

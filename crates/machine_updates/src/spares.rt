@@ -3,13 +3,14 @@ ghost use Rattle.std.specs.Prelude.{◌≤◌, IfOk, vec_capacity};
 ghost use Rattle.machine_numbers.specs.Steps.{HasRoom};
 
 use gl_base::NoMemory;
-use machine_numbers::Spare;
+use machine_numbers::{Spare, Spent};
 use std::alloc::Global;
 
 /// Lists that works have left behind. The works that are taken next get them, so that in the long run none is made.
 #[derive(Drop)]
 pub struct Spares {
     lists: Vec<Spare>,
+    made: Vec<Vec<u64>>,
 }
 
 impl Spares {
@@ -17,6 +18,7 @@ impl Spares {
     pub fn with_room(alloc: Global, many: usize) -> Result<Spares, NoMemory> {
         Ok(Spares {
             lists: Vec::with_capacity(alloc, many)?,
+            made: Vec::with_capacity(alloc, many)?,
         })
     }
 
@@ -30,6 +32,23 @@ impl Spares {
                 near: fit(spare.near, degree)?,
             }),
             None => Spare::with_room(alloc, degree),
+        }
+    }
+
+    /// A list for what is made of a work.
+    pub fn for_outcome(&mut self, alloc: Global) -> Vec<u64> {
+        match self.made.pop() {
+            Some(list) => list,
+            None => Vec::new(alloc),
+        }
+    }
+
+    /// Keeps the lists of a work and of what was made of it, where there is room for them.
+    pub fn keep_all(&mut self, spent: Spent) {
+        let Spent { edges, near, made } = spent;
+        self.keep(Spare { edges, near });
+        if self.made.len() < self.made.capacity() {
+            self.made.push_reserved(made);
         }
     }
 

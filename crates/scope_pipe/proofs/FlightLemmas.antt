@@ -1,9 +1,11 @@
 -- What becomes of the scopes in flight.
-use Rattle.std.proofs.Common.{◌≡◌, ℕ, ◌+◌, ◌<◌, ◌==◌, Bool, true, false, ◌||◌, Option, Some, None, is_some, option_map, List, [], ◌∷◌, ◌++◌, slice_index_or, if◌then◌else◌, refl, sym, ◌∙◌, ap, ap₂, subst, ⊎_elim, arith, ne_eqb, eq-eqb}
-use Rattle.std.specs.List.{All, AllPairs, list_any, swap_remove}
-use Rattle.std.proofs.lemmas.Bool.{cases_Bool, true≢false, eqb-true, and_right}
+use Rattle.std.proofs.Common.{◌≡◌, ◌≢◌, ℕ, ◌+◌, ◌-◌, ◌<◌, ◌≤◌, ◌==◌, Bool, true, false, ◌||◌, Option, Some, None, is_some, option_map, List, [], ◌∷◌, ◌++◌, length, slice_index_or, slice_set, take, if◌then◌else◌, refl, sym, ◌∙◌, ap, ap₂, subst, ⊎_elim, arith, ne_eqb, eq-eqb}
+use Rattle.std.specs.List.{All, AllPairs, list_any, position, position_or_len, swap_remove}
+use Rattle.std.proofs.lemmas.Bool.{cases_Bool, cases_eq, cases_lt, lt-ltb, true≢false, eqb-true, and_right}
 use Rattle.std.proofs.lemmas.Option.{none-some, same_Some}
-use Rattle.std.proofs.lemmas.List.{length_push}
+use Rattle.std.proofs.lemmas.List.{get_or_default, length_push}
+use Rattle.std.proofs.lemmas.List.Quantifiers.{position-Some}
+use Rattle.std.proofs.lemmas.List.Sums.{fails_before_first}
 use Rattle.std.proofs.lemmas.List.Elements.{All-push, All-weaker}
 use Rattle.std.proofs.lemmas.List.Folds.{list_any-from_Any, Any-from_list_any}
 use Rattle.gl_base.specs.declared.numbers.Vertex.{Vertex}
@@ -11,11 +13,11 @@ use Rattle.gl_base.specs.declared.scopes.ScopeId.{ScopeId}
 use Rattle.scope_lists.specs.Scopes.{is_scope, set_for}
 use Rattle.scope_lists.specs.Found.{by_scope, AreOfTwoScopes, StandsAt}
 use Rattle.scope_lists.proofs.SameScope.{same_scope, scopes_same, one_or_two, set_for-here, set_for-there}
-use Rattle.scope_lists.proofs.FoundLemmas.{found_at, none_found, found_place, found_pushed, apart_pushed}
+use Rattle.scope_lists.proofs.FoundLemmas.{apart_places, found_at, found_none, none_found, found_place, found_pushed, apart_pushed}
 use Rattle.scope_lists.proofs.Edited.{found_swapped, apart_swapped, all_swapped, length-swap_removed}
 use Rattle.scope_pipe.specs.Inner.Kept.{IsPipe}
 use Rattle.scope_pipe.specs.declared.flights.Flight.{Flight}
-use Rattle.scope_pipe.specs.Pipes.{PipeView, flight_scope, either, flight_at, is_ready, flight_count, Flies, next_id, HasAdmitted, HasReadied, HasFinished}
+use Rattle.scope_pipe.specs.Pipes.{PipeView, flight_scope, either, flight_at, is_ready, flight_count, Flies, next_id, HasAdmitted, HasReadied, HasFinished, taken_from, without_flight}
 
 abbrev pub centre_of : Option Flight → Option Vertex
 centre_of o = option_map (λ (f : Flight). f.centre) o
@@ -299,6 +301,59 @@ finish_ready_keeps p s i f waiting_cap ready_cap entered_cap is at =
       in_part = is.in_part;
       entered_room = is.entered_room;
     }
+
+-- ---- the lists when one is finished
+
+-- the scope's flight is the first that is found
+place_first : (s : ScopeId) (flights : List Flight) (i : ℕ) (f : Flight) → AllPairs (AreOfTwoScopes flight_scope) flights → StandsAt flight_scope flights s i → position (λ (g : Flight). is_scope g.scope s) flights ≡ Some i
+place_first s flights i f apart at =
+    let test : Flight → Bool = λ g. is_scope g.scope s in
+    let first = position_or_len test flights in
+    let inside = at.inside in
+    ⊎_elim
+    (λ (before : i < first). absurd (true≢false (sym (at.is f) ∙ fails_before_first test flights i f before)))
+    (λ (after : first ≤ i).
+    let low : first < length flights = omega arith in
+    let some : position test flights ≡ Some first = rw (lt-ltb first (length flights) low) in
+    let is = position-Some test flights first f some in
+    some ∙ ap Some (⊎_elim
+    (λ (same : first ≡ i). same)
+    (λ (other : first ≢ i).
+    let differs = apart_places flight_scope flights first i f apart low at.inside other in
+    absurd (true≢false (sym is.1 ∙ subst (λ t. is_scope (slice_index_or flights first f).scope t ≡ false) (scopes_same (slice_index_or flights i f).scope s (at.is f)) differs)))
+    (cases_eq first i)))
+    (cases_lt i first)
+
+none_placed-at : (s : ScopeId) (flights : List Flight) (f : Flight) (o : Option ℕ) → by_scope flight_scope flights s ≡ None → position (λ (g : Flight). is_scope g.scope s) flights ≡ o → o ≡ None
+none_placed-at s flights f None none is = refl
+none_placed-at s flights f (Some k) none is =
+    let at = position-Some (λ (g : Flight). is_scope g.scope s) flights k f is in
+    absurd (true≢false (sym at.1 ∙ found_none flight_scope flights s none k f at.0))
+
+stays_whole : (s : ScopeId) (flights : List Flight) (f : Flight) → by_scope flight_scope flights s ≡ None → without_flight s flights ≡ flights
+stays_whole s flights f none = ap (taken_from flights) (none_placed-at s flights f (position (λ (g : Flight). is_scope g.scope s) flights) none refl)
+
+goes_out : (s : ScopeId) (flights : List Flight) (i : ℕ) (f : Flight) → AllPairs (AreOfTwoScopes flight_scope) flights → StandsAt flight_scope flights s i → without_flight s flights ≡ swap_remove flights i f
+goes_out s flights i f apart at =
+    let inside = at.inside in
+    ap (taken_from flights) (place_first s flights i f apart at)
+    ∙ ap (λ (g : Flight). take (length flights - 1) (slice_set flights i g)) (get_or_default flights (length flights - 1) _ f (omega arith))
+
+pub lists_waiting : (p : PipeView) (s : ScopeId) (i : ℕ) (f : Flight) (waiting_cap ready_cap entered_cap : ℕ) → IsKept p waiting_cap ready_cap entered_cap → StandsAt flight_scope p.waiting s i
+    → finished_waiting p i f ≡ record p { waiting = without_flight s p.waiting; ready = without_flight s p.ready }
+lists_waiting p s i f waiting_cap ready_cap entered_cap is at =
+    let here = found_at flight_scope p.waiting s i f is.waiting_apart at.inside (at.is f) in
+    let none = waits_not_ready p s (slice_index_or p.waiting i f) is.across here in
+    let waiting = sym (goes_out s p.waiting i f is.waiting_apart at) in
+    let ready = sym (stays_whole s p.ready f none) in
+    λ j. record p { waiting = waiting j; ready = ready j }
+
+pub lists_ready : (p : PipeView) (s : ScopeId) (i : ℕ) (f : Flight) (waiting_cap ready_cap entered_cap : ℕ) → IsKept p waiting_cap ready_cap entered_cap → StandsAt flight_scope p.ready s i → by_scope flight_scope p.waiting s ≡ None
+    → finished_ready p i f ≡ record p { waiting = without_flight s p.waiting; ready = without_flight s p.ready }
+lists_ready p s i f waiting_cap ready_cap entered_cap is at none =
+    let ready = sym (goes_out s p.ready i f is.ready_apart at) in
+    let waiting = sym (stays_whole s p.waiting f none) in
+    λ j. record p { waiting = waiting j; ready = ready j }
 
 -- ---- whether a scope is in flight
 

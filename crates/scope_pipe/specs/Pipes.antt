@@ -3,7 +3,8 @@ use Rattle.std.specs.Prelude.{◌≡◌, ℕ, ◌+◌, Bool, true, false, Option
 use Rattle.gl_base.specs.declared.numbers.MachineNo.{MachineNo}
 use Rattle.gl_base.specs.declared.numbers.Vertex.{Vertex}
 use Rattle.gl_base.specs.declared.scopes.ScopeId.{ScopeId}
-use Rattle.scope_lists.specs.Scopes.{set_for}
+use Rattle.std.specs.List.{position, swap_remove}
+use Rattle.scope_lists.specs.Scopes.{set_for, is_scope}
 use Rattle.scope_lists.specs.Found.{by_scope}
 use Rattle.scope_pipe.specs.declared.flights.Flight.{Flight}
 use Rattle.scope_pipe.specs.Entered.{EnteredView, entered_scope}
@@ -77,6 +78,17 @@ pub record HasFinished (old new : PipeView) (s : ScopeId) : Type 0 where
   pub count : flight_count new + 1 ≡ flight_count old
   pub flight : (t : ScopeId) → flight_at new t ≡ set_for (flight_at old) s None t
   pub ready : (t : ScopeId) → is_ready new t ≡ set_for (is_ready old) s false t
+
+-- the first flight of the scope is taken out, and the last one stands in its place
+abbrev no_flight : Flight
+no_flight = record { scope = record { home = record { 0 = 0 }; serial = 0 }; centre = record { 0 = 0 } }
+
+abbrev pub taken_from : List Flight → Option ℕ → List Flight
+taken_from flights None = flights
+taken_from flights (Some k) = swap_remove flights k no_flight
+
+abbrev pub without_flight : ScopeId → List Flight → List Flight
+without_flight s flights = taken_from flights (position (λ f. is_scope f.scope s) flights)
 
 -- of the scopes that have come, s alone now stands as told
 pub record HasCome (old new : PipeView) (s : ScopeId) (o : Option EnteredView) : Type 0 where

@@ -27,6 +27,7 @@ impl Model for Entered {
 
 impl Entered {
     /// Its scope.
+    #[inline(always)]
     pub fn scope(&self) -> ScopeId
         ensures { result ≡ self.now.scope }
     {
@@ -44,6 +45,7 @@ impl Entered {
     }
 
     /// What it wants next.
+    #[inline(always)]
     pub fn next(&self) -> Next
         ensures { result ≡ next_of self.now }
     {
@@ -51,6 +53,7 @@ impl Entered {
     }
 
     /// Goes on to what is next, and tells what it was.
+    #[inline(always)]
     pub fn advance(&mut self) -> Next
         ensures next { result ≡ next_of self.old }
         ensures moved { self.new ≡ moved_on self.old }

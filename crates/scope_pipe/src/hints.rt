@@ -20,6 +20,7 @@ impl Hints {
     }
 
     /// The place that was noted last for this scope, or for another one that shares its slot.
+    #[inline(always)]
     pub fn place(&self, scope: ScopeId) -> usize {
         self.places[slot_of(scope)] as usize
     }
@@ -31,6 +32,7 @@ impl Hints {
 }
 
 /// Scopes of one home that were admitted near one another have different slots, as have those of different homes.
+#[inline(always)]
 fn slot_of(scope: ScopeId) -> usize
     ensures { result < 4096 }
 {

@@ -17,6 +17,7 @@ pub enum Next {
 }
 
 /// What a scope of this centre wants next that asked for so many locks of `part`, and has the machines `rest` still to come.
+#[inline(always)]
 pub fn next_at(centre: Vertex, part: &[Vertex], place: usize, rest: &[MachineNo]) -> Next
     ensures { result ≡ next_at centre (slice_get part.now place) rest.now }
 {
@@ -28,6 +29,7 @@ pub fn next_at(centre: Vertex, part: &[Vertex], place: usize, rest: &[MachineNo]
 }
 
 /// How the scope of this centre locks a vertex.
+#[inline(always)]
 fn mode_at(centre: Vertex, vertex: Vertex) -> Mode
     ensures { result ≡ mode_at centre.0 vertex.0 }
 {

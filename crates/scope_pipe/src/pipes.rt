@@ -2,7 +2,7 @@
 ghost use Rattle.std.specs.Prelude.{◌≡◌, ◌+◌, ◌<◌, ◌↔◌, IsTrue, true, false, Option, Some, None, is_some, IfOk, IfSome, OnErr, IsOk, IsErrOf};
 ghost use Rattle.scope_lists.specs.Found.{by_scope, AreOfTwoScopes, StandsAt};
 ghost use Rattle.scope_pipe.specs.Entered.{EnteredView, entered_scope, next_of, moved_on, comes};
-ghost use Rattle.scope_pipe.specs.Pipes.{PipeView, flight_scope, flight_at, is_ready, flight_count, come, entered_at, Flies, next_id, HasAdmitted, HasReadied, HasFinished, HasCome, IsEmpty};
+ghost use Rattle.scope_pipe.specs.Pipes.{PipeView, flight_scope, flight_at, is_ready, flight_count, come, entered_at, Flies, next_id, HasAdmitted, HasReadied, HasFinished, without_flight, HasCome, IsEmpty};
 ghost use Rattle.std.specs.List.{AllPairs, list_any, swap_remove};
 ghost use Rattle.std.specs.Prelude.{ℕ, ◌==◌, length, slice_index_or, vec_len};
 ghost use Rattle.std.specs.Vec.{vec_capacity};
@@ -217,6 +217,7 @@ impl ScopePipe {
     }
 
     /// What the scope wants next here.
+    #[inline(always)]
     pub fn look(&self, scope: ScopeId) -> Next
         requires { is_some (entered_at self.now scope) ≡ true }
         ensures { (e : EnteredView) → entered_at self.now scope ≡ Some e → result ≡ next_of e }
@@ -226,6 +227,7 @@ impl ScopePipe {
     }
 
     /// What the scope wants next here. Where that is a lock, the scope has asked for it then.
+    #[inline(always)]
     pub fn advance(&mut self, scope: ScopeId) -> Next
         requires { is_some (entered_at self.old scope) ≡ true }
         ensures next { (e : EnteredView) → entered_at self.old scope ≡ Some e → result ≡ next_of e }
@@ -318,6 +320,7 @@ impl ScopePipe {
     pub fn finish(&mut self, scope: ScopeId)
         requires { is_some (flight_at self.old scope) ≡ true }
         ensures finished { HasFinished self.old self.new scope }
+        ensures exact { self.new ≡ record self.old { waiting = without_flight scope self.old.waiting; ready = without_flight scope self.old.ready } }
         ensures rest { self.new ≡ record self.old { waiting = self.new.waiting; ready = self.new.ready } }
     {
         let hint = self.flight_hints.place(scope);
@@ -406,6 +409,7 @@ fn take_entered(entered: &mut Vec<Entered>, hints: &mut Hints, place: usize) -> 
 }
 
 /// The place of the scope among those that have come, where it has: at the hint, or anywhere.
+#[inline(always)]
 fn find_entered(entered: &[Entered], hint: usize, scope: ScopeId) -> Option<usize>
     ensures there { IfSome result (StandsAt entered_scope entered.now scope) }
     ensures none { result ≡ None → by_scope entered_scope entered.now scope ≡ None }
@@ -422,6 +426,7 @@ fn find_entered(entered: &[Entered], hint: usize, scope: ScopeId) -> Option<usiz
 }
 
 /// The place of a scope that has come.
+#[inline(always)]
 fn entered_place(entered: &[Entered], hint: usize, scope: ScopeId) -> usize
     requires { is_some (by_scope entered_scope entered.now scope) ≡ true }
     ensures { StandsAt entered_scope entered.now scope result }

@@ -1,7 +1,7 @@
 -- Which locks would be granted, and which vertices are listed.
 use Rattle.std.proofs.Common.{◌≡◌, ◌≢◌, ℕ, zero, suc, ◌<◌, Bool, true, false, Option, None, Some, is_some, List, [], ◌∷◌, length, IfSome, slice_index, slice_index_or, slice_set, if◌then◌else◌, refl, sym, ◌∙◌, ap, subst, ⊎_elim, arith, ne_eqb}
 use Rattle.std.specs.List.{sum_by}
-use Rattle.std.proofs.lemmas.Bool.{cases_eq, true≢false}
+use Rattle.std.proofs.lemmas.Bool.{cases_eq, true≢false, lt-ltb}
 use Rattle.std.proofs.lemmas.List.{get_or-set_same, get_or-set_other, get_or_default, length-map}
 use Rattle.std.proofs.lemmas.List.Sums.{sum_by-set}
 use Rattle.std.proofs.Math.ListN.{length-set}
@@ -9,12 +9,15 @@ use Rattle.gl_base.specs.declared.scopes.Claim.{Claim}
 use Rattle.gl_base.specs.declared.scopes.ScopeId.{ScopeId}
 use Rattle.vertex_queue.specs.Flags.{is_flagged}
 use Rattle.vertex_locks.specs.Locks.{LockView, IsNext, mode_of}
-use Rattle.vertex_locks.specs.Inner.KeptTables.{ArePlacesApart, ListsGrantable, IsFree, IsTable}
+use Rattle.vertex_locks.specs.Inner.KeptTables.{ArePlacesApart, ListsGrantable, IsFree, IsListedAgain, IsTable}
 use Rattle.vertex_locks.specs.Tables.{is_owned, holder_at, queue_at, lock_at, lock_there, table_of, no_lock, HasAsked, HasGranted, HasReleased, HasRoomFor, HasTaken, IsGrantable, IsTurn, IsUnclaimed}
 use Rattle.vertex_locks.specs.declared.turns.Turn.{Turn}
 use Rattle.vertex_locks.specs.declared.turns.Turn.TheVariants.{Granted, Waiting}
 use Rattle.vertex_locks.proofs.TableLemmas.{is_placed, is_read, owned_inside}
 use Rattle.vertex_locks.proofs.MakingLemmas.{owned_reset, unclaimed}
+
+none_first : (c : Claim) (behind : List Claim) → [] ≡ c ∷ behind → ⊥
+none_first c behind is = cc
 
 -- what comes next where nobody has come or gone
 pub next_back : (old new : List (Option LockView)) (x : ℕ) (c : Claim) → ((s : ScopeId) → holder_at new x s ≡ holder_at old x s) → queue_at new x ≡ queue_at old x → IsNext (holder_at new x) (queue_at new x) c
@@ -59,6 +62,16 @@ listed_released old new flags x s inside owned has are =
     (λ y other. has.queue y)
     (listed_more old flags x inside owned are)
 
+-- a claim went for which nobody waits
+pub listed_left : (old new : List (Option LockView)) (flags : List Bool) (x : ℕ) (s : ScopeId) → queue_at new x ≡ [] → HasReleased old new x s → ListsGrantable old flags → ListsGrantable new flags
+listed_left old new flags x s none has are = record {
+  owned = λ y flagged. has.owned y ∙ are.owned y flagged;
+  waits = λ y c next. ⊎_elim
+      (λ (same : y ≡ x). absurd (none_first c next.behind (sym none ∙ (sym (ap (queue_at new) same) ∙ next.first))))
+      (λ (other : y ≢ x). are.waits y c (next_back old new y c (λ t. has.holder y t ∙ rw (ne_eqb y x other) refl) (has.queue y) next))
+      (cases_eq y x);
+}
+
 pub listed_taken : (old new : List (Option LockView)) (flags : List Bool) (x : ℕ) (c : Claim) → IsNext (holder_at old x) (queue_at old x) c → HasTaken old new x c → ListsGrantable old flags → ListsGrantable new flags
 listed_taken old new flags x c next has are =
     listed_but old new flags x (are.waits x c next) has.owned
@@ -71,9 +84,6 @@ listed_room old new flags x has are = record {
   owned = λ y flagged. has.owned y ∙ are.owned y flagged;
   waits = λ y c next. are.waits y c (next_back old new y c (has.holder y) (has.queue y) next);
 }
-
-none_first : (c : Claim) (behind : List Claim) → [] ≡ c ∷ behind → ⊥
-none_first c behind is = cc
 
 pub listed_free : (table : List (Option LockView)) (flags : List Bool) → IsUnclaimed table → ((x : ℕ) → is_flagged flags x ≡ true → is_owned table x ≡ true) → ListsGrantable table flags
 listed_free table flags free owned = record {
@@ -144,10 +154,16 @@ module _ (places : List ℕ) (locks after : List LockView) (table : List (Option
       with_table places locks after flags more many (ap length added ∙ length-set flags x true) is
       (subst (ListsGrantable (table_of places after)) (sym added) (listed_asked table (table_of places after) flags x c (owned_flag x owned) owned has was_listed))
 
-  pub table_released : (more : List Bool) (x : ℕ) (s : ScopeId) → more ≡ slice_set flags x true → is_owned table x ≡ true → HasReleased table (table_of places after) x s → IsTable places after more
-  table_released more x s added owned has =
-      with_table places locks after flags more many (ap length added ∙ length-set flags x true) is
-      (subst (ListsGrantable (table_of places after)) (sym added) (listed_released table (table_of places after) flags x s (owned_flag x owned) owned has was_listed))
+  pub table_released : (more : List Bool) (queue : List Claim) (x : ℕ) (s : ScopeId) → queue ≡ queue_at (table_of places after) x → IsListedAgain queue flags x more → is_owned table x ≡ true → HasReleased table (table_of places after) x s
+      → IsTable places after more
+  table_released more [] x s waiting added owned has =
+      with_table places locks after flags more many (ap length added) is
+      (subst (ListsGrantable (table_of places after)) (sym added) (listed_left table (table_of places after) flags x s (sym waiting) has was_listed))
+  table_released more (c ∷ queue) x s waiting added owned has =
+      let some : 0 < length (c ∷ queue) = omega arith in
+      let put : more ≡ slice_set flags x true = added ∙ rw (lt-ltb 0 (length (c ∷ queue)) some) refl in
+      with_table places locks after flags more many (ap length put ∙ length-set flags x true) is
+      (subst (ListsGrantable (table_of places after)) (sym put) (listed_released table (table_of places after) flags x s (owned_flag x owned) owned has was_listed))
 
   pub table_room : (x : ℕ) → HasRoomFor table (table_of places after) x → IsTable places after flags
   table_room x has = with_table places locks after flags flags many refl is (listed_room table (table_of places after) flags x has was_listed)

@@ -15,12 +15,12 @@ use Rattle.gl_base.specs.declared.scopes.Mode.TheVariants.{Reader, Writer}
 use Rattle.gl_base.specs.declared.scopes.ScopeId.{ScopeId}
 use Rattle.scope_lists.specs.Scopes.{is_scope}
 use Rattle.scope_lists.specs.Found.{by_scope, AreOfTwoScopes}
-use Rattle.scope_lists.proofs.SameScope.{same_scope}
-use Rattle.scope_lists.proofs.FoundLemmas.{found_at, none_found, found_place, found_pushed, apart_pushed}
+use Rattle.scope_lists.proofs.SameScope.{same_scope, scopes_same}
+use Rattle.scope_lists.proofs.FoundLemmas.{apart_head, apart_tail, found_at, none_found, found_place, found_pushed, apart_pushed}
 use Rattle.scope_lists.proofs.Edited.{found_removed, apart_removed}
 use Rattle.vertex_locks.specs.Inner.KeptLocks.{ReadTogether, IsLock, IsTaken, IsReleased}
 use Rattle.scope_lists.specs.Scopes.{GoTogether}
-use Rattle.vertex_locks.specs.Locks.{LockView, claimant, has, mode_of, IsNext, IsFreeLock, WritesAlone, WaitOnce, view_of}
+use Rattle.vertex_locks.specs.Locks.{LockView, claimant, has, mode_of, IsNext, IsFreeLock, WritesAlone, WaitOnce, view_of, without_claim, released}
 
 -- ---- holders
 
@@ -349,6 +349,26 @@ release_shows s claims held place room more is at one =
       queue = cut-drop claims held place is.within at.holds;
       room = one;
     }
+
+-- what is taken out is the scope's first claim
+pub taken_out : (s : ScopeId) (claims : List Claim) (i : ℕ) → AllPairs (AreOfTwoScopes claimant) claims → i < length claims → ((d : Claim) → is_scope (slice_index_or claims i d).scope s ≡ true) → remove claims i ≡ without_claim s claims
+taken_out s [] i apart inside is = absurd (omega arith)
+taken_out s (c ∷ claims) zero apart inside is = rw (is c) refl
+taken_out s (c ∷ claims) (suc i) apart inside is =
+    let within : i < length claims = omega arith in
+    let other : is_scope c.scope s ≡ false = subst (λ t. is_scope c.scope t ≡ false) (scopes_same (slice_index_or claims i c).scope s (is c)) (apart_head claimant c claims apart i c within) in
+    rw other (ap (λ cs. c ∷ cs) (taken_out s claims i (apart_tail claimant c claims apart) within is))
+
+pub release_lists : (s : ScopeId) (claims : List Claim) (held place room more : ℕ) → IsLock claims held → IsPlace claims held s place → more ≡ room + 1 → view_of (remove claims place) (held - 1) more ≡ released s (view_of claims held room)
+release_lists s claims held place room more is at one =
+    let long = length-take-le held claims is.within in
+    let holds : place < held = at.holds in
+    let inside : place < length (take held claims) = omega arith in
+    let holders : take (held - 1) (remove claims place) ≡ without_claim s (take held claims) =
+    cut-take claims held place is.within at.holds
+    ∙ taken_out s (take held claims) place (apart_taken claims held is.within is.once) inside (λ d. rw (get_or-take held claims place d holds) (at.is d)) in
+    let queue : drop (held - 1) (remove claims place) ≡ drop held claims = cut-drop claims held place is.within at.holds in
+    λ i. record { holders = holders i; queue = queue i; room = one i }
 
 -- ---- locks that nobody claims
 

@@ -1,11 +1,11 @@
 -- A lock: who holds it, and who waits for it.
-use Rattle.std.specs.Prelude.{◌≡◌, ℕ, Bool, Option, Some, None, is_some, option_map, List, [], ◌∷◌, take, drop}
+use Rattle.std.specs.Prelude.{◌≡◌, ℕ, ◌+◌, Bool, Option, Some, None, is_some, option_map, List, [], ◌∷◌, take, drop, if◌then◌else◌}
 use Rattle.std.specs.List.{AllPairs, AllByRecursion}
 use Rattle.gl_base.specs.declared.scopes.Claim.{Claim}
 use Rattle.gl_base.specs.declared.scopes.Mode.{Mode}
 use Rattle.gl_base.specs.declared.scopes.Mode.TheVariants.{Writer}
 use Rattle.gl_base.specs.declared.scopes.ScopeId.{ScopeId}
-use Rattle.scope_lists.specs.Scopes.{GoTogether}
+use Rattle.scope_lists.specs.Scopes.{GoTogether, is_scope}
 use Rattle.scope_lists.specs.Found.{by_scope, AreOfTwoScopes}
 
 -- Who holds the lock, who waits for it, the first first, and for how many more claims there is room.
@@ -45,6 +45,15 @@ WritesAlone holder = (s t : ScopeId) (mode : Mode) → holder s ≡ Some Writer 
 pub record WaitOnce (holder : ScopeId → Option Mode) (queue : List Claim) : Type 0 where
   pub once : AllPairs (AreOfTwoScopes claimant) queue
   pub hold_not : AllByRecursion (λ c. holder c.scope ≡ None) queue
+
+-- the claims without the first of the scope
+abbrev pub without_claim : ScopeId → List Claim → List Claim
+without_claim s [] = []
+without_claim s (c ∷ claims) = if is_scope c.scope s then claims else c ∷ without_claim s claims
+
+-- the lock when the scope has let it go
+abbrev pub released : ScopeId → LockView → LockView
+released s l = record { holders = without_claim s l.holders; queue = l.queue; room = l.room + 1 }
 
 -- ---- how a lock is kept: the holders, and behind them those who wait
 

@@ -1,12 +1,12 @@
 -- The locks of a machine's vertices, by the vertex's number.
-use Rattle.std.specs.Prelude.{◌≡◌, ℕ, ◌+◌, ◌-◌, ◌≤◌, Bool, true, Option, Some, None, is_some, List, [], ◌∷◌, ◌++◌, length, drop, map, slice_index_or, nat_lt, if◌then◌else◌}
+use Rattle.std.specs.Prelude.{◌≡◌, ℕ, ◌+◌, ◌-◌, ◌≤◌, Bool, true, Option, Some, None, is_some, List, [], ◌∷◌, ◌++◌, length, drop, map, slice_index_or, slice_set, nat_lt, if◌then◌else◌}
 use Rattle.gl_base.specs.declared.scopes.Claim.{Claim}
 use Rattle.gl_base.specs.declared.scopes.Mode.{Mode}
 use Rattle.gl_base.specs.declared.scopes.ScopeId.{ScopeId}
 use Rattle.scope_lists.specs.Scopes.{set_for, set_at}
 use Rattle.vertex_locks.specs.declared.turns.Turn.{Turn}
 use Rattle.vertex_locks.specs.declared.turns.Turn.TheVariants.{Granted, Waiting}
-use Rattle.vertex_locks.specs.Locks.{LockView, mode_of, IsNext}
+use Rattle.vertex_locks.specs.Locks.{LockView, mode_of, released, IsNext}
 
 abbrev pub no_lock : LockView
 no_lock = record { holders = []; queue = []; room = 0 }
@@ -59,6 +59,10 @@ pub record HasReleased (old new : List (Option LockView)) (x : ℕ) (s : ScopeId
   pub holder : (y : ℕ) (t : ScopeId) → holder_at new y t ≡ set_at (holder_at old) x (set_for (holder_at old x) s None) y t
   pub queue : (y : ℕ) → queue_at new y ≡ queue_at old y
   pub room : (y : ℕ) → room_at new y ≡ set_at (room_at old) x (room_at old x + 1) y
+
+-- the table when the scope has let the lock of x go
+abbrev pub released_at : List (Option LockView) → ℕ → ScopeId → List (Option LockView)
+released_at table x s = slice_set table x (Some (released s (lock_at table x)))
 
 -- there is room for one more claim to the lock of x, and no claim has changed
 pub record HasRoomFor (old new : List (Option LockView)) (x : ℕ) : Type 0 where

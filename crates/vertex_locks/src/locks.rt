@@ -1,9 +1,9 @@
 //! One lock.
-ghost use Rattle.std.specs.Prelude.{◌≡◌, ◌+◌, ◌<◌, ◌≤◌, ◌==◌, true, false, None, [], ◌∷◌, ◌++◌, length, take, drop, OnOk, IfSome};
+ghost use Rattle.std.specs.Prelude.{◌≡◌, ◌+◌, ◌<◌, ◌≤◌, ◌==◌, true, false, None, [], ◌∷◌, ◌++◌, length, nat_lt, take, drop, OnOk, IfSome};
 ghost use Rattle.std.specs.List.{position, list_any};
 ghost use Rattle.gl_base.specs.declared.scopes.Claim.{Claim};
 ghost use Rattle.scope_lists.specs.Scopes.{is_scope};
-ghost use Rattle.vertex_locks.specs.Locks.{LockView, has, mode_of, IsNext, IsFreeLock, WritesAlone, WaitOnce};
+ghost use Rattle.vertex_locks.specs.Locks.{LockView, has, mode_of, released, IsNext, IsFreeLock, WritesAlone, WaitOnce};
 ghost use Rattle.scope_lists.specs.Scopes.{GoTogether};
 ghost use Rattle.vertex_locks.specs.Inner.KeptLocks.{IsLock, requested, IsTaken, IsReleased, SameClaims};
 
@@ -45,6 +45,7 @@ impl Lock {
     }
 
     /// Makes room for one more claim.
+    #[inline(always)]
     pub fn reserve(&mut self) -> Result<(), NoMemory>
         ensures room { OnOk result (0 < self.new.room) }
         ensures more { self.old.room ≤ self.new.room }
@@ -55,6 +56,7 @@ impl Lock {
     }
 
     /// The claim waits behind the others.
+    #[inline(always)]
     pub fn request(&mut self, claim: Claim)
         requires room { 0 < self.old.room }
         requires holds_not { has claim.scope self.old.holders ≡ false }
@@ -65,6 +67,7 @@ impl Lock {
     }
 
     /// The first that waits, where it goes together with each holder.
+    #[inline(always)]
     pub fn next(&self) -> Option<Claim>
         ensures next { IfSome result (λ c. IsNext (mode_of self.now.holders) self.now.queue c) }
         ensures none { result ≡ None → (c : Claim) → IsNext (mode_of self.now.holders) self.now.queue c → ⊥ }
@@ -75,6 +78,7 @@ impl Lock {
     }
 
     /// The first that waits holds the lock, where it goes together with each holder.
+    #[inline(always)]
     pub fn grant(&mut self) -> Option<Claim>
         ensures next { IfSome result (λ c. IsNext (mode_of self.old.holders) self.old.queue c) }
         ensures none { result ≡ None → (c : Claim) → IsNext (mode_of self.old.holders) self.old.queue c → ⊥ }
@@ -89,7 +93,8 @@ impl Lock {
     /// The scope holds the lock no more.
     pub fn release(&mut self, scope: ScopeId)
         requires { has scope self.old.holders ≡ true }
-        ensures { IsReleased self.old self.new scope }
+        ensures gone { IsReleased self.old self.new scope }
+        ensures exact { self.new ≡ released scope self.old }
     {
         if let Some(place) = place_of(&self.claims, scope) {
             self.claims.remove(place);
@@ -112,6 +117,14 @@ impl Lock {
         is_among(waiting, scope)
     }
 
+    /// Whether somebody waits for the lock.
+    #[inline(always)]
+    pub fn has_waiting(&self) -> bool
+        ensures { result ≡ nat_lt 0 (length self.now.queue) }
+    {
+        self.held < self.claims.len()
+    }
+
     /// Whether nobody holds the lock, and nobody waits for it.
     pub fn is_free(&self) -> bool
         ensures free { result ≡ true → IsFreeLock (mode_of self.now.holders) self.now.queue }
@@ -132,6 +145,7 @@ impl Lock {
 }
 
 /// The first of the claims behind the holders, where it goes together with each holder. Where the first holder reads, all do.
+#[inline(always)]
 fn first_waiting(claims: &[Claim], held: usize) -> Option<Claim>
     requires { IsLock claims.now held }
     ensures next { IfSome result (λ c. IsNext (mode_of (take held claims.now)) (drop held claims.now) c) }
@@ -159,6 +173,7 @@ fn are_none(claims: &[Claim]) -> bool
 }
 
 /// Whether two may hold one lock.
+#[inline(always)]
 fn go_together(one: Mode, other: Mode) -> bool
     ensures yes { result ≡ true → GoTogether one other }
     ensures not { result ≡ false → GoTogether one other → ⊥ }

@@ -2,8 +2,8 @@
 ghost use Rattle.std.specs.Prelude.{◌≡◌, ℕ, ◌+◌, ◌<◌, ◌≤◌, ◌==◌, true, false, is_some, None, length, slice_index_or, IfOk, OnOk, OnErr, MatchOption};
 ghost use Rattle.std.specs.List.{All, list_any};
 ghost use Rattle.vertex_locks.specs.Locks.{has, IsFreeLock, WritesAlone, WaitOnce};
-ghost use Rattle.vertex_locks.specs.Tables.{is_owned, holder_at, queue_at, room_at, HasAsked, HasTaken, HasReleased, HasRoomFor, HasGranted, IsUnclaimed, IsTurn, IsGrantable, no_lock};
-ghost use Rattle.vertex_locks.specs.Inner.KeptTables.{IsFree, IsTable, table_of};
+ghost use Rattle.vertex_locks.specs.Tables.{is_owned, holder_at, queue_at, room_at, HasAsked, HasTaken, HasReleased, released_at, HasRoomFor, HasGranted, IsUnclaimed, IsTurn, IsGrantable, no_lock};
+ghost use Rattle.vertex_locks.specs.Inner.KeptTables.{IsFree, IsListedAgain, IsTable, table_of};
 
 use crate::locks::Lock;
 use crate::turns::Turn;
@@ -13,8 +13,8 @@ use std::marker::Model;
 use vertex_queue::VertexQueue;
 
 /// A reader-writer lock for each vertex that a machine owns, with a queue of the claims that wait for it. Contracts see
-/// whether a vertex has a lock, how each scope holds it, who waits for it, and for how many more claims there is room. Vertices at
-/// whose lock a claim came or went are listed, until a look finds that nothing would be granted there.
+/// whether a vertex has a lock, how each scope holds it, who waits for it, and for how many more claims there is room. A vertex is
+/// listed where a claim came to its lock, or one went for which others wait, until a look finds that nothing would be granted there.
 #[derive(Drop)]
 pub struct LockTable {
     places: Vec<u32>,
@@ -58,6 +58,7 @@ impl LockTable {
     }
 
     /// Whether x has a lock here.
+    #[inline(always)]
     pub fn owns(&self, x: Vertex) -> bool
         ensures { result ≡ is_owned self.now x.0 }
     {
@@ -68,6 +69,7 @@ impl LockTable {
     }
 
     /// Makes room for one more claim to the lock of x. No claim changes, whatever the answer.
+    #[inline(always)]
     pub fn reserve(&mut self, x: Vertex) -> Result<(), NoMemory>
         requires { is_owned self.old x.0 ≡ true }
         ensures room { OnOk result (0 < room_at self.new x.0) }
@@ -78,6 +80,7 @@ impl LockTable {
     }
 
     /// The claim waits for the lock of x behind the others, and takes up room for one.
+    #[inline(always)]
     pub fn request(&mut self, x: Vertex, claim: Claim)
         requires owned { is_owned self.old x.0 ≡ true }
         requires room { 0 < room_at self.old x.0 }
@@ -119,6 +122,7 @@ impl LockTable {
     }
 
     /// What `grant` would answer.
+    #[inline(always)]
     pub fn look(&self, x: Vertex) -> Turn
         requires { is_owned self.now x.0 ≡ true }
         ensures turn { IsTurn (holder_at self.now x.0) (queue_at self.now x.0) result }
@@ -133,6 +137,7 @@ impl LockTable {
     }
 
     /// The first that waits for the lock of x holds it, where it goes together with each holder.
+    #[inline(always)]
     pub fn grant(&mut self, x: Vertex) -> Turn
         requires { is_owned self.old x.0 ≡ true }
         ensures turn { IsTurn (holder_at self.old x.0) (queue_at self.old x.0) result }
@@ -158,11 +163,12 @@ impl LockTable {
     pub fn release(&mut self, x: Vertex, scope: ScopeId)
         requires owned { is_owned self.old x.0 ≡ true }
         requires holds { is_some (holder_at self.old x.0 scope) ≡ true }
-        ensures { HasReleased self.old self.new x.0 scope }
+        ensures released { HasReleased self.old self.new x.0 scope }
+        ensures exact { self.new ≡ released_at self.old x.0 scope }
     {
         let place = self.places[x.0 as usize] as usize;
         self.locks[place].release(scope);
-        self.listed.add(x);
+        list_waiting(&mut self.listed, &self.locks[place], x);
     }
 
     /// Nobody claims a lock any more, as after `new`. The room stays. It takes time for each lock.
@@ -172,6 +178,16 @@ impl LockTable {
         ensures room { (y : ℕ) → room_at self.old y ≤ room_at self.new y }
     {
         reset_all(&mut self.locks);
+    }
+}
+
+/// Lists x where somebody waits for its lock.
+fn list_waiting(listed: &mut VertexQueue, lock: &Lock, x: Vertex)
+    requires { x.0 < length listed.old }
+    ensures { IsListedAgain lock.now.queue listed.old x.0 listed.new }
+{
+    if lock.has_waiting() {
+        listed.add(x);
     }
 }
 
@@ -191,6 +207,7 @@ fn first_listed(places: &[u32], locks: &[Lock], listed: &mut VertexQueue) -> Opt
 }
 
 /// Whether the lock of x would be granted.
+#[inline(always)]
 fn is_grantable(places: &[u32], locks: &[Lock], x: Vertex) -> bool
     requires { is_owned (table_of places.now locks.now) x.0 ≡ true }
     ensures yes { result ≡ true → IsGrantable (table_of places.now locks.now) x.0 }

@@ -1,6 +1,6 @@
 -- How a table is kept.
 pub use Rattle.vertex_locks.specs.Tables.{table_of}
-use Rattle.std.specs.Prelude.{◌≡◌, ℕ, ◌<◌, Bool, true, Option, List, [], length, slice_index}
+use Rattle.std.specs.Prelude.{◌≡◌, ℕ, ◌<◌, Bool, true, Option, List, [], length, slice_index, slice_set, nat_lt, if◌then◌else◌}
 use Rattle.vertex_queue.specs.Flags.{is_flagged}
 use Rattle.gl_base.specs.declared.scopes.Claim.{Claim}
 use Rattle.vertex_locks.specs.Locks.{LockView, IsNext}
@@ -24,3 +24,7 @@ pub record IsTable (places : List ℕ) (locks : List LockView) (flags : List Boo
   pub apart : ArePlacesApart places (length locks)
   pub many : length flags ≡ length places
   pub listed : ListsGrantable (table_of places locks) flags
+
+-- x is listed where somebody waits, and else the list stays
+abbrev pub IsListedAgain : List Claim → List Bool → ℕ → List Bool → Type 0
+IsListedAgain queue flags x new = new ≡ (if nat_lt 0 (length queue) then slice_set flags x true else flags)

@@ -1,8 +1,11 @@
 -- What the calls leave makes up the commit.
-use Rattle.std.proofs.Common.{refl}
+use Rattle.std.proofs.Common.{List, refl, ap, ◌∙◌}
+use Rattle.gl_base.specs.declared.numbers.Vertex.{Vertex}
+use Rattle.lock_release.specs.Released.{released_all}
 use Rattle.machine_updates.proofs.CommitLemmas.{HasDone, committed}
 use Rattle.machine_updates.proofs.OrderLemmas.{ordered, settled, places_known}
 use Rattle.machine_updates.proofs.StayLemmas.{stays_out}
+use Rattle.machine_updates.proofs.WholeLemmas.{whole_is}
 use Rattle.machine_updates.proofs.committing.commit.Goals as goal
 
 has_done : (c : goal.After-finish-2) → HasDone c.args.core.now (record { terms = c.args.core.now.terms; numbers = c.finish-2.new.self; by_place = c.args.core.now.by_place; pipe = c.finish.new.self; locks = c.release_all.new.locks; out = c.tell_all.new.out; spare = c.args.core.now.spare }) c.args.outcome c.args.prepared.items c.args.ticket
@@ -40,3 +43,11 @@ returns-clause-others c = stays_out c.args.core.now _ c.args.outcome c.args.prep
 
 pub returns-clause-places : goal.returns-clause-places
 returns-clause-places c = places_known c.args.core.now _ c.args.outcome c.args.prepared.items c.args.ticket c.requires.orderly c.requires.out c.requires.reserved (has_done c) c.finish-2.ensures.many_tasks
+
+pub returns-clause-whole : goal.returns-clause-whole
+returns-clause-whole c =
+    let e = c.finish-2.ensures in
+    let m = c.args.core.now in
+    let o = c.args.outcome in
+    whole_is m _ o c.args.prepared.items _ (c.requires.orderly.flights.own o.work.scope o.work.vertex c.requires.out.flight) refl e.many_edges e.updated e.written e.local e.ghosts e.run
+    c.finish.ensures.exact (c.release_all.ensures.exact ∙ ap (λ (vs : List Vertex). released_all o.work.scope vs m.locks) c.part.ensures) c.tell_all.ensures.told

@@ -5,7 +5,7 @@ use Rattle.std.specs.Prelude.{Option, List, []}
 use Rattle.std.proofs.lemmas.List.{length-map, map-set, with_items_is}
 use Rattle.std.specs.Vec.{with_items}
 use Rattle.update_api.specs.declared.links.Link.{Link}
-use Rattle.local_graph.specs.Locals.{LocalView, links_at, sides_at, is_own, at_place, place_of_vertex}
+use Rattle.local_graph.specs.Locals.{LocalView, links_at, sides_at, is_own, at_place, place_at, place_of_vertex, set_where}
 use Rattle.local_graph.specs.Inner.Kept.{IsWellKept, links_of}
 use Rattle.local_graph.specs.Inner.Views.{local_view_of}
 use Rattle.local_graph.proofs.RowLemmas.{sound_after, own_place, links_written}
@@ -40,3 +40,14 @@ returns-clause-back c =
     λ x.
     subst (λ (l : LocalView). at_place (map links_of (set g.rows.items k row)) (place_of_vertex g.places x) None ≡ (if x == v then links_of row else links_at l x)) c.self.view_is
     (links_written g.places g.rows.items v k row c.self.invariant.apart at low x)
+
+pub returns-clause-exact : goal.returns-clause-exact
+returns-clause-exact c =
+    let g = c.self.inside in
+    let v = c.args.v.0 in
+    let k = c.in-Some.place in
+    let row : Option (Vec Link Global) = Some c.args.row.links in
+    let at : place_of_vertex g.places v ≡ Some k = sym c.place.ensures ∙ c.in-Some.is in
+    map-set links_of g.rows.items k row
+    ∙ sym (ap (λ (o : Option ℕ). set_where (map links_of g.rows.items) o (links_of row)) at)
+    ∙ ap (λ (l : LocalView). set_where l.rows (place_at l v) (links_of row)) c.self.view_is

@@ -1,9 +1,9 @@
 use Rattle.std.proofs.Common.{◌≡◌, ◌∙◌, None, List, sym, ap, subst}
 use Rattle.scope_lists.specs.Found.{by_scope, StandsAt}
 use Rattle.scope_pipe.specs.declared.flights.Flight.{Flight}
-use Rattle.scope_pipe.specs.Pipes.{PipeView, flight_scope, HasFinished}
+use Rattle.scope_pipe.specs.Pipes.{PipeView, flight_scope, HasFinished, without_flight}
 use Rattle.scope_pipe.specs.contracts.pipes.ScopePipe.{the_view}
-use Rattle.scope_pipe.proofs.FlightLemmas.{finish_waiting_keeps, finish_ready_keeps, has_finished_waiting, has_finished_ready}
+use Rattle.scope_pipe.proofs.FlightLemmas.{finish_waiting_keeps, finish_ready_keeps, has_finished_waiting, has_finished_ready, lists_waiting, lists_ready}
 use Rattle.scope_pipe.proofs.pipes.ScopePipe.finish.Goals as goal
 
 at_waits : (c : goal.After-take_flight) → StandsAt flight_scope c.self.inside.waiting.items c.args.scope c.in-Some.place
@@ -36,3 +36,20 @@ returns-in-None-clause-finished c =
     subst (λ (q : PipeView). HasFinished q (record p { ready = c.take_flight-in-None.new.flights.items }) c.args.scope) c.self.view_is
     (subst (λ (fs : List Flight). HasFinished p (record p { ready = fs }) c.args.scope) (sym c.take_flight-in-None.ensures.items)
     (has_finished_ready p c.args.scope c.ready_place-place.result c.take_flight-in-None.result c.self.inside.waiting.cap c.self.inside.ready.cap c.self.inside.entered.cap c.self.invariant (at_ready c) none))
+
+pub returns-in-Some-clause-exact : goal.returns-in-Some-clause-exact
+returns-in-Some-clause-exact c =
+    let p = the_view c.self.inside in
+    let s = c.args.scope in
+    ap (λ (fs : List Flight). record p { waiting = fs }) c.take_flight.ensures.items
+    ∙ lists_waiting p s c.in-Some.place c.take_flight.result c.self.inside.waiting.cap c.self.inside.ready.cap c.self.inside.entered.cap c.self.invariant (at_waits c)
+    ∙ ap (λ (q : PipeView). record q { waiting = without_flight s q.waiting; ready = without_flight s q.ready }) c.self.view_is
+
+pub returns-in-None-clause-exact : goal.returns-in-None-clause-exact
+returns-in-None-clause-exact c =
+    let p = the_view c.self.inside in
+    let s = c.args.scope in
+    let none : by_scope flight_scope p.waiting s ≡ None = sym (ap (λ (fs : List Flight). by_scope flight_scope fs s) c.deref.ensures.value) ∙ c.flight_place.ensures.none c.in-None.is in
+    ap (λ (fs : List Flight). record p { ready = fs }) c.take_flight-in-None.ensures.items
+    ∙ lists_ready p s c.ready_place-place.result c.take_flight-in-None.result c.self.inside.waiting.cap c.self.inside.ready.cap c.self.inside.entered.cap c.self.invariant (at_ready c) none
+    ∙ ap (λ (q : PipeView). record q { waiting = without_flight s q.waiting; ready = without_flight s q.ready }) c.self.view_is

@@ -3,8 +3,8 @@ use Rattle.std.specs.List.{position}
 use Rattle.gl_base.specs.declared.scopes.Claim.{Claim}
 use Rattle.scope_lists.specs.Scopes.{is_scope}
 use Rattle.vertex_locks.specs.Inner.KeptLocks.{IsReleased}
-use Rattle.vertex_locks.specs.Locks.{LockView, has, view_of}
-use Rattle.vertex_locks.proofs.LockLemmas.{IsPlace, is_place, is_found, release_keeps, release_shows}
+use Rattle.vertex_locks.specs.Locks.{LockView, has, released, view_of}
+use Rattle.vertex_locks.proofs.LockLemmas.{IsPlace, is_place, is_found, release_keeps, release_lists, release_shows}
 use Rattle.vertex_locks.proofs.locks.Lock.release.Goals as goal
 
 there : (c : goal.After-self-1) → IsPlace c.self.inside.claims.items c.self.inside.held c.args.scope c.in-Some.place
@@ -19,15 +19,29 @@ there c =
 pub invariant_of-self : goal.invariant_of-self
 invariant_of-self c = rw c.remove.ensures.items (release_keeps c.args.scope c.self.inside.claims.items c.self.inside.held c.in-Some.place c.self.invariant (there c))
 
-pub returns-in-Some : goal.returns-in-Some
-returns-in-Some c =
+more_room : (c : goal.After-self-1) → (c.remove.new.self.cap - c.remove.new.self.len) ≡ (c.self.inside.claims.cap - c.self.inside.claims.len) + 1
+more_room c =
+    let old = c.self.inside.claims in
+    let long = old.ok in
+    let place = there c in
+    let inside = place.inside in
+    omega (arith, c.remove.ensures.len, c.remove.ensures.capacity)
+
+pub returns-in-Some-clause-gone : goal.returns-in-Some-clause-gone
+returns-in-Some-clause-gone c =
     let old = c.self.inside.claims in
     let new = c.remove.new.self in
-    let place = there c in
-    let more : new.cap - new.len ≡ old.cap - old.len + 1 = let long = old.ok in let inside = place.inside in omega (arith, c.remove.ensures.len, c.remove.ensures.capacity) in
-    let shows = release_shows c.args.scope old.items c.self.inside.held c.in-Some.place (old.cap - old.len) (new.cap - new.len) c.self.invariant place more in
+    let shows = release_shows c.args.scope old.items c.self.inside.held c.in-Some.place (old.cap - old.len) (new.cap - new.len) c.self.invariant (there c) (more_room c) in
     let seen = rw (← c.remove.ensures.items) at shows in
     subst (λ v. IsReleased v (view_of new.items (c.self.inside.held - 1) (new.cap - new.len)) c.args.scope) c.self.view_is seen
+
+pub returns-in-Some-clause-exact : goal.returns-in-Some-clause-exact
+returns-in-Some-clause-exact c =
+    let old = c.self.inside.claims in
+    let new = c.remove.new.self in
+    ap (λ xs. view_of xs (c.self.inside.held - 1) (new.cap - new.len)) c.remove.ensures.items
+    ∙ release_lists c.args.scope old.items c.self.inside.held c.in-Some.place (old.cap - old.len) (new.cap - new.len) c.self.invariant (there c) (more_room c)
+    ∙ ap (released c.args.scope) c.self.view_is
 
 pub returns-in_default : goal.returns-in_default
 returns-in_default c =
