@@ -7,7 +7,7 @@ use cluster_step::{Cluster, ClusterMachine, Event};
 use gl_base::{MachineNo, NoMemory};
 
 /// How many tasks a machine takes up in one turn.
-const TASKS_IN_A_TURN: u32 = 64;
+const TASKS_IN_A_TURN: u32 = 16;
 
 /// Each machine that is stirred has its turn, and stirs those to which it sends something. Says whether there was one.
 pub(crate) fn round<M: ClusterMachine>(

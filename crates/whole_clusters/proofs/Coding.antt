@@ -48,7 +48,7 @@ module _ {M : Type 0} (belongs : Setting → ℕ → M → Type 0) (part : M →
     pub low_seat : a.0 < length old.seats
     low_seat = subst (λ (n : ℕ). a.0 < n) (sym kept.seats) low_here
 
-    read : (s : Seat) → s ≡ get_or old.seats a.0 s → s ≡ seat_beside old.seats a.0
+    pub read : (s : Seat) → s ≡ get_or old.seats a.0 s → s ≡ seat_beside old.seats a.0
     read s is = is ∙ get_same old.seats a.0 s first_seat low_seat
 
     at_set : (new : Seat) → seat_beside (slice_set old.seats a.0 new) a.0 ≡ new

@@ -120,6 +120,14 @@ impl<M: WaveMachine> WholeCluster<M> {
         &self.coordinator
     }
 
+    /// What is kept beside a machine for waves, to be read.
+    pub fn seat(&self, m: MachineNo) -> &Seat
+        requires { m.0 < length self.now.cluster.now.machines.items }
+        ensures { result.now ≡ seat_beside self.now.seats m.0 }
+    {
+        &self.seats[m.0 as usize]
+    }
+
     /// An own vertex of the machine whose lock may be granted now; `None` exactly where no lock may be.
     pub fn next_grant(&mut self, at: MachineNo) -> Option<Vertex>
         requires { at.0 < length self.old.cluster.now.machines.items }

@@ -1,0 +1,5 @@
+pub mod Admitting
+pub mod Stepping
+pub mod Closing
+pub mod Hearing
+pub mod Inner

@@ -1,0 +1,22 @@
+//! Word of updates elsewhere.
+ghost use Rattle.std.specs.Prelude.{◌≡◌};
+ghost use Rattle.color_machine.specs.Admitting.{IsInStepOrder, StaysInSettings};
+ghost use Rattle.color_machine.specs.Hearing.{CanHear, HasHeardDone};
+
+use crate::enlisting::enlist_all;
+use color_parts::ColorCore;
+use wire_msgs::Done;
+
+/// Word of an update elsewhere has come: its numbers are kept, and the vertices that it wakes are tasks, each in the line of its colour. It
+/// takes no memory.
+pub fn receive_done(core: &mut ColorCore, done: &Done)
+    requires orderly { IsInStepOrder core.old }
+    requires can { CanHear core.old done.now }
+    ensures received { HasHeardDone core.old core.new done.now }
+    ensures orderly { IsInStepOrder core.new }
+    ensures settings { StaysInSettings core.old core.new }
+    ensures rest { core.new ≡ record core.old { numbers = core.new.numbers; lines = core.new.lines } }
+{
+    core.numbers.learn(done);
+    enlist_all(&mut core.lines, &core.numbers, &done.wakes);
+}

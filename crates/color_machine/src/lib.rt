@@ -1,0 +1,13 @@
+//! One machine of a cluster that goes by colours: in a step it admits vertices of the step's colour alone, and takes no locks.
+#![tactic(auto)]
+
+mod admitting;
+mod closing;
+mod enlisting;
+mod hearing;
+mod stepping;
+
+pub use admitting::admit;
+pub use closing::{close, next_ready};
+pub use hearing::receive_done;
+pub use stepping::step;
