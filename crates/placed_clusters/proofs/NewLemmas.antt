@@ -1,5 +1,5 @@
 -- The parts of a new machine are in order, and begin as the run does.
-use Rattle.std.proofs.Common.{◌≡◌, ◌<◌, ◌≤◌, ◌==◌, ◌&&◌, All, ℕ, ◌∙◌, Bool, true, false, nat_lt, if◌then◌else◌, Option, Some, None, List, [], length, map, ap, sym, subst, refl}
+use Rattle.std.proofs.Common.{◌≡◌, ◌<◌, ◌≤◌, ◌==◌, All, ℕ, ◌∙◌, Bool, true, false, nat_lt, if◌then◌else◌, Option, Some, None, List, length, map, ap, sym, subst, refl}
 use Rattle.std.specs.List.{list_any}
 use Rattle.std.proofs.lemmas.Bool.{and_from, eq-eqb, lt-ltb}
 use Rattle.gl_base.specs.declared.numbers.Vertex.{Vertex}

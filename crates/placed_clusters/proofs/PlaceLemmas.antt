@@ -1,18 +1,17 @@
 -- The own vertices of a machine, each at its place.
-use Rattle.std.proofs.Common.{◌≡◌, ◌≢◌, ◌<◌, ◌==◌, ◌+◌, ℕ, ◌∙◌, Bool, true, false, nat_lt, Option, Some, None, is_some, List, length, get_or, set, ap, sym, subst, refl, inl, inr, ⊎_elim, arith, true≢false}
+use Rattle.std.proofs.Common.{◌≡◌, ◌≢◌, ◌<◌, ◌+◌, ℕ, ◌∙◌, true, Option, Some, None, is_some, List, length, get_or, set, ap, sym, refl, inl, inr, arith, true≢false}
 use Rattle.std.specs.Prelude.{slice_get}
 use Rattle.std.proofs.lemmas.Bool.{cases_eq, cases_lt, ltb-true}
 use Rattle.std.proofs.lemmas.List.{get_or-set_other, get_or-set_same, length-set}
 use Rattle.std.proofs.lemmas.Option.{get_or_from_slice_get, none-some, same_Some, slice_get-get_or, slice_get-map, slice_get_within}
 use Rattle.gl_base.specs.declared.numbers.Vertex.{Vertex}
-use Rattle.gl_base.specs.declared.scopes.Datum.{Datum}
 use Rattle.graph_core.specs.DataGraph.{size}
 use Rattle.graph_core.specs.Growth.{numbers_of}
 use Rattle.local_graph.specs.Locals.{got_at}
 use Rattle.machine_core.proofs.GraphLemmas.{passing_up}
 use Rattle.machine_numbers.specs.declared.keeping.Numbers.{Numbers}
 use Rattle.machine_parts.specs.Parts.{number_of}
-use Rattle.placed_graphs.specs.Placed.{IsLocalOf, Setting, is_own}
+use Rattle.placed_graphs.specs.Placed.{Setting, is_own}
 use Rattle.placed_graphs.specs.Beginnings.{IsReadyPart}
 use Rattle.placed_graphs.proofs.BeginLemmas.{owned_by, owned_own}
 use Rattle.placed_clusters.specs.Inner.Places.{HasPlaceBelow, HaveFirstPlaces, LocalView, StandByPlace, place_at}

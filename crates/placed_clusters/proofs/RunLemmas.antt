@@ -1,7 +1,7 @@
 -- The settings in which a cluster begins.
 use Rattle.std.proofs.Common.{◌≡◌, ◌<◌, ℕ, ◌∙◌, true, false, Option, Some, None, is_some, List, length, get_or, All, ap, sym, subst, refl, slice_index, true≢false}
 use Rattle.std.specs.Prelude.{slice_get}
-use Rattle.std.proofs.lemmas.List.{get_or-map, length-map}
+use Rattle.std.proofs.lemmas.List.{get_or-map}
 use Rattle.std.proofs.lemmas.Option.{get_or_from_slice_get, slice_get_within}
 use Rattle.cluster_core.specs.Settings.{Locking}
 use Rattle.cluster_step.specs.Clusters.{ClusterView}
@@ -18,10 +18,9 @@ use Rattle.machine_turns.specs.Turns.{HasEachRow, IsRowIn}
 use Rattle.update_api.specs.declared.links.Link.{Link}
 use Rattle.update_api.specs.Updates.{Update}
 use Rattle.placed_clusters.specs.Beginning.{AreNewIn, GoesBy, IsNewIn}
-use Rattle.placed_clusters.specs.Running.{IsBaseFor, IsMachineOf, IsRunOf, ProgramMachineView, Setting, StartIn, StartsIn, atom_numbers, machine_numbers, placed_owner}
+use Rattle.placed_clusters.specs.Running.{AreStartIn, IsBaseFor, IsMachineOf, IsRunOf, ProgramMachineView, Setting, StartIn, StartsIn, atom_numbers, placed_owner}
 use Rattle.placed_clusters.specs.Inner.Programs.{HaveProgram, RunsOn}
 use Rattle.placed_clusters.specs.declared.clusters.Run.{Run}
-use Rattle.placed_clusters.specs.declared.cores.NewTerms.{NewTerms}
 
 -- the owner of each vertex is one of the machines
 pub owner_low : (g : DataGraph) (machines : ℕ) (of : List AtomNo) (owner : List MachineNo) → length of ≡ size g → All (λ (a : AtomNo). a.0 < length owner) of → All (λ (m : MachineNo). m.0 < machines) owner →
@@ -68,6 +67,12 @@ is_run g program owner base run graph low for =
           };
     }
 
+-- so there is one
+pub some_run : (g : DataGraph) (program : Update) (of : List AtomNo) (owner : List MachineNo) (base : Base) (run : Run) → IsDataGraph g → length of ≡ size g → All (λ (a : AtomNo). a.0 < length owner) of → All (λ (m : MachineNo). m.0 < run.machines) owner → IsBaseFor g base →
+    (st : Setting) × IsRunOf g program (placed_owner of owner) base run st
+some_run g program of owner base run graph each atoms below for =
+    (run_setting g program (placed_owner of owner) base run, is_run g program (placed_owner of owner) base run graph (owner_low g run.machines of owner each atoms below) for)
+
 pub goes_by : (g : DataGraph) (program : Update) (owner : ℕ → ℕ) (base : Base) (run : Run) (st : Setting) (n : ℕ) → n ≡ size g → IsRunOf g program owner base run st →
     GoesBy st (record { terms = record { pipeline = run.pipeline; base = base.number }; machines = run.machines; vertices = n })
 goes_by g program owner base run st n many is =
@@ -104,11 +109,11 @@ module _ {P : Type 0} (meaning : P → Update) (program : P) (st : Setting) (mac
         start = λ a m at. (new_at a m at).start;
       }
 
-  -- so does a cluster that holds them and has made no event
-  pub starts_in : (k : ClusterView (ProgramMachineView P)) → k.now.machines.items ≡ all → k.start ≡ k.now → StartsIn meaning st k
-  starts_in k same began =
-      subst (λ (ms : List (ProgramMachineView P)). StartIn (IsMachineOf meaning) (λ (m : ProgramMachineView P). part_of m.core) ms st)
-      (sym (ap (λ (p : Parts (ProgramMachineView P)). p.machines.items) began ∙ same)) start_in
+-- where machines start, so does a cluster that holds them and has made no event
+pub started_in : {P : Type 0} (meaning : P → Update) (st : Setting) (all : List (ProgramMachineView P)) → AreStartIn meaning all st → (k : ClusterView (ProgramMachineView P)) → k.now.machines.items ≡ all → k.start ≡ k.now → StartsIn meaning st k
+started_in {P} meaning st all start k same began =
+    subst (λ (ms : List (ProgramMachineView P)). AreStartIn meaning ms st)
+    (sym (ap (λ (p : Parts (ProgramMachineView P)). p.machines.items) began ∙ same)) start
 
 -- the row of each own vertex is in, with a link for each side
 pub each_row : (st : Setting) (l : LocalView) → IsLocalOf st l → AreIn l → HasEachRow l

@@ -5,7 +5,7 @@ pub use Rattle.placed_graphs.specs.Beginnings.{BeginsWith, IsBaseFor}
 pub use Rattle.placed_graphs.specs.Placed.{IsOwnedBy, atom_numbers, machine_numbers, placed_owner}
 pub use Rattle.placed_graphs.specs.Weights.{IsBalanced, IsGrowthCut, IsPlacing, atom_weights}
 pub use Rattle.program_machines.specs.Machines.{IsMachineOf, ProgramMachineView}
-use Rattle.std.specs.Prelude.{◌≡◌, ℕ, false}
+use Rattle.std.specs.Prelude.{◌≡◌, List, ℕ, false}
 use Rattle.cluster_core.specs.Settings.{IsSetting, Locking}
 use Rattle.cluster_step.specs.Clusters.{ClusterView}
 use Rattle.gl_base.specs.declared.snapshots.Base.{Base}
@@ -25,6 +25,10 @@ pub record IsRunOf (g : DataGraph) (program : Update) (owner : ℕ → ℕ) (bas
   pub stored : st.stored ≡ false
   pub begins : BeginsWith st base
 
+-- these machines start in this setting
+abbrev pub AreStartIn : {P : Type 0} → (P → Update) → List (ProgramMachineView P) → Setting → Type 0
+AreStartIn meaning machines st = StartIn (IsMachineOf meaning) (λ m. part_of m.core) machines st
+
 -- the machines of the cluster started in this setting
 abbrev pub StartsIn : {P : Type 0} → (P → Update) → Setting → ClusterView (ProgramMachineView P) → Type 0
-StartsIn meaning st c = StartIn (IsMachineOf meaning) (λ m. part_of m.core) c.start.machines.items st
+StartsIn meaning st c = AreStartIn meaning c.start.machines.items st

@@ -1,10 +1,9 @@
 //! Clusters of new machines.
-ghost use Rattle.std.specs.Prelude.{◌≡◌, ℕ, ◌+◌, ◌^◌, ◌<◌, ◌≤◌, [], length, All, IfOk};
+ghost use Rattle.std.specs.Prelude.{◌≡◌, ℕ, ◌+◌, ◌^◌, ◌<◌, ◌≤◌, [], false, length, All, IfOk};
 ghost use Rattle.graph_core.specs.DataGraph.{IsDataGraph, size};
 ghost use Rattle.update_api.specs.Updates.{Update};
-ghost use Rattle.placed_clusters.specs.Beginning.{GoesBy};
-ghost use Rattle.placed_clusters.specs.Inner.Programs.{CanRun, RunsOn};
-ghost use Rattle.placed_clusters.specs.Running.{IsBaseFor, IsRunOf, Setting, StartsIn, placed_owner, told_on};
+ghost use Rattle.placed_clusters.specs.Beginning.{AreNewIn, GoesBy};
+ghost use Rattle.placed_clusters.specs.Running.{AreStartIn, IsBaseFor, IsRunOf, Setting, StartsIn, placed_owner, told_on};
 
 use crate::cores::NewTerms;
 use crate::machines::new_machines;
@@ -51,10 +50,51 @@ pub fn placed_cluster<P: Program>(
     ensures tickets { IfOk result (λ c. (c.now.next ≡ run.next) × (c.now.left ≡ run.left)) }
     ensures none { IfOk result (λ c. (p q : ℕ) → told_on c.now.links p q ≡ []) }
 {
+    let machines = placed_machines(alloc, graph, program, base, of, owner, run)?;
+    Cluster::new(alloc, machines, run.next, run.left)
+}
+
+/// The machines of such a cluster as they start, each at its place. In some setting without snapshots they do.
+pub fn placed_machines<P: Program>(
+    alloc: Global,
+    graph: &Graph,
+    program: P,
+    base: &Base,
+    of: &[AtomNo],
+    owner: &[MachineNo],
+    run: Run,
+) -> Result<Vec<ProgramMachine<P>>, NoMemory>
+    requires each { length of.now ≡ size graph.now }
+    requires atoms { All (λ a. a.0 < length owner.now) of.now }
+    requires machines { All (λ m. m.0 < run.machines) owner.now }
+    requires base { IsBaseFor graph.now base.now }
+    ensures start { (st : Setting) → IsRunOf graph.now (P.meaning program) (placed_owner of.now owner.now) base.now run st → IfOk result (λ machines. AreStartIn P.meaning machines.items st) }
+    ensures plain { IfOk result (λ machines. (st : Setting) × AreStartIn P.meaning machines.items st × (st.stored ≡ false)) }
+    ensures many { IfOk result (λ machines. length machines.items ≡ run.machines) }
+{
+    let machines = bare_machines(alloc, graph, base, of, owner, run)?;
+    with_program(alloc, machines, program)
+}
+
+/// The machines of such a cluster before they have a program, each at its place.
+pub fn bare_machines(
+    alloc: Global,
+    graph: &Graph,
+    base: &Base,
+    of: &[AtomNo],
+    owner: &[MachineNo],
+    run: Run,
+) -> Result<Vec<Machine>, NoMemory>
+    requires each { length of.now ≡ size graph.now }
+    requires atoms { All (λ a. a.0 < length owner.now) of.now }
+    requires machines { All (λ m. m.0 < run.machines) owner.now }
+    requires base { IsBaseFor graph.now base.now }
+    ensures new { (st : Setting) (program : Update) → IsRunOf graph.now program (placed_owner of.now owner.now) base.now run st → IfOk result (λ machines. AreNewIn st machines.items) }
+    ensures graph { IsDataGraph graph.now }
+{
     let terms = terms_of(graph, base, run);
     let parts = placed(alloc, graph, of, owner, run.machines, run.first)?;
-    let machines = new_machines(alloc, parts, base, terms)?;
-    cluster_of(alloc, machines, program, run)
+    new_machines(alloc, parts, base, terms)
 }
 
 /// What new machines of such a cluster go by.
@@ -70,22 +110,4 @@ fn terms_of(graph: &Graph, base: &Base, run: Run) -> NewTerms
         machines: run.machines,
         vertices: graph.n(),
     }
-}
-
-/// A cluster of these machines, each with the program.
-fn cluster_of<P: Program>(
-    alloc: Global,
-    machines: Vec<Machine>,
-    program: P,
-    run: Run,
-) -> Result<Cluster<ProgramMachine<P>>, NoMemory>
-    requires can { CanRun (P.meaning program) machines.items }
-    requires few { run.next + run.left < 2 ^ 63 }
-    ensures starts { (st : Setting) → RunsOn (P.meaning program) machines.items st → IfOk result (StartsIn P.meaning st) }
-    ensures began { IfOk result (λ c. c.start ≡ c.now) }
-    ensures tickets { IfOk result (λ c. (c.now.next ≡ run.next) × (c.now.left ≡ run.left)) }
-    ensures none { IfOk result (λ c. (p q : ℕ) → told_on c.now.links p q ≡ []) }
-{
-    let machines = with_program(alloc, machines, program)?;
-    Cluster::new(alloc, machines, run.next, run.left)
 }

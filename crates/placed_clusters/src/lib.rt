@@ -7,6 +7,6 @@ mod machines;
 mod places;
 mod programs;
 
-pub use clusters::{Run, placed_cluster};
+pub use clusters::{Run, bare_machines, placed_cluster, placed_machines};
 pub use cores::NewTerms;
 pub use machines::{new_machine, new_machines};

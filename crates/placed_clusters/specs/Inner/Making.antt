@@ -1,5 +1,5 @@
 -- What the parts of a new machine are made with.
-use Rattle.std.specs.Prelude.{◌≡◌, ◌==◌, ℕ, List, [], length}
+use Rattle.std.specs.Prelude.{◌≡◌, ◌==◌, ℕ, [], length}
 use Rattle.std.specs.List.{list_any}
 use Rattle.gl_base.specs.declared.scopes.Peer.{Peer}
 use Rattle.machine_numbers.specs.declared.keeping.Numbers.{Numbers}

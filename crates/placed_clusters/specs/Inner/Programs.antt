@@ -19,8 +19,3 @@ pub record RunsOn (program : Update) (machines : List Core) (st : Setting) : Typ
   pub engine : st.engine ≡ Locking
   pub program_is : st.program ≡ program
   pub new : AreNewIn st machines
-
--- there is such a setting
-pub record CanRun (program : Update) (machines : List Core) : Type 0 where
-  pub st : Setting
-  pub runs : RunsOn program machines st
