@@ -2,7 +2,7 @@
 use crate::fields::number_of;
 use crate::trouble::Trouble;
 use gl_base::{MAX_EDGES, MAX_ID, MAX_VERTICES};
-use graph_core::{EdgeIn, Graph};
+use graph_core::{EdgeIn, Graph, GraphFault};
 
 /// As many vertices as a graph has that is written by one number.
 const MOST_VERTICES: u64 = 100000;
@@ -22,6 +22,7 @@ pub fn built(
     }
     match Graph::build(alloc, ids, edges, directed) {
         Ok(graph) => Ok(graph),
+        Err(GraphFault::NoMemory) => Err(Trouble::NoMemory),
         Err(_) => Err(Trouble::Malformed("no graph")),
     }
 }

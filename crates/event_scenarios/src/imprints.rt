@@ -23,7 +23,8 @@ pub fn imprint<M: WaveMachine>(graph: &Graph, whole: &WholeCluster<M>) -> u64 {
             print = mixed_with(print, cluster.edge(other, edge));
         }
     }
-    print = mixed_with(print, cluster.task().map(|v| v.0 as u64));
+    // Which task is told may be another one where want of memory came behind the choice of a task.
+    print = mixed(print, cluster.task().is_some() as u64);
     for m in 0..machine_count(whole) {
         print = mixed(print, machine_imprint(whole, MachineNo(m)));
     }
