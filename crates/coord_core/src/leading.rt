@@ -1,6 +1,7 @@
 //! The coordinator.
-ghost use Rattle.std.specs.Prelude.{◌≡◌, ◌≢◌, ◌+◌, ◌^◌, ◌<◌, ◌≤◌, ◌↔◌, true, IfOk, IsOk, IsErrOf, IsTrue, length, OnOk, OnErr};
-ghost use Rattle.coord_core.specs.Coordinators.{HasCluster, MayBeCounted, message_view};
+ghost use Rattle.std.specs.Prelude.{◌≡◌, ◌≢◌, ◌+◌, ◌^◌, ◌<◌, ◌≤◌, ◌↔◌, true, IfOk, IsErrOf, IsTrue, length, slice_index_or, OnOk, OnErr};
+ghost use Rattle.coord_core.specs.Coordinators.{HasCluster, MayBeCounted, message_view, no_outbox};
+ghost use Rattle.outboxes.specs.Outboxes.{has_waiting};
 ghost use Rattle.coord_core.specs.Calls.{HasBegun, HasHandedOver, HasPutWave, HasRecorded, HasTakenReport, IsDueOf, IsFirstOf, IsFirstWith, IsReadyToRecord, IsRecordDueOf, MayBegin, MayNotBegin, MayNotPutWave, MayNotRecord, MayPutWave, MayRecord, MayReport, StaysCoordinator};
 ghost use Rattle.coord_core.specs.Stores.{store_view};
 ghost use Rattle.coord_core.specs.Inner.Kept.{IsSavingKept};
@@ -14,7 +15,7 @@ use outboxes::Outboxes;
 use quiet_waves::{Verdict, Waves};
 use std::alloc::Global;
 use std::marker::Model;
-use wire_msgs::{Message, Returned};
+use wire_msgs::Message;
 
 /// What the coordinator is to do next.
 #[derive(Clone, Copy, Debug, PartialEq, Eq, Hash)]
@@ -167,12 +168,17 @@ impl Coordinator {
         self.waiting && wave < self.put_out && self.put_out - 1 == wave && self.waves.awaits(from)
     }
 
-    /// A message of a machine has come: its counts, its section, or that it wants a snapshot. It takes no memory, so that no message
-    /// comes back.
-    pub fn receive(&mut self, from: MachineNo, message: Message) -> Result<(), Returned>
+    /// Whether it is the coordinator of this machine.
+    pub fn has_machine(&self, m: MachineNo) -> bool
+        ensures { IsTrue result ↔ (m.0 < length self.now.out.machines) }
+    {
+        m.0 < self.machines
+    }
+
+    /// A message of a machine has come: its counts, its section, or that it wants a snapshot. It takes no memory.
+    pub fn receive(&mut self, from: MachineNo, message: Message)
         requires { MayReport self.old from.0 (message_view message) }
-        ensures ok { IsOk result }
-        ensures received { HasTakenReport self.old self.new from.0 (message_view message) }
+        ensures { HasTakenReport self.old self.new from.0 (message_view message) }
     {
         match message {
             Message::Count { wave: _, counted } => {
@@ -183,7 +189,13 @@ impl Coordinator {
             Message::Want { acknowledged } => self.saving.want(acknowledged),
             _ => unreachable!(),
         }
-        Ok(())
+    }
+
+    /// Whether a message waits for a machine.
+    pub fn waits(&self, to: MachineNo) -> bool
+        ensures { result ≡ has_waiting (slice_index_or self.now.out.machines to.0 no_outbox) }
+    {
+        self.out.waits(Peer::Machine(to))
     }
 
     /// Takes the first message that waits for a machine; `None` exactly where none waits.
