@@ -1,0 +1,6 @@
+pub mod Goings
+pub mod Lines
+pub mod Making
+pub mod Answering
+pub mod Leading
+pub mod Cutting

@@ -1,0 +1,13 @@
+-- What the coordinator does is the event of the cluster.
+use Rattle.std.proofs.Common.{refl}
+use Rattle.cluster_model.specs.Events as law
+use Rattle.cluster_model.specs.Leading.{begins_snapshot}
+use Rattle.snap_clusters.specs.declared.events.Event.TheVariants as event
+use Rattle.snap_clusters.specs.declared.events.Lead.TheVariants as lead
+use Rattle.snap_clusters.proofs.Leading.{led_answers}
+use Rattle.snap_clusters.proofs.parts.Parts.begin.Goals as goal
+
+pub returns : goal.returns
+returns g c =
+    led_answers g.M.SavingMachine.stands c.args.self.now c.requires.runs (event.Lead lead.Begin) law.PutBegin refl (λ e is. is) (λ st. refl) begins_snapshot (λ st k. refl) (λ k. refl)
+    c.begin.result c.begin.new.self c.begin.ensures.begun c.begin.ensures.not_now c.begin.ensures.no_memory c.begin.ensures.unchanged

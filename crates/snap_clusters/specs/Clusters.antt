@@ -1,0 +1,69 @@
+-- A cluster that takes snapshots, and the cluster of the law that it stands for.
+pub use Rattle.cluster_model.specs.Clusters.{BaseView, Cluster}
+pub use Rattle.cluster_step.specs.Inner.Writing.{HaveLinks}
+pub use Rattle.coord_core.specs.Coordinators.{AreCalls, IsCoordinatorOf, StoreView}
+pub use Rattle.snap_clusters.specs.Going.{IsGoing, IsSnapSetting}
+pub use Rattle.snap_clusters.specs.Lines.{AreReports, messages_on, told_on}
+pub use Rattle.snap_clusters.specs.Promises.{Machine, Setting}
+pub use Rattle.snap_clusters.specs.declared.parts.Parts.{Parts}
+use Rattle.std.specs.Prelude.{List, [], false, length, slice_index_or, suc, ⊤, ℕ, ◌+◌, ◌<◌, ◌^◌, ◌∷◌, ◌≡◌}
+use Rattle.gl_base.specs.declared.snapshots.Record.{Record}
+use Rattle.cluster_core.specs.Recovering.{going_on}
+use Rattle.cluster_model.specs.Events.{recovers}
+use Rattle.cluster_model.specs.Leading.{Snapshot}
+use Rattle.cluster_records.specs.Bases.{IsBase}
+use Rattle.coord_core.specs.Calls.{IsRecordFor}
+use Rattle.graph_core.specs.DataGraph.{size}
+
+-- the records are those of these snapshots, one by one
+abbrev pub AreRecordsOf : Setting → List Snapshot → List Record → Type 0
+AreRecordsOf st [] [] = ⊤
+AreRecordsOf st [] (made ∷ records) = ⊥
+AreRecordsOf st (snapshot ∷ snapshots) [] = ⊥
+AreRecordsOf st (snapshot ∷ snapshots) (made ∷ records) = IsRecordFor st snapshot made × AreRecordsOf st snapshots records
+
+-- These parts stand for this cluster of the law; and events have led to that. The coordinator's links stand behind the machines'.
+pub record IsClusterOf {M : Type 0} (stands : Setting → ℕ → Machine → M → Type 0) (st : Setting) (p : Parts M) (c : Cluster) : Type 0 where
+  pub many : length p.machines.items ≡ st.machines
+  pub small : st.machines < 65535
+  pub links : HaveLinks p.links (suc st.machines)
+  pub machines : (a : ℕ) (d : M) → a < st.machines → stands st a (c.machine a) (slice_index_or p.machines.items a d)
+  pub runs : (a : ℕ) → a < st.machines → (c.machine a).failed ≡ false
+  pub told : (a b : ℕ) → a < st.machines → b < st.machines → c.link a b ≡ told_on p.links a b
+  pub calls : (a : ℕ) → a < st.machines → AreCalls (messages_on p.links st.machines a) (c.calls a)
+  pub reports : (a : ℕ) → a < st.machines → AreReports (messages_on p.links a st.machines) (c.reports a)
+  pub coordinator : IsCoordinatorOf st p.coordinator c.coordinator
+  pub acknowledged : AreRecordsOf st c.coordinator.snapshots p.acknowledged.items
+  pub next : c.next ≡ p.next
+  pub left : c.left ≡ p.left
+  pub few : p.next + p.left < 2 ^ 64
+  pub stopped : c.stopped ≡ p.stopped
+  pub going : IsGoing st c
+
+-- of each cluster of the law for which they stand
+abbrev pub OfEachCluster : {M : Type 0} → (Setting → ℕ → Machine → M → Type 0) → Parts M → (Setting → Cluster → Type 0) → Type 0
+OfEachCluster stands p holds = (st : Setting) (c : Cluster) → IsSnapSetting st → IsClusterOf stands st p c → holds st c
+
+-- there is one
+abbrev pub StandsForSome : {M : Type 0} → (Setting → ℕ → Machine → M → Type 0) → Parts M → Type 0
+StandsForSome stands p = (st : Setting) × (c : Cluster) × IsSnapSetting st × IsClusterOf stands st p c
+
+-- they stand for the clusters for which they stood
+abbrev pub StandsForTheSame : {M : Type 0} → (Setting → ℕ → Machine → M → Type 0) → Parts M → Parts M → Type 0
+StandsForTheSame stands old new = OfEachCluster stands old (λ st c. IsClusterOf stands st new c)
+
+-- ---- where it begins
+
+-- The machines begin an attempt from this base, whatever was before, in a cluster of this setting; the store is that of the base and of
+-- the graph.
+pub record StartsIn {M : Type 0} (stands : Setting → ℕ → Machine → M → Type 0) (xs : List M) (store : StoreView) (next left : ℕ) (st : Setting) (base : BaseView) (before : Cluster) : Type 0 where
+  pub setting : IsSnapSetting st
+  pub based : IsBase st base before.next
+  pub many : length xs ≡ st.machines
+  pub each : (a : ℕ) (d : M) → a < st.machines → stands (going_on st base.numbers base.number) a ((recovers st base before).machine a) (slice_index_or xs a d)
+  pub vertices : size st.graph ≡ store.vertices
+  pub edges : length st.graph.edges ≡ store.edges
+  pub newest : base.number ≡ store.newest
+  pub store_end : before.coordinator.store_end ≡ store.store_end
+  pub first : before.next ≡ next
+  pub tickets : before.left ≡ left

@@ -1,0 +1,87 @@
+-- What may happen in a cluster that takes snapshots, as events of the law.
+use Rattle.std.specs.Prelude.{Result, IsErrOf, OnErr, OnOk, ℕ, ⊤, ◌<◌, ◌≡◌}
+use Rattle.gl_base.specs.declared.refusals.Refused.{Refused}
+use Rattle.gl_base.specs.declared.refusals.Refused.TheVariants.{NoMemory, NotNow}
+use Rattle.cluster_model.specs.Events as law
+use Rattle.snap_clusters.specs.Clusters.{Cluster, IsClusterOf, Machine, OfEachCluster, Parts, Setting, StandsForTheSame}
+use Rattle.snap_clusters.specs.declared.events.Event.{Event}
+use Rattle.snap_clusters.specs.declared.events.Event.TheVariants as event
+use Rattle.snap_clusters.specs.declared.events.Lead.{Lead}
+use Rattle.snap_clusters.specs.declared.events.Lead.TheVariants as lead
+use Rattle.snap_clusters.specs.declared.events.Local.{Local}
+use Rattle.snap_clusters.specs.declared.events.Local.TheVariants as local
+use Rattle.snap_clusters.specs.declared.events.Passage.{Passage}
+use Rattle.snap_clusters.specs.declared.events.Passage.TheVariants as passage
+
+-- which event of the law it is; which vertex is admitted is the machine's choice
+abbrev pub IsLocalEvent : Local → law.Event → Type 0
+IsLocalEvent (local.Admit a) e = (v : ℕ) × (e ≡ law.Admit a.0 v)
+IsLocalEvent (local.Grant a x) e = e ≡ law.Grant a.0 x.0
+IsLocalEvent (local.Update s) e = e ≡ law.Update s
+IsLocalEvent (local.Mark s) e = e ≡ law.Mark s
+IsLocalEvent (local.Section a) e = e ≡ law.Section a.0
+
+abbrev pub IsLeadEvent : Lead → law.Event → Type 0
+IsLeadEvent lead.Record e = e ≡ law.Record
+IsLeadEvent lead.Begin e = e ≡ law.PutBegin
+IsLeadEvent lead.Wave e = e ≡ law.PutWave
+IsLeadEvent lead.Stop e = e ≡ law.Stop
+
+abbrev pub IsPassageEvent : Passage → law.Event → Type 0
+IsPassageEvent (passage.Send p q) e = e ≡ law.Send p.0 q.0
+IsPassageEvent (passage.Deliver p q) e = e ≡ law.Deliver p.0 q.0
+IsPassageEvent (passage.SendCall a) e = e ≡ law.SendCall a.0
+IsPassageEvent (passage.DeliverCall a) e = e ≡ law.DeliverCall a.0
+IsPassageEvent (passage.SendReport a) e = e ≡ law.SendReport a.0
+IsPassageEvent (passage.DeliverReport a) e = e ≡ law.DeliverReport a.0
+
+abbrev pub IsEventOf : Event → law.Event → Type 0
+IsEventOf (event.Local what) e = IsLocalEvent what e
+IsEventOf (event.Lead what) e = IsLeadEvent what e
+IsEventOf (event.Passage what) e = IsPassageEvent what e
+
+-- the machines that it names are of a cluster of so many
+abbrev pub NamesLocal : ℕ → Local → Type 0
+NamesLocal n (local.Admit a) = a.0 < n
+NamesLocal n (local.Grant a x) = a.0 < n
+NamesLocal n (local.Update s) = s.home.0 < n
+NamesLocal n (local.Mark s) = s.home.0 < n
+NamesLocal n (local.Section a) = a.0 < n
+
+abbrev pub NamesPassage : ℕ → Passage → Type 0
+NamesPassage n (passage.Send p q) = (p.0 < n) × (q.0 < n)
+NamesPassage n (passage.Deliver p q) = (p.0 < n) × (q.0 < n)
+NamesPassage n (passage.SendCall a) = a.0 < n
+NamesPassage n (passage.DeliverCall a) = a.0 < n
+NamesPassage n (passage.SendReport a) = a.0 < n
+NamesPassage n (passage.DeliverReport a) = a.0 < n
+
+abbrev pub NamesMachinesOf : ℕ → Event → Type 0
+NamesMachinesOf n (event.Local what) = NamesLocal n what
+NamesMachinesOf n (event.Lead what) = ⊤
+NamesMachinesOf n (event.Passage what) = NamesPassage n what
+
+-- Such an event might occur in this cluster, and what has become of the code stands for what the event makes of it.
+pub record HasHappened {M : Type 0} (stands : Setting → ℕ → Machine → M → Type 0) (st : Setting) (c : Cluster) (what : Event) (new : Parts M) : Type 0 where
+  pub event : law.Event
+  pub is : IsEventOf what event
+  pub may : law.MayOccur st c event
+  pub after : IsClusterOf stands st new (law.after_event st c event)
+
+abbrev pub MakesEvent : {M : Type 0} → (Setting → ℕ → Machine → M → Type 0) → Parts M → Event → Parts M → Type 0
+MakesEvent stands old what new = OfEachCluster stands old (λ st c. HasHappened stands st c what new)
+
+-- such an event might occur
+abbrev pub CanHappen : {M : Type 0} → (Setting → ℕ → Machine → M → Type 0) → Parts M → Event → Type 0
+CanHappen stands old what = OfEachCluster stands old (λ st c. (event : law.Event) × IsEventOf what event × law.MayOccur st c event)
+
+-- no such event might
+abbrev pub CanNotHappen : {M : Type 0} → (Setting → ℕ → Machine → M → Type 0) → Parts M → Event → Type 0
+CanNotHappen stands old what = OfEachCluster stands old (λ st c. (event : law.Event) → IsEventOf what event → law.MayOccur st c event → ⊥)
+
+-- What a call answers: the event has happened; or it might not, and nothing has changed; or memory was wanting where it might.
+pub record AnswersEvent {M : Type 0} (stands : Setting → ℕ → Machine → M → Type 0) (old : Parts M) (what : Event) (answer : Result (Unit {0}) Refused) (new : Parts M) : Type 0 where
+  pub made : OnOk answer (MakesEvent stands old what new)
+  pub not_now : IsErrOf answer NotNow → CanNotHappen stands old what
+  pub no_memory : IsErrOf answer NoMemory → CanHappen stands old what
+  pub unchanged : OnErr answer (StandsForTheSame stands old new)

@@ -1,0 +1,14 @@
+//! A cluster that takes snapshots, on one thread: its machines with the links between them, and its coordinator. Whatever happens in it,
+//! each acknowledged snapshot is a consistent cut.
+#![tactic(auto)]
+
+mod clusters;
+mod events;
+mod machines;
+mod parts;
+
+pub use clusters::SnapCluster;
+pub use coord_core::{Coordinator, Due, Store};
+pub use events::{Event, Lead, Local, Passage};
+pub use machines::SavingMachine;
+pub use parts::Parts;
