@@ -58,8 +58,8 @@ pub fn reserve_commit(
     )
 }
 
-/// Makes room for one entry more.
-fn reserve_log(log: &mut Vec<Entry>) -> Result<(), NoMemory>
+/// Makes room for one entry more. A log that holds as many updates as it may is want of memory too.
+pub fn reserve_log(log: &mut Vec<Entry>) -> Result<(), NoMemory>
     ensures room { OnOk result (vec_len log.new < vec_capacity log.new) }
     ensures few { OnOk result (length log.new.items < 4294967295) }
     ensures items { log.new.items ≡ log.old.items }
@@ -71,8 +71,9 @@ fn reserve_log(log: &mut Vec<Entry>) -> Result<(), NoMemory>
     Ok(())
 }
 
-/// Makes room for what the other machines of a scope will be told.
-fn prepare(
+/// Makes room for what each of these machines but `me` will be told of the update of a scope of v, which has so many edges, and hands
+/// it out.
+pub fn prepare(
     alloc: Global,
     out: &mut Outboxes,
     scope: ScopeId,
