@@ -14,8 +14,8 @@ use Rattle.machine_parts.specs.Parts.{number_of}
 use Rattle.placed_graphs.specs.Placed.{Setting, is_own}
 use Rattle.placed_graphs.specs.Beginnings.{IsReadyPart}
 use Rattle.placed_graphs.proofs.BeginLemmas.{owned_by, owned_own}
-use Rattle.placed_clusters.specs.Inner.Places.{HasPlaceBelow, HaveFirstPlaces, LocalView, StandByPlace, place_at}
-use Rattle.placed_clusters.proofs.OntoLemmas.{onto}
+use Rattle.machine_places.specs.Places.{HasPlaceBelow, HaveFirstPlaces, LocalView, StandByPlace, place_at}
+use Rattle.machine_places.proofs.OntoLemmas.{onto}
 
 vertex_is : (v w : Vertex) → v.0 ≡ w.0 → v ≡ w
 vertex_is v w same = ap (λ (n : ℕ). record { 0 = n }) same

@@ -1,6 +1,6 @@
 //! The own vertex at each place.
 ghost use Rattle.std.specs.Prelude.{◌≡◌, length, IfOk};
-ghost use Rattle.placed_clusters.specs.Inner.Places.{HaveFirstPlaces, StandByPlace};
+ghost use Rattle.machine_places.specs.Places.{HaveFirstPlaces, StandByPlace};
 
 use gl_base::{NoMemory, Vertex};
 use local_graph::LocalGraph;

@@ -3,9 +3,9 @@ use Rattle.std.specs.Prelude.{slice_get, slice_index_or}
 use Rattle.std.proofs.lemmas.List.{length-set}
 use Rattle.std.proofs.lemmas.Option.{slice_get-get_or}
 use Rattle.gl_base.specs.declared.numbers.Vertex.{Vertex}
-use Rattle.placed_clusters.proofs.PlaceLemmas.{StandSoFar, has_place, place_low, stand_all, stand_more}
-use Rattle.placed_clusters.proofs.places.vertices_by_place.Goals as goal
-use Rattle.placed_clusters.proofs.places.vertices_by_place.Goals.{in-Some, in_default}
+use Rattle.machine_places.proofs.PlaceLemmas.{StandSoFar, has_place, place_low, stand_all, stand_more}
+use Rattle.machine_places.proofs.places.vertices_by_place.Goals as goal
+use Rattle.machine_places.proofs.places.vertices_by_place.Goals.{in-Some, in_default}
 
 listed : (l : List Vertex) (owned : List Vertex) (i : ℕ) (d : Vertex) → l ≡ owned → i < length l → slice_get owned i ≡ Some (slice_index_or l i d)
 listed l owned i d same low = subst (λ (vs : List Vertex). slice_get vs i ≡ Some (slice_index_or l i d)) same (slice_get-get_or l i d low)

@@ -1,6 +1,6 @@
 use Rattle.std.proofs.Common.{◌≡◌, length}
-use Rattle.placed_clusters.proofs.PlaceLemmas.{StandSoFar}
-use Rattle.placed_clusters.proofs.places.vertices_by_place.Given as goal
+use Rattle.machine_places.proofs.PlaceLemmas.{StandSoFar}
+use Rattle.machine_places.proofs.places.vertices_by_place.Given as goal
 
 abbrev pub invariant-loop-v : goal.invariant-loop-v
 invariant-loop-v l =
