@@ -33,7 +33,7 @@ keep-requires g c =
     can_keep roomy c.take_work-work.new.self c.args.scope v c.take_work-work.result c.take_work-work.ensures c.requires.row c.update.new.self (c.update.ensures.work ∙ c.in-Ok.ensures.work)
     c.args.found.place (waits_room n roomy c.args.found.place v refl c.requires.waits) (can_room n roomy v refl room.items c.requires.can)
     (c.update.ensures.many ∙ ap length c.in-Ok.ensures.edges) room.room room.few
-    (subst (λ (d : Datum). d.version < 4294967295) c.datum.ensures room.version)
+    (subst (λ (d : Datum). d.version < 4294967295) c.datum-version.ensures room.version)
 
 pub returns-in-Ok-clause-made : goal.returns-in-Ok-clause-made
 returns-in-Ok-clause-made g c =
