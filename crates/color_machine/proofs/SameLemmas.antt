@@ -6,7 +6,7 @@ use Rattle.gl_base.specs.declared.scopes.Peer.TheVariants.{Machine}
 use Rattle.local_graph.specs.declared.sides.Side.{Side}
 use Rattle.machine_numbers.specs.declared.keeping.Numbers.{Numbers}
 use Rattle.machine_numbers.specs.Settings.{IsRowOf}
-use Rattle.machine_numbers.specs.Views.{datum_here, edge_here}
+use Rattle.machine_numbers.specs.Views.{edge_here}
 use Rattle.machine_parts.specs.Order.{IsGraphInOrder}
 use Rattle.machine_parts.specs.Rooms.{HaveSameMessages}
 use Rattle.machine_updates.proofs.GraphLemmas.{SameGraph, graph_kept, sides_kept}
@@ -42,7 +42,6 @@ module _ (m : ColorCore) (n : Numbers) (out : OutboxesView) (same : HasSameNumbe
       tasks = record { apart = is.numbers.tasks.apart; own = is.numbers.tasks.own };
       sides = λ v own k d low. let side = is.numbers.sides v own k d low in record { place = side.place; own = side.own };
       ghosts = is.numbers.ghosts;
-      versions = λ v own. subst (λ (es : List Entry). (datum_here m.numbers v).version ≤ length es) (sym same.log) (is.numbers.versions v own);
       marks = is.numbers.marks;
       outside = subst (λ (es : List Entry). m.numbers.tasks.outside ≤ length es) (sym same.log) is.numbers.outside;
     };

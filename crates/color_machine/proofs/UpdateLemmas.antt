@@ -74,13 +74,6 @@ pred_is a b is = ap pred (sym (add-one a) ∙ is)
 vertex_same : (u v : Vertex) → u.0 ≡ v.0 → u ≡ v
 vertex_same u v same = λ i. record { 0 = same i }
 
-renewed_version : (d : Datum) (x : ℕ) → (renewed d x).version ≤ d.version + 1
-renewed_version d x = by (x == d.value)
-  where
-    by : (b : Bool) → (if b then d else record { value = x; version = suc d.version; mark = d.mark }).version ≤ d.version + 1
-    by true = omega arith
-    by false = omega arith
-
 renewed_mark : (d : Datum) (x : ℕ) → (renewed d x).mark ≡ d.mark
 renewed_mark d x = by (x == d.value)
   where
@@ -270,12 +263,6 @@ module _ (m : ColorCore) (n : Numbers) (lines : LinesView) (scopes : ScopesView)
         ghosts = λ x.
             ap (λ (g : CacheView). is_some (ghost_datum g x)) made.ghosts ∙ o.ghosts x
             ∙ ap (λ (gs : List GhostLine). list_any (λ g. g.vertex.0 == x) gs) (sym (ghosts_kept m.numbers.local n.local graph));
-        versions = λ u mine.
-            let was_u = o.versions u (before u mine) in
-            let was_v = o.versions v.0 own_v in
-            let rises = renewed_version (datum_here m.numbers v.0) made.outcome.value in
-            let longer = long in
-            datum_now u (λ d. d.version ≤ length n.log.items) (λ same. omega (arith, was_v, rises, longer)) (λ off. omega (arith, was_u, longer));
         marks = λ u mine.
             datum_now u (λ d. m.base ≤ d.mark) (λ same. subst (λ (k : ℕ). m.base ≤ k) (sym (renewed_mark (datum_here m.numbers v.0) made.outcome.value)) (o.marks v.0 own_v)) (λ off. o.marks u (before u mine));
         outside =

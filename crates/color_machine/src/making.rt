@@ -13,9 +13,6 @@ use outboxes::Outboxes;
 use std::alloc::Global;
 use update_api::Program;
 
-/// The version of a vertex counts up to this.
-const MAX_VERSION: u32 = 4294967295;
-
 /// What is needed besides a machine's own numbers to make an update: the scope and its vertex, and the ticket.
 #[derive(Clone, Copy, Debug)]
 pub struct Ticketed {
@@ -71,10 +68,8 @@ fn make_room(
     ensures rest { numbers.new ≡ record numbers.old { log = numbers.new.log } }
     ensures silent { HaveSameMessages out.old out.new }
 {
-    if numbers.datum(v).version >= MAX_VERSION {
-        return Err(NoMemory);
-    }
-    reserve_log(&mut numbers.log)?;
+    let version = numbers.datum(v).version;
+    reserve_log(&mut numbers.log, version)?;
     let local = &numbers.local;
     let degree = local.sides(v).len();
     prepare(alloc, out, scope, v, local.parts(v), local.me(), degree)
