@@ -155,9 +155,6 @@ module _ (m : ColorCore) (n : Numbers) (lines : LinesView) (done : Done) (is : I
         sides = λ u mine. subst (λ (l : LocalView). All (IsSideHere l) (sides_at l u)) (sym local)
             (λ k d low. let here = o.sides u (sym (own u) ∙ mine) k d low in record { place = here.place; own = here.own });
         ghosts = λ x. ghosts x ∙ o.ghosts x ∙ ap (λ (gs : List GhostLine). list_any (λ g. g.vertex.0 == x) gs) (sym (ap (λ (l : LocalView). l.ghosts) local));
-        versions = λ u mine.
-            let was = sym (own u) ∙ mine in
-            subst (λ (k : ℕ). (datum_here n u).version ≤ k) long (subst (λ (d : Datum). d.version ≤ length m.numbers.log.items) (sym (datum u was)) (o.versions u was));
         marks = λ u mine. let was = sym (own u) ∙ mine in subst (λ (d : Datum). m.base ≤ d.mark) (sym (datum u was)) (o.marks u was);
         outside = subst (λ (k : ℕ). n.tasks.outside ≤ k) long (subst (λ (t : TasksView). t.outside ≤ length m.numbers.log.items) (sym tasks) o.outside);
       }

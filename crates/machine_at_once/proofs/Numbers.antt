@@ -77,7 +77,7 @@ module _ (n : Numbers) (t : TasksView) (o : Outcome) (place : Vertex) (can : Can
         task = ap (flag_there n.tasks.task) can.waits.at ∙ flags.0;
         not_pending = ap (flag_there n.tasks.pending) can.waits.at ∙ can.waits.quiet;
         outside = let most = can.can.outside in let few = can.few in omega arith;
-        version = let most = can.can.version in let few = can.few in omega arith;
+        version = can.version;
         room = can.room;
       })
 
@@ -217,8 +217,8 @@ module _ (roomy out : Numbers) (scope : ScopeId) (v : Vertex) (work : Work) (tak
   edges_lent edges = ap length edges ∙ many_numbers ∙ sym many_near ∙ ap (λ (w : Work). length w.near.items) (sym same)
 
   -- the outcome can be kept
-  pub can_keep : (place : Vertex) → WaitsAt roomy place v → CanBeMade roomy v → length o.edges.items ≡ length work.row.numbers.items → vec_len roomy.log < vec_capacity roomy.log → length roomy.log.items < 4294967295 → CanBeKept out o place
-  can_keep place waits can edges room few =
+  pub can_keep : (place : Vertex) → WaitsAt roomy place v → CanBeMade roomy v → length o.edges.items ≡ length work.row.numbers.items → vec_len roomy.log < vec_capacity roomy.log → length roomy.log.items < 4294967295 → (datum_here roomy v.0).version < 4294967295 → CanBeKept out o place
+  can_keep place waits can edges room few version =
       let vertex : o.work.vertex ≡ v = ap (λ (w : Work). w.vertex) same ∙ taken.vertex in
       let mid : Numbers = record roomy { local = record roomy.local { rows = out.local.rows } } in
       let kept : CanBeKept mid o place =
@@ -229,13 +229,13 @@ module _ (roomy out : Numbers) (scope : ScopeId) (v : Vertex) (work : Work) (tak
             (record {
               sides = λ k d low. let here = can.sides k d low in record { place = here.place; own = here.own };
               tasks = record { apart = can.tasks.apart; own = can.tasks.own };
-              version = can.version;
               outside = can.outside;
             });
         links = ap (λ (w : Work). length w.row.links.items) same ∙ taken.many ∙ ap (λ (u : Vertex). length (sides_at roomy.local u.0)) (sym vertex);
         edges = edges ∙ many_numbers ∙ ap (λ (u : Vertex). length (sides_at roomy.local u.0)) (sym vertex);
         room = room;
         few = few;
+        version = subst (λ (u : Vertex). (datum_here mid u.0).version < 4294967295) (sym vertex) version;
       } in
       subst (λ (k : Numbers). CanBeKept k o place) (sym taken.rest) kept
 
@@ -249,7 +249,6 @@ can_room n roomy v is items can = subst (λ (k : Numbers). CanBeMade k v) (sym i
     (record {
       sides = can.sides;
       tasks = can.tasks;
-      version = subst (λ (es : List Entry). (datum_here n v.0).version ≤ length es) (sym items) can.version;
       outside = subst (λ (es : List Entry). n.tasks.outside ≤ length es) (sym items) can.outside;
     })
 

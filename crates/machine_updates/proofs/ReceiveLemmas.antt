@@ -185,8 +185,6 @@ module _ (old new : Core) (done : Done) (order : IsOrderly old) (can : CanLearn 
         tasks = heard.tasks_kept;
         sides = λ u is. sides_here old.numbers.local new.numbers.local graph u (n.sides u (was u is));
         ghosts = λ x. heard.ghosts x ∙ n.ghosts x ∙ ap (λ (gs : List GhostLine). list_any (λ g. g.vertex.0 == x) gs) (sym (ghosts_kept old.numbers.local new.numbers.local graph));
-        versions = λ u is.
-            let own = was u is in subst (λ (k : ℕ). (datum_here new.numbers u).version ≤ k) long (subst (λ (d : Datum). d.version ≤ length old.numbers.log.items) (sym (datum u own)) (n.versions u own));
         marks = λ u is.
             let own = was u is in subst (λ (d : Datum). old.terms.base ≤ d.mark) (sym (datum u own)) (n.marks u own);
         outside = subst (λ (k : ℕ). new.numbers.tasks.outside ≤ k) long (subst (λ (t : TasksView). t.outside ≤ length old.numbers.log.items) (sym heard.tasks) n.outside);

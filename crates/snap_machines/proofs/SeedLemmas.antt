@@ -34,7 +34,6 @@ numbers_pended m t are =
       tasks = record { apart = are.tasks.apart; own = are.tasks.own };
       sides = are.sides;
       ghosts = are.ghosts;
-      versions = are.versions;
       marks = are.marks;
       outside = are.outside;
     }
@@ -80,7 +79,7 @@ part_pended w old new pending rest is =
 
 -- ---- ranges
 
-first_none : (test : ℕ → Bool) (k n : ℕ) → ((x : ℕ) → test x ≡ false) → first_passing test k n ≡ None
+pub first_none : (test : ℕ → Bool) (k n : ℕ) → ((x : ℕ) → test x ≡ false) → first_passing test k n ≡ None
 unfolding first_passing
 first_none test k zero fails = refl
 first_none test k (suc n) fails = ap (λ (b : Bool). if b then Some k else first_passing test (suc k) n) (fails k) ∙ first_none test (suc k) n fails
