@@ -1,5 +1,5 @@
 -- A scope that is moving on takes a lock that nobody claims.
-use Rattle.std.proofs.Common.{Result, Ok, Err, OnOk, is_err, ◌≡◌, ◌≢◌, ℕ, suc, ◌<◌, ◌≤◌, ◌-◌, ◌++◌, Bool, true, false, true≢false, if◌then◌else◌, Option, None, Some, is_some, List, [], ◌∷◌, slice_get, refl, sym, ap, ◌∙◌, subst, arith}
+use Rattle.std.proofs.Common.{Result, Ok, Err, OnOk, is_err, ◌≡◌, ◌≢◌, ℕ, suc, ◌<◌, ◌-◌, ◌++◌, Bool, true, false, true≢false, if◌then◌else◌, Option, None, Some, is_some, List, [], ◌∷◌, slice_get, refl, sym, ap, ◌∙◌, subst, arith}
 use Rattle.std.proofs.lemmas.Bool.{eq-eqb, ne_eqb}
 use Rattle.std.proofs.lemmas.Option.{none-some, same_Some}
 use Rattle.gl_base.specs.declared.numbers.Vertex.{Vertex}

@@ -8,7 +8,7 @@ use Rattle.machine_scopes.specs.Inner.Going.{HasNextRoom, Wants}
 use Rattle.machine_scopes.specs.Inner.Taking.{HasTakenOn}
 use Rattle.machine_scopes.proofs.HeldLemmas.{some_of}
 use Rattle.machine_scopes.proofs.MoveLemmas.{is_this}
-use Rattle.machine_scopes.proofs.TakeLemmas.{come_then, locks_same, none_taken, nothing_taken, ok_then, orderly_then, room_then, settings_then, taken_then, wants_then, within_ahead}
+use Rattle.machine_scopes.proofs.TakeLemmas.{come_then, locks_same, none_taken, nothing_taken, ok_then, orderly_then, room_then, taken_then, wants_then, within_ahead}
 use Rattle.machine_scopes.proofs.taking.take_next.Goals as goal
 
 pub returns-in_default : goal.returns-in_default
