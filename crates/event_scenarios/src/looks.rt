@@ -180,6 +180,8 @@ fn due_word(due: Due) -> &'static str {
         Due::Ended => "ended",
         Due::Wave => "wave",
         Due::Nothing => "nothing",
+        Due::Record(_) => "record",
+        Due::Snapshot(_) => "snapshot",
     }
 }
 

@@ -4,7 +4,7 @@ pub use Rattle.cluster_core.specs.Effects.{updated}
 pub use Rattle.cluster_core.specs.Settings.{IsSetting}
 pub use Rattle.local_parts.specs.Parts.{IsLocalOf, AreIn}
 pub use Rattle.machine_parts.specs.Order.{IsOrderly, KnowsPlaces}
-pub use Rattle.machine_parts.specs.Parts.{LocalView, part_of, is_ready, is_own, links_at, sides_at, task_here, pending_here}
+pub use Rattle.machine_parts.specs.Parts.{LocalView, part_of, datum_here, is_ready, is_own, links_at, sides_at, task_here, pending_here}
 pub use Rattle.machine_parts.specs.Rooms.{HasOnlyMadeRoom}
 pub use Rattle.machine_parts.specs.Settings.{Setting, IsPartOf, SameSettings}
 pub use Rattle.machine_updates.specs.Works.{IsOut}

@@ -1,7 +1,7 @@
 //! The update of a scope.
 ghost use Rattle.std.specs.Prelude.{◌≡◌, ℕ, ◌==◌, Some, length, if◌then◌else◌, OnOk, OnErr, IsErrOf};
 ghost use Rattle.local_graph.specs.Works.{IsRow};
-ghost use Rattle.machine_turns.specs.Turns.{IsOrderly, KnowsPlaces, SameSettings, HasEachRow, MayUpdate, HasMadeUpdate, IsAsBefore, IsOut, Setting, IsPartOf, part_of, is_own, links_at, sides_at};
+ghost use Rattle.machine_turns.specs.Turns.{IsOrderly, KnowsPlaces, SameSettings, HasEachRow, MayUpdate, HasMadeUpdate, IsAsBefore, IsOut, Setting, IsPartOf, part_of, datum_here, is_own, links_at, sides_at};
 ghost use Rattle.machine_turns.specs.Inner.Taking.{CanBeTaken, HasItsRow, IsReserved, HasCompleted};
 
 use crate::waiting::centre_to_update;
@@ -32,6 +32,7 @@ pub fn update<P: Program>(
     ensures unchanged { OnErr result (IsAsBefore core.old core.new) }
     ensures rows { HasEachRow core.new.numbers.local }
     ensures links { (x : ℕ) → links_at core.new.numbers.local x ≡ links_at core.old.numbers.local x }
+    ensures marks { (x : ℕ) → (datum_here core.new.numbers x).mark ≡ (datum_here core.old.numbers x).mark }
     ensures local { let old = core.old.numbers.local in let new = core.new.numbers.local in new ≡ record old { kept = new.kept; rows = new.rows; numbers = new.numbers } }
     ensures orderly { IsOrderly core.new }
     ensures places { KnowsPlaces core.old → KnowsPlaces core.new }
@@ -71,6 +72,7 @@ fn make<P: Program>(
     ensures unchanged { OnErr result (IsAsBefore core.old core.new) }
     ensures rows { HasEachRow core.new.numbers.local }
     ensures links { (x : ℕ) → links_at core.new.numbers.local x ≡ links_at core.old.numbers.local x }
+    ensures marks { (x : ℕ) → (datum_here core.new.numbers x).mark ≡ (datum_here core.old.numbers x).mark }
     ensures local { let old = core.old.numbers.local in let new = core.new.numbers.local in new ≡ record old { kept = new.kept; rows = new.rows; numbers = new.numbers } }
     ensures orderly { IsOrderly core.new }
     ensures places { KnowsPlaces core.old → KnowsPlaces core.new }
@@ -105,6 +107,7 @@ fn complete<P: Program>(
     ensures rows { (x : ℕ) → links_at core.new.numbers.local x ≡ (if x == work.vertex.0 then Some work.row.links.items else links_at core.old.numbers.local x) }
     ensures local { let old = core.old.numbers.local in let new = core.new.numbers.local in new ≡ record old { kept = new.kept; rows = new.rows; numbers = new.numbers } }
     ensures own { (x : ℕ) → is_own core.new.numbers.local x ≡ is_own core.old.numbers.local x }
+    ensures marks { (x : ℕ) → (datum_here core.new.numbers x).mark ≡ (datum_here core.old.numbers x).mark }
     ensures orderly { IsOrderly core.new }
     ensures places { KnowsPlaces core.old → KnowsPlaces core.new }
     ensures settings { (st : Setting) → IsPartOf st core.old → HasItsRow st core.old work → IsPartOf st core.new }

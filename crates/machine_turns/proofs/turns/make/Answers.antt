@@ -1,7 +1,9 @@
 -- The scope is taken alone, so no other work is out.
-use Rattle.std.proofs.Common.{sym, subst}
+use Rattle.std.proofs.Common.{ℕ, ap, ◌∙◌, sym, subst}
 use Rattle.gl_base.specs.declared.numbers.Vertex.{Vertex}
 use Rattle.gl_base.specs.declared.scopes.ScopeId.{ScopeId}
+use Rattle.machine_parts.specs.declared.cores.Core.{Core}
+use Rattle.machine_turns.specs.Turns.{datum_here}
 use Rattle.machine_turns.specs.Inner.Taking.{IsReserved}
 use Rattle.machine_turns.proofs.TurnLemmas.{on_ok, reserved_still, row_taken, links_same, local_same, rows_in, has_made}
 use Rattle.machine_turns.proofs.turns.make.Goals as goal
@@ -64,3 +66,8 @@ returns-clause-settings g c st here =
     let e = c.take_work-work.ensures in
     let roomy = c.reserve_commit.ensures.settings st here in
     c.complete.ensures.settings st (e.settings st roomy) (e.row st roomy)
+
+pub returns-clause-marks : goal.returns-clause-marks
+returns-clause-marks g c x =
+    let mark : Core → ℕ = λ m. (datum_here m.numbers x).mark in
+    c.complete.ensures.marks x ∙ ap mark c.take_work-work.ensures.rest ∙ ap mark c.reserve_commit.ensures.same.rest
