@@ -28,7 +28,7 @@ impl Model for Links {
 
 impl Links {
     /// Links between so many machines, with nothing on them.
-    pub(crate) fn new(alloc: Global, machines: usize) -> Result<Links, NoMemory>
+    pub fn new(alloc: Global, machines: usize) -> Result<Links, NoMemory>
         ensures rows { IfOk result (λ l. length l ≡ machines) }
         ensures columns { IfOk result (λ l. (p : ℕ) → p < machines → length (slice_index_or l p []) ≡ machines) }
         ensures none { IfOk result (λ l. (p q : ℕ) → (link_between l p q).messages ≡ []) }
@@ -41,7 +41,7 @@ impl Links {
     }
 
     /// Whether a message is on the link.
-    pub(crate) fn has_message(&self, from: MachineNo, to: MachineNo) -> bool
+    pub fn has_message(&self, from: MachineNo, to: MachineNo) -> bool
         requires { HasLinkBetween self.now from.0 to.0 }
         ensures { IsTrue result ↔ HasFirst (told_on self.now from.0 to.0) }
     {
@@ -49,7 +49,7 @@ impl Links {
     }
 
     /// Makes room for one more message on the link.
-    pub(crate) fn reserve(&mut self, from: MachineNo, to: MachineNo) -> Result<(), NoMemory>
+    pub fn reserve(&mut self, from: MachineNo, to: MachineNo) -> Result<(), NoMemory>
         requires { HasLinkBetween self.old from.0 to.0 }
         ensures room { OnOk result (0 < (link_between self.new from.0 to.0).room) }
         ensures same { (link_between self.new from.0 to.0).messages ≡ (link_between self.old from.0 to.0).messages }
@@ -59,7 +59,7 @@ impl Links {
     }
 
     /// The message is the last one on the link.
-    pub(crate) fn push(&mut self, from: MachineNo, to: MachineNo, message: Message)
+    pub fn push(&mut self, from: MachineNo, to: MachineNo, message: Message)
         requires link { HasLinkBetween self.old from.0 to.0 }
         requires room { 0 < (link_between self.old from.0 to.0).room }
         ensures last { (link_between self.new from.0 to.0).messages ≡ (link_between self.old from.0 to.0).messages ++ message_view message ∷ [] }
@@ -69,7 +69,7 @@ impl Links {
     }
 
     /// Takes the first message off the link. Its room is kept.
-    pub(crate) fn take(&mut self, from: MachineNo, to: MachineNo) -> Option<Message>
+    pub fn take(&mut self, from: MachineNo, to: MachineNo) -> Option<Message>
         requires { HasLinkBetween self.old from.0 to.0 }
         ensures first { option_map message_view result ≡ slice_get (link_between self.old from.0 to.0).messages 0 }
         ensures behind { (link_between self.new from.0 to.0).messages ≡ behind_first (link_between self.old from.0 to.0).messages }
@@ -80,7 +80,7 @@ impl Links {
     }
 
     /// The message is the first one on the link.
-    pub(crate) fn put_back(&mut self, from: MachineNo, to: MachineNo, message: Message)
+    pub fn put_back(&mut self, from: MachineNo, to: MachineNo, message: Message)
         requires link { HasLinkBetween self.old from.0 to.0 }
         requires room { 0 < (link_between self.old from.0 to.0).room }
         ensures first { (link_between self.new from.0 to.0).messages ≡ message_view message ∷ (link_between self.old from.0 to.0).messages }

@@ -16,7 +16,7 @@ use Rattle.machine_parts.specs.Parts.{sides_at}
 use Rattle.machine_updates.specs.declared.reserving.Prepared.{Prepared}
 use Rattle.machine_updates.specs.Reserving.{CanTell, is_to_be_told}
 use Rattle.machine_updates.specs.Committing.{done_told, posted, after_told}
-use Rattle.machine_updates.specs.Inner.Telling.{HasWord}
+use Rattle.machine_updates.specs.Telling.{HasWord}
 
 pub nothing_left : {X : Type 0} (l : List X) → length l ≡ 0 → l ≡ []
 nothing_left [] none = refl

@@ -75,8 +75,9 @@ pub fn reserve_log(log: &mut Vec<Entry>, version: u32) -> Result<(), NoMemory>
     Ok(())
 }
 
-/// Makes room for what the other machines of a scope will be told.
-fn prepare(
+/// Makes room for what each of these machines but `me` will be told of the update of a scope of v, which has so many edges, and hands
+/// it out.
+pub fn prepare(
     alloc: Global,
     out: &mut Outboxes,
     scope: ScopeId,

@@ -138,13 +138,13 @@ module _ {P : Type 0} (meaning : P → Update) where
 
   pub at_once_none : (m : ProgramMachineView P) → HasNoneAtOnce m.core → UpdatesNoneAtOnce belongs_to holds m
   at_once_none m (inl none) = inl (admits_none m none)
-  at_once_none m (inr one) = inr (
+  at_once_none m (inr one) = inr (inl (
     one.0.0,
     record {
       may = λ st a here. subst (λ (k : ℕ). MayAdmit st k one.0.0 (part_of m.core)) here.number (one.1 st here.part);
       not_at_once = λ st a here may. one.2 st here.setting here.part (subst (λ (k : ℕ). MayUpdateAtOnce st k one.0.0 (part_of m.core) 1) (sym here.number) may);
     },
-  )
+  ))
 
 pub same_part : {X E : Type 0} (old new : Core) (r : Result X E) → OnErr r (IsAsBefore old new) → OnErr r (part_of new ≡ part_of old)
 same_part old new (Ok x) as_before = tt
