@@ -7,6 +7,7 @@ pub use Rattle.cluster_core.specs.Places.{IsAtHome}
 pub use Rattle.cluster_core.specs.Settings.{Chromatic, Engine, IsSetting, Locking, Setting, is_in_scope, is_near}
 pub use Rattle.cluster_machines.specs.Told.{told_by}
 pub use Rattle.interior_scopes.specs.AtOnce.{MayUpdateAtOnce, at_once, entry_at_once}
+pub use Rattle.interior_scopes.specs.InTurn.{AreGranted}
 use Rattle.std.specs.Prelude.{Bool, List, None, Some, false, is_some, length, nat_lt, true, ℕ, ◌<◌, ◌&&◌, ◌==◌, ◌∷◌, ◌≡◌, ◌≢◌, ◌⊎◌}
 use Rattle.gl_base.specs.declared.entries.Entry.TheVariants.{Go}
 use Rattle.gl_base.specs.declared.scopes.ScopeId.{ScopeId}
@@ -65,6 +66,10 @@ pub record IsGrant (st : Setting) (a x : ℕ) (old : Part) (s : ScopeId) (new : 
 
 abbrev pub MakesGrant : {M : Type 0} → (Setting → ℕ → M → Type 0) → (M → Part) → M → ℕ → ScopeId → M → Type 0
 MakesGrant belongs part old x s new = (st : Setting) (a : ℕ) → belongs st a old → IsGrant st a x (part old) s (part new)
+
+-- the lock of x was granted, and then in turn those of some other vertices were, each where it might be
+abbrev pub MakesGrants : {M : Type 0} → (Setting → ℕ → M → Type 0) → (M → Part) → M → ℕ → M → Type 0
+MakesGrants belongs part old x new = (more : List ℕ) × ((st : Setting) (a : ℕ) → belongs st a old → AreGranted st a (x ∷ more) (part old) (part new))
 
 -- ---- Deliver
 

@@ -2,8 +2,8 @@
 use Rattle.std.proofs.Common.{◌≡◌, ◌≢◌, ℕ, ◌<◌, ◌≤◌, inl, inr, List, [], ◌∷◌, ◌++◌, length, sym, subst, get_or-set_same, get_or-set_other}
 use Rattle.std.specs.Prelude.{slice_index_or, slice_set}
 use Rattle.std.proofs.lemmas.Bool.{cases_eq}
-use Rattle.coord_core.specs.Coordinators.{OutboxView, OutboxesView, waiting_at, no_outbox}
-use Rattle.coord_core.specs.Inner.Asking.{SameMessages, room_for, wave_message}
+use Rattle.coord_core.specs.Coordinators.{MessageView, OutboxView, OutboxesView, waiting_at, no_outbox}
+use Rattle.coord_core.specs.Inner.Asking.{SameMessages, room_for}
 
 -- what holds of the box that stands at b now, and of each other box as it stood, holds of box a
 pub box_set : (P : ℕ → OutboxView → Type 0) (boxes : List OutboxView) (b a : ℕ) (box : OutboxView) →
@@ -20,8 +20,8 @@ pub record HaveReserved (first now : OutboxesView) (machine : ℕ) : Type 0 wher
   pub same : SameMessages first now
   pub room : (b : ℕ) → b < machine → 0 < room_for now b
 
--- the machines below this one are asked, and the boxes of the others are as they were
-pub record HaveAsked (first now : OutboxesView) (wave machine : ℕ) : Type 0 where
+-- the machines below this one are told, and the boxes of the others are as they were
+pub record HaveTold (first now : OutboxesView) (message : MessageView) (machine : ℕ) : Type 0 where
   pub many : length now.machines ≡ length first.machines
-  pub asked : (b : ℕ) → b < machine → waiting_at now b ≡ waiting_at first b ++ wave_message wave ∷ []
+  pub told : (b : ℕ) → b < machine → waiting_at now b ≡ waiting_at first b ++ message ∷ []
   pub rest : (b : ℕ) → machine ≤ b → slice_index_or now.machines b no_outbox ≡ slice_index_or first.machines b no_outbox

@@ -1,14 +1,23 @@
 -- Outboxes in which calls alone wait, and whose they are.
-use Rattle.std.proofs.Common.{◌≡◌, ℕ, true, false, None, List, [], ◌∷◌, length, refl, ap}
-use Rattle.std.specs.Prelude.{map}
+use Rattle.std.proofs.Common.{◌≡◌, ℕ, suc, zero, ◌≤◌, Bool, true, false, Option, None, Some, List, [], ◌∷◌, length, replicate, refl, sym, ap, arith, ◌∙◌}
+use Rattle.std.specs.Prelude.{◌↔◌, map, option_map, sum_by}
+use Rattle.std.proofs.lemmas.List.{length-replicate}
+use Rattle.gl_base.specs.declared.entries.Entry.{Entry}
+use Rattle.gl_base.specs.declared.entries.Entry.TheVariants.{Restart}
 use Rattle.std.specs.List.{list_all}
 use Rattle.std.proofs.lemmas.Bool.{and_parts}
 use Rattle.update_api.specs.declared.woken.Woken.TheVariants.{Nobody}
 use Rattle.cluster_core.specs.Parts.{Part}
 use Rattle.cluster_model.specs.Calls.{Begin, Committed, Wave, Step}
+use Rattle.cluster_model.specs.Leading.{Come, Snapshot, entries_held}
 use Rattle.cluster_model.specs.Machines.{Machine}
+use Rattle.cluster_model.specs.Totals.{total, total_from}
+use Rattle.graph_core.specs.DataGraph.{DataEdge}
+use Rattle.snap_update.specs.Holding.{last_of_edge, last_of_vertex}
 use Rattle.wire_msgs.specs.Views as wire
-use Rattle.coord_core.specs.Coordinators.{AreCalls, Call, Cluster, Coordinator, CoordinatorView, HasCluster, Locking, MessageView, OutboxesView, Setting, TellsCall, first_coordinator, waiting_at}
+use Rattle.coord_core.specs.Coordinators.{AreCalls, Call, Cluster, Coordinator, CoordinatorView, HasCluster, IsComeOf, Locking, MessageView, OutboxesView, Setting, TellsCall, waiting_at}
+use Rattle.coord_core.specs.Inner.Kept.{IsSavingKept}
+use Rattle.coord_core.specs.Saving.{SavingView, SectionView, come_at}
 use Rattle.coord_core.specs.Inner.Asking.{AreOutboxesOf, is_call}
 
 -- ---- as events change them
@@ -37,26 +46,55 @@ all_told : (messages : List MessageView) → list_all is_call messages ≡ true 
 all_told [] all = tt
 all_told (m ∷ messages) all = let parts = and_parts (is_call m) (list_all is_call messages) all in (told m parts.0, all_told messages parts.1)
 
--- a graph without vertices on so many machines
-abbrev some_setting : ℕ → Setting
-some_setting machines =
+abbrev some_edge : DataEdge
+some_edge = record { from = 0; to = 0; weight = 0 }
+
+-- a graph of this size on so many machines
+abbrev some_setting : SavingView → ℕ → Setting
+some_setting s machines =
     record {
-      graph = record { ids = []; edges = []; directed = false };
+      graph = record { ids = replicate s.vertices 0; edges = replicate s.edges (some_edge); directed = false };
       program = record { start = λ id. 0; number = λ own nears. own; mark = λ own near. 0; woken = λ old new. Nobody };
       owner = λ v. 0;
       machines = machines;
       pipeline = 1;
       engine = Locking;
-      stored = false;
+      stored = s.stored;
       window = 0;
       start = record { vertex = λ v. 0; edge = λ e. 0 };
       base = 0;
     }
 
+-- a section as it comes
+abbrev come_of : SectionView → Come
+come_of section =
+    record {
+      section = record { vertices = λ v. last_of_vertex section.vertices v; edges = λ e. last_of_edge section.edges e };
+      entries = section.entries;
+    }
+
+-- a snapshot with so many updates, all of the first machine
+abbrev lone_entries : ℕ → ℕ → List Entry
+lone_entries many zero = replicate many (Restart 0)
+lone_entries many (suc a) = []
+
+abbrev some_snapshot : ℕ → Snapshot
+some_snapshot many = record { number = 0; sections = λ a. record { section = record { vertices = λ v. None; edges = λ e. None }; entries = lone_entries many a } }
+
+abbrev some_snapshots : Bool → ℕ → List Snapshot
+some_snapshots true many = some_snapshot many ∷ []
+some_snapshots false many = []
+
 abbrev some_coordinator : CoordinatorView → ℕ → Coordinator
 some_coordinator view machines =
-    record (first_coordinator (some_setting machines) 0 0) {
+    record {
       rounds = record { counting = view.counting; steps = 0; colour = 0; since = 0 };
+      begun = view.saving.begun;
+      acknowledged = view.saving.acknowledged;
+      come = λ a. option_map come_of (come_at view.saving.come a);
+      wanted = view.saving.wanted;
+      snapshots = some_snapshots view.saving.saved view.saving.entries;
+      store_end = view.saving.store_end;
       out = λ a. map call_of (waiting_at view.out a);
     }
 
@@ -117,15 +155,64 @@ some_cluster view machines =
       stopped = false;
     }
 
-pub has_cluster : (view : CoordinatorView) (machines : ℕ) → AreOutboxesOf view.out machines → HasCluster view
-has_cluster view machines are = (
-  some_setting machines,
+-- ---- its snapshots
+
+comes : (told : Option SectionView) → IsComeOf told (option_map come_of told)
+comes None = refl
+comes (Some section) = record { saved = record { vertices = λ v. refl; edges = λ e. refl }; entries = refl }
+
+none_at : (many a : ℕ) → 1 ≤ a → length (lone_entries many a) ≡ 0
+none_at many zero low = absurd (omega arith)
+none_at many (suc a) low = refl
+
+none_sum : (k many : ℕ) (f : ℕ → ℕ) → ((a : ℕ) → k ≤ a → f a ≡ 0) → total_from k many f ≡ 0
+unfolding total_from
+none_sum k zero f none = refl
+none_sum k (suc many) f none =
+    let rest : total_from (suc k) many f ≡ 0 = none_sum (suc k) many f (λ a low. none a (omega arith)) in
+    let first : f k ≡ 0 = none k (omega arith) in
+    omega arith
+
+lone_sum : (machines many : ℕ) → (machines ≡ 0 → many ≡ 0) → total machines (λ a. length (lone_entries many a)) ≡ many
+unfolding total_from
+lone_sum zero many lone = sym (lone refl)
+lone_sum (suc n) many lone =
+    let rest : total_from 1 n (λ a. length (lone_entries many a)) ≡ 0 = none_sum 1 n (λ a. length (lone_entries many a)) (λ a low. none_at many a low) in
+    let first : length (replicate many (Restart 0)) ≡ many = length-replicate many (Restart 0) in
+    omega arith
+
+held_once : (st : Setting) (machines : ℕ) (saved : Bool) (many : ℕ) → st.machines ≡ machines → (machines ≡ 0 → many ≡ 0) → (saved ≡ false → many ≡ 0) →
+    sum_by (entries_held st) (some_snapshots saved many) ≡ many
+held_once st machines true many same lone first =
+    let all : total st.machines (λ a. length (lone_entries many a)) ≡ many = ap (λ (n : ℕ). total n (λ a. length (lone_entries many a))) same ∙ lone_sum machines many lone in
+    omega arith
+held_once st machines false many same lone first = sym (first refl)
+
+none_saved : (saved : Bool) (many : ℕ) → (some_snapshots saved many ≡ []) ↔ (saved ≡ false)
+none_saved true many = ((λ is. absurd (cc)), (λ is. absurd (cc)))
+none_saved false many = ((λ is. refl), (λ is. refl))
+
+pub has_cluster : (view : CoordinatorView) (machines : ℕ) → AreOutboxesOf view.out machines → length view.saving.come ≡ machines → IsSavingKept view.saving → HasCluster view
+has_cluster view machines are come kept = (
+  some_setting view.saving machines,
   some_cluster view machines,
   record {
     machines = are.many;
     engine = refl;
     stored = refl;
-    none = refl;
+    none = kept.plain;
+    saving = λ _. record {
+      vertices = length-replicate view.saving.vertices 0;
+      edges = length-replicate view.saving.edges (some_edge);
+      begun = refl;
+      acknowledged = refl;
+      machines = come;
+      come = λ a _. comes (come_at view.saving.come a);
+      wanted = refl;
+      entries = held_once (some_setting view.saving machines) machines view.saving.saved view.saving.entries refl (λ is. kept.lone (come ∙ is)) kept.first;
+      first = none_saved view.saving.saved view.saving.entries;
+      store_end = refl;
+    };
     counting = refl;
     out = λ a _. all_told (waiting_at view.out a) (are.calls a);
   },

@@ -1,65 +1,73 @@
 -- Whose part the coordinator is, as events change it.
-use Rattle.std.proofs.Common.{◌≡◌, ℕ, ◌<◌, true, false, inl, inr, Option, Some, None, List, [], ◌∷◌, ◌++◌, length, refl, sym, ap, subst, ◌∙◌}
-use Rattle.std.specs.Prelude.{option_map, slice_get, slice_index_or, slice_set}
+use Rattle.std.proofs.Common.{◌≡◌, ℕ, suc, ◌+◌, ◌<◌, ◌≤◌, ◌&&◌, Bool, true, false, inl, inr, Option, Some, None, List, [], ◌∷◌, ◌++◌, length, refl, sym, ap, add-one, subst, ◌∙◌}
+use Rattle.std.specs.Prelude.{Err, IfOk, Ok, Result, option_map, slice_get, slice_index_or, slice_set}
+use Rattle.std.specs.List.{list_all}
 use Rattle.std.proofs.lemmas.Bool.{cases_lt}
 use Rattle.std.proofs.lemmas.List.{get_or_past, length-set, set-get_or}
+use Rattle.std.proofs.lemmas.List.Folds.{list_all-append}
 use Rattle.cluster_core.proofs.Basics.{set_at-same, set_at-other}
 use Rattle.cluster_core.specs.Ranges.{set_at}
-use Rattle.cluster_core.specs.Settings.{Engine}
-use Rattle.cluster_model.specs.Calls.{Wave}
-use Rattle.cluster_model.specs.Leading.{IsWaveTime}
+use Rattle.cluster_model.specs.Calls.{Begin, Committed, Count, Saved, Want, Wave}
+use Rattle.gl_base.specs.declared.scopes.Counted.{Counted}
 use Rattle.outboxes.specs.Outboxes.{left_behind, without_first}
 use Rattle.wire_msgs.specs.declared.messages.Message.{Message}
-use Rattle.coord_core.specs.Calls.{HasHandedOver, HasPutWave, IsFirstOf, MayNotPutWave, MayPutWave, StaysCoordinator}
-use Rattle.coord_core.specs.Coordinators.{AreCalls, Call, CoordinatorView, Counting, TellsCall, MessageView, OutboxView, OutboxesView, count_wave, first_counting, message_view, waiting_at, no_outbox}
-use Rattle.coord_core.specs.Inner.Asking.{SameMessages, wave_message}
+use Rattle.wire_msgs.specs.Views as wire
+use Rattle.coord_core.specs.Calls.{HasBegun, HasHandedOver, HasPutWave, HasRecorded, HasTakenReport, IsFirstOf, IsFirstWith, StaysCoordinator}
+use Rattle.coord_core.specs.Coordinators.{AreCalls, Call, Coordinator, CoordinatorView, Counting, IsCoordinatorOf, IsSavingOf, Report, Setting, TellsCall, MessageView, OutboxView, OutboxesView, acknowledges, begins_snapshot, count_answer, count_wave, first_coordinator, first_counting, hands_call, message_view, puts_wave, takes_report, waiting_at, no_outbox}
+use Rattle.coord_core.specs.Inner.Asking.{AreOutboxesOf, SameMessages, is_call}
+use Rattle.coord_core.specs.Inner.Kept.{IsSavingKept}
+use Rattle.coord_core.specs.Inner.Seen.{IsFirstSaving}
+use Rattle.coord_core.specs.Saving.{IsRecordDue, SavingView, SectionView, StoreView, nothing_saved, saved_before, with_acknowledged, with_begun, with_section, with_want}
 use Rattle.coord_core.proofs.BoxLemmas.{box_set}
+use Rattle.coord_core.proofs.SavingLemmas.{acknowledged_of, begun_of, first_saving, saving_stays, section_of, stored_where_due, want_of}
+
+-- what holds of the value holds of it otherwise
+pub if_ok : {X E : Type 0} {P Q : X → Type 0} (r : Result X E) → ((x : X) → P x → Q x) → IfOk r P → IfOk r Q
+if_ok (Ok x) turn holds = turn x holds
+if_ok (Err e) turn holds = holds
 
 -- ---- at first
 
-pub first_part : (machines : ℕ) (view : CoordinatorView) → view.counting ≡ first_counting machines → length view.out.machines ≡ machines →
-    ((a : ℕ) → waiting_at view.out a ≡ []) → IsFirstOf machines view
-first_part machines view counting many none st base long same engine stored =
-    record {
-      machines = many ∙ sym same;
-      engine = engine;
-      stored = stored;
-      none = refl;
-      counting = ap first_counting same ∙ sym counting;
-      out = λ a _. subst (λ (messages : List MessageView). AreCalls messages []) (sym (none a)) tt;
-    }
+module _ (machines : ℕ) (view : CoordinatorView) where
+  pub first_part : IsFirstSaving machines (nothing_saved machines) view → IsFirstOf machines view
+  first_part first st base long same engine plain =
+      record {
+        machines = first.many ∙ sym same;
+        engine = engine;
+        stored = plain ∙ ap (λ (s : SavingView). s.stored) (sym first.saving);
+        none = λ _. refl;
+        saving = λ stored. absurd (cc);
+        counting = ap first_counting same ∙ sym first.counting;
+        out = λ a _. subst (λ (messages : List MessageView). AreCalls messages []) (sym (first.none a)) tt;
+      }
+
+  pub first_with : (store : StoreView) → IsFirstSaving machines (saved_before machines store) view → IsFirstWith machines store view
+  first_with store first st same engine stored vertices edges =
+      record {
+        machines = first.many ∙ sym same;
+        engine = engine;
+        stored = stored ∙ ap (λ (s : SavingView). s.stored) (sym first.saving);
+        none = λ _. refl;
+        saving = λ _. subst (λ (s : SavingView). IsSavingOf st s (first_coordinator st store.newest store.store_end)) (sym first.saving)
+            (first_saving st machines store same vertices edges);
+        counting = ap first_counting same ∙ sym first.counting;
+        out = λ a _. subst (λ (messages : List MessageView). AreCalls messages []) (sym (first.none a)) tt;
+      }
 
 -- nothing that the cluster sees has changed
-pub stays_part : (old new : CoordinatorView) → new.counting ≡ old.counting → SameMessages old.out new.out → StaysCoordinator old new
-stays_part old new counting same st c part =
+pub stays_part : (old new : CoordinatorView) → new.counting ≡ old.counting → new.saving ≡ old.saving → SameMessages old.out new.out → StaysCoordinator old new
+stays_part old new counting saving same st c part =
     record {
       machines = same.many ∙ part.machines;
       engine = part.engine;
-      stored = part.stored;
+      stored = part.stored ∙ ap (λ (s : SavingView). s.stored) (sym saving);
       none = part.none;
+      saving = λ stored. subst (λ (s : SavingView). IsSavingOf st s c) (sym saving) (part.saving stored);
       counting = part.counting ∙ sym counting;
       out = λ a below. subst (λ (messages : List MessageView). AreCalls messages (c.out a)) (sym (same.each a)) (part.out a below);
     }
 
--- ---- a wave
-
--- with locks a wave may be put out where no answer is missing
-pub may_put : (view : CoordinatorView) → view.counting.waiting ≡ false → MayPutWave view
-may_put view whole st c part = (
-  (λ due. let yes = due.stored in let stored = part.stored in cc),
-  (λ due. let by = due.by in let engine = part.engine in cc),
-  record {
-    time = subst (λ (engine : Engine). IsWaveTime engine c.coordinator) (sym part.engine) part.none;
-    whole = ap (λ (counting : Counting). counting.waiting) part.counting ∙ whole;
-  },
-)
-
--- and where one is missing none
-pub may_not_put : (view : CoordinatorView) → view.counting.waiting ≡ true → MayNotPutWave view
-may_not_put view missing st c part may =
-    let whole = may.2.whole in
-    let same = ap (λ (counting : Counting). counting.waiting) part.counting in
-    cc
+-- ---- each machine is told
 
 -- one message more is one call more
 pub calls_push : (messages : List MessageView) (calls : List Call) (m : MessageView) (call : Call) → AreCalls messages calls → TellsCall m call →
@@ -69,22 +77,119 @@ calls_push [] (first ∷ calls) m call are is = absurd are
 calls_push (first ∷ messages) [] m call are is = absurd are
 calls_push (first ∷ messages) (one ∷ calls) m call are is = (are.0, calls_push messages calls m call are.1 is)
 
--- each machine is asked
-pub has_put : (old new : CoordinatorView) → new.counting ≡ count_wave old.counting → length new.out.machines ≡ length old.out.machines →
-    ((b : ℕ) → b < length old.out.machines → waiting_at new.out b ≡ waiting_at old.out b ++ wave_message old.counting.put_out ∷ []) → HasPutWave old new
-has_put old new counting many asked st c part =
-    record {
-      machines = many ∙ part.machines;
+-- each machine is told
+module _ (old new : CoordinatorView) (message : MessageView) (many : length new.out.machines ≡ length old.out.machines)
+    (told : (b : ℕ) → b < length old.out.machines → waiting_at new.out b ≡ waiting_at old.out b ++ message ∷ []) where
+  calls_told : (st : Setting) (c : Coordinator) (call : Call) → IsCoordinatorOf st old c → TellsCall message call → (a : ℕ) → a < st.machines → AreCalls (waiting_at new.out a) (c.out a ++ call ∷ [])
+  calls_told st c call part tells a below =
+      let inside : a < length old.out.machines = subst (λ (n : ℕ). a < n) (sym part.machines) below in
+      subst (λ (messages : List MessageView). AreCalls messages (c.out a ++ call ∷ [])) (sym (told a inside))
+      (calls_push (waiting_at old.out a) (c.out a) message call (part.out a below) tells)
+
+  pub has_put : new.counting ≡ count_wave old.counting → new.saving ≡ old.saving → message ≡ wire.Wave old.counting.put_out → HasPutWave old new
+  has_put counting saving is st c part =
+      record {
+        machines = many ∙ part.machines;
+        engine = part.engine;
+        stored = part.stored ∙ ap (λ (s : SavingView). s.stored) (sym saving);
+        none = part.none;
+        saving = λ stored. subst (λ (s : SavingView). IsSavingOf st s (puts_wave c)) (sym saving)
+            (saving_stays st old.saving c (puts_wave c) refl refl refl refl refl refl (part.saving stored));
+        counting = ap count_wave part.counting ∙ sym counting;
+        out = calls_told st c (Wave c.rounds.counting.put_out) part
+            (subst (λ (m : MessageView). TellsCall m (Wave c.rounds.counting.put_out)) (sym is) (ap (λ (counting : Counting). counting.put_out) (sym part.counting)));
+      }
+
+  pub has_begun : new.counting ≡ old.counting → new.saving ≡ with_begun old.saving → message ≡ wire.Begin (old.saving.begun + 1) → old.saving.stored ≡ true → HasBegun old new
+  has_begun counting saving is stored_is st c part =
+      let own : IsSavingOf st old.saving c = part.saving (part.stored ∙ stored_is) in
+      record {
+        machines = many ∙ part.machines;
+        engine = part.engine;
+        stored = part.stored ∙ ap (λ (s : SavingView). s.stored) (sym saving);
+        none = λ plain. absurd (let both : false ≡ true = sym plain ∙ part.stored ∙ stored_is in cc);
+        saving = λ stored. subst (λ (s : SavingView). IsSavingOf st s (begins_snapshot c)) (sym saving) (begun_of st old.saving c own);
+        counting = part.counting ∙ sym counting;
+        out = calls_told st c (Begin (suc c.begun)) part
+            (subst (λ (m : MessageView). TellsCall m (Begin (suc c.begun))) (sym is) (add-one old.saving.begun ∙ ap suc (sym own.begun)));
+      }
+
+  pub has_recorded : IsSavingKept old.saving → IsRecordDue old.saving → new.counting ≡ old.counting → new.saving ≡ with_acknowledged old.saving → message ≡ wire.Committed old.saving.begun →
+      HasRecorded old new
+  has_recorded kept due counting saving is st c part =
+      let stored_is : st.stored ≡ true = stored_where_due old kept st c part due in
+      let own : IsSavingOf st old.saving c = part.saving stored_is in
+      record {
+        machines = many ∙ part.machines;
+        engine = part.engine;
+        stored = part.stored ∙ ap (λ (s : SavingView). s.stored) (sym saving);
+        none = λ plain. refl;
+        saving = λ stored. subst (λ (s : SavingView). IsSavingOf st s (acknowledges st c)) (sym saving) (acknowledged_of st old.saving c own);
+        counting = part.counting ∙ sym counting;
+        out = calls_told st c (Committed c.begun) part
+            (subst (λ (m : MessageView). TellsCall m (Committed c.begun)) (sym is) (sym own.begun));
+      }
+
+-- and calls alone wait still
+pub calls_alone : (old new : OutboxesView) (machines : ℕ) (message : MessageView) → AreOutboxesOf old machines → is_call message ≡ true → length new.machines ≡ machines →
+    ((b : ℕ) → b < machines → waiting_at new b ≡ waiting_at old b ++ message ∷ []) → AreOutboxesOf new machines
+calls_alone old new machines message are is many told = record {
+  many = many;
+  calls = λ a. elim (cases_lt a machines) [
+    | inl below ↦
+        let one : list_all is_call (message ∷ []) ≡ true = ap (λ (b : Bool). b && true) is in
+        ap (list_all is_call) (told a below) ∙ list_all-append is_call (waiting_at old a) (message ∷ [])
+        ∙ (λ i. are.calls a i && one i)
+    | inr beyond ↦
+        let outside : length new.machines ≤ a = subst (λ (n : ℕ). n ≤ a) (sym many) beyond in
+        ap (λ (box : OutboxView). list_all is_call box.messages) (get_or_past new.machines a no_outbox outside)
+  ];
+}
+
+-- ---- what comes
+
+pub counts_taken : (old : CoordinatorView) (counting : Counting) (a : ℕ) (counted : Counted) (k : ℕ) → counting ≡ count_answer old.counting a counted →
+    HasTakenReport old (record old { counting = counting }) a (wire.Count k counted)
+counts_taken old counting a counted k is st c report tells part =
+    subst (λ (r : Report). IsCoordinatorOf st (record old { counting = counting }) (takes_report a r c)) (sym tells)
+    (record {
+      machines = part.machines;
       engine = part.engine;
       stored = part.stored;
       none = part.none;
-      counting = ap count_wave part.counting ∙ sym counting;
-      out = λ a below.
-          let inside : a < length old.out.machines = subst (λ (n : ℕ). a < n) (sym part.machines) below in
-          subst (λ (messages : List MessageView). AreCalls messages (c.out a ++ Wave c.rounds.counting.put_out ∷ [])) (sym (asked a inside))
-          (calls_push (waiting_at old.out a) (c.out a) (wave_message old.counting.put_out) (Wave c.rounds.counting.put_out) (part.out a below)
-          (ap (λ (counting : Counting). counting.put_out) (sym part.counting)));
+      saving = λ stored. saving_stays st old.saving c (takes_report a (Count k counted) c) refl refl refl refl refl refl (part.saving stored);
+      counting = ap (λ (had : Counting). count_answer had a counted) part.counting ∙ sym is;
+      out = part.out;
+    })
+
+pub section_taken : (old : CoordinatorView) (a : ℕ) (section : SectionView) → a < length old.out.machines →
+    HasTakenReport old (record old { saving = with_section a section old.saving }) a (wire.Section section)
+section_taken old a section inside st c (Saved number saved entries) tells part =
+    record {
+      machines = part.machines;
+      engine = part.engine;
+      stored = part.stored;
+      none = part.none;
+      saving = λ stored. section_of st old.saving c (part.saving stored) a section (record { section = saved; entries = entries }) (subst (λ (n : ℕ). a < n) part.machines inside)
+          (record { saved = tells.1; entries = tells.2 });
+      counting = part.counting;
+      out = part.out;
     }
+section_taken old a section inside st c (Count wave counts) tells part = absurd tells
+section_taken old a section inside st c (Want number) tells part = absurd tells
+
+pub want_taken : (old : CoordinatorView) (a k : ℕ) → HasTakenReport old (record old { saving = with_want k old.saving }) a (wire.Want k)
+want_taken old a k st c report tells part =
+    subst (λ (r : Report). IsCoordinatorOf st (record old { saving = with_want k old.saving }) (takes_report a r c)) (sym tells)
+    (record {
+      machines = part.machines;
+      engine = part.engine;
+      stored = part.stored;
+      none = part.none;
+      saving = λ stored. want_of st old.saving c (part.saving stored) k;
+      counting = part.counting;
+      out = part.out;
+    })
 
 -- ---- what is sent
 
@@ -117,14 +222,14 @@ none_first (m ∷ messages) is = absurd (cc)
 none_left : (box : OutboxView) → box.messages ≡ [] → without_first box ≡ box
 none_left box none = ap (λ (messages : List MessageView). left_behind messages box.room) none ∙ ap (λ (messages : List MessageView). record box { messages = messages }) (sym none)
 
-pub none_taken : (counting : Counting) (out : OutboxesView) (a : ℕ) → slice_get (waiting_at out a) 0 ≡ None →
-    HasHandedOver (record { counting = counting; out = out }) (record { counting = counting; out = taken_from out a }) a None
-none_taken counting out a is =
+pub none_taken : (counting : Counting) (saving : SavingView) (out : OutboxesView) (a : ℕ) → slice_get (waiting_at out a) 0 ≡ None →
+    HasHandedOver (record { counting = counting; saving = saving; out = out }) (record { counting = counting; saving = saving; out = taken_from out a }) a None
+none_taken counting saving out a is =
     let none : waiting_at out a ≡ [] = none_first (waiting_at out a) is in
     let same : slice_set out.machines a (without_first (slice_index_or out.machines a no_outbox)) ≡ out.machines =
     ap (λ (box : OutboxView). slice_set out.machines a box) (none_left (slice_index_or out.machines a no_outbox) none) ∙ set-get_or out.machines a no_outbox
     in (
-      ap (λ (boxes : List OutboxView). record { counting = counting; out = record out { machines = boxes } }) same,
+      ap (λ (boxes : List OutboxView). record { counting = counting; saving = saving; out = record out { machines = boxes } }) same,
       λ st c part below. no_call (c.out a) (subst (λ (messages : List MessageView). AreCalls messages (c.out a)) none (part.out a below)),
     )
 
@@ -144,9 +249,9 @@ is_inside out a m behind is = elim (cases_lt a (length out.machines)) [
   | inr outside ↦ absurd (let none = ap (λ (box : OutboxView). box.messages) (get_or_past out.machines a no_outbox outside) in cc)
 ]
 
-pub one_taken : (counting : Counting) (out : OutboxesView) (a : ℕ) (m : Message) → Some (message_view m) ≡ slice_get (waiting_at out a) 0 →
-    HasHandedOver (record { counting = counting; out = out }) (record { counting = counting; out = taken_from out a }) a (Some m)
-one_taken counting out a m is st c part =
+pub one_taken : (counting : Counting) (saving : SavingView) (out : OutboxesView) (a : ℕ) (m : Message) → Some (message_view m) ≡ slice_get (waiting_at out a) 0 →
+    HasHandedOver (record { counting = counting; saving = saving; out = out }) (record { counting = counting; saving = saving; out = taken_from out a }) a (Some m)
+one_taken counting saving out a m is st c part =
     let has : HasBehind (message_view m) (waiting_at out a) = has_behind (message_view m) (waiting_at out a) is in
     let inside : a < length out.machines = is_inside out a (message_view m) has.behind has.first in
     let below : a < st.machines = subst (λ (n : ℕ). a < n) part.machines inside in
@@ -167,6 +272,7 @@ one_taken counting out a m is st c part =
         engine = part.engine;
         stored = part.stored;
         none = part.none;
+        saving = λ is_stored. saving_stays st saving c (hands_call a first.behind c) refl refl refl refl refl refl (part.saving is_stored);
         counting = part.counting;
         out = λ b below_b.
             box_set (λ k one. k < st.machines → AreCalls one.messages (set_at c.out a first.behind k)) out.machines a b box inside
@@ -177,7 +283,7 @@ one_taken counting out a m is st c part =
       };
     }
 
-pub handed_over : (counting : Counting) (out : OutboxesView) (a : ℕ) (result : Option Message) → option_map message_view result ≡ slice_get (waiting_at out a) 0 →
-    HasHandedOver (record { counting = counting; out = out }) (record { counting = counting; out = taken_from out a }) a result
-handed_over counting out a None is = none_taken counting out a (sym is)
-handed_over counting out a (Some m) is = one_taken counting out a m is
+pub handed_over : (counting : Counting) (saving : SavingView) (out : OutboxesView) (a : ℕ) (result : Option Message) → option_map message_view result ≡ slice_get (waiting_at out a) 0 →
+    HasHandedOver (record { counting = counting; saving = saving; out = out }) (record { counting = counting; saving = saving; out = taken_from out a }) a result
+handed_over counting saving out a None is = none_taken counting saving out a (sym is)
+handed_over counting saving out a (Some m) is = one_taken counting saving out a m is

@@ -1,3 +1,9 @@
 pub mod BoxLemmas
+pub mod SavedLemmas
+pub mod SavingLemmas
+pub mod StoreLemmas
+pub mod KeptLemmas
+pub mod RecordLemmas
+pub mod DueLemmas
 pub mod LeadLemmas
 pub mod CallLemmas

@@ -1,18 +1,34 @@
 -- What the coordinator's calls ask and leave: for every setting, and every coordinator of a cluster whose part this one is.
-use Rattle.std.specs.Prelude.{◌≡◌, ℕ, ◌<◌, ◌↔◌, false, Option, Some, None, List, [], ◌∷◌, ⊤}
-use Rattle.cluster_model.specs.Calls.{Count}
-use Rattle.cluster_model.specs.Events.{MayDo, PutWave}
+use Rattle.std.specs.List.Sorted.{IsPermutation}
+use Rattle.std.specs.Prelude.{◌≡◌, ℕ, ◌<◌, ◌↔◌, true, false, suc, map, Option, Some, None, List, [], ◌∷◌, length, slice_index_or, ⊤}
+use Rattle.std.specs.List.Sorted.{IsStrictlyIncreasing}
+use Rattle.gl_base.specs.declared.snapshots.Record.{Record}
+use Rattle.gl_base.specs.declared.snapshots.SavedPart.{SavedPart}
+use Rattle.cluster_core.specs.Messages.{Section}
+use Rattle.cluster_model.specs.Calls.{Count, Want}
+use Rattle.cluster_model.specs.Events as law
+use Rattle.cluster_model.specs.Leading.{RecordIsDue, Snapshot, SnapshotIsDue, come_or}
+use Rattle.graph_core.specs.DataGraph.{size}
+use Rattle.snap_update.specs.Holding.{AreSavedIn, IsSectionReport}
 use Rattle.wire_msgs.specs.declared.messages.Message.{Message}
 use Rattle.wire_msgs.specs.Views as wire
 use Rattle.coord_core.specs.declared.leading.Due.{Due}
 use Rattle.coord_core.specs.declared.leading.Due.TheVariants as due
-use Rattle.coord_core.specs.Coordinators.{Call, Cluster, Coordinator, CoordinatorView, HasSeenTheEnd, IsCoordinatorOf, Locking, MayBeCounted, MessageView, Report, Setting, TellsCall, first_coordinator, hands_call, message_view, puts_wave, takes_report}
+use Rattle.coord_core.specs.Coordinators.{Call, Cluster, Coordinator, CoordinatorView, HasSeenTheEnd, IsCoordinatorOf, Locking, MayBeCounted, MessageView, Report, Setting, StoreView, TellsCall, acknowledges, begins_snapshot, first_coordinator, hands_call, message_view, no_outbox, puts_wave, takes_report}
+use Rattle.coord_core.specs.Records.{IsByTicket}
+use Rattle.coord_core.specs.Saving.{HasRoomForRecord, IsApart, IsRecordDue}
 
--- it is the coordinator that an attempt with so many machines begins with
+-- it is the coordinator that an attempt with so many machines begins with, where no snapshots are taken
 abbrev pub IsFirstOf : ℕ → CoordinatorView → Type 0
 IsFirstOf machines view =
     (st : Setting) (base long : ℕ) → st.machines ≡ machines → st.engine ≡ Locking → st.stored ≡ false →
     IsCoordinatorOf st view (first_coordinator st base long)
+
+-- it is the one that an attempt with so many machines and this store begins with
+abbrev pub IsFirstWith : ℕ → StoreView → CoordinatorView → Type 0
+IsFirstWith machines store view =
+    (st : Setting) → st.machines ≡ machines → st.engine ≡ Locking → st.stored ≡ true → size st.graph ≡ store.vertices → length st.graph.edges ≡ store.edges →
+    IsCoordinatorOf st view (first_coordinator st store.newest store.store_end)
 
 -- whose part it was its part it is
 abbrev pub StaysCoordinator : CoordinatorView → CoordinatorView → Type 0
@@ -20,42 +36,103 @@ StaysCoordinator old new = (st : Setting) (c : Coordinator) → IsCoordinatorOf 
 
 -- ---- what is due
 
--- The end is due exactly where all answers have come and the last two waves showed it; and else a wave exactly where one may be
--- put out.
+-- A record is due exactly where all sections of the snapshot under way have come, and a snapshot exactly where the next one may begin.
+-- Else the end is due exactly where no snapshot is under way and the last two waves showed it; and else a wave exactly where one may
+-- be put out.
 pub record IsDueOf (view : CoordinatorView) (answer : Due) : Type 0 where
-  pub ended : (st : Setting) (c : Coordinator) → IsCoordinatorOf st view c → (answer ≡ due.Ended) ↔ HasSeenTheEnd c
+  pub saved : (st : Setting) (c : Coordinator) (k : ℕ) → IsCoordinatorOf st view c → (answer ≡ due.Record k) ↔ (RecordIsDue st c × (k ≡ c.begun))
+  pub snapshot : (st : Setting) (c : Coordinator) (k : ℕ) → IsCoordinatorOf st view c → (answer ≡ due.Snapshot k) ↔ (SnapshotIsDue st c × (k ≡ suc c.begun))
+  pub ended : (st : Setting) (c : Coordinator) → IsCoordinatorOf st view c →
+      (answer ≡ due.Ended) ↔ ((SnapshotIsDue st c → ⊥) × (c.acknowledged ≡ c.begun) × HasSeenTheEnd c)
   pub wave : (st : Setting) (c : Cluster) → IsCoordinatorOf st view c.coordinator →
-      (answer ≡ due.Wave) ↔ ((HasSeenTheEnd c.coordinator → ⊥) × MayDo st c PutWave)
+      (answer ≡ due.Wave) ↔ ((HasSeenTheEnd c.coordinator → ⊥) × law.MayDo st c law.PutWave)
 
--- ---- a wave
+-- ---- an event of its own
 
--- it may be put out
-abbrev pub MayPutWave : CoordinatorView → Type 0
-MayPutWave view = (st : Setting) (c : Cluster) → IsCoordinatorOf st view c.coordinator → MayDo st c PutWave
+-- it may happen
+abbrev pub MayLead : law.Event → CoordinatorView → Type 0
+MayLead event view = (st : Setting) (c : Cluster) → IsCoordinatorOf st view c.coordinator → law.MayDo st c event
 
 -- it may not
-abbrev pub MayNotPutWave : CoordinatorView → Type 0
-MayNotPutWave view = (st : Setting) (c : Cluster) → IsCoordinatorOf st view c.coordinator → MayDo st c PutWave → ⊥
+abbrev pub MayNotLead : law.Event → CoordinatorView → Type 0
+MayNotLead event view = (st : Setting) (c : Cluster) → IsCoordinatorOf st view c.coordinator → law.MayDo st c event → ⊥
 
--- it was put out
+-- a wave may be put out; and it was
+abbrev pub MayPutWave : CoordinatorView → Type 0
+MayPutWave view = MayLead law.PutWave view
+
+abbrev pub MayNotPutWave : CoordinatorView → Type 0
+MayNotPutWave view = MayNotLead law.PutWave view
+
 abbrev pub HasPutWave : CoordinatorView → CoordinatorView → Type 0
 HasPutWave old new = (st : Setting) (c : Coordinator) → IsCoordinatorOf st old c → IsCoordinatorOf st new (puts_wave c)
 
+-- the next snapshot may begin; and it has begun
+abbrev pub MayBegin : CoordinatorView → Type 0
+MayBegin view = MayLead law.PutBegin view
+
+abbrev pub MayNotBegin : CoordinatorView → Type 0
+MayNotBegin view = MayNotLead law.PutBegin view
+
+abbrev pub HasBegun : CoordinatorView → CoordinatorView → Type 0
+HasBegun old new = (st : Setting) (c : Coordinator) → IsCoordinatorOf st old c → IsCoordinatorOf st new (begins_snapshot c)
+
+-- the snapshot under way may be acknowledged; and it was
+abbrev pub MayRecord : CoordinatorView → Type 0
+MayRecord view = MayLead law.Record view
+
+abbrev pub MayNotRecord : CoordinatorView → Type 0
+MayNotRecord view = MayNotLead law.Record view
+
+abbrev pub HasRecorded : CoordinatorView → CoordinatorView → Type 0
+HasRecorded old new = (st : Setting) (c : Coordinator) → IsCoordinatorOf st old c → IsCoordinatorOf st new (acknowledges st c)
+
+-- ---- a record
+
+-- the part has the numbers of this section, each once, by vertex and by edge
+pub record IsSavedPart (section : Section) (part : SavedPart) : Type 0 where
+  pub saved : AreSavedIn section part.vertices.items part.edges.items
+  pub by_vertex : IsStrictlyIncreasing (map (λ pair. pair.0.0) part.vertices.items)
+  pub by_edge : IsStrictlyIncreasing (map (λ pair. pair.0.0) part.edges.items)
+
+-- the snapshot under way, as the law acknowledges it
+abbrev pub snapshot_due : Coordinator → Snapshot
+snapshot_due c = record { number = c.begun; sections = λ a. come_or (c.come a) }
+
+-- It is the record of this snapshot: of each machine the numbers that it saved, and the entries of all, by ticket.
+pub record IsRecordFor (st : Setting) (snapshot : Snapshot) (made : Record) : Type 0 where
+  pub number : made.number ≡ snapshot.number
+  pub machines : length made.sections.items ≡ st.machines
+  pub parts : (a : ℕ) (d : SavedPart) → a < st.machines → IsSavedPart (snapshot.sections a).section (slice_index_or made.sections.items a d)
+  pub entries : IsPermutation (law.entries_below st.machines snapshot) made.entries.items
+  pub by_ticket : IsByTicket made.entries.items
+
+-- it is the record of the snapshot under way
+abbrev pub IsRecordDueOf : CoordinatorView → Record → Type 0
+IsRecordDueOf view made = (st : Setting) (c : Coordinator) → IsCoordinatorOf st view c → IsRecordFor st (snapshot_due c) made
+
+-- the snapshot of this number may be acknowledged, and there is room for the word of that to each machine
+pub record IsReadyToRecord (view : CoordinatorView) (k : ℕ) : Type 0 where
+  pub number : k ≡ view.saving.begun
+  pub due : IsRecordDue view.saving
+  pub room : HasRoomForRecord view.saving
+  pub out : (b : ℕ) → b < length view.out.machines → 0 < (slice_index_or view.out.machines b no_outbox).room
+
 -- ---- a report
 
--- the message is this report: counts are the only ones yet
+-- the message is this report
 abbrev pub IsReport : MessageView → Report → Type 0
 IsReport (wire.Count k counted) report = report ≡ Count k counted
+IsReport (wire.Section section) report = IsSectionReport section report
+IsReport (wire.Want k) report = report ≡ Want k
 IsReport _ report = ⊥
 
--- it tells counts
-abbrev pub TellsCounts : MessageView → Type 0
-TellsCounts (wire.Count k counted) = ⊤
-TellsCounts _ = ⊥
-
--- the message of machine a may be received: it tells its counts of the newest wave, and these are missing
+-- the message of machine a may be received: it tells its counts of the newest wave, and these are missing; or it is its section, in
+-- which no vertex and no edge stands twice; or it wants a snapshot
 abbrev pub MayReport : CoordinatorView → ℕ → MessageView → Type 0
 MayReport view a (wire.Count k counted) = MayBeCounted view.counting a k
+MayReport view a (wire.Section section) = (a < length view.out.machines) × IsApart section
+MayReport view a (wire.Want k) = ⊤
 MayReport view a _ = ⊥
 
 -- it was received

@@ -4,14 +4,19 @@ pub use Rattle.cluster_core.specs.Settings.{Setting, Locking}
 pub use Rattle.cluster_model.specs.Calls.{Call, Report}
 pub use Rattle.cluster_model.specs.Clusters.{Cluster}
 pub use Rattle.cluster_model.specs.Counting.{Counting, MayBeCounted, count_answer, count_wave, first_counting}
-pub use Rattle.cluster_model.specs.Leading.{Coordinator, HasSeenTheEnd, first_coordinator, hands_call, puts_wave, takes_report}
-use Rattle.std.specs.Prelude.{◌≡◌, ℕ, ◌<◌, false, List, [], ◌∷◌, length, slice_index_or, ⊤}
+pub use Rattle.cluster_model.specs.Leading.{Come, Coordinator, HasSeenTheEnd, acknowledges, begins_snapshot, entries_in, first_coordinator, hands_call, puts_wave, takes_report}
+pub use Rattle.coord_core.specs.Saving.{SavingView, StoreView, come_at}
+use Rattle.std.specs.Prelude.{◌≡◌, ℕ, ◌<◌, ◌↔◌, true, false, Option, None, Some, List, [], ◌∷◌, length, slice_index_or, ⊤}
 use Rattle.cluster_model.specs.Calls.{Begin, Committed, Wave, Step}
+use Rattle.graph_core.specs.DataGraph.{size}
+use Rattle.snap_update.specs.Holding.{AreSavedIn}
+use Rattle.wire_msgs.specs.Views.{SectionView}
 use Rattle.wire_msgs.specs.Views as wire
 
--- What it has counted, and what waits to be sent.
+-- What it has counted, what it knows of snapshots, and what waits to be sent.
 pub record CoordinatorView : Type 0 where
   pub counting : Counting
+  pub saving : SavingView
   pub out : OutboxesView
 
 -- what waits for machine a, the first first
@@ -33,12 +38,39 @@ AreCalls [] (call ∷ calls) = ⊥
 AreCalls (m ∷ messages) [] = ⊥
 AreCalls (m ∷ messages) (call ∷ calls) = TellsCall m call × AreCalls messages calls
 
--- In a cluster with locks that takes no snapshots the coordinator has counted this, and these calls wait.
+-- ---- snapshots
+
+-- the section has come as this
+pub record IsComeAs (section : SectionView) (come : Come) : Type 0 where
+  pub saved : AreSavedIn come.section section.vertices section.edges
+  pub entries : come.entries ≡ section.entries
+
+abbrev pub IsComeOf : Option SectionView → Option Come → Type 0
+IsComeOf None come = come ≡ None
+IsComeOf (Some section) None = ⊥
+IsComeOf (Some section) (Some come) = IsComeAs section come
+
+-- In a cluster that takes snapshots the coordinator knows this of them.
+pub record IsSavingOf (st : Setting) (s : SavingView) (c : Coordinator) : Type 0 where
+  pub vertices : size st.graph ≡ s.vertices
+  pub edges : length st.graph.edges ≡ s.edges
+  pub begun : c.begun ≡ s.begun
+  pub acknowledged : c.acknowledged ≡ s.acknowledged
+  pub machines : length s.come ≡ st.machines
+  pub come : (a : ℕ) → a < st.machines → IsComeOf (come_at s.come a) (c.come a)
+  pub wanted : c.wanted ≡ s.wanted
+  pub entries : entries_in st c ≡ s.entries
+  pub first : (c.snapshots ≡ []) ↔ (s.saved ≡ false)
+  pub store_end : c.store_end ≡ s.store_end
+
+-- In a cluster with locks the coordinator has counted this, and these calls wait. Where snapshots are taken it knows this of them, and
+-- where none are none is under way.
 pub record IsCoordinatorOf (st : Setting) (view : CoordinatorView) (c : Coordinator) : Type 0 where
   pub machines : length view.out.machines ≡ st.machines
   pub engine : st.engine ≡ Locking
-  pub stored : st.stored ≡ false
-  pub none : c.acknowledged ≡ c.begun
+  pub stored : st.stored ≡ view.saving.stored
+  pub none : st.stored ≡ false → c.acknowledged ≡ c.begun
+  pub saving : st.stored ≡ true → IsSavingOf st view.saving c
   pub counting : c.rounds.counting ≡ view.counting
   pub out : (a : ℕ) → a < st.machines → AreCalls (waiting_at view.out a) (c.out a)
 

@@ -1,1 +1,4 @@
 pub mod Asking
+pub mod Kept
+pub mod Words
+pub mod Seen

@@ -1,3 +1,6 @@
+pub mod Saving
+pub mod Stores
+pub mod Records
 pub mod Coordinators
 pub mod Calls
 pub mod Inner

@@ -1,11 +1,36 @@
-//! A wave for each machine.
+//! A word for each machine.
 ghost use Rattle.std.specs.Prelude.{◌≡◌, ℕ, ◌<◌, [], ◌∷◌, ◌++◌, length, OnOk};
-ghost use Rattle.coord_core.specs.Coordinators.{MessageView, waiting_at};
-ghost use Rattle.coord_core.specs.Inner.Asking.{SameMessages, room_for, wave_message};
+ghost use Rattle.coord_core.specs.Coordinators.{MessageView, message_view, waiting_at};
+ghost use Rattle.coord_core.specs.Inner.Asking.{SameMessages, room_for};
+ghost use Rattle.coord_core.specs.Inner.Words.{word_message};
 
 use gl_base::{MachineNo, NoMemory, Peer};
 use outboxes::Outboxes;
 use wire_msgs::Message;
+
+/// What the coordinator tells each machine.
+#[derive(Clone, Copy, Debug, PartialEq, Eq)]
+pub enum Word {
+    /// The snapshot of this number begins.
+    Begin(u32),
+    /// The snapshot of this number is acknowledged.
+    Committed(u32),
+    /// The machine is asked for its counts in this wave.
+    Wave(u64),
+}
+
+impl Word {
+    /// The word as a message.
+    fn message(self) -> Message
+        ensures { message_view result ≡ word_message self }
+    {
+        match self {
+            Word::Begin(number) => Message::Begin { number },
+            Word::Committed(number) => Message::Committed { number },
+            Word::Wave(wave) => Message::Wave { wave },
+        }
+    }
+}
 
 /// Makes room for one more message to each of the machines.
 pub fn reserve_each(out: &mut Outboxes, machines: u16) -> Result<(), NoMemory>
@@ -19,14 +44,14 @@ pub fn reserve_each(out: &mut Outboxes, machines: u16) -> Result<(), NoMemory>
     Ok(())
 }
 
-/// Each of the machines is asked for its counts in this wave. There is room for that.
-pub fn ask_each(out: &mut Outboxes, machines: u16, wave: u64)
+/// Each of the machines is told this. There is room for that.
+pub fn tell_each(out: &mut Outboxes, machines: u16, word: Word)
     requires many { length out.old.machines ≡ machines }
     requires room { (b : ℕ) → b < machines → 0 < room_for out.old b }
     ensures many { length out.new.machines ≡ machines }
-    ensures asked { (b : ℕ) → b < machines → waiting_at out.new b ≡ waiting_at out.old b ++ wave_message wave ∷ [] }
+    ensures told { (b : ℕ) → b < machines → waiting_at out.new b ≡ waiting_at out.old b ++ word_message word ∷ [] }
 {
     for machine in 0..machines {
-        out.put(Peer::Machine(MachineNo(machine)), Message::Wave { wave });
+        out.put(Peer::Machine(MachineNo(machine)), word.message());
     }
 }

@@ -1,19 +1,29 @@
 //! The coordinator.
-ghost use Rattle.std.specs.Prelude.{◌≡◌, ◌↔◌, true, IfOk, IfErr, IsOk, IsErrOf, OnOk, OnErr};
-ghost use Rattle.coord_core.specs.Coordinators.{HasCluster, MayBeCounted, message_view};
-ghost use Rattle.coord_core.specs.Calls.{HasHandedOver, HasPutWave, HasTakenReport, IsDueOf, IsFirstOf, MayNotPutWave, MayPutWave, MayReport, StaysCoordinator, TellsCounts};
+ghost use Rattle.std.specs.Prelude.{◌≡◌, ◌≢◌, ◌+◌, ◌^◌, ◌<◌, ◌≤◌, ◌↔◌, true, IfOk, IsErrOf, IsTrue, length, slice_index_or, OnOk, OnErr};
+ghost use Rattle.coord_core.specs.Coordinators.{HasCluster, MayBeCounted, message_view, no_outbox};
+ghost use Rattle.outboxes.specs.Outboxes.{has_waiting};
+ghost use Rattle.coord_core.specs.Calls.{HasBegun, HasHandedOver, HasPutWave, HasRecorded, HasTakenReport, IsDueOf, IsFirstOf, IsFirstWith, IsReadyToRecord, IsRecordDueOf, MayBegin, MayNotBegin, MayNotPutWave, MayNotRecord, MayPutWave, MayRecord, MayReport, StaysCoordinator};
+ghost use Rattle.coord_core.specs.Stores.{store_view};
+ghost use Rattle.coord_core.specs.Inner.Kept.{IsSavingKept};
+ghost use Rattle.coord_core.specs.Inner.Seen.{IsFirstSaving, WantsSnapshot};
 
-use crate::asking::{ask_each, reserve_each};
-use gl_base::{MachineNo, NoMemory, Peer, Refused};
+use crate::asking::{Word, reserve_each, tell_each};
+use crate::saving::Saving;
+use crate::stores::Store;
+use gl_base::{MachineNo, NoMemory, Peer, Record, Refused};
 use outboxes::Outboxes;
 use quiet_waves::{Verdict, Waves};
 use std::alloc::Global;
 use std::marker::Model;
-use wire_msgs::{Message, Returned};
+use wire_msgs::Message;
 
 /// What the coordinator is to do next.
 #[derive(Clone, Copy, Debug, PartialEq, Eq, Hash)]
 pub enum Due {
+    /// All sections of the snapshot of this number have come: it is to be recorded.
+    Record(u32),
+    /// The snapshot of this number is to begin.
+    Snapshot(u32),
     /// The run is over.
     Ended,
     /// A wave is to be put out.
@@ -21,74 +31,134 @@ pub enum Due {
     Nothing,
 }
 
-/// The coordinator of a cluster with locks that takes no snapshots: how many waves it has put out, whether answers to the newest
-/// are missing, what the last two brought in, and what waits to be sent to each machine.
+/// The coordinator of a cluster with locks: how many waves it has put out, whether answers to the newest are missing, what the last
+/// two brought in, what it knows of snapshots, and what waits to be sent to each machine.
 #[derive(Drop)]
 pub struct Coordinator {
     machines: u16,
     put_out: u64,
     waiting: bool,
     waves: Waves,
+    saving: Saving,
     out: Outboxes,
 }
 
 impl Model for Coordinator {
+    ghost use Rattle.std.specs.Prelude.{◌≡◌, length};
     ghost use Rattle.coord_core.specs.Coordinators.{CoordinatorView};
     ghost use Rattle.coord_core.specs.Inner.Asking.{AreOutboxesOf};
+    ghost use Rattle.coord_core.specs.Inner.Kept.{IsSavingKept};
 
     ghost Value = { CoordinatorView };
 
-    ghost view = { λ c. record { counting = record { put_out = c.put_out; waiting = c.waiting; waves = c.waves }; out = c.out } };
+    ghost view = { λ c. record { counting = record { put_out = c.put_out; waiting = c.waiting; waves = c.waves }; saving = c.saving; out = c.out } };
 
-    ghost invariant = { λ c. AreOutboxesOf c.out c.machines };
+    ghost invariant = { λ c. AreOutboxesOf c.out c.machines × (length c.saving.come ≡ c.machines) × IsSavingKept c.saving };
 }
 
 impl Coordinator {
-    /// No wave was put out to so many machines, and nothing waits.
+    /// No wave was put out to so many machines, and nothing waits. No snapshots are taken.
     pub fn new(alloc: Global, machines: u16) -> Result<Coordinator, NoMemory>
         ensures { IfOk result (λ c. IsFirstOf machines c) }
     {
-        Ok(Coordinator {
-            machines,
-            put_out: 0,
-            waiting: false,
-            waves: Waves::new(alloc, machines)?,
-            out: Outboxes::new(alloc, machines)?,
-        })
+        let saving = Saving::none(alloc, machines)?;
+        Coordinator::first(alloc, machines, saving)
     }
 
-    /// What is due: the end where all answers have come and the last two waves showed it, else a wave where one may be put out.
+    /// The same where snapshots are taken, behind the newest one of this store.
+    pub fn with_store(alloc: Global, machines: u16, store: Store) -> Result<Coordinator, NoMemory>
+        requires newest { store.newest + 1 < 2 ^ 32 }
+        requires length { store.length ≤ 1073741824 }
+        ensures { IfOk result (λ c. IsFirstWith machines (store_view store) c) }
+    {
+        let saving = Saving::with_store(alloc, machines, store)?;
+        Coordinator::first(alloc, machines, saving)
+    }
+
+    /// What is due: a record where all sections of the snapshot under way have come, also where the store takes it no more; else a
+    /// snapshot where the next one is to begin; else the end where the last two waves showed it; else a wave where one may be put out.
     /// Some cluster has this coordinator, so that what is said of all of them says something.
     pub fn due(&self) -> Due
         ensures due { IsDueOf self.now result }
         ensures cluster { HasCluster self.now }
     {
-        match (self.waiting, self.waves.verdict()) {
-            (true, _) => Due::Nothing,
-            (false, Verdict::Quiet) => Due::Ended,
-            (false, Verdict::NotYet) => Due::Wave,
+        if self.saving.is_record_due() {
+            return Due::Record(self.saving.begun());
+        }
+        if self.wants_snapshot() {
+            return Due::Snapshot(self.saving.next_number());
+        }
+        if self.waiting || !self.saving.is_settled() {
+            return Due::Nothing;
+        }
+        match self.waves.verdict() {
+            Verdict::Quiet => Due::Ended,
+            Verdict::NotYet => Due::Wave,
         }
     }
 
-    /// Puts the next wave out: asks each machine for its counts. `NotNow` comes exactly where answers to the last one are
-    /// missing; the end of its number is want of memory.
+    /// Begins the next snapshot: tells each machine. `NotNow` comes exactly where none is due.
+    pub fn begin(&mut self) -> Result<(), Refused>
+        ensures begun { OnOk result (MayBegin self.old × HasBegun self.old self.new) }
+        ensures not_now { IsErrOf result Refused.NotNow → MayNotBegin self.old }
+        ensures no_memory { IsErrOf result Refused.NoMemory → MayBegin self.old }
+        ensures unchanged { OnErr result (StaysCoordinator self.old self.new) }
+    {
+        if !self.wants_snapshot() {
+            return Err(Refused::NotNow);
+        }
+        reserve_each(&mut self.out, self.machines)?;
+        let number = self.saving.next_number();
+        tell_each(&mut self.out, self.machines, Word::Begin(number));
+        self.saving.begin();
+        Ok(())
+    }
+
+    /// Puts the next wave out: asks each machine for its counts. `NotNow` comes exactly where answers to the last one are missing, or
+    /// a snapshot is under way or due; the end of its number is want of memory.
     pub fn wave(&mut self) -> Result<(), Refused>
         ensures put_out { OnOk result (MayPutWave self.old × HasPutWave self.old self.new) }
         ensures not_now { IsErrOf result Refused.NotNow → MayNotPutWave self.old }
         ensures no_memory { IsErrOf result Refused.NoMemory → MayPutWave self.old }
         ensures unchanged { OnErr result (StaysCoordinator self.old self.new) }
     {
-        if self.waiting {
+        if self.waiting || !self.saving.is_settled() || self.wants_snapshot() {
             return Err(Refused::NotNow);
         }
         if self.put_out == u64::MAX {
             return Err(Refused::NoMemory);
         }
         reserve_each(&mut self.out, self.machines)?;
-        ask_each(&mut self.out, self.machines, self.put_out);
+        tell_each(&mut self.out, self.machines, Word::Wave(self.put_out));
         self.put_out += 1;
         self.waiting = true;
         Ok(())
+    }
+
+    /// The record of the snapshot under way, of which nothing is told yet; and room for the word of it to each machine. `NotNow` comes
+    /// exactly where a section is missing, or the store takes no record more, or not this one. It goes over each number once.
+    pub fn record(&mut self, alloc: Global) -> Result<Record, Refused>
+        ensures due { OnOk result (MayRecord self.old) }
+        ensures made { IfOk result (λ made. IsRecordDueOf self.old made) }
+        ensures ready { IfOk result (λ made. IsReadyToRecord self.new made.number) }
+        ensures not_now { IsErrOf result Refused.NotNow → MayNotRecord self.old }
+        ensures no_memory { IsErrOf result Refused.NoMemory → MayRecord self.old }
+        ensures same { StaysCoordinator self.old self.new }
+    {
+        if !self.saving.is_record_due() || !self.saving.has_room() {
+            return Err(Refused::NotNow);
+        }
+        reserve_each(&mut self.out, self.machines)?;
+        Ok(self.saving.record(alloc)?)
+    }
+
+    /// The snapshot of this number is acknowledged: each machine is told, and its sections are gone. It takes no memory.
+    pub fn recorded(&mut self, number: u32)
+        requires { IsReadyToRecord self.old number }
+        ensures { HasRecorded self.old self.new }
+    {
+        tell_each(&mut self.out, self.machines, Word::Committed(number));
+        self.saving.acknowledge();
     }
 
     /// Whether counts of this machine for this wave may be received: it is the newest one, and they are missing.
@@ -98,22 +168,34 @@ impl Coordinator {
         self.waiting && wave < self.put_out && self.put_out - 1 == wave && self.waves.awaits(from)
     }
 
-    /// A message of a machine has come. Counts take no memory.
-    pub fn receive(&mut self, from: MachineNo, message: Message) -> Result<(), Returned>
+    /// Whether it is the coordinator of this machine.
+    pub fn has_machine(&self, m: MachineNo) -> bool
+        ensures { IsTrue result ↔ (m.0 < length self.now.out.machines) }
+    {
+        m.0 < self.machines
+    }
+
+    /// A message of a machine has come: its counts, its section, or that it wants a snapshot. It takes no memory.
+    pub fn receive(&mut self, from: MachineNo, message: Message)
         requires { MayReport self.old from.0 (message_view message) }
-        ensures received { OnOk result (HasTakenReport self.old self.new from.0 (message_view message)) }
-        ensures counts { TellsCounts (message_view message) → IsOk result }
-        ensures returned { IfErr result (λ same. same.message ≡ message) }
-        ensures unchanged { OnErr result (self.new ≡ self.old) }
+        ensures { HasTakenReport self.old self.new from.0 (message_view message) }
     {
         match message {
             Message::Count { wave: _, counted } => {
                 self.waves.count(from, counted);
                 self.waiting = !self.waves.is_whole();
-                Ok(())
             }
+            Message::Section(section) => self.saving.put(from, section),
+            Message::Want { acknowledged } => self.saving.want(acknowledged),
             _ => unreachable!(),
         }
+    }
+
+    /// Whether a message waits for a machine.
+    pub fn waits(&self, to: MachineNo) -> bool
+        ensures { result ≡ has_waiting (slice_index_or self.now.out.machines to.0 no_outbox) }
+    {
+        self.out.waits(Peer::Machine(to))
     }
 
     /// Takes the first message that waits for a machine; `None` exactly where none waits.
@@ -121,5 +203,50 @@ impl Coordinator {
         ensures { HasHandedOver self.old self.new to.0 result }
     {
         self.out.take(Peer::Machine(to))
+    }
+
+    /// How many snapshots are stored: the number of the newest acknowledged one.
+    pub fn stored(&self) -> u32
+        ensures { result ≡ self.now.saving.acknowledged }
+    {
+        self.saving.acknowledged()
+    }
+
+    /// How long the store's file is: the place behind its closing gate.
+    pub fn length(&self) -> u64
+        ensures { result ≡ self.now.saving.store_end }
+    {
+        self.saving.store_end()
+    }
+
+    /// Whether a snapshot is under way.
+    pub fn is_under_way(&self) -> bool
+        ensures { IsTrue result ↔ (self.now.saving.acknowledged ≢ self.now.saving.begun) }
+    {
+        !self.saving.is_settled()
+    }
+
+    /// The coordinator that an attempt begins with.
+    fn first(alloc: Global, machines: u16, saving: Saving) -> Result<Coordinator, NoMemory>
+        requires come { length saving.come ≡ machines }
+        requires kept { IsSavingKept saving }
+        ensures { IfOk result (λ c. IsFirstSaving machines saving c) }
+    {
+        Ok(Coordinator {
+            machines,
+            put_out: 0,
+            waiting: false,
+            waves: Waves::new(alloc, machines)?,
+            saving,
+            out: Outboxes::new(alloc, machines)?,
+        })
+    }
+
+    /// Whether the next snapshot is to begin.
+    fn wants_snapshot(&self) -> bool
+        ensures { IsTrue result ↔ WantsSnapshot self.now }
+    {
+        let quiet = !self.waiting && self.waves.verdict() == Verdict::Quiet;
+        self.saving.is_snapshot_due(quiet, self.waves.updates())
     }
 }

@@ -59,6 +59,8 @@ fn due_number(due: Due) -> u64 {
         Due::Ended => 1,
         Due::Wave => 2,
         Due::Nothing => 3,
+        Due::Record(_) => 4,
+        Due::Snapshot(_) => 5,
     }
 }
 

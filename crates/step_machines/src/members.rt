@@ -24,6 +24,10 @@ impl<P: Program> ClusterMachine for ColorMachine<P> {
         Err(Refused::NotNow)
     }
 
+    fn grant_in_turn(&mut self, _x: Vertex) -> Result<(), Refused> {
+        Err(Refused::NotNow)
+    }
+
     fn next_grant(&mut self) -> Option<Vertex> {
         None
     }

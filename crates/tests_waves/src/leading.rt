@@ -44,8 +44,8 @@ fn answer(coordinator: &mut Coordinator, machine: u16, counts: &mut WaveCounts) 
         counted: answer.counted,
     };
     let awaited = coordinator.awaits(m, answer.wave);
-    if awaited && coordinator.receive(m, message).is_err() {
-        return false;
+    if awaited {
+        coordinator.receive(m, message);
     }
     held && !counts.holds_wave() && awaited
 }

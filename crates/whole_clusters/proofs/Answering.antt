@@ -169,12 +169,12 @@ module _ {M : Type 0} (belongs : Setting → ℕ → M → Type 0) (part : M →
         pub ended_said : due ≡ Ended → InEachPlain belongs part view.cluster (λ st. IsAtEnd st (world_now part st view.cluster))
         ended_said =
             subst (λ (v : WholeView M). due ≡ Ended → InEachPlain belongs part v.cluster (λ st. IsAtEnd st (world_now part st v.cluster))) seen
-            (λ ended st begin. let one = kept.stands st begin in at_end part st old one.0 one.1 ((says.ended st one.0.coordinator one.1.coordinator).0 ended))
+            (λ ended st begin. let one = kept.stands st begin in at_end part st old one.0 one.1 ((says.ended st one.0.coordinator one.1.coordinator).0 ended).2)
 
         pub finished_said : due ≡ Ended → InEachPlain belongs part view.cluster (LeavesNoTask part view.cluster)
         finished_said =
             subst (λ (v : WholeView M). due ≡ Ended → InEachPlain belongs part v.cluster (LeavesNoTask part v.cluster)) seen
-            (λ ended st begin. let one = kept.stands st begin in none_left part st old one.0 one.1 ((says.ended st one.0.coordinator one.1.coordinator).0 ended) begin.start.setting)
+            (λ ended st begin. let one = kept.stands st begin in none_left part st old one.0 one.1 ((says.ended st one.0.coordinator one.1.coordinator).0 ended).2 begin.start.setting)
 
     -- ---- machines are as many as the setting says
 

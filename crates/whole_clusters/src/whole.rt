@@ -245,13 +245,9 @@ impl<M: WaveMachine> WholeCluster<M> {
             wave: answer.wave,
             counted: answer.counted,
         };
-        match self.coordinator.receive(from, message) {
-            Ok(()) => {
-                self.seats[from.0 as usize].report = None;
-                Ok(())
-            }
-            Err(_) => unreachable!(),
-        }
+        self.coordinator.receive(from, message);
+        self.seats[from.0 as usize].report = None;
+        Ok(())
     }
 
     /// The run has ended.

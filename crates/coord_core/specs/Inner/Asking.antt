@@ -1,12 +1,8 @@
--- What asking each machine leaves.
+-- What telling each machine leaves.
 use Rattle.std.specs.Prelude.{◌≡◌, ℕ, Bool, true, false, length, slice_index_or}
 use Rattle.std.specs.List.{list_all}
 use Rattle.wire_msgs.specs.Views as wire
 use Rattle.coord_core.specs.Coordinators.{MessageView, OutboxesView, waiting_at, no_outbox}
-
--- a wave
-abbrev pub wave_message : ℕ → MessageView
-wave_message wave = wire.Wave wave
 
 -- for how many more messages to machine a there is room
 abbrev pub room_for : OutboxesView → ℕ → ℕ

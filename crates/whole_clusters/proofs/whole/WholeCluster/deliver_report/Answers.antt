@@ -21,7 +21,7 @@ pub index_mut-requires : goal.index_mut-requires
 index_mut-requires g c = subst (λ n. c.args.from.0 < n) (sym c.self.inside.seats.ok.0) (low_seat g.M.ClusterMachine.belongs g.M.ClusterMachine.part (record { cluster = c.self.inside.cluster; coordinator = c.self.inside.coordinator; seats = c.self.inside.seats.items; stopped = c.self.inside.stopped }) c.self.invariant c.args.self.now c.self.view_is c.args.from c.requires.names)
 
 pub invariant_of-self : goal.invariant_of-self
-invariant_of-self g c = kept_after g.M.ClusterMachine.belongs g.M.ClusterMachine.part (record { cluster = c.self.inside.cluster; coordinator = c.self.inside.coordinator; seats = c.self.inside.seats.items; stopped = c.self.inside.stopped }) c.self.invariant (DeliverReport c.args.from) (Ok tt) _ (report_heard g.M.ClusterMachine.belongs g.M.ClusterMachine.part (record { cluster = c.self.inside.cluster; coordinator = c.self.inside.coordinator; seats = c.self.inside.seats.items; stopped = c.self.inside.stopped }) c.self.invariant c.args.self.now c.self.view_is c.args.from c.requires.names c.requires.runs c.index.result.now c.index_mut.result.now c.index.ensures c.index_mut.ensures.value c.receive.new.self c.in-Some.answer c.in-Some.is c.in-Ok.ensures.received)
+invariant_of-self g c = kept_after g.M.ClusterMachine.belongs g.M.ClusterMachine.part (record { cluster = c.self.inside.cluster; coordinator = c.self.inside.coordinator; seats = c.self.inside.seats.items; stopped = c.self.inside.stopped }) c.self.invariant (DeliverReport c.args.from) (Ok tt) _ (report_heard g.M.ClusterMachine.belongs g.M.ClusterMachine.part (record { cluster = c.self.inside.cluster; coordinator = c.self.inside.coordinator; seats = c.self.inside.seats.items; stopped = c.self.inside.stopped }) c.self.invariant c.args.self.now c.self.view_is c.args.from c.requires.names c.requires.runs c.index.result.now c.index_mut.result.now c.index.ensures c.index_mut.ensures.value c.receive.new.self c.in-Some.answer c.in-Some.is c.receive.ensures)
 
 pub returns : goal.returns
-returns g c = seen_as g.M.ClusterMachine.belongs g.M.ClusterMachine.part (record { cluster = c.self.inside.cluster; coordinator = c.self.inside.coordinator; seats = c.self.inside.seats.items; stopped = c.self.inside.stopped }) c.args.self.now c.self.view_is (DeliverReport c.args.from) (Ok tt) _ (report_heard g.M.ClusterMachine.belongs g.M.ClusterMachine.part (record { cluster = c.self.inside.cluster; coordinator = c.self.inside.coordinator; seats = c.self.inside.seats.items; stopped = c.self.inside.stopped }) c.self.invariant c.args.self.now c.self.view_is c.args.from c.requires.names c.requires.runs c.index.result.now c.index_mut.result.now c.index.ensures c.index_mut.ensures.value c.receive.new.self c.in-Some.answer c.in-Some.is c.in-Ok.ensures.received)
+returns g c = seen_as g.M.ClusterMachine.belongs g.M.ClusterMachine.part (record { cluster = c.self.inside.cluster; coordinator = c.self.inside.coordinator; seats = c.self.inside.seats.items; stopped = c.self.inside.stopped }) c.args.self.now c.self.view_is (DeliverReport c.args.from) (Ok tt) _ (report_heard g.M.ClusterMachine.belongs g.M.ClusterMachine.part (record { cluster = c.self.inside.cluster; coordinator = c.self.inside.coordinator; seats = c.self.inside.seats.items; stopped = c.self.inside.stopped }) c.self.invariant c.args.self.now c.self.view_is c.args.from c.requires.names c.requires.runs c.index.result.now c.index_mut.result.now c.index.ensures c.index_mut.ensures.value c.receive.new.self c.in-Some.answer c.in-Some.is c.receive.ensures)

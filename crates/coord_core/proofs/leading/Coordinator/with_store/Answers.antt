@@ -1,0 +1,12 @@
+-- The attempt begins with its store.
+use Rattle.std.proofs.Common.{subst}
+use Rattle.coord_core.specs.Inner.Seen.{IsFirstSaving}
+use Rattle.coord_core.specs.Saving.{SavingView}
+use Rattle.coord_core.specs.Stores.{store_view}
+use Rattle.coord_core.proofs.LeadLemmas.{first_with, if_ok}
+use Rattle.coord_core.proofs.leading.Coordinator.with_store.Goals as goal
+
+pub returns : goal.returns
+returns c =
+    if_ok c.first.result (λ view first. first_with c.args.machines view (store_view c.args.store)
+    (subst (λ (s : SavingView). IsFirstSaving c.args.machines s view) c.in_ok-saving.ensures first)) c.first.ensures

@@ -1,0 +1,16 @@
+-- What always holds of what the coordinator knows of snapshots.
+use Rattle.std.specs.Prelude.{false, length, ℕ, ◌*◌, ◌+◌, ◌^◌, ◌<◌, ◌≡◌, ◌≤◌}
+use Rattle.coord_core.specs.Saving.{IsApartWhereCome, SavingView, come_at}
+
+-- No more than one snapshot is under way, and none where none are taken; the updates of the snapshots are in the store's file; and
+-- in the sections that have come no vertex and no edge stands twice.
+pub record IsSavingKept (s : SavingView) : Type 0 where
+  pub near : s.begun ≤ s.acknowledged + 1
+  pub few : s.acknowledged + 1 < 2 ^ 32
+  pub plain : s.stored ≡ false → s.acknowledged ≡ s.begun
+  pub fits : 16 * s.entries ≤ s.store_end
+  pub short : s.store_end ≤ 1073741824
+  pub machines : length s.come < 65536
+  pub lone : length s.come ≡ 0 → s.entries ≡ 0
+  pub first : s.saved ≡ false → s.entries ≡ 0
+  pub apart : (a : ℕ) → IsApartWhereCome (come_at s.come a)
