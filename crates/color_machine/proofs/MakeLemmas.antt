@@ -29,7 +29,7 @@ use Rattle.machine_parts.specs.Parts.{message_of}
 use Rattle.color_parts.specs.Parts.{OutboxesView, Part, is_own, links_at, messages_for, parts_at, place_at, sides_at}
 use Rattle.color_machine.specs.Admitting.{Setting}
 use Rattle.color_machine.specs.Updating.{IsLocalOf, IsSetting}
-use Rattle.color_machine.specs.Inner.Making.{CanBeKept, CanBeRun, HasMadeAndTold, HasRoomToRun, is_to_be_told}
+use Rattle.color_machine.specs.Inner.Making.{CanBeKeptAndTold, CanBeRun, HasMadeAndTold, HasRoomToRun, is_to_be_told}
 
 -- ---- with room, and while the row is out
 
@@ -75,7 +75,7 @@ module _ (n roomy tk : Numbers) (out boxes : OutboxesView) (s : ScopeId) (v : Ve
     many_numbers = ap length taken.numbers ∙ length-map (sides_at roomy.local v.0) (λ (d : Side). edge_here roomy d.edge.0)
 
     -- the outcome can be kept
-    pub can_keep : HasRoomToRun roomy boxes s v ps → length o.edges.items ≡ length work.row.numbers.items → CanBeKept tk boxes o ps
+    pub can_keep : HasRoomToRun roomy boxes s v ps → length o.edges.items ≡ length work.row.numbers.items → CanBeKeptAndTold tk boxes o ps
     can_keep room edges =
         record {
           can = subst (CanBeRun tk boxes) (sym vertex_is) can_out;

@@ -3,7 +3,7 @@ ghost use Rattle.std.specs.Prelude.{◌≡◌, ℕ, ◌==◌, true, Some, length
 ghost use Rattle.gl_base.specs.declared.entries.Entry.TheVariants.{Go};
 ghost use Rattle.machine_numbers.specs.Views.{AreTasksOf};
 ghost use Rattle.color_parts.specs.Parts.{is_own, links_at, place_at, sides_at};
-ghost use Rattle.color_machine.specs.Inner.Making.{CanBeKept, CanBeRun, HasMadeAndTold, HasRoomToRun, HasRun, HasSameNumbers, HasUpdated, HasWord, HaveSameMessages, IsRowIn, after_told, done_told, is_to_be_told};
+ghost use Rattle.color_machine.specs.Inner.Making.{CanBeKeptAndTold, CanBeRun, HasMadeAndTold, HasRoomToRun, HasRun, HasSameNumbers, HasUpdated, HasWord, HaveSameMessages, IsRowIn, after_told, done_told, is_to_be_told};
 
 use gl_base::{Entry, NoMemory, ScopeId, Vertex};
 use local_graph::Outcome;
@@ -83,7 +83,7 @@ fn keep(
     prepared: Vec<Prepared>,
     ticket: u64,
 ) -> Spent
-    requires { CanBeKept numbers.old out.old outcome prepared.items }
+    requires { CanBeKeptAndTold numbers.old out.old outcome prepared.items }
     ensures updated { HasUpdated numbers.old numbers.new outcome (Go outcome.work.scope.home outcome.work.vertex ticket) }
     ensures back { (x : ℕ) → links_at numbers.new.local x ≡ (if x == outcome.work.vertex.0 then Some outcome.work.row.links.items else links_at numbers.old.local x) }
     ensures own { (x : ℕ) → is_own numbers.new.local x ≡ is_own numbers.old.local x }

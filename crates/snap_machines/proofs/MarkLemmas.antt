@@ -28,7 +28,7 @@ use Rattle.machine_parts.specs.Settings.{Setting, IsPartOf}
 use Rattle.machine_updates.proofs.ToldLemmas.{found_one}
 use Rattle.snap_update.specs.Holding.{AreEdgesToSave, last_of_edge, later_number}
 use Rattle.snap_machines.specs.Keeping.{Part, SnapView, part_of, with_snaps}
-use Rattle.snap_machines.specs.Inner.Marks.{datum_here, edge_here, edges_left, ends_left, is_end_left, is_own, is_unmarked, links_at, mark_told, number_of, sides_at}
+use Rattle.snap_machines.specs.Inner.Marks.{datum_here, edge_here, edges_left, ends_left, is_end_left, is_own, is_unmarked, links_at, mark_told, number_pended, sides_at}
 use Rattle.snap_machines.proofs.HalfLemmas.{later_none, saved_along, saved_of}
 use Rattle.snap_machines.proofs.SeedLemmas.{first_none}
 
@@ -126,10 +126,10 @@ module _ (st : Setting) (m : Core) (w : SnapView) (v : Vertex) (links : List Lin
       ∙ ap (λ (b : Bool). is_theirs st m.numbers w.known q u && b) (near_is u)
       ∙ turned (st.owner u == q) (is_unmarked m.numbers w.known u) (is_near st v.0 u)
 
-  number_is : (q : ℕ) → number_of (ends_left m.numbers w.known q sides) w.known ≡ number_if (first_passing (pends_for st part v.0 q) 0 (size st.graph)) w.known
+  number_is : (q : ℕ) → number_pended (ends_left m.numbers w.known q sides) w.known ≡ number_if (first_passing (pends_for st part v.0 q) 0 (size st.graph)) w.known
   number_is q = by (ends_left m.numbers w.known q sides) (pends_are q)
     where
-      by : (ends : List Vertex) → ((u : ℕ) → is_named ends u ≡ pends_for st part v.0 q u) → number_of ends w.known ≡ number_if (first_passing (pends_for st part v.0 q) 0 (size st.graph)) w.known
+      by : (ends : List Vertex) → ((u : ℕ) → is_named ends u ≡ pends_for st part v.0 q u) → number_pended ends w.known ≡ number_if (first_passing (pends_for st part v.0 q) 0 (size st.graph)) w.known
       by [] are = sym (ap (λ (o : Option ℕ). number_if o w.known) (first_none (pends_for st part v.0 q) 0 (size st.graph) (λ u. sym (are u))))
       by (x ∷ ends) are =
           let named : is_named (x ∷ ends) x.0 ≡ true = ap (λ (b : Bool). b || is_named ends x.0) (eq-eqb x.0 x.0 refl) in

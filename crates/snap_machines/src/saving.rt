@@ -1,7 +1,7 @@
 //! What a snapshot update saves, and what other machines are told of it.
 ghost use Rattle.std.specs.Prelude.{◌≡◌, ◌<◌, ◌≤◌, [], ◌∷◌, length, vec_capacity};
 ghost use Rattle.machine_numbers.specs.Steps.{IsBlank};
-ghost use Rattle.snap_machines.specs.Inner.Marks.{CanTell, after_told, datum_here, done_view, edge_here, edges_left, ends_left, is_end_left, is_unmarked, mark_told, number_of, sides_at, with_edges, with_mark, with_vertex};
+ghost use Rattle.snap_machines.specs.Inner.Marks.{CanTell, after_told, datum_here, done_view, edge_here, edges_left, ends_left, is_end_left, is_unmarked, mark_told, number_pended, sides_at, with_edges, with_mark, with_vertex};
 
 use gl_base::{Datum, MachineNo, Peer, Vertex};
 use local_graph::Side;
@@ -82,7 +82,7 @@ fn mark_done(numbers: &Numbers, known: u32, flight: Flight, to: MachineNo, blank
         ..
     } = blank;
     let ends = list_ends(wakes, numbers, known, to, numbers.local.sides(centre));
-    let number = number_of(&ends, known);
+    let number = number_pended(&ends, known);
     Done {
         scope,
         centre,
@@ -95,8 +95,8 @@ fn mark_done(numbers: &Numbers, known: u32, flight: Flight, to: MachineNo, blank
 }
 
 /// The number of the snapshot where these become pending for it, else 0.
-fn number_of(ends: &[Vertex], known: u32) -> u32
-    ensures { result ≡ number_of ends.now known }
+fn number_pended(ends: &[Vertex], known: u32) -> u32
+    ensures { result ≡ number_pended ends.now known }
 {
     if ends.is_empty() { 0 } else { known }
 }

@@ -21,7 +21,7 @@ use Rattle.cluster_numbers.proofs.Keeping.{updates_is}
 use Rattle.cluster_places.proofs.PlacesKept.{start_in_step}
 use Rattle.cluster_places.proofs.StepsKept.{action_stays}
 use Rattle.cluster_places.specs.Steps.{IsOfColour}
-use Rattle.step_worlds.specs.Going.{Action, Chromatic, GoesInStep, IsExpectedBy, IsInStep, IsStart, IsStepMessage, IsStill, IsToldTo, IsWork, MayHappen, MayReceiveBy, Message, Setting, World, after, steps_at, way}
+use Rattle.step_worlds.specs.Going.{Action, Chromatic, GoesInStep, IsExpectedBy, IsInStep, IsStart, IsStepMessage, IsAtStandstill, IsToldTo, IsApartFromSnapshots, MayHappen, MayReceiveBy, Message, Setting, World, after, steps_at, way}
 
 nothing_first : (claim : Claim) (behind : List Claim) → [] ≡ claim ∷ behind → ⊥
 nothing_first claim behind same = cc
@@ -49,7 +49,7 @@ starts st colour step w start closed =
 
 -- ---- steps
 
-pub still_next : (st : Setting) (colour : ℕ → ℕ) (step next : ℕ) (w : World) → IsStill w → GoesInStep st colour step w → GoesInStep st colour next w
+pub still_next : (st : Setting) (colour : ℕ → ℕ) (step next : ℕ) (w : World) → IsAtStandstill w → GoesInStep st colour step w → GoesInStep st colour next w
 still_next st colour step next w still goes = record {
   in_step = record {
     machines = λ a open_. absurd (true≢false (sym (still.closed a) ∙ open_));
@@ -161,7 +161,7 @@ module _ (st : Setting) (colour : ℕ → ℕ) (colours step : ℕ) (w : World) 
         words = λ p q. subst (λ (y : World). AllByRecursion (IsStepMessage st q) (way y p q)) (sym (updates_is st w s v may.flight)) (words p q);
       }
 
-  pub goes_on : (action : Action) → IsWork action → MayHappen st w action → GoesInStep st colour step (after st w action)
+  pub goes_on : (action : Action) → IsApartFromSnapshots action → MayHappen st w action → GoesInStep st colour step (after st w action)
   goes_on (law.Admit a v) work may = admits a v may
   goes_on (law.Grant a x) work may = absurd (grants a x may)
   goes_on (law.Send p q) work may = sends_on p q may

@@ -31,7 +31,7 @@ pub record GoesInStep (st : Setting) (colour : ℕ → ℕ) (step : ℕ) (w : Wo
   pub words : (p q : ℕ) → AllByRecursion (IsStepMessage st q) (way w p q)
 
 -- each machine has closed, no scope is in flight, and nothing is on its way
-pub record IsStill (w : World) : Type 0 where
+pub record IsAtStandstill (w : World) : Type 0 where
   pub closed : (a : ℕ) → (w.part a).closed ≡ true
   pub flights : (a : ℕ) (s : ScopeId) → (w.part a).flight s ≡ None
   pub ways : (p q : ℕ) → way w p q ≡ []
@@ -41,15 +41,15 @@ abbrev pub steps_at : World → ℕ → ℕ → World
 steps_at w a colour = with_part w a (steps_to colour (w.part a))
 
 -- the action has to do with no snapshot
-abbrev pub IsWork : Action → Type 0
-IsWork (Admit a v) = ⊤
-IsWork (Grant a x) = ⊤
-IsWork (Send p q) = ⊤
-IsWork (Deliver p q) = ⊤
-IsWork (Update s) = ⊤
-IsWork (Mark s) = ⊥
-IsWork Begin = ⊥
-IsWork (Hear a) = ⊥
-IsWork (SendSection a) = ⊥
-IsWork (Collect a) = ⊥
-IsWork Record = ⊥
+abbrev pub IsApartFromSnapshots : Action → Type 0
+IsApartFromSnapshots (Admit a v) = ⊤
+IsApartFromSnapshots (Grant a x) = ⊤
+IsApartFromSnapshots (Send p q) = ⊤
+IsApartFromSnapshots (Deliver p q) = ⊤
+IsApartFromSnapshots (Update s) = ⊤
+IsApartFromSnapshots (Mark s) = ⊥
+IsApartFromSnapshots Begin = ⊥
+IsApartFromSnapshots (Hear a) = ⊥
+IsApartFromSnapshots (SendSection a) = ⊥
+IsApartFromSnapshots (Collect a) = ⊥
+IsApartFromSnapshots Record = ⊥

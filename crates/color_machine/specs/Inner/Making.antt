@@ -45,7 +45,7 @@ pub record HasRoomToRun (n : Numbers) (out : OutboxesView) (scope : ScopeId) (v 
   pub version : (datum_here n v.0).version < 4294967295
 
 -- the same with an outcome of it, whose row is out
-pub record CanBeKept (n : Numbers) (out : OutboxesView) (o : Outcome) (ps : List Prepared) : Type 0 where
+pub record CanBeKeptAndTold (n : Numbers) (out : OutboxesView) (o : Outcome) (ps : List Prepared) : Type 0 where
   pub can : CanBeRun n out o.work.vertex
   pub room : HasRoomToRun n out o.work.scope o.work.vertex ps
   pub links : length o.work.row.links.items ≡ length (sides_at n.local o.work.vertex.0)

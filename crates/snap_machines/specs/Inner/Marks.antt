@@ -75,9 +75,9 @@ abbrev pub with_mark : ℕ → Datum → Datum
 with_mark k d = record { value = d.value; version = suc d.version; mark = k }
 
 -- k where vertices become pending, and else 0
-abbrev pub number_of : List Vertex → ℕ → ℕ
-number_of [] k = 0
-number_of (v ∷ vs) k = k
+abbrev pub number_pended : List Vertex → ℕ → ℕ
+number_pended [] k = 0
+number_pended (v ∷ vs) k = k
 
 -- what machine `to` is told of the snapshot update of v
 abbrev pub mark_told : Numbers → ℕ → ScopeId → Vertex → MachineNo → DoneView
@@ -90,7 +90,7 @@ mark_told n k s v to =
       edges = [];
       wakes = [];
       pends = pends;
-      number = number_of pends k;
+      number = number_pended pends k;
     }
 
 -- ---- numbers

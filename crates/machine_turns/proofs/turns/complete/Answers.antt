@@ -5,7 +5,7 @@ use Rattle.local_graph.specs.declared.works.Work.{Work}
 use Rattle.machine_numbers.specs.Settings.{IsMadeOfWork}
 use Rattle.update_api.specs.Updates.{Update}
 use Rattle.machine_parts.specs.declared.cores.Core.{Core}
-use Rattle.machine_turns.specs.Turns.{datum_here, part_of, updated}
+use Rattle.machine_turns.specs.Turns.{datum_here, part_of, place_at, updated}
 use Rattle.machine_turns.specs.Inner.Taking.{HasItsRow}
 use Rattle.machine_turns.proofs.MadeLemmas.{made_of_work, marks_kept}
 use Rattle.machine_turns.proofs.turns.complete.Goals as goal
@@ -26,3 +26,8 @@ returns-in-Ok-clause-marks g c = marks_kept c.args.core.now.numbers c.commit.new
 
 pub returns-in-Err-clause-marks : goal.returns-in-Err-clause-marks
 returns-in-Err-clause-marks g c x = ap (λ (m : Core). (datum_here m.numbers x).mark) c.put_back.ensures.rest
+
+pub returns-in-Ok-clause-run : goal.returns-in-Ok-clause-run
+returns-in-Ok-clause-run g c place at =
+    let is : c.update.new.self.work ≡ c.args.work = c.update.ensures.work ∙ c.in-Ok.ensures.work in
+    c.commit.ensures.tasks place (ap (λ (w : Work). place_at c.args.core.now.numbers.local w.vertex.0) is ∙ at)
