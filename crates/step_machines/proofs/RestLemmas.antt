@@ -1,5 +1,5 @@
 -- A machine that goes by colours is idle exactly where it has no task.
-use Rattle.std.proofs.Common.{◌≡◌, ℕ, ◌<◌, ◌&&◌, ◌==◌, Bool, true, false, is_none, true≢false, Option, Some, None, is_some, length, refl, sym, ap, ◌∙◌}
+use Rattle.std.proofs.Common.{◌≡◌, ℕ, ◌<◌, ◌&&◌, ◌==◌, Bool, true, false, not, true≢false, Option, Some, None, is_some, length, refl, sym, ap, ◌∙◌}
 use Rattle.std.specs.Prelude.{MatchOption, nat_lt}
 use Rattle.std.proofs.lemmas.Bool.{and_parts, lt-ltb, ltb-true}
 use Rattle.gl_base.specs.declared.numbers.Vertex.{Vertex}
@@ -16,6 +16,14 @@ use Rattle.color_parts.specs.declared.cores.ColorCore.{ColorCore}
 use Rattle.color_parts.specs.Parts.{centre_in_step, is_own, place_at}
 use Rattle.step_machines.specs.Machines.{IsInStepOrder, IsPartInSteps, Setting, part_in_steps}
 use Rattle.step_machines.specs.Resting.{is_idle}
+
+set_true : (b : Bool) → false ≡ not b → b ≡ true
+set_true true at = refl
+set_true false at = absurd (true≢false (sym at))
+
+set_false : (b : Bool) → true ≡ not b → b ≡ false
+set_false true at = absurd (true≢false at)
+set_false false at = refl
 
 module _ (m : ColorCore) (is : IsInStepOrder m) where
   -- a task keeps it busy
@@ -54,6 +62,6 @@ module _ (m : ColorCore) (is : IsInStepOrder m) where
         })
 
   pub rests_or_not : (o : Option Vertex) → MatchOption o ((u : ℕ) → is_flagged m.numbers.tasks.task u ≡ false) (λ v. is_flagged m.numbers.tasks.task v.0 ≡ true)
-      → (b : Bool) → b ≡ is_none o → (st : Setting) → IsPartInSteps st m → b ≡ is_idle st (part_in_steps m)
-  rests_or_not None none b at st part = at ∙ sym (rests none st)
-  rests_or_not (Some v) flagged b at st part = at ∙ sym (busy v.0 flagged st part)
+      → (b : Bool) → is_some o ≡ not b → (st : Setting) → IsPartInSteps st m → b ≡ is_idle st (part_in_steps m)
+  rests_or_not None none b at st part = set_true b at ∙ sym (rests none st)
+  rests_or_not (Some v) flagged b at st part = set_false b at ∙ sym (busy v.0 flagged st part)
