@@ -4,7 +4,7 @@ ghost use Rattle.std.specs.List.{All, flat_map, range_with_len};
 ghost use Rattle.graph_core.specs.Rows.{with_key};
 ghost use Rattle.local_graph.specs.Lines.{halves_of_lines};
 ghost use Rattle.local_graph.specs.Played.{side_of};
-ghost use Rattle.local_graph.specs.Inner.Pairs.{parts_in, row_of, scope_in};
+ghost use Rattle.local_graph.specs.Inner.Pairs.{parts_in, halves_known, scope_in};
 
 use crate::Side;
 use crate::ends::{EndsOf, PairsOf, Standing};
@@ -37,7 +37,7 @@ pub fn sides_by_place(
     requires few { length known.now + 1 < 2 ^ 32 }
     requires below { All (λ v. v.0 < length halves.now) known.now }
     ensures count { IfOk result (λ rows. length rows ≡ length known.now + 1) }
-    ensures each { IfOk result (λ rows. (k : ℕ) → k < length known.now → slice_index_or rows k [] ≡ map (side_of standing.now.me standing.now.many standing.now.ghosts.now standing.now.places.now) (row_of halves.now known.now k)) }
+    ensures each { IfOk result (λ rows. (k : ℕ) → k < length known.now → slice_index_or rows k [] ≡ map (side_of standing.now.me standing.now.many standing.now.ghosts.now standing.now.places.now) (halves_known halves.now known.now k)) }
     ensures last { IfOk result (λ rows. slice_index_or rows (length known.now) [] ≡ []) }
 {
     let pairs = list_sides(alloc, known, halves, standing, room)?;

@@ -3,7 +3,7 @@ ghost use Rattle.std.specs.Prelude.{◌≡◌, ℕ, ◌^◌, ◌<◌, ◌≤◌,
 ghost use Rattle.std.specs.List.{All, range_with_len};
 ghost use Rattle.local_graph.specs.Lines.{direction_of, link_of, links_from};
 ghost use Rattle.local_graph.specs.Inner.Kept.{links_of};
-ghost use Rattle.local_graph.specs.Inner.Pairs.{row_at, row_of};
+ghost use Rattle.local_graph.specs.Inner.Pairs.{row_at, halves_known};
 
 use gl_base::{NoMemory, Vertex};
 use graph_core::{Half, Rows};
@@ -19,9 +19,9 @@ pub fn rows_by_place(
 ) -> Result<Vec<Option<Vec<Link>>>, NoMemory>
     requires many { many ≤ length known.now }
     requires below { All (λ v. v.0 < length halves.now) known.now }
-    requires few { (k : ℕ) → k < many → length (row_of halves.now known.now k) < 2 ^ 32 }
+    requires few { (k : ℕ) → k < many → length (halves_known halves.now known.now k) < 2 ^ 32 }
     ensures count { IfOk result (λ rows. length rows.items ≡ many) }
-    ensures each { IfOk result (λ rows. (k : ℕ) → k < many → slice_index_or (map links_of rows.items) k None ≡ Some (links_from 0 (row_of halves.now known.now k))) }
+    ensures each { IfOk result (λ rows. (k : ℕ) → k < many → slice_index_or (map links_of rows.items) k None ≡ Some (links_from 0 (halves_known halves.now known.now k))) }
 {
     let rows = list_rows(alloc, many, known, halves)?;
     Ok(rows)
@@ -37,7 +37,7 @@ fn list_rows(
 ) -> Result<Vec<Option<Vec<Link>>>, NoMemory>
     requires many { many ≤ length known.now }
     requires below { All (λ v. v.0 < length halves.now) known.now }
-    requires few { (k : ℕ) → k < many → length (row_of halves.now known.now k) < 2 ^ 32 }
+    requires few { (k : ℕ) → k < many → length (halves_known halves.now known.now k) < 2 ^ 32 }
     ensures { IfOk result (λ rows. map links_of rows.items ≡ map (row_at halves.now known.now) (range_with_len 0 many)) }
 {
     let mut rows = Vec::with_capacity(alloc, many)?;

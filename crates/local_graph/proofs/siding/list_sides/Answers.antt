@@ -5,7 +5,7 @@ use Rattle.gl_base.specs.declared.numbers.Vertex.{Vertex}
 use Rattle.graph_core.specs.declared.halves.Half.{Half}
 use Rattle.local_graph.specs.declared.sides.Side.{Side}
 use Rattle.local_graph.specs.Played.{side_of}
-use Rattle.local_graph.specs.Inner.Pairs.{row_of, sides_in}
+use Rattle.local_graph.specs.Inner.Pairs.{halves_known, sides_in}
 use Rattle.local_graph.proofs.ListLemmas.{flat_range_more}
 use Rattle.local_graph.proofs.siding.list_sides.Goals as goal
 
@@ -19,6 +19,6 @@ loop-place-preserved c =
     let side = side_of s.me s.many s.ghosts.now s.places.now in
     let g = sides_in side c.args.halves.now known in
     let f : Half → ℕ × Side = λ h. (i, side h) in
-    let is : c.row-row.result.now ≡ row_of c.args.halves.now known i = c.row-row.ensures ∙ ap (λ (x : Vertex). get_or c.args.halves.now x.0 []) (get_or_default known i _ d inside) in
+    let is : c.row-row.result.now ≡ halves_known c.args.halves.now known i = c.row-row.ensures ∙ ap (λ (x : Vertex). get_or c.args.halves.now x.0 []) (get_or_default known i _ d inside) in
     c.in_ok-push_sides.ensures ∙ ap (λ (ps : List (ℕ × Side)). ps ++ map f c.row-row.result.now) c.loop-place.invariant
     ∙ ap (λ (hs : List Half). flat_map g (range_with_len 0 i) ++ map f hs) is ∙ sym (flat_range_more g i)
