@@ -1,8 +1,8 @@
 -- Lines that fill, one vertex or edge at a time.
-use Rattle.std.proofs.Common.{◌≡◌, ℕ, zero, suc, ◌+◌, ◌<◌, Bool, true, false, not, cond, eqb, ◌&&◌, ◌||◌, List, [], ◌∷◌, ◌++◌, length, get_or, slice_index, take, map, refl, sym, ap, ◌∙◌, subst, arith}
+use Rattle.std.proofs.Common.{◌≡◌, ℕ, zero, suc, ◌+◌, ◌<◌, ◌≤◌, All, inl, inr, Bool, true, false, not, cond, eqb, ◌&&◌, ◌||◌, List, [], ◌∷◌, ◌++◌, length, get_or, slice_index, take, map, refl, sym, ap, ◌∙◌, subst, arith}
 use Rattle.std.specs.List.{filter, list_any, range_with_len, AllByRecursion}
-use Rattle.std.proofs.lemmas.Bool.{ne_eqb, eq-eqb}
-use Rattle.std.proofs.lemmas.List.{append-nil, get_or-map}
+use Rattle.std.proofs.lemmas.Bool.{cases_lt, ne_eqb, eq-eqb}
+use Rattle.std.proofs.lemmas.List.{append-nil, get_or-map, get_or_past, length-map}
 use Rattle.std.proofs.lemmas.List.FromFn.{filter_of_map_range_with_len_more}
 use Rattle.std.proofs.lemmas.List.Folds.{list_any_more}
 use Rattle.std.proofs.lemmas.Option.{get_or_from_slice_get}
@@ -55,6 +55,35 @@ AllHold-ghost g of k v m around line old new hold len near is gain a d inside =
       ghosts = more (λ (l : GhostLine). is_ghost g of a l.vertex.0) (ghost_line g of) v _ _ (n.ghosts ∙ behind _ _ _ _ _ tests is) h.ghosts;
       edges = same _ _ _ n.edges h.edges;
     }
+
+-- where all are in the first atom none is a ghost of it
+first_atom : (of : List AtomNo) (i : ℕ) → All (λ (a : AtomNo). a.0 < 1) of → slice_index (atom_numbers of) i ≡ 0
+first_atom of i all = elim (cases_lt i (length of)) [
+  | inl low ↦
+      let d : AtomNo = record { 0 = 0 } in
+      let first = all i d low in
+      get_or-map (λ (a : AtomNo). a.0) of i d 0 low ∙ omega arith
+  | inr past ↦ get_or_past (atom_numbers of) i 0 (omega (arith, length-map of (λ (a : AtomNo). a.0)))
+]
+
+no_ghost : (g : DataGraph) (of : List AtomNo) (k n : ℕ) → All (λ (a : AtomNo). a.0 < 1) of → filter (λ (l : GhostLine). is_ghost g (atom_numbers of) 0 l.vertex.0) (map (ghost_line g (atom_numbers of)) (range_with_len k n)) ≡ []
+no_ghost g of k zero all = refl
+no_ghost g of k (suc n) all =
+    let line = ghost_line g (atom_numbers of) k in
+    let rest = filter (λ (l : GhostLine). is_ghost g (atom_numbers of) 0 l.vertex.0) (map (ghost_line g (atom_numbers of)) (range_with_len (k + 1) n)) in
+    ap (λ (b : Bool). cond (not b && list_any (is_in (atom_numbers of) 0) (neighbours_of g k)) (line ∷ rest) rest) (eq-eqb (slice_index (atom_numbers of) k) 0 (first_atom of k all))
+    ∙ no_ghost g of (k + 1) n all
+
+-- one atom has no ghost
+pub AllHold-alone : (g : DataGraph) (of : List AtomNo) (n : ℕ) (lines : List Lines) → All (λ (a : AtomNo). a.0 < length lines) of → length lines ≤ 1 → AllHold g (atom_numbers of) n 0 0 lines → AllHold g (atom_numbers of) n n 0 lines
+AllHold-alone g of n lines all one hold a d inside =
+    let h = hold a d inside in
+    let first : a ≡ 0 = omega arith in
+    let many : length lines ≡ 1 = omega arith in
+    let none : filter (λ (l : GhostLine). is_ghost g (atom_numbers of) a l.vertex.0) (map (ghost_line g (atom_numbers of)) (range_with_len 0 n)) ≡ [] =
+    ap (λ (b : ℕ). filter (λ (l : GhostLine). is_ghost g (atom_numbers of) b l.vertex.0) (map (ghost_line g (atom_numbers of)) (range_with_len 0 n))) first
+    ∙ no_ghost g of 0 n (subst (λ (m : ℕ). All (λ (a : AtomNo). a.0 < m) of) many all) in
+    record { vertices = h.vertices; ghosts = h.ghosts ∙ sym none; edges = h.edges }
 
 -- one edge more
 pub AllHold-edge : (g : DataGraph) (of : List ℕ) (n k e from to : ℕ) (line : EdgeLine) (old new : List Lines) → AllHold g of n k e old → length new ≡ length old → from ≡ slice_index of line.from.0 → to ≡ slice_index of line.to.0 → line ≡ line_of_edge g e → AllGain (λ _. []) (λ _ _. []) (λ a. when (eqb from a || eqb to a) line) old new → AllHold g of n k (e + 1) new

@@ -88,8 +88,26 @@ fn push_vertex(line: VertexLine, lines: &mut Lines) -> Result<(), NoMemory>
     Ok(())
 }
 
-/// Adds each vertex as a ghost to the other atoms around it.
+/// Adds each vertex as a ghost to the other atoms around it, if there are any.
 fn add_ghosts(
+    alloc: Global,
+    graph: &Graph,
+    of: &[AtomNo],
+    lines: &mut [Lines],
+) -> Result<(), NoMemory>
+    requires each { length of.now ≡ size graph.now }
+    requires below { All (λ a. a.0 < length lines.old) of.now }
+    requires vertices { AllHold graph.now (atom_numbers of.now) (size graph.now) 0 0 lines.old }
+    ensures { OnOk result (AllHold graph.now (atom_numbers of.now) (size graph.now) (size graph.now) 0 lines.new) }
+{
+    if lines.len() <= 1 {
+        return Ok(());
+    }
+    add_each_ghost(alloc, graph, of, lines)
+}
+
+/// Adds each vertex as a ghost to the other atoms around it.
+fn add_each_ghost(
     alloc: Global,
     graph: &Graph,
     of: &[AtomNo],

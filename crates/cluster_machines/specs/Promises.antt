@@ -4,15 +4,18 @@ pub use Rattle.cluster_core.specs.Actions.{HasFirst, MayAdmit, MayGrant, MayUpda
 pub use Rattle.cluster_core.specs.Parts.{Part}
 pub use Rattle.cluster_core.specs.Receiving.{MayReceive}
 pub use Rattle.cluster_core.specs.Places.{IsAtHome}
-pub use Rattle.cluster_core.specs.Settings.{IsSetting, Setting, is_in_scope, is_near}
+pub use Rattle.cluster_core.specs.Settings.{Chromatic, Engine, IsSetting, Locking, Setting, is_in_scope, is_near}
 pub use Rattle.cluster_machines.specs.Told.{told_by}
 pub use Rattle.interior_scopes.specs.AtOnce.{MayUpdateAtOnce, at_once, entry_at_once}
-use Rattle.std.specs.Prelude.{Bool, List, None, Some, false, is_some, length, nat_lt, true, ℕ, ◌&&◌, ◌==◌, ◌∷◌, ◌≡◌, ◌⊎◌}
+pub use Rattle.interior_scopes.specs.InTurn.{AreGranted}
+use Rattle.std.specs.Prelude.{Bool, List, None, Some, false, is_some, length, nat_lt, true, ℕ, ◌<◌, ◌&&◌, ◌==◌, ◌∷◌, ◌≡◌, ◌≢◌, ◌⊎◌}
 use Rattle.gl_base.specs.declared.entries.Entry.TheVariants.{Go}
 use Rattle.gl_base.specs.declared.scopes.ScopeId.{ScopeId}
-use Rattle.cluster_core.specs.Effects.{admitted, granted, next_scope, received, updated}
+use Rattle.cluster_core.specs.Effects.{admitted, granted, is_shared, next_scope, received, updated}
 use Rattle.cluster_core.specs.Messages as law
 use Rattle.cluster_core.specs.Ranges.{set_at}
+use Rattle.cluster_core.specs.Scopes.{takes_part}
+use Rattle.cluster_core.specs.Settings.{nth_edge}
 use Rattle.graph_core.specs.DataGraph.{size}
 use Rattle.wire_msgs.specs.declared.messages.Message.{Message}
 
@@ -64,6 +67,10 @@ pub record IsGrant (st : Setting) (a x : ℕ) (old : Part) (s : ScopeId) (new : 
 abbrev pub MakesGrant : {M : Type 0} → (Setting → ℕ → M → Type 0) → (M → Part) → M → ℕ → ScopeId → M → Type 0
 MakesGrant belongs part old x s new = (st : Setting) (a : ℕ) → belongs st a old → IsGrant st a x (part old) s (part new)
 
+-- the lock of x was granted, and then in turn those of some other vertices were, each where it might be
+abbrev pub MakesGrants : {M : Type 0} → (Setting → ℕ → M → Type 0) → (M → Part) → M → ℕ → M → Type 0
+MakesGrants belongs part old x new = (more : List ℕ) × ((st : Setting) (a : ℕ) → belongs st a old → AreGranted st a (x ∷ more) (part old) (part new))
+
 -- ---- Deliver
 
 -- Word of an update, and not of a snapshot: by a scope of the owner of its centre, which waits for no lock here and holds none but
@@ -87,19 +94,56 @@ IsAsExpected st a part (law.Ask s v rest) = IsAtHome st s v
 IsAsExpected st a part (law.Ready s) = HoldsItsLocks st a part s
 IsAsExpected st a part (law.Done s news) = IsUpdateWord st a part s news
 
+-- ---- the same by the engine
+
+-- Where vertices run by colours: the centre is a vertex of the sender that this machine keeps a copy of, and edges and woken vertices
+-- concern this machine. No lock is held.
+pub record MayHear (st : Setting) (p a : ℕ) (news : law.News) : Type 0 where
+  pub owner : st.owner news.centre ≡ p
+  pub copy : p ≢ a
+  pub part_of : takes_part st news.centre a ≡ true
+  pub edges : (e : ℕ) → is_some (news.edges e) ≡ true → is_shared st news.centre a (nth_edge st e) ≡ true
+  pub wakes : (u : ℕ) → news.wakes u ≡ true → st.owner u ≡ a
+
+-- Word of an update of a vertex of the graph, and not of a snapshot: nothing becomes pending, and whom it wakes is near the centre.
+pub record IsStepWord (st : Setting) (news : law.News) : Type 0 where
+  pub vertex : news.centre < size st.graph
+  pub pends : (u : ℕ) → news.pends u ≡ false
+  pub number : news.number ≡ 0
+  pub near : (u : ℕ) → news.wakes u ≡ true → is_near st news.centre u ≡ true
+
+-- with locks it is the law's condition; with colours nothing but word of an update comes
+abbrev pub MayReceiveBy : Engine → Setting → ℕ → ℕ → Part → law.Message → Type 0
+MayReceiveBy Locking st p a part message = MayReceive st p a part message
+MayReceiveBy (Chromatic colour colours) st p a part (law.Ask s v rest) = ⊥
+MayReceiveBy (Chromatic colour colours) st p a part (law.Ready s) = ⊥
+MayReceiveBy (Chromatic colour colours) st p a part (law.Done s news) = MayHear st p a news
+
+abbrev pub MayReceiveIn : Setting → ℕ → ℕ → Part → law.Message → Type 0
+MayReceiveIn st p a part message = MayReceiveBy st.engine st p a part message
+
+abbrev pub IsExpectedBy : Engine → Setting → ℕ → Part → law.Message → Type 0
+IsExpectedBy Locking st a part message = IsAsExpected st a part message
+IsExpectedBy (Chromatic colour colours) st a part (law.Ask s v rest) = ⊥
+IsExpectedBy (Chromatic colour colours) st a part (law.Ready s) = ⊥
+IsExpectedBy (Chromatic colour colours) st a part (law.Done s news) = IsStepWord st news
+
+abbrev pub IsExpectedIn : Setting → ℕ → Part → law.Message → Type 0
+IsExpectedIn st a part message = IsExpectedBy st.engine st a part message
+
 -- In some cluster to which the machine belongs it may receive this message from machine p.
 pub record CanReceive {M : Type 0} (belongs : Setting → ℕ → M → Type 0) (part : M → Part) (m : M) (p : ℕ) (message : Message) : Type 0 where
   pub setting : Setting
   pub is : IsSetting setting
   pub number : ℕ
   pub here : belongs setting number m
-  pub may : MayReceive setting p number (part m) (told_by message)
-  pub expected : IsAsExpected setting number (part m) (told_by message)
+  pub may : MayReceiveIn setting p number (part m) (told_by message)
+  pub expected : IsExpectedIn setting number (part m) (told_by message)
 
 -- it has received it, wherever it may
 abbrev pub MakesReceipt : {M : Type 0} → (Setting → ℕ → M → Type 0) → (M → Part) → M → ℕ → Message → M → Type 0
 MakesReceipt belongs part old p message new =
-    (st : Setting) (a : ℕ) → belongs st a old → MayReceive st p a (part old) (told_by message) → part new ≡ received st a (told_by message) (part old)
+    (st : Setting) (a : ℕ) → belongs st a old → MayReceiveIn st p a (part old) (told_by message) → part new ≡ received st a (told_by message) (part old)
 
 -- ---- Send
 
@@ -139,9 +183,13 @@ pub record IsInTheWay {M : Type 0} (belongs : Setting → ℕ → M → Type 0) 
   pub may : (st : Setting) (a : ℕ) → belongs st a m → MayAdmit st a v (part m)
   pub not_at_once : (st : Setting) (a : ℕ) → belongs st a m → ¬ MayUpdateAtOnce st a v (part m) 1
 
--- no vertex may be admitted, or one that may be admitted may not be updated at once
+-- the machine is of no cluster whose scopes take locks
+abbrev pub TakesNoLocks : {M : Type 0} → (Setting → ℕ → M → Type 0) → M → Type 0
+TakesNoLocks belongs m = (st : Setting) (a : ℕ) → belongs st a m → st.engine ≢ Locking
+
+-- no vertex may be admitted, one that may be admitted may not be updated at once, or scopes take no locks
 abbrev pub UpdatesNoneAtOnce : {M : Type 0} → (Setting → ℕ → M → Type 0) → (M → Part) → M → Type 0
-UpdatesNoneAtOnce belongs part m = AdmitsNone belongs part m ⊎ ((v : ℕ) × IsInTheWay belongs part m v)
+UpdatesNoneAtOnce belongs part m = AdmitsNone belongs part m ⊎ (((v : ℕ) × IsInTheWay belongs part m v) ⊎ TakesNoLocks belongs m)
 
 -- v might be updated at once, and is: the update is logged under this ticket
 pub record IsUpdateAtOnce (st : Setting) (a : ℕ) (old : Part) (v ticket : ℕ) (new : Part) : Type 0 where

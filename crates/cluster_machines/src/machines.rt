@@ -1,6 +1,6 @@
 //! A machine, as a cluster knows it.
 ghost use Rattle.std.specs.Prelude.{◌≡◌, ℕ, ◌+◌, ◌↔◌, [], length, true, false, is_some, IsTrue, IfOk, IfErr, OnOk, OnErr, IfSome, IfNone, IsErrOf};
-ghost use Rattle.cluster_machines.specs.Promises.{Part, Setting, HasFirst, MayUpdate, told_by, IsSameMachine, AdmitsSome, AdmitsNone, MakesAdmission, GrantsIt, GrantsNot, GrantsNone, MakesGrant, CanReceive, MakesReceipt, IsSending, MakesUpdate, MakesUpdateAtOnce, UpdatesAtOnce, UpdatesIt, UpdatesNone, UpdatesNoneAtOnce, is_owner_of, is_owner_with, SaysWhether};
+ghost use Rattle.cluster_machines.specs.Promises.{Part, Setting, HasFirst, MayUpdate, told_by, IsSameMachine, AdmitsSome, AdmitsNone, MakesAdmission, GrantsIt, GrantsNot, GrantsNone, MakesGrant, MakesGrants, CanReceive, MakesReceipt, IsSending, MakesUpdate, MakesUpdateAtOnce, UpdatesAtOnce, UpdatesIt, UpdatesNone, UpdatesNoneAtOnce, is_owner_of, is_owner_with, SaysWhether};
 
 use gl_base::{EdgeNo, Entry, MachineNo, Refused, ScopeId, Vertex};
 use wire_msgs::{Message, Returned};
@@ -29,6 +29,15 @@ pub trait ClusterMachine: Drop {
     /// The first that waits for the lock of an own vertex holds it, and goes on.
     fn grant(&mut self, x: Vertex) -> Result<ScopeId, Refused>
         ensures granted { IfOk result (λ s. MakesGrant belongs part self.old x.0 s self.new) }
+        ensures not_now { IsErrOf result Refused.NotNow → GrantsNot belongs part self.old x.0 }
+        ensures no_memory { IsErrOf result Refused.NoMemory → GrantsIt belongs part self.old x.0 }
+        ensures unchanged { OnErr result (part self.new ≡ part self.old) }
+        ensures same { IsSameMachine belongs earlier self.old self.new };
+
+    /// The first that waits for the lock of an own vertex holds it, and goes on; and then other locks of own vertices may be granted in
+    /// turn, each to the first that waits for it. Which ones is the machine's choice.
+    fn grant_in_turn(&mut self, x: Vertex) -> Result<(), Refused>
+        ensures granted { OnOk result (MakesGrants belongs part self.old x.0 self.new) }
         ensures not_now { IsErrOf result Refused.NotNow → GrantsNot belongs part self.old x.0 }
         ensures no_memory { IsErrOf result Refused.NoMemory → GrantsIt belongs part self.old x.0 }
         ensures unchanged { OnErr result (part self.new ≡ part self.old) }
@@ -75,7 +84,8 @@ pub trait ClusterMachine: Drop {
 
     /// Makes the update of a vertex that is a task and not pending, all of whose scope is this machine's, and of whose scope nobody holds
     /// or waits for a lock: as if a scope of it were admitted, took each lock in turn and made its update. It is logged under the
-    /// ticket. Of the vertices that may be admitted the machine looks at one of its choice.
+    /// ticket. Of the vertices that may be admitted the machine looks at one of its choice. A machine whose scopes take no locks makes
+    /// none.
     fn update_at_once(&mut self, ticket: u64) -> Result<Vertex, Refused>
         ensures updated { IfOk result (λ v. MakesUpdateAtOnce belongs part self.old v.0 ticket self.new) }
         ensures not_now { IsErrOf result Refused.NotNow → UpdatesNoneAtOnce belongs part self.old }

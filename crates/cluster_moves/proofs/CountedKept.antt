@@ -15,7 +15,7 @@ use Rattle.cluster_core.specs.Runs.{IsStart}
 use Rattle.cluster_core.specs.Stages.{Stage, Idle, Stays}
 use Rattle.cluster_core.specs.Places.{ArePlaces}
 use Rattle.cluster_core.proofs.Basics.{set_at-holds, set_for-holds}
-use Rattle.cluster_moves.specs.Due.{one_flying, flights_below, AreCounted}
+use Rattle.cluster_moves.specs.Due.{one_flying, flights_below, AreFlightsCounted}
 use Rattle.cluster_places.proofs.Seen.{staying_stage}
 use Rattle.cluster_moves.proofs.DueKept.{IsKept, admitted_kept, first_granted_kept, begins_kept, received_kept, none_some}
 
@@ -107,18 +107,18 @@ ended_counted st a s v old made home flies low flight flying serial counted =
     pred_low zero m low = low
     pred_low (suc n) m low = omega arith
 
-module _ (st : Setting) (w : World) (counted : AreCounted st w) where
+module _ (st : Setting) (w : World) (counted : AreFlightsCounted st w) where
   counted_at : (a : ℕ) → IsCountedIn st a (w.part a)
   counted_at a = record { number = counted.number a; home = counted.home a; room = λ locks. counted.room locks a }
 
-  gathered : (other : World) → ((a : ℕ) → IsCountedIn st a (other.part a)) → AreCounted st other
+  gathered : (other : World) → ((a : ℕ) → IsCountedIn st a (other.part a)) → AreFlightsCounted st other
   gathered other each = record { number = λ a. (each a).number; home = λ a. (each a).home; room = λ locks a. (each a).room locks }
 
-  part_counted : (a : ℕ) (new : Part) → IsCountedIn st a new → AreCounted st (with_part w a new)
+  part_counted : (a : ℕ) (new : Part) → IsCountedIn st a new → AreFlightsCounted st (with_part w a new)
   part_counted a new here =
       gathered (with_part w a new) (λ b. set_at-holds (λ (b : ℕ) (part : Part). IsCountedIn st b part) w.part a new b here (λ off. counted_at b))
 
-  same_counted : (a : ℕ) (new : Part) → IsKept (w.part a) new → AreCounted st (with_part w a new)
+  same_counted : (a : ℕ) (new : Part) → IsKept (w.part a) new → AreFlightsCounted st (with_part w a new)
   same_counted a new kept = part_counted a new (kept_counted st a (w.part a) new kept (counted_at a))
 
   module _ (stage : ScopeId → Stage) (places : ArePlaces st w stage) where
@@ -130,7 +130,7 @@ module _ (st : Setting) (w : World) (counted : AreCounted st w) where
         idle_stays : Idle ≡ Stays v → ⊥
         idle_stays is = cc
 
-    pub action_counted : (action : Action) → MayHappen st w action → AreCounted st (after st w action)
+    pub action_counted : (action : Action) → MayHappen st w action → AreFlightsCounted st (after st w action)
     action_counted (Admit a v) may =
         let begun : Part = in_flight a v (w.part a) in
         let turn : st.engine ≡ Locking → (w.part a).flying < st.pipeline = λ locks. subst (λ (engine : Engine). IsItsTurn engine st.pipeline v (w.part a)) locks may.turn in
@@ -139,38 +139,38 @@ module _ (st : Setting) (w : World) (counted : AreCounted st w) where
     action_counted (Send p q) may =
         let shorter : Part = record (w.part p) { out = set_at (w.part p).out q may.behind } in
         let kept = same_counted p shorter (record { flight = λ s. refl; pending = λ u is. is; task = λ u is. is; flying = refl; serial = refl }) in
-        let sent : AreCounted st (sends w p q (may.message ∷ may.behind)) = record { number = kept.number; home = kept.home; room = kept.room } in
-        subst (λ (messages : List Message). AreCounted st (sends w p q messages)) (sym may.first) sent
+        let sent : AreFlightsCounted st (sends w p q (may.message ∷ may.behind)) = record { number = kept.number; home = kept.home; room = kept.room } in
+        subst (λ (messages : List Message). AreFlightsCounted st (sends w p q messages)) (sym may.first) sent
     action_counted (Deliver p q) may =
         let kept = same_counted q (received st q may.message (w.part q)) (received_kept st q may.message (w.part q)) in
-        let delivered : AreCounted st (delivers st w p q (may.message ∷ may.behind)) = record { number = kept.number; home = kept.home; room = kept.room } in
-        subst (λ (messages : List Message). AreCounted st (delivers st w p q messages)) (sym may.first) delivered
+        let delivered : AreFlightsCounted st (delivers st w p q (may.message ∷ may.behind)) = record { number = kept.number; home = kept.home; room = kept.room } in
+        subst (λ (messages : List Message). AreFlightsCounted st (delivers st w p q messages)) (sym may.first) delivered
     action_counted (Update s) may =
         let part : Part = w.part s.home.0 in
         let made : Part = updated st s.home.0 s may.vertex (Go s.home (record { 0 = may.vertex }) w.next) part in
         let kept = part_counted s.home.0 made (ended_counted st s.home.0 s may.vertex part made refl may.flight (ready_low s may.vertex may.flight may.ready) refl refl refl (counted_at s.home.0)) in
-        let made_it : AreCounted st (updates st w s (Some may.vertex)) = record { number = kept.number; home = kept.home; room = kept.room } in
-        subst (λ (flight : Option ℕ). AreCounted st (updates st w s flight)) (sym may.flight) made_it
+        let made_it : AreFlightsCounted st (updates st w s (Some may.vertex)) = record { number = kept.number; home = kept.home; room = kept.room } in
+        subst (λ (flight : Option ℕ). AreFlightsCounted st (updates st w s flight)) (sym may.flight) made_it
     action_counted (Mark s) may =
         let part : Part = w.part s.home.0 in
         let made : Part = marked st s.home.0 s may.vertex part in
-        let kept : AreCounted st (marks st w s (Some may.vertex)) =
+        let kept : AreFlightsCounted st (marks st w s (Some may.vertex)) =
         part_counted s.home.0 made (ended_counted st s.home.0 s may.vertex part made refl may.flight (ready_low s may.vertex may.flight may.ready) refl refl refl (counted_at s.home.0)) in
-        subst (λ (flight : Option ℕ). AreCounted st (marks st w s flight)) (sym may.flight) kept
+        subst (λ (flight : Option ℕ). AreFlightsCounted st (marks st w s flight)) (sym may.flight) kept
     action_counted Begin may = record { number = counted.number; home = counted.home; room = counted.room }
     action_counted (Hear a) may =
         let kept = same_counted a (begins st a may.number (w.part a)) (begins_kept st a may.number (w.part a)) in
-        let heard : AreCounted st (hears st w a (may.number ∷ may.behind)) = record { number = kept.number; home = kept.home; room = kept.room } in
-        subst (λ (orders : List ℕ). AreCounted st (hears st w a orders)) (sym may.first) heard
+        let heard : AreFlightsCounted st (hears st w a (may.number ∷ may.behind)) = record { number = kept.number; home = kept.home; room = kept.room } in
+        subst (λ (orders : List ℕ). AreFlightsCounted st (hears st w a orders)) (sym may.first) heard
     action_counted (SendSection a) may =
         let kept = same_counted a (record (w.part a) { sent = (w.part a).known }) (record { flight = λ s. refl; pending = λ u is. is; task = λ u is. is; flying = refl; serial = refl }) in
         record { number = kept.number; home = kept.home; room = kept.room }
     action_counted (Collect a) may =
-        let collected : AreCounted st (collects w a (may.section ∷ may.behind)) = record { number = counted.number; home = counted.home; room = counted.room } in
-        subst (λ (sections : List Section). AreCounted st (collects w a sections)) (sym may.first) collected
+        let collected : AreFlightsCounted st (collects w a (may.section ∷ may.behind)) = record { number = counted.number; home = counted.home; room = counted.room } in
+        subst (λ (sections : List Section). AreFlightsCounted st (collects w a sections)) (sym may.first) collected
     action_counted Record may = record { number = counted.number; home = counted.home; room = counted.room }
 
-pub start_counted : (st : Setting) (w : World) → IsStart st w → AreCounted st w
+pub start_counted : (st : Setting) (w : World) → IsStart st w → AreFlightsCounted st w
 start_counted st w start =
     record {
       number = λ a. start.flying a ∙ sym (flights-none a (w.part a).flight (w.part a).serial (λ k. start.flights a (numbered a k)));

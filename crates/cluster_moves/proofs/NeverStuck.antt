@@ -13,12 +13,12 @@ use Rattle.cluster_core.specs.Runs.{IsStart, IsActionRun}
 use Rattle.cluster_core.specs.Stages.{Stage}
 use Rattle.cluster_core.specs.Places.{ArePlaces}
 use Rattle.cluster_places.proofs.PlacesKept.{action_keeps}
-use Rattle.cluster_moves.specs.Due.{AreDue, AreCounted, IsStill, IsOver, CanWork}
+use Rattle.cluster_moves.specs.Due.{AreDue, AreFlightsCounted, IsStill, IsOver, CanWork}
 use Rattle.cluster_moves.proofs.SomethingMoves.{search_below, moves}
 use Rattle.cluster_moves.proofs.DueKept.{action_due, none_some}
 use Rattle.cluster_moves.proofs.CountedKept.{numbered, flights-none, action_counted}
 
-module _ (st : Setting) (is : IsSetting st) (locks : st.engine ≡ Locking) (room : 0 < st.pipeline) (w : World) (counted : AreCounted st w) where
+module _ (st : Setting) (is : IsSetting st) (locks : st.engine ≡ Locking) (room : 0 < st.pipeline) (w : World) (counted : AreFlightsCounted st w) where
   -- where nothing is in flight a vertex that is due may be admitted
   admit_due : IsStill w → (v : ℕ) → v < size st.graph → ((w.part (st.owner v)).pending v ≡ true) ⊎ ((w.part (st.owner v)).task v ≡ true) → CanWork st w
   admit_due still v within due =
@@ -57,7 +57,7 @@ module _ (st : Setting) (is : IsSetting st) (locks : st.engine ≡ Locking) (roo
       (λ (still : IsStill w). over_or_due still)
       (moves st is w stage places due ticket)
 
-pub run_works : (st : Setting) → IsSetting st → st.engine ≡ Locking → 0 < st.pipeline → (actions : List Action) (old new : World) (stage : ScopeId → Stage) → ArePlaces st old stage → AreDue old → AreCounted st old → IsActionRun st old actions new → 0 < new.left → CanWork st new ⊎ IsOver st new
+pub run_works : (st : Setting) → IsSetting st → st.engine ≡ Locking → 0 < st.pipeline → (actions : List Action) (old new : World) (stage : ScopeId → Stage) → ArePlaces st old stage → AreDue old → AreFlightsCounted st old → IsActionRun st old actions new → 0 < new.left → CanWork st new ⊎ IsOver st new
 run_works st is locks room [] old new stage places due counted run ticket =
     subst (λ (w : World). 0 < w.left → CanWork st w ⊎ IsOver st w) (sym run) (works_or_over st is locks room old counted stage places due) ticket
 run_works st is locks room (action ∷ actions) old new stage places due counted run ticket =

@@ -22,7 +22,7 @@ flights_below a flight (suc n) = flights_below a flight n + one_flying (flight (
 
 -- Each machine knows how many of its scopes are in flight, and has none of another machine's. With locks they are no more than
 -- may be.
-pub record AreCounted (st : Setting) (w : World) : Type 0 where
+pub record AreFlightsCounted (st : Setting) (w : World) : Type 0 where
   pub number : (a : ℕ) → (w.part a).flying ≡ flights_below a (w.part a).flight (w.part a).serial
   pub home : (a : ℕ) (s : ScopeId) (v : ℕ) → (w.part a).flight s ≡ Some v → s.home.0 ≡ a
   pub room : st.engine ≡ Locking → (a : ℕ) → (w.part a).flying ≤ st.pipeline

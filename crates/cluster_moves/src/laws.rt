@@ -11,7 +11,7 @@ ghost use Rattle.cluster_core.specs.Runs.{IsStart, IsActionRun};
 ghost use Rattle.cluster_core.specs.Settings.{Setting, IsSetting, Locking};
 ghost use Rattle.cluster_core.specs.Stages.{Stage};
 ghost use Rattle.cluster_core.specs.Worlds.{World};
-ghost use Rattle.cluster_moves.specs.Due.{AreCounted, AreDue, CanWork, IsOver, IsStill};
+ghost use Rattle.cluster_moves.specs.Due.{AreFlightsCounted, AreDue, CanWork, IsOver, IsStill};
 
 /// While a ticket is left and scopes are in their places, a machine may do something, or nothing is in flight and nothing on the way.
 /// Where no message is on the way and no scope is ready, the last lock in canonical order for which a scope waits has no holder.
@@ -30,12 +30,12 @@ pub fn actions_keep_due()
 /// pipeline.
 pub fn actions_keep_counts()
     ensures { (st : Setting) (w : World) (action : Action) (stage : ScopeId → Stage) →
-        ArePlaces st w stage → MayHappen st w action → AreCounted st w → AreCounted st (after st w action) }
+        ArePlaces st w stage → MayHappen st w action → AreFlightsCounted st w → AreFlightsCounted st (after st w action) }
 {}
 
 /// At the start no scope is in flight.
 pub fn starts_are_counted()
-    ensures counted { (st : Setting) (w : World) → IsStart st w → AreCounted st w }
+    ensures counted { (st : Setting) (w : World) → IsStart st w → AreFlightsCounted st w }
     ensures due { (st : Setting) (w : World) → IsStart st w → AreDue w }
 {}
 

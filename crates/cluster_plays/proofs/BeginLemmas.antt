@@ -10,7 +10,7 @@ use Rattle.gl_base.specs.declared.numbers.Vertex.{Vertex}
 use Rattle.gl_base.specs.declared.snapshots.Base.{Base}
 use Rattle.graph_core.specs.DataGraph.{DataGraph, IsDataGraph, size}
 use Rattle.job_runs.specs.declared.runs.RunPlan.{RunPlan}
-use Rattle.placed_clusters.proofs.RunLemmas.{owner_low}
+use Rattle.machine_places.proofs.OwnerLemmas.{owner_low}
 use Rattle.placed_clusters.specs.Running.{BeginsWith, IsGrowthCut, IsPlacing, IsRunOf, ProgramMachineView, Setting, StartsIn, atom_numbers, atom_weights, machine_numbers, placed_owner}
 use Rattle.placed_clusters.specs.declared.clusters.Run.{Run}
 use Rattle.placed_graphs.specs.Weights.{atom_weight}

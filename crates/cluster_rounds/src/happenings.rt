@@ -3,7 +3,7 @@ ghost use Rattle.std.specs.Prelude.{◌<◌, length};
 ghost use Rattle.cluster_rounds.specs.Ends.{IsSameRun, NamesMachinesOf};
 
 use cluster_step::{Cluster, ClusterMachine, Event};
-use gl_base::{MachineNo, NoMemory, Refused};
+use gl_base::{MachineNo, NoMemory, Refused, Vertex};
 
 /// Makes the event, and says whether it happened.
 pub(crate) fn happens<M: ClusterMachine>(
@@ -14,6 +14,22 @@ pub(crate) fn happens<M: ClusterMachine>(
     ensures { IsSameRun cluster.old cluster.new }
 {
     match cluster.apply(event) {
+        Ok(()) => Ok(true),
+        Err(Refused::NotNow) => Ok(false),
+        Err(Refused::NoMemory) => Err(NoMemory),
+    }
+}
+
+/// Grants the lock at the machine, and in turn those that may be granted then, and says whether it was granted.
+pub(crate) fn are_granted<M: ClusterMachine>(
+    cluster: &mut Cluster<M>,
+    at: MachineNo,
+    x: Vertex,
+) -> Result<bool, NoMemory>
+    requires { at.0 < length cluster.old.now.machines.items }
+    ensures { IsSameRun cluster.old cluster.new }
+{
+    match cluster.grant_in_turn(at, x) {
         Ok(()) => Ok(true),
         Err(Refused::NotNow) => Ok(false),
         Err(Refused::NoMemory) => Err(NoMemory),

@@ -2,7 +2,7 @@
 ghost use Rattle.std.specs.Prelude.{◌≡◌, ◌^◌, ◌<◌, length};
 ghost use Rattle.cluster_rounds.specs.Ends.{IsSameRun};
 
-use crate::happenings::{exhaust, happens, is_made_at_once};
+use crate::happenings::{are_granted, exhaust, happens, is_made_at_once};
 use cluster_step::{Cluster, ClusterMachine, Event};
 use gl_base::{MachineNo, NoMemory};
 
@@ -94,7 +94,7 @@ fn settle<M: ClusterMachine>(cluster: &mut Cluster<M>, at: MachineNo) -> Result<
     Ok(())
 }
 
-/// A lock is granted at the machine, or where none may be an update is made. Says whether there was one.
+/// Locks are granted in turn at the machine, or where none may be an update is made. Says whether there was one.
 fn grant_or_update<M: ClusterMachine>(
     cluster: &mut Cluster<M>,
     at: MachineNo,
@@ -103,7 +103,7 @@ fn grant_or_update<M: ClusterMachine>(
     ensures { IsSameRun cluster.old cluster.new }
 {
     if let Some(x) = cluster.next_grant(at) {
-        return happens(cluster, Event::Grant(at, x));
+        return are_granted(cluster, at, x);
     }
     if cluster.left() == 0 {
         return Ok(false);

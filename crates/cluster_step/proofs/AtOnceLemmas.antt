@@ -59,7 +59,8 @@ module _ {M : Type 0} (belongs : Setting → ℕ → M → Type 0) (part : M →
 
   pub at_once_cannot : (at : MachineNo) → at.0 ≡ a → UpdatesNoneAtOnce belongs part m → CanNotMoveAtOnce (CanGoOn belongs part old) part old at
   at_once_cannot at named (inl none) = inr (inl (admit_cannot belongs part earlier old a m low is at named none))
-  at_once_cannot at named (inr one) =
+  at_once_cannot at named (inr (inr no_locks)) = inr (inl (λ st go stored may. no_locks st a (here_belongs belongs part earlier old a m low is st go) go.locks))
+  at_once_cannot at named (inr (inl one)) =
       let v = one.0 in
       inr (inr (
         v,

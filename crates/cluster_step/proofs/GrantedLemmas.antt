@@ -96,6 +96,10 @@ module _ (st : Setting) (is : IsSetting st) (locks : st.engine ≡ Locking) (fro
   grants_go s [] now new going run = goes_on_by st is locks from now going (Update s) (law.Update s) new refl (run.0, run.1)
   grants_go s (k ∷ locks_left) now new going run = grants_go s locks_left (with_lock now k) new (grant_goes now k going run.0) run.1
 
+  pub grants_alone_go : (locks_left : List ℕ) (now new : World) → IsGoingOn st from now → IsActionRun st now (map (law.Grant a) locks_left) new → IsGoingOn st from new
+  grants_alone_go [] now new going run = subst (IsGoingOn st from) (sym run) going
+  grants_alone_go (k ∷ locks_left) now new going run = grants_alone_go locks_left (with_lock now k) new (grant_goes now k going run.0) run.1
+
   pub at_once_goes : (s : ScopeId) (locks_left : List ℕ) (now new : World) → IsGoingOn st from now → IsActionRun st now (law.Admit a v ∷ map (law.Grant a) locks_left ++ law.Update s ∷ []) new → IsGoingOn st from new
   at_once_goes s locks_left now new going run = grants_go s locks_left (after st now (law.Admit a v)) new (admit_goes now going run.0) run.1
 

@@ -51,6 +51,7 @@ module _ {M : Type 0} (belongs : Setting → ℕ → M → Type 0) (part : M →
     can_go st begin =
         record {
           is = begin.setting;
+          locks = begin.locks;
           machines = kept.machines st begin;
           fronts = front_comes st begin.setting begin.locks (world_of_parts part st start) (world_of_parts part st old) (kept.going st begin);
           expected = front_expected st begin.setting begin.locks (world_of_parts part st start) (world_of_parts part st old) (kept.going st begin);

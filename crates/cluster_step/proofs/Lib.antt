@@ -8,3 +8,4 @@ pub mod KeptLemmas
 pub mod ReadLemmas
 pub mod GrantedLemmas
 pub mod AtOnceLemmas
+pub mod InTurnLemmas

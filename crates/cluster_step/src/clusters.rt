@@ -6,6 +6,7 @@ ghost use Rattle.gl_base.specs.declared.entries.Entry.{Entry};
 ghost use Rattle.cluster_step.specs.Links.{told_on};
 ghost use Rattle.cluster_step.specs.Worlds.{Setting, earlier_at};
 ghost use Rattle.cluster_step.specs.AtOnce.{CanMoveAtOnce, CanNotMoveAtOnce, IsActionRun, MovesAtOnce, actions_at_once};
+ghost use Rattle.cluster_step.specs.InTurn.{GrantsInTurn};
 ghost use Rattle.cluster_step.specs.Events.{NamesMachinesOf, MakesEvent, CanMakeEvent, CanNotMakeEvent, HasFirst, HoldTheSame};
 ghost use Rattle.cluster_step.specs.Starts.{StartIn, IsFresh, IsOrderSince, IsStart, IsEndOf, WasFresh, AllHaveHeard, replay_of, tasks_of, size};
 ghost use Rattle.cluster_step.specs.Clusters.{InEachSetting, OfTheOrder, part_now, world_now};
@@ -100,6 +101,20 @@ impl<M: ClusterMachine> Cluster<M> {
         ensures machines { length self.new.now.machines.items ≡ length self.old.now.machines.items }
     {
         self.parts.update_at_once(at)
+    }
+
+    /// The first that waits at the machine for the lock of x has it, and then in turn other locks may be granted there, each to the first
+    /// that waits for it: a run of grants. It is refused exactly where the event that grants the lock of x is.
+    pub fn grant_in_turn(&mut self, at: MachineNo, x: Vertex) -> Result<(), Refused>
+        requires { at.0 < length self.old.now.machines.items }
+        ensures made { OnOk result (GrantsInTurn (StartIn M.belongs M.part self.old.start.machines.items) M.part self.old.now at.0 x.0 self.new.now) }
+        ensures not_now { IsErrOf result Refused.NotNow → CanNotMakeEvent (StartIn M.belongs M.part self.old.start.machines.items) M.part self.old.now (Event.Grant at x) }
+        ensures no_memory { IsErrOf result Refused.NoMemory → CanMakeEvent (StartIn M.belongs M.part self.old.start.machines.items) M.part self.old.now (Event.Grant at x) }
+        ensures unchanged { OnErr result (HoldTheSame M.part self.old.now self.new.now) }
+        ensures start { self.new.start ≡ self.old.start }
+        ensures machines { length self.new.now.machines.items ≡ length self.old.now.machines.items }
+    {
+        self.parts.grant_in_turn(at, x)
     }
 
     /// A lock that may be granted at the machine; `None` exactly where none may be.

@@ -7,6 +7,7 @@ ghost use Rattle.cluster_step.specs.Worlds.{Setting};
 ghost use Rattle.cluster_step.specs.Inner.Writing.{HaveLinks};
 ghost use Rattle.cluster_step.specs.Inner.Steps.{CanGoOn, IsSameCluster};
 ghost use Rattle.cluster_step.specs.AtOnce.{CanMoveAtOnce, CanNotMoveAtOnce, MovesAtOnce};
+ghost use Rattle.cluster_step.specs.InTurn.{GrantsInTurn};
 ghost use Rattle.cluster_step.specs.Events.{NamesMachinesOf, MakesEvent, CanMakeEvent, CanNotMakeEvent, HoldTheSame};
 
 use crate::events::Event;
@@ -62,6 +63,19 @@ impl<M: ClusterMachine> Parts<M> {
         let v = self.machines[at.0 as usize].update_at_once(self.next)?;
         self.draw();
         Ok(v)
+    }
+
+    /// The first that waits at the machine for the lock of x has it, and then in turn other locks may be granted there.
+    pub(crate) fn grant_in_turn(&mut self, at: MachineNo, x: Vertex) -> Result<(), Refused>
+        requires { at.0 < length self.old.machines.items }
+        ensures made { OnOk result (GrantsInTurn (CanGoOn M.belongs M.part self.old) M.part self.old at.0 x.0 self.new) }
+        ensures not_now { IsErrOf result Refused.NotNow → CanNotMakeEvent (CanGoOn M.belongs M.part self.old) M.part self.old (Event.Grant at x) }
+        ensures no_memory { IsErrOf result Refused.NoMemory → CanMakeEvent (CanGoOn M.belongs M.part self.old) M.part self.old (Event.Grant at x) }
+        ensures unchanged { OnErr result (HoldTheSame M.part self.old self.new) }
+        ensures same { IsSameCluster M.belongs M.earlier self.old self.new }
+    {
+        self.machines[at.0 as usize].grant_in_turn(x)?;
+        Ok(())
     }
 
     /// A lock that may be granted at the machine; `None` exactly where none may be.

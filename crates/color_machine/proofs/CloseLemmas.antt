@@ -19,7 +19,7 @@ some_centre : (o : Option Vertex) → is_some o ≡ true → (v : Vertex) × (o 
 some_centre None is = absurd (true≢false (sym is))
 some_centre (Some v) is = (v, refl)
 
-no_pending : (m : ColorCore) → IsInStepOrder m → (v : ℕ) → pending_here m.numbers v ≡ false
+pub no_pending : (m : ColorCore) → IsInStepOrder m → (v : ℕ) → pending_here m.numbers v ≡ false
 no_pending m is v = by (place_at m.numbers.local v)
   where
     by : (o : Option ℕ) → flag_there m.numbers.tasks.pending o ≡ false
@@ -36,7 +36,7 @@ can_go_on : (m : ColorCore) (place : Vertex) → IsInStepOrder m → IsDueAt m p
 can_go_on m place is due = can_one m is place due (get_or m.by_place.items place.0 place) (due_stands m is place due place)
 
 -- a scope in flight may make its update
-may_update : (m : ColorCore) (s : ScopeId) → IsInStepOrder m → is_some (centre_in_step m.scopes s) ≡ true → MayUpdate s (part_in_steps m) 1
+pub may_update : (m : ColorCore) (s : ScopeId) → IsInStepOrder m → is_some (centre_in_step m.scopes s) ≡ true → MayUpdate s (part_in_steps m) 1
 may_update m s is flies =
     let one = some_centre (centre_in_step m.scopes s) flies in
     record {
@@ -52,15 +52,23 @@ pub some_ready : (m : ColorCore) (o : Option ScopeId) → IsInStepOrder m → If
 some_ready m None is some = tt
 some_ready m (Some s) is some = may_update m s is some
 
-pub none_ready : (m : ColorCore) (o : Option ScopeId) → IfNone o ((s : ScopeId) → centre_in_step m.scopes s ≡ None) → IfNone o ((s : ScopeId) → MayUpdate s (part_in_steps m) 1 → ⊥)
-none_ready m None none = λ s may. no_flight (centre_in_step m.scopes s) (none s) may.vertex may.flight
+-- a scope that isn't in flight may not
+pub no_update : (m : ColorCore) (s : ScopeId) → centre_in_step m.scopes s ≡ None → MayUpdate s (part_in_steps m) 1 → ⊥
+no_update m s none may = no_flight (centre_in_step m.scopes s) none may.vertex may.flight
   where
     none_some : (v : ℕ) → None ≡ Some v → ⊥
     none_some v same = cc
 
     no_flight : (o : Option Vertex) → o ≡ None → (v : ℕ) → number_of o ≡ Some v → ⊥
     no_flight o is v at = none_some v (sym (ap number_of is) ∙ at)
+
+pub none_ready : (m : ColorCore) (o : Option ScopeId) → IfNone o ((s : ScopeId) → centre_in_step m.scopes s ≡ None) → IfNone o ((s : ScopeId) → MayUpdate s (part_in_steps m) 1 → ⊥)
+none_ready m None none = λ s. no_update m s (none s)
 none_ready m (Some s) none = tt
+
+pub none_fly : (m : ColorCore) (o : Option ScopeId) → IfNone o ((s : ScopeId) → centre_in_step m.scopes s ≡ None) → IfNone o ((s : ScopeId) → (part_in_steps m).flight s ≡ None)
+none_fly m None none = λ s. ap number_of (none s)
+none_fly m (Some s) none = tt
 
 -- it is of this home
 home_is : (p : ScopesView) (s : ScopeId) → is_some (centre_in_step p s) ≡ true → s.home.0 ≡ p.home.0
@@ -69,9 +77,12 @@ home_is p s is = elim (cases_Bool (s.home.0 == p.home.0)) [
   | inr other ↦ absurd (true≢false (sym is ∙ ap (λ (b : Bool). is_some (if b then slot_at p.centres p.first s.serial else None)) other))
 ]
 
+pub home_of : (m : ColorCore) (s : ScopeId) → IsInStepOrder m → is_some (centre_in_step m.scopes s) ≡ true → s.home ≡ m.numbers.local.me
+home_of m s is some = let home = home_is m.scopes s some in (λ i. record { 0 = home i }) ∙ is.scopes.home
+
 pub some_home : (m : ColorCore) (o : Option ScopeId) → IsInStepOrder m → IfSome o (λ s. is_some (centre_in_step m.scopes s) ≡ true) → IfSome o (λ s. s.home ≡ m.numbers.local.me)
 some_home m None is some = tt
-some_home m (Some s) is some = let home = home_is m.scopes s some in (λ i. record { 0 = home i }) ∙ is.scopes.home
+some_home m (Some s) is some = home_of m s is some
 
 -- ---- what is due
 

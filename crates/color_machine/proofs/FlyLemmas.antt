@@ -179,7 +179,6 @@ module _ (m new : ColorCore) (place : Vertex) (is : IsInStepOrder m) (due : IsDu
       tasks = record { apart = is.numbers.tasks.apart; own = is.numbers.tasks.own };
       sides = is.numbers.sides;
       ghosts = is.numbers.ghosts;
-      versions = is.numbers.versions;
       marks = is.numbers.marks;
       outside = is.numbers.outside;
     };

@@ -22,6 +22,7 @@ use Rattle.machine_numbers.specs.Steps.{HasLearned, IsSideHere}
 use Rattle.machine_numbers.specs.Settings.{with_numbers}
 use Rattle.machine_parts.specs.Order.{IsGraphInOrder, AreNumbersInOrder}
 use Rattle.machine_scopes.proofs.HeldLemmas.{stands_in}
+use Rattle.machine_updates.proofs.SeedLemmas.{no_seed, not_below, seed_none}
 use Rattle.machine_scopes.proofs.PickLemmas.{flag_inside, free_parts, free_from}
 use Rattle.task_sched.specs.Tasks.{is_flagged, is_free}
 use Rattle.color_parts.specs.declared.cores.ColorCore.{ColorCore}
@@ -30,45 +31,12 @@ use Rattle.color_parts.specs.Parts.{LinesView, LocalView, Part, is_in_line, plac
 use Rattle.color_parts.specs.Settings.{Setting, IsLocalOf, IsPartInSteps, StaysInSettings}
 use Rattle.color_machine.specs.Hearing.{CanHear, HasHeardDone}
 use Rattle.color_machine.specs.Inner.Enlisting.{HasEnlisted}
+use Rattle.color_machine.proofs.PlaceLemmas.{vertex_at}
 
--- ---- nothing is seeded
-
-none_first : (test : ℕ → Bool) (k many : ℕ) → ((x : ℕ) → k ≤ x → x < k + many → test x ≡ false) → first_passing test k many ≡ None
-unfolding first_passing
-none_first test k zero fails = refl
-none_first test k (suc many) fails =
-    ap (λ (b : Bool). if b then Some k else first_passing test (suc k) many) (fails k (omega arith) (omega arith))
-    ∙ none_first test (suc k) many (λ x from below. fails x (omega arith) (omega arith))
-
-seed_none : (o : Option ℕ) → seed_if o None ≡ None
-seed_none None = refl
-seed_none (Some v) = refl
-
-not_below : (a b : ℕ) → b ≤ a → nat_lt a b ≡ false
-not_below a b up = grind (arith, up)
-
-below : (a b : ℕ) → a < b → nat_lt a b ≡ true
-below a b low = grind (arith, low)
-
-no_seed : (st : Setting) (n : Numbers) (base : ℕ) (part : Part) → IsLocalOf st n.local → AreNumbersInOrder n base → part.datum ≡ datum_here n → part.known ≡ base → first_unmarked st n.local.me.0 part ≡ None
-no_seed st n base part is numbers data_is known =
-    let a = n.local.me.0 in
-    let test : ℕ → Bool = λ v. st.owner v == a && nat_lt (part.datum v).mark part.known in
-    none_first test 0 (size st.graph) (λ v from low. elim (cases_Bool (st.owner v == a)) [
-      | inl mine ↦
-          let inside : nat_lt v (size st.graph) ≡ true = below v (size st.graph) (omega arith) in
-          let own : is_own n.local v ≡ true = is.own v ∙ ap (λ (b : Bool). b && st.owner v == a) inside ∙ mine in
-          let marked : base ≤ (datum_here n v).mark = numbers.marks v own in
-          let late : nat_lt (part.datum v).mark part.known ≡ false =
-          ap (λ (f : ℕ → Datum). nat_lt (f v).mark part.known) data_is ∙ ap (λ (k : ℕ). nat_lt (datum_here n v).mark k) known ∙ not_below (datum_here n v).mark base marked in
-          ap (λ (b : Bool). b && nat_lt (part.datum v).mark part.known) mine ∙ late
-      | inr other ↦ ap (λ (b : Bool). b && nat_lt (part.datum v).mark part.known) other
-    ])
-
-abbrev no_mode : Option Mode
+abbrev pub no_mode : Option Mode
 no_mode = None
 
-none_held : (s t : ScopeId) → no_mode ≡ set_for (λ (r : ScopeId). no_mode) s no_mode t
+pub none_held : (s t : ScopeId) → no_mode ≡ set_for (λ (r : ScopeId). no_mode) s no_mode t
 none_held s t = by (is_scope t s)
   where
     by : (b : Bool) → no_mode ≡ (if b then no_mode else no_mode)
@@ -99,9 +67,6 @@ module _ (m : ColorCore) (n : Numbers) (lines : LinesView) (done : Done) (is : I
 
   -- ---- lines
 
-  vertex_at : (k : ℕ) → k < length m.numbers.tasks.task → (v : Vertex) × (slice_get m.by_place.items k ≡ Some v)
-  vertex_at k low = let long = is.places.many in (get_or m.by_place.items k (record { 0 = 0 }), slice_get-get_or m.by_place.items k (record { 0 = 0 }) (omega (arith, low, long)))
-
   flag_now : (k : ℕ) (v : Vertex) → slice_get m.by_place.items k ≡ Some v → is_flagged n.tasks.task k ≡ (is_named done.wakes.items v.0 || is_flagged m.numbers.tasks.task k)
   flag_now k v at =
       let here = is.places.place k v at in
@@ -110,7 +75,7 @@ module _ (m : ColorCore) (n : Numbers) (lines : LinesView) (done : Done) (is : I
   free_grows : (k : ℕ) → is_free m.numbers.tasks.task m.numbers.tasks.admitted k ≡ true → is_free n.tasks.task n.tasks.admitted k ≡ true
   free_grows k free =
       let parts = free_parts m.numbers.tasks.task m.numbers.tasks.admitted k free in
-      let one = vertex_at k (flag_inside m.numbers.tasks.task k parts.0) in
+      let one = vertex_at m is k (flag_inside m.numbers.tasks.task k parts.0) in
       free_from n.tasks.task n.tasks.admitted k
       (flag_now k one.0 one.1 ∙ ap (λ (b : Bool). is_named done.wakes.items one.0.0 || b) parts.0 ∙ or_true (is_named done.wakes.items one.0.0))
       (ap (λ (fs : List Bool). is_flagged fs k) flags ∙ parts.1)
@@ -119,7 +84,7 @@ module _ (m : ColorCore) (n : Numbers) (lines : LinesView) (done : Done) (is : I
   free_stands k free =
       let parts = free_parts n.tasks.task n.tasks.admitted k free in
       let inside = flag_inside n.tasks.task k parts.0 in
-      let one = vertex_at k (omega (arith, inside, many)) in
+      let one = vertex_at m is k (omega (arith, inside, many)) in
       let v = one.0 in
       elim (or_cases (is_named done.wakes.items v.0) (is_flagged m.numbers.tasks.task k) (sym (flag_now k v one.1) ∙ parts.0)) [
         | inl named ↦
@@ -155,9 +120,6 @@ module _ (m : ColorCore) (n : Numbers) (lines : LinesView) (done : Done) (is : I
         sides = λ u mine. subst (λ (l : LocalView). All (IsSideHere l) (sides_at l u)) (sym local)
             (λ k d low. let here = o.sides u (sym (own u) ∙ mine) k d low in record { place = here.place; own = here.own });
         ghosts = λ x. ghosts x ∙ o.ghosts x ∙ ap (λ (gs : List GhostLine). list_any (λ g. g.vertex.0 == x) gs) (sym (ap (λ (l : LocalView). l.ghosts) local));
-        versions = λ u mine.
-            let was = sym (own u) ∙ mine in
-            subst (λ (k : ℕ). (datum_here n u).version ≤ k) long (subst (λ (d : Datum). d.version ≤ length m.numbers.log.items) (sym (datum u was)) (o.versions u was));
         marks = λ u mine. let was = sym (own u) ∙ mine in subst (λ (d : Datum). m.base ≤ d.mark) (sym (datum u was)) (o.marks u was);
         outside = subst (λ (k : ℕ). n.tasks.outside ≤ k) long (subst (λ (t : TasksView). t.outside ≤ length m.numbers.log.items) (sym tasks) o.outside);
       }

@@ -3,4 +3,10 @@ pub mod FlyLemmas
 pub mod StepLemmas
 pub mod CloseLemmas
 pub mod EnlistLemmas
+pub mod PlaceLemmas
 pub mod HearLemmas
+pub mod UpdateLemmas
+pub mod MakeLemmas
+pub mod SameLemmas
+pub mod RowLemmas
+pub mod RunLemmas

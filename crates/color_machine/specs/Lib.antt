@@ -2,4 +2,5 @@ pub mod Admitting
 pub mod Stepping
 pub mod Closing
 pub mod Hearing
+pub mod Updating
 pub mod Inner

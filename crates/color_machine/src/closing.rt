@@ -1,5 +1,5 @@
 //! The end of a step at a machine, and the updates that wait in it.
-ghost use Rattle.std.specs.Prelude.{◌≡◌, true, false, IfSome, IfNone, OnOk, OnErr, IsErrOf};
+ghost use Rattle.std.specs.Prelude.{◌≡◌, true, false, None, IfSome, IfNone, OnOk, OnErr, IsErrOf};
 ghost use Rattle.gl_base.specs.declared.scopes.ScopeId.{ScopeId};
 ghost use Rattle.color_machine.specs.Admitting.{IsInStepOrder, StaysInSettings, part_in_steps};
 ghost use Rattle.color_machine.specs.Closing.{HasDoneItsShare, GoesOnHere, closes, MayUpdate};
@@ -43,12 +43,13 @@ fn is_done(core: &ColorCore) -> bool
     }
 }
 
-/// A scope of this home that may make its update now; `None` exactly where none may.
+/// A scope of this home that may make its update now; `None` exactly where none may, and then none is in flight.
 pub fn next_ready(core: &ColorCore) -> Option<ScopeId>
     requires { IsInStepOrder core.now }
     ensures some { IfSome result (λ s. MayUpdate s (part_in_steps core.now) 1) }
     ensures home { IfSome result (λ s. s.home ≡ core.now.numbers.local.me) }
     ensures none { IfNone result ((s : ScopeId) → MayUpdate s (part_in_steps core.now) 1 → ⊥) }
+    ensures quiet { IfNone result ((s : ScopeId) → (part_in_steps core.now).flight s ≡ None) }
 {
     core.scopes.one()
 }

@@ -1,10 +1,11 @@
 //! Tasks that come to stand in line.
 ghost use Rattle.std.specs.Prelude.{◌≡◌, ◌⊎◌, ℕ, ◌<◌, ◌==◌, ◌&&◌, ◌||◌, true, Some, length};
-ghost use Rattle.color_machine.specs.Inner.Enlisting.{HasEnlisted, place_at};
+ghost use Rattle.color_machine.specs.Inner.Enlisting.{HasEnlisted, ends_of, place_at, sides_at};
 ghost use Rattle.color_machine.specs.Inner.Flying.{is_free, is_in_line};
 
 use color_tasks::ColorLines;
 use gl_base::Vertex;
+use local_graph::Side;
 use machine_numbers::Numbers;
 use task_sched::TaskSet;
 
@@ -16,6 +17,26 @@ pub fn enlist_all(lines: &mut ColorLines, numbers: &Numbers, vertices: &[Vertex]
 {
     for place in 0..vertices.len() {
         enlist(lines, numbers, vertices[place]);
+    }
+}
+
+/// Those at the other ends of the sides of v that are tasks here and not admitted stand in line.
+pub fn enlist_near(lines: &mut ColorLines, numbers: &Numbers, v: Vertex)
+    requires { length lines.old.colours ≡ length numbers.now.tasks.task }
+    ensures colours { lines.new.colours ≡ lines.old.colours }
+    ensures enlisted { HasEnlisted numbers.now lines.old lines.new (ends_of (sides_at numbers.now.local v.0)) (length (sides_at numbers.now.local v.0)) }
+{
+    enlist_along(lines, numbers, numbers.local.sides(v));
+}
+
+/// Those at the other ends of these sides that are tasks here and not admitted stand in line.
+fn enlist_along(lines: &mut ColorLines, numbers: &Numbers, sides: &[Side])
+    requires { length lines.old.colours ≡ length numbers.now.tasks.task }
+    ensures colours { lines.new.colours ≡ lines.old.colours }
+    ensures enlisted { HasEnlisted numbers.now lines.old lines.new (ends_of sides.now) (length sides.now) }
+{
+    for place in 0..sides.len() {
+        enlist(lines, numbers, sides[place].other);
     }
 }
 

@@ -15,6 +15,7 @@ pub fn receive_done(core: &mut ColorCore, done: &Done)
     ensures received { HasHeardDone core.old core.new done.now }
     ensures orderly { IsInStepOrder core.new }
     ensures settings { StaysInSettings core.old core.new }
+    ensures local { core.new.numbers.local ≡ record core.old.numbers.local { numbers = core.new.numbers.local.numbers } }
     ensures rest { core.new ≡ record core.old { numbers = core.new.numbers; lines = core.new.lines } }
 {
     core.numbers.learn(done);

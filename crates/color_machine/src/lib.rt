@@ -5,9 +5,12 @@ mod admitting;
 mod closing;
 mod enlisting;
 mod hearing;
+mod making;
 mod stepping;
+mod updating;
 
 pub use admitting::admit;
 pub use closing::{close, next_ready};
 pub use hearing::receive_done;
 pub use stepping::step;
+pub use updating::update;

@@ -5,7 +5,7 @@ use Rattle.std.proofs.lemmas.Bool.{cases_eq, cases_lt}
 use Rattle.std.proofs.lemmas.List.{get_or-replicate, get_or_past, length-replicate, length-set}
 use Rattle.cluster_model.specs.Totals.{total_from}
 use Rattle.coord_core.specs.Inner.Kept.{IsSavingKept}
-use Rattle.coord_core.specs.Saving.{HasRoomForRecord, IsApart, IsApartWhereCome, IsRecordDue, SavingView, SectionView, StoreView, come_at, entries_below, nothing_saved, record_size, saved_before, with_acknowledged, with_begun, with_section, with_want}
+use Rattle.coord_core.specs.Saving.{HasRoomForRecord, IsApart, IsApartWhereCome, IsRecordDue, SavingView, SectionView, StoreView, come_at, entries_come, saving_nothing, saved_length, saved_before, with_acknowledged, saving_begun, saving_section, with_want}
 
 abbrev none_of : ℕ → List (Option SectionView)
 none_of n = replicate n None
@@ -22,7 +22,7 @@ none_apart n a = subst IsApartWhereCome (sym (none_come n a)) tt
 many_none : (n : ℕ) → length (none_of n) ≡ n
 many_none n = length-replicate n None
 
-pub none_kept : (machines : ℕ) → machines < 65536 → IsSavingKept (nothing_saved machines)
+pub none_kept : (machines : ℕ) → machines < 65536 → IsSavingKept (saving_nothing machines)
 none_kept machines few = record {
   near = omega arith;
   few = omega arith;
@@ -48,7 +48,7 @@ first_kept machines store few newest short = record {
   apart = none_apart machines;
 }
 
-pub begun_kept : (s : SavingView) → IsSavingKept s → s.stored ≡ true → s.acknowledged ≡ s.begun → IsSavingKept (with_begun s)
+pub begun_kept : (s : SavingView) → IsSavingKept s → s.stored ≡ true → s.acknowledged ≡ s.begun → IsSavingKept (saving_begun s)
 begun_kept s kept stored none = record {
   near = omega arith;
   few = kept.few;
@@ -61,7 +61,7 @@ begun_kept s kept stored none = record {
   apart = kept.apart;
 }
 
-pub section_kept : (s : SavingView) (a : ℕ) (section : SectionView) → IsSavingKept s → a < length s.come → IsApart section → IsSavingKept (with_section a section s)
+pub section_kept : (s : SavingView) (a : ℕ) (section : SectionView) → IsSavingKept s → a < length s.come → IsApart section → IsSavingKept (saving_section a section s)
 section_kept s a section kept inside apart =
     let many : length (slice_set s.come a (Some section)) ≡ length s.come = length-set s.come a (Some section) in
     record {
@@ -94,14 +94,14 @@ want_kept s k kept = record {
   apart = kept.apart;
 }
 
-none_entries : (come : List (Option SectionView)) → length come ≡ 0 → entries_below (length come) come ≡ 0
+none_entries : (come : List (Option SectionView)) → length come ≡ 0 → entries_come (length come) come ≡ 0
 unfolding total_from
-none_entries come none = ap (λ (n : ℕ). entries_below n come) none
+none_entries come none = ap (λ (n : ℕ). entries_come n come) none
 
 pub acknowledged_kept : (s : SavingView) → IsSavingKept s → IsRecordDue s → HasRoomForRecord s → IsSavingKept (with_acknowledged s)
 acknowledged_kept s kept due room =
     let many : length (none_of (length s.come)) ≡ length s.come = many_none (length s.come) in
-    let short : s.store_end + record_size s ≤ 1073741824 = room.short in
+    let short : s.store_end + saved_length s ≤ 1073741824 = room.short in
     let fits : 16 * s.entries ≤ s.store_end = kept.fits in
     record {
       near = omega arith;
@@ -112,7 +112,7 @@ acknowledged_kept s kept due room =
       machines = subst (λ (n : ℕ). n < 65536) (sym many) kept.machines;
       lone = λ none.
           let had : s.entries ≡ 0 = kept.lone (sym many ∙ none) in
-          let more : entries_below (length s.come) s.come ≡ 0 = none_entries s.come (sym many ∙ none) in
+          let more : entries_come (length s.come) s.come ≡ 0 = none_entries s.come (sym many ∙ none) in
           omega arith;
       first = λ none. absurd (cc);
       apart = none_apart (length s.come);

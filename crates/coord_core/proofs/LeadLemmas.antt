@@ -12,12 +12,12 @@ use Rattle.gl_base.specs.declared.scopes.Counted.{Counted}
 use Rattle.outboxes.specs.Outboxes.{left_behind, without_first}
 use Rattle.wire_msgs.specs.declared.messages.Message.{Message}
 use Rattle.wire_msgs.specs.Views as wire
-use Rattle.coord_core.specs.Calls.{HasBegun, HasHandedOver, HasPutWave, HasRecorded, HasTakenReport, IsFirstOf, IsFirstWith, StaysCoordinator}
+use Rattle.coord_core.specs.Calls.{HasBegunNext, HasHandedOver, HasPutWave, HasRecorded, HasTakenReport, IsFirstOf, IsFirstWith, StaysCoordinator}
 use Rattle.coord_core.specs.Coordinators.{AreCalls, Call, Coordinator, CoordinatorView, Counting, IsCoordinatorOf, IsSavingOf, Report, Setting, TellsCall, MessageView, OutboxView, OutboxesView, acknowledges, begins_snapshot, count_answer, count_wave, first_coordinator, first_counting, hands_call, message_view, puts_wave, takes_report, waiting_at, no_outbox}
 use Rattle.coord_core.specs.Inner.Asking.{AreOutboxesOf, SameMessages, is_call}
 use Rattle.coord_core.specs.Inner.Kept.{IsSavingKept}
 use Rattle.coord_core.specs.Inner.Seen.{IsFirstSaving}
-use Rattle.coord_core.specs.Saving.{IsRecordDue, SavingView, SectionView, StoreView, nothing_saved, saved_before, with_acknowledged, with_begun, with_section, with_want}
+use Rattle.coord_core.specs.Saving.{IsRecordDue, SavingView, SectionView, StoreView, saving_nothing, saved_before, with_acknowledged, saving_begun, saving_section, with_want}
 use Rattle.coord_core.proofs.BoxLemmas.{box_set}
 use Rattle.coord_core.proofs.SavingLemmas.{acknowledged_of, begun_of, first_saving, saving_stays, section_of, stored_where_due, want_of}
 
@@ -29,7 +29,7 @@ if_ok (Err e) turn holds = holds
 -- ---- at first
 
 module _ (machines : ℕ) (view : CoordinatorView) where
-  pub first_part : IsFirstSaving machines (nothing_saved machines) view → IsFirstOf machines view
+  pub first_part : IsFirstSaving machines (saving_nothing machines) view → IsFirstOf machines view
   first_part first st base long same engine plain =
       record {
         machines = first.many ∙ sym same;
@@ -100,7 +100,7 @@ module _ (old new : CoordinatorView) (message : MessageView) (many : length new.
             (subst (λ (m : MessageView). TellsCall m (Wave c.rounds.counting.put_out)) (sym is) (ap (λ (counting : Counting). counting.put_out) (sym part.counting)));
       }
 
-  pub has_begun : new.counting ≡ old.counting → new.saving ≡ with_begun old.saving → message ≡ wire.Begin (old.saving.begun + 1) → old.saving.stored ≡ true → HasBegun old new
+  pub has_begun : new.counting ≡ old.counting → new.saving ≡ saving_begun old.saving → message ≡ wire.Begin (old.saving.begun + 1) → old.saving.stored ≡ true → HasBegunNext old new
   has_begun counting saving is stored_is st c part =
       let own : IsSavingOf st old.saving c = part.saving (part.stored ∙ stored_is) in
       record {
@@ -163,7 +163,7 @@ counts_taken old counting a counted k is st c report tells part =
     })
 
 pub section_taken : (old : CoordinatorView) (a : ℕ) (section : SectionView) → a < length old.out.machines →
-    HasTakenReport old (record old { saving = with_section a section old.saving }) a (wire.Section section)
+    HasTakenReport old (record old { saving = saving_section a section old.saving }) a (wire.Section section)
 section_taken old a section inside st c (Saved number saved entries) tells part =
     record {
       machines = part.machines;

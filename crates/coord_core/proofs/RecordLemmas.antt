@@ -8,15 +8,15 @@ use Rattle.gl_base.specs.declared.snapshots.SavedPart.{SavedPart}
 use Rattle.cluster_core.specs.Settings.{Setting}
 use Rattle.cluster_model.specs.Events as law
 use Rattle.cluster_model.specs.Leading.{Come, Coordinator, come_or}
-use Rattle.coord_core.specs.Calls.{IsRecordFor, IsSavedPart, snapshot_due}
+use Rattle.coord_core.specs.Calls.{IsRecordFor, IsSavedPart, snapshot_come}
 use Rattle.coord_core.specs.Coordinators.{IsComeOf, IsSavingOf}
 use Rattle.coord_core.specs.Inner.Kept.{IsSavingKept}
-use Rattle.coord_core.specs.Records.{IsPartOf, IsRecordOf, entries_upto}
+use Rattle.coord_core.specs.Records.{IsPartOfRecord, IsRecordOf, entries_upto}
 use Rattle.coord_core.specs.Saving.{IsApartWhereCome, IsRecordDue, SavingView, SectionView, come_at}
 use Rattle.coord_core.proofs.SavedLemmas.{rising, same_edges, same_vertices}
 use Rattle.coord_core.proofs.SavingLemmas.{entries_same}
 
-saved_part : (told : Option SectionView) (come : Option Come) (part : SavedPart) → IsComeOf told come → is_some told ≡ true → IsApartWhereCome told → IsPartOf told part →
+saved_part : (told : Option SectionView) (come : Option Come) (part : SavedPart) → IsComeOf told come → is_some told ≡ true → IsApartWhereCome told → IsPartOfRecord told part →
     IsSavedPart (come_or come).section part
 saved_part None come part of is apart has = absurd (cc)
 saved_part (Some section) None part of is apart has = absurd of
@@ -37,13 +37,13 @@ le_all : (n : ℕ) → n ≤ n
 le_all n = omega arith
 
 module _ (st : Setting) (s : SavingView) (c : Coordinator) (of : IsSavingOf st s c) where
-  upto_same : (n : ℕ) → n ≤ st.machines → law.entries_below n (snapshot_due c) ≡ entries_upto n s.come
+  upto_same : (n : ℕ) → n ≤ st.machines → law.entries_below n (snapshot_come c) ≡ entries_upto n s.come
   upto_same zero low = refl
   upto_same (suc a) low = λ i. upto_same a (lower a st.machines low) i ++ entries_same (come_at s.come a) (c.come a) (of.come a low) i
 
-  pub record_for : (made : Record) → IsSavingKept s → IsRecordDue s → IsRecordOf s made → IsRecordFor st (snapshot_due c) made
+  pub record_for : (made : Record) → IsSavingKept s → IsRecordDue s → IsRecordOf s made → IsRecordFor st (snapshot_come c) made
   record_for made kept due has =
-      let all : law.entries_below st.machines (snapshot_due c) ≡ entries_upto (length s.come) s.come =
+      let all : law.entries_below st.machines (snapshot_come c) ≡ entries_upto (length s.come) s.come =
       upto_same st.machines (le_all st.machines) ∙ ap (λ (n : ℕ). entries_upto n s.come) (sym of.machines)
       in
       record {

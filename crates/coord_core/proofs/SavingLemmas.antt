@@ -13,7 +13,7 @@ use Rattle.cluster_model.specs.Totals.{total, total_from}
 use Rattle.coord_core.specs.Coordinators.{Counting, CoordinatorView, IsComeAs, IsComeOf, IsCoordinatorOf, IsSavingOf}
 use Rattle.coord_core.specs.Inner.Kept.{IsSavingKept}
 use Rattle.coord_core.specs.Inner.Seen.{HasShownTheEnd, WantsSnapshot}
-use Rattle.coord_core.specs.Saving.{HasRoomForRecord, IsRecordDue, IsSnapshotDue, SavingView, SectionView, StoreView, come_at, entries_below, entries_told, record_size, saved_before, with_acknowledged, with_begun, with_section, with_want}
+use Rattle.coord_core.specs.Saving.{HasRoomForRecord, IsRecordDue, IsSnapshotDue, SavingView, SectionView, StoreView, come_at, entries_come, entries_told, saved_length, saved_before, with_acknowledged, saving_begun, saving_section, with_want}
 
 -- ---- sections
 
@@ -61,13 +61,13 @@ from_zero : (a n : ℕ) → a < 0 + n → a < n
 from_zero a n low = omega arith
 
 module _ (st : Setting) (s : SavingView) (c : Coordinator) (of : IsSavingOf st s c) where
-  pub totals : total st.machines (λ a. length (come_or (c.come a)).entries) ≡ entries_below (length s.come) s.come
+  pub totals : total st.machines (λ a. length (come_or (c.come a)).entries) ≡ entries_come (length s.come) s.come
   totals =
       total_alike 0 st.machines (λ a. length (come_or (c.come a)).entries) (λ a. length (entries_told (come_at s.come a)))
       (λ a low high. ap length (entries_same (come_at s.come a) (c.come a) (of.come a (from_zero a st.machines high))))
-      ∙ ap (λ (n : ℕ). entries_below n s.come) (sym of.machines)
+      ∙ ap (λ (n : ℕ). entries_come n s.come) (sym of.machines)
 
-  pub sizes : record_length st (λ a. come_or (c.come a)) ≡ record_size s
+  pub sizes : record_length st (λ a. come_or (c.come a)) ≡ saved_length s
   sizes = λ i. 8 + 16 * totals i + 8 * sym of.machines i + 12 * of.vertices i + 12 * of.edges i + 9
 
   pub law_due : IsRecordDue s → RecordIsDue st c
@@ -101,7 +101,7 @@ module _ (st : Setting) (s : SavingView) (c : Coordinator) (of : IsSavingOf st s
 
   -- ---- what changes it
 
-  pub begun_of : IsSavingOf st (with_begun s) (begins_snapshot c)
+  pub begun_of : IsSavingOf st (saving_begun s) (begins_snapshot c)
   begun_of = record {
     vertices = of.vertices;
     edges = of.edges;
@@ -144,7 +144,7 @@ module _ (st : Setting) (s : SavingView) (c : Coordinator) (of : IsSavingOf st s
       }
 
   pub section_of : (a : ℕ) (section : SectionView) (come : Come) → a < st.machines → IsComeAs section come →
-      IsSavingOf st (with_section a section s) (record c { come = set_at c.come a (Some come) })
+      IsSavingOf st (saving_section a section s) (record c { come = set_at c.come a (Some come) })
   section_of a section come low is = record {
     vertices = of.vertices;
     edges = of.edges;

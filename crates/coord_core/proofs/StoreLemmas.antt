@@ -5,8 +5,8 @@ use Rattle.std.specs.List.Sorted.{IsNonDecreasingBy, IsPermutation}
 use Rattle.std.proofs.lemmas.Bool.{cases_lt}
 use Rattle.std.proofs.lemmas.List.{append-nil, drop_all, drop_more, get_or-map, get_or_append_left, get_or_at, length-map, length-replicate, map-set, replicate-append-replicate, set_at, take_all}
 use Rattle.gl_base.specs.declared.snapshots.SavedPart.{SavedPart}
-use Rattle.coord_core.specs.Records.{IsPartOf}
-use Rattle.coord_core.specs.Saving.{HaveAllCome, SectionView, come_at, entries_below, entries_told, section_view}
+use Rattle.coord_core.specs.Records.{IsPartOfRecord}
+use Rattle.coord_core.specs.Saving.{HaveAllCome, SectionView, come_at, entries_come, entries_told, section_view}
 use Rattle.cluster_model.specs.Totals.{total_from}
 use Rattle.coord_core.proofs.SavingLemmas.{total_last}
 use Rattle.wire_msgs.specs.declared.messages.Section.{Section}
@@ -41,7 +41,7 @@ not_all xs i x inside is none all =
 
 -- ---- counting
 
-pub none_below : (come : List (Option SectionView)) → entries_below 0 come ≡ 0
+pub none_below : (come : List (Option SectionView)) → entries_come 0 come ≡ 0
 unfolding total_from
 none_below come = refl
 
@@ -49,36 +49,36 @@ zero_more : (i : ℕ) → 0 + i ≡ i
 zero_more i = omega arith
 
 pub count_more : (xs : List (Option Section)) (i : ℕ) (x : Option Section) (entries count : ℕ) → i < length xs → x ≡ get_or xs i x →
-    entries ≡ entries_below i (told xs) → count ≡ length (entries_told (option_map section_view x)) → entries + count ≡ entries_below (i + 1) (told xs)
+    entries ≡ entries_come i (told xs) → count ≡ length (entries_told (option_map section_view x)) → entries + count ≡ entries_come (i + 1) (told xs)
 count_more xs i x entries count inside is sum one =
-    let last : entries_below (suc i) (told xs) ≡ entries_below i (told xs) + length (entries_told (come_at (told xs) i)) =
-    total_last 0 i (λ a. length (entries_told (come_at (told xs) a))) ∙ ap (λ (k : ℕ). entries_below i (told xs) + length (entries_told (come_at (told xs) k))) (zero_more i)
+    let last : entries_come (suc i) (told xs) ≡ entries_come i (told xs) + length (entries_told (come_at (told xs) i)) =
+    total_last 0 i (λ a. length (entries_told (come_at (told xs) a))) ∙ ap (λ (k : ℕ). entries_come i (told xs) + length (entries_told (come_at (told xs) k))) (zero_more i)
     in
     let here : length (entries_told (come_at (told xs) i)) ≡ count = ap (λ (o : Option SectionView). length (entries_told o)) (come_is xs i x inside is) ∙ sym one in
-    let next : entries_below (i + 1) (told xs) ≡ entries_below (suc i) (told xs) = ap (λ (n : ℕ). entries_below n (told xs)) (add-one i) in
+    let next : entries_come (i + 1) (told xs) ≡ entries_come (suc i) (told xs) = ap (λ (n : ℕ). entries_come n (told xs)) (add-one i) in
     omega arith
 
 -- ---- parts
 
 pub sorted_part : (x : Option Section) (section : Section) (part : SavedPart) → x ≡ Some section → IsPermutation section.vertices.items part.vertices.items →
     IsPermutation section.edges.items part.edges.items → IsNonDecreasingBy (λ pair. pair.0.0) part.vertices.items → IsNonDecreasingBy (λ pair. pair.0.0) part.edges.items →
-    IsPartOf (option_map section_view x) part
+    IsPartOfRecord (option_map section_view x) part
 sorted_part x section part is vertices edges by_vertex by_edge =
-    subst (λ (o : Option Section). IsPartOf (option_map section_view o) part) (sym is)
+    subst (λ (o : Option Section). IsPartOfRecord (option_map section_view o) part) (sym is)
     (record { vertices = vertices; edges = edges; by_vertex = by_vertex; by_edge = by_edge })
 
 pub parts_more : (xs : List (Option Section)) (i : ℕ) (x : Option Section) (parts : List SavedPart) (part : SavedPart) → i < length xs → x ≡ get_or xs i x → length parts ≡ i →
-    IsPartOf (option_map section_view x) part → ((a : ℕ) (d : SavedPart) → a < i → IsPartOf (come_at (told xs) a) (slice_index_or parts a d)) →
-    (a : ℕ) (d : SavedPart) → a < i + 1 → IsPartOf (come_at (told xs) a) (slice_index_or (parts ++ part ∷ []) a d)
+    IsPartOfRecord (option_map section_view x) part → ((a : ℕ) (d : SavedPart) → a < i → IsPartOfRecord (come_at (told xs) a) (slice_index_or parts a d)) →
+    (a : ℕ) (d : SavedPart) → a < i + 1 → IsPartOfRecord (come_at (told xs) a) (slice_index_or (parts ++ part ∷ []) a d)
 parts_more xs i x parts part inside is many new below a d low = elim (cases_lt a i) [
   | inl less ↦
       let at : a < length parts = omega arith in
-      subst (IsPartOf (come_at (told xs) a)) (sym (get_or_append_left parts (part ∷ []) d a at)) (below a d less)
+      subst (IsPartOfRecord (come_at (told xs) a)) (sym (get_or_append_left parts (part ∷ []) d a at)) (below a d less)
   | inr more ↦
       let same : i ≡ a = omega arith in
-      subst (λ (k : ℕ). IsPartOf (come_at (told xs) k) (slice_index_or (parts ++ part ∷ []) k d)) same
-      (subst (IsPartOf (come_at (told xs) i)) (sym (get_or_at parts part [] d i many))
-      (subst (λ (o : Option SectionView). IsPartOf o part) (sym (come_is xs i x inside is)) new))
+      subst (λ (k : ℕ). IsPartOfRecord (come_at (told xs) k) (slice_index_or (parts ++ part ∷ []) k d)) same
+      (subst (IsPartOfRecord (come_at (told xs) i)) (sym (get_or_at parts part [] d i many))
+      (subst (λ (o : Option SectionView). IsPartOfRecord o part) (sym (come_is xs i x inside is)) new))
 ]
 
 -- ---- forgetting

@@ -15,7 +15,7 @@ use Rattle.wire_msgs.specs.Views as wire
 use Rattle.coord_core.specs.declared.leading.Due.{Due}
 use Rattle.coord_core.specs.declared.leading.Due.TheVariants as due
 use Rattle.coord_core.specs.Coordinators.{Call, Cluster, Coordinator, CoordinatorView, HasSeenTheEnd, IsCoordinatorOf, Locking, MayBeCounted, MessageView, Report, Setting, StoreView, TellsCall, acknowledges, begins_snapshot, first_coordinator, hands_call, message_view, no_outbox, puts_wave, takes_report}
-use Rattle.coord_core.specs.Records.{IsByTicket}
+use Rattle.coord_core.specs.Records.{AreByTicket}
 use Rattle.coord_core.specs.Saving.{HasRoomForRecord, IsApart, IsRecordDue}
 
 -- it is the coordinator that an attempt with so many machines begins with, where no snapshots are taken
@@ -68,18 +68,18 @@ abbrev pub HasPutWave : CoordinatorView → CoordinatorView → Type 0
 HasPutWave old new = (st : Setting) (c : Coordinator) → IsCoordinatorOf st old c → IsCoordinatorOf st new (puts_wave c)
 
 -- the next snapshot may begin; and it has begun
-abbrev pub MayBegin : CoordinatorView → Type 0
-MayBegin view = MayLead law.PutBegin view
+abbrev pub MayLeadBegin : CoordinatorView → Type 0
+MayLeadBegin view = MayLead law.PutBegin view
 
 abbrev pub MayNotBegin : CoordinatorView → Type 0
 MayNotBegin view = MayNotLead law.PutBegin view
 
-abbrev pub HasBegun : CoordinatorView → CoordinatorView → Type 0
-HasBegun old new = (st : Setting) (c : Coordinator) → IsCoordinatorOf st old c → IsCoordinatorOf st new (begins_snapshot c)
+abbrev pub HasBegunNext : CoordinatorView → CoordinatorView → Type 0
+HasBegunNext old new = (st : Setting) (c : Coordinator) → IsCoordinatorOf st old c → IsCoordinatorOf st new (begins_snapshot c)
 
 -- the snapshot under way may be acknowledged; and it was
-abbrev pub MayRecord : CoordinatorView → Type 0
-MayRecord view = MayLead law.Record view
+abbrev pub MayLeadRecord : CoordinatorView → Type 0
+MayLeadRecord view = MayLead law.Record view
 
 abbrev pub MayNotRecord : CoordinatorView → Type 0
 MayNotRecord view = MayNotLead law.Record view
@@ -96,8 +96,8 @@ pub record IsSavedPart (section : Section) (part : SavedPart) : Type 0 where
   pub by_edge : IsStrictlyIncreasing (map (λ pair. pair.0.0) part.edges.items)
 
 -- the snapshot under way, as the law acknowledges it
-abbrev pub snapshot_due : Coordinator → Snapshot
-snapshot_due c = record { number = c.begun; sections = λ a. come_or (c.come a) }
+abbrev pub snapshot_come : Coordinator → Snapshot
+snapshot_come c = record { number = c.begun; sections = λ a. come_or (c.come a) }
 
 -- It is the record of this snapshot: of each machine the numbers that it saved, and the entries of all, by ticket.
 pub record IsRecordFor (st : Setting) (snapshot : Snapshot) (made : Record) : Type 0 where
@@ -105,11 +105,11 @@ pub record IsRecordFor (st : Setting) (snapshot : Snapshot) (made : Record) : Ty
   pub machines : length made.sections.items ≡ st.machines
   pub parts : (a : ℕ) (d : SavedPart) → a < st.machines → IsSavedPart (snapshot.sections a).section (slice_index_or made.sections.items a d)
   pub entries : IsPermutation (law.entries_below st.machines snapshot) made.entries.items
-  pub by_ticket : IsByTicket made.entries.items
+  pub by_ticket : AreByTicket made.entries.items
 
 -- it is the record of the snapshot under way
 abbrev pub IsRecordDueOf : CoordinatorView → Record → Type 0
-IsRecordDueOf view made = (st : Setting) (c : Coordinator) → IsCoordinatorOf st view c → IsRecordFor st (snapshot_due c) made
+IsRecordDueOf view made = (st : Setting) (c : Coordinator) → IsCoordinatorOf st view c → IsRecordFor st (snapshot_come c) made
 
 -- the snapshot of this number may be acknowledged, and there is room for the word of that to each machine
 pub record IsReadyToRecord (view : CoordinatorView) (k : ℕ) : Type 0 where

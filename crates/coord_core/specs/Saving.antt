@@ -31,8 +31,8 @@ pub record StoreView : Type 0 where
   pub store_end : ℕ
 
 -- no snapshots are taken on so many machines
-abbrev pub nothing_saved : ℕ → SavingView
-nothing_saved machines =
+abbrev pub saving_nothing : ℕ → SavingView
+saving_nothing machines =
     record {
       stored = false;
       vertices = 0;
@@ -78,8 +78,8 @@ abbrev pub HaveAllCome : List (Option SectionView) → Type 0
 HaveAllCome come = (a : ℕ) → a < length come → is_some (come_at come a) ≡ true
 
 -- how many entries the first so many sections have that have come
-abbrev pub entries_below : ℕ → List (Option SectionView) → ℕ
-entries_below n come = total n (λ a. length (entries_told (come_at come a)))
+abbrev pub entries_come : ℕ → List (Option SectionView) → ℕ
+entries_come n come = total n (λ a. length (entries_told (come_at come a)))
 
 -- no vertex and no edge stands in a section twice
 pub record IsApart (section : SectionView) : Type 0 where
@@ -93,8 +93,8 @@ IsApartWhereCome (Some section) = IsApart section
 -- ---- when a record is due, and whether the store takes it
 
 -- how many bytes the record of the sections that have come has, with the gate behind it
-abbrev pub record_size : SavingView → ℕ
-record_size s = 8 + 16 * entries_below (length s.come) s.come + 8 * length s.come + 12 * s.vertices + 12 * s.edges + 9
+abbrev pub saved_length : SavingView → ℕ
+saved_length s = 8 + 16 * entries_come (length s.come) s.come + 8 * length s.come + 12 * s.vertices + 12 * s.edges + 9
 
 -- a snapshot is under way, and all sections have come
 pub record IsRecordDue (s : SavingView) : Type 0 where
@@ -104,7 +104,7 @@ pub record IsRecordDue (s : SavingView) : Type 0 where
 -- the store takes one record more of this length
 pub record HasRoomForRecord (s : SavingView) : Type 0 where
   pub few : s.acknowledged < 4096
-  pub short : s.store_end + record_size s ≤ 1073741824
+  pub short : s.store_end + saved_length s ≤ 1073741824
 
 -- ---- when a snapshot is due
 
@@ -118,12 +118,12 @@ pub record IsSnapshotDue (s : SavingView) (quiet : Bool) (updates : ℕ) : Type 
 -- ---- what changes it
 
 -- the next snapshot begins
-abbrev pub with_begun : SavingView → SavingView
-with_begun s = record s { begun = s.begun + 1 }
+abbrev pub saving_begun : SavingView → SavingView
+saving_begun s = record s { begun = s.begun + 1 }
 
 -- the section of machine a has come
-abbrev pub with_section : ℕ → SectionView → SavingView → SavingView
-with_section a section s = record s { come = slice_set s.come a (Some section) }
+abbrev pub saving_section : ℕ → SectionView → SavingView → SavingView
+saving_section a section s = record s { come = slice_set s.come a (Some section) }
 
 -- a machine wants a snapshot after this one
 abbrev pub with_want : ℕ → SavingView → SavingView
@@ -136,7 +136,7 @@ with_acknowledged s =
       acknowledged = s.begun;
       come = replicate (length s.come) None;
       wanted = false;
-      entries = s.entries + entries_below (length s.come) s.come;
+      entries = s.entries + entries_come (length s.come) s.come;
       saved = true;
-      store_end = s.store_end + record_size s;
+      store_end = s.store_end + saved_length s;
     }

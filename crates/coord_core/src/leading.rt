@@ -2,7 +2,7 @@
 ghost use Rattle.std.specs.Prelude.{◌≡◌, ◌≢◌, ◌+◌, ◌^◌, ◌<◌, ◌≤◌, ◌↔◌, true, IfOk, IsErrOf, IsTrue, length, slice_index_or, OnOk, OnErr};
 ghost use Rattle.coord_core.specs.Coordinators.{HasCluster, MayBeCounted, message_view, no_outbox};
 ghost use Rattle.outboxes.specs.Outboxes.{has_waiting};
-ghost use Rattle.coord_core.specs.Calls.{HasBegun, HasHandedOver, HasPutWave, HasRecorded, HasTakenReport, IsDueOf, IsFirstOf, IsFirstWith, IsReadyToRecord, IsRecordDueOf, MayBegin, MayNotBegin, MayNotPutWave, MayNotRecord, MayPutWave, MayRecord, MayReport, StaysCoordinator};
+ghost use Rattle.coord_core.specs.Calls.{HasBegunNext, HasHandedOver, HasPutWave, HasRecorded, HasTakenReport, IsDueOf, IsFirstOf, IsFirstWith, IsReadyToRecord, IsRecordDueOf, MayLeadBegin, MayNotBegin, MayNotPutWave, MayNotRecord, MayPutWave, MayLeadRecord, MayReport, StaysCoordinator};
 ghost use Rattle.coord_core.specs.Stores.{store_view};
 ghost use Rattle.coord_core.specs.Inner.Kept.{IsSavingKept};
 ghost use Rattle.coord_core.specs.Inner.Seen.{IsFirstSaving, WantsSnapshot};
@@ -99,9 +99,9 @@ impl Coordinator {
 
     /// Begins the next snapshot: tells each machine. `NotNow` comes exactly where none is due.
     pub fn begin(&mut self) -> Result<(), Refused>
-        ensures begun { OnOk result (MayBegin self.old × HasBegun self.old self.new) }
+        ensures begun { OnOk result (MayLeadBegin self.old × HasBegunNext self.old self.new) }
         ensures not_now { IsErrOf result Refused.NotNow → MayNotBegin self.old }
-        ensures no_memory { IsErrOf result Refused.NoMemory → MayBegin self.old }
+        ensures no_memory { IsErrOf result Refused.NoMemory → MayLeadBegin self.old }
         ensures unchanged { OnErr result (StaysCoordinator self.old self.new) }
     {
         if !self.wants_snapshot() {
@@ -138,11 +138,11 @@ impl Coordinator {
     /// The record of the snapshot under way, of which nothing is told yet; and room for the word of it to each machine. `NotNow` comes
     /// exactly where a section is missing, or the store takes no record more, or not this one. It goes over each number once.
     pub fn record(&mut self, alloc: Global) -> Result<Record, Refused>
-        ensures due { OnOk result (MayRecord self.old) }
+        ensures due { OnOk result (MayLeadRecord self.old) }
         ensures made { IfOk result (λ made. IsRecordDueOf self.old made) }
         ensures ready { IfOk result (λ made. IsReadyToRecord self.new made.number) }
         ensures not_now { IsErrOf result Refused.NotNow → MayNotRecord self.old }
-        ensures no_memory { IsErrOf result Refused.NoMemory → MayRecord self.old }
+        ensures no_memory { IsErrOf result Refused.NoMemory → MayLeadRecord self.old }
         ensures same { StaysCoordinator self.old self.new }
     {
         if !self.saving.is_record_due() || !self.saving.has_room() {

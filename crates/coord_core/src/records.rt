@@ -2,7 +2,7 @@
 ghost use Rattle.std.specs.Prelude.{◌≡◌, ◌++◌, length, map, option_map, OnOk, IfOk};
 ghost use Rattle.std.specs.List.Sorted.{IsPermutation};
 ghost use Rattle.coord_core.specs.Saving.{entries_told, section_view};
-ghost use Rattle.coord_core.specs.Records.{ArePartsOf, IsByTicket, IsPartOf, IsRecordFrom, entries_upto, ticket_of};
+ghost use Rattle.coord_core.specs.Records.{ArePartsOf, AreByTicket, IsPartOfRecord, IsRecordFrom, entries_upto, ticket_of};
 
 use gl_base::{Entry, NoMemory, Record, SavedPart};
 use std::alloc::Global;
@@ -22,7 +22,7 @@ pub fn record_of(alloc: Global, number: u32, come: &[Option<Section>]) -> Result
 /// The entries of all sections, by ticket.
 fn entries_of(alloc: Global, come: &[Option<Section>]) -> Result<Vec<Entry>, NoMemory>
     ensures all { IfOk result (λ entries. IsPermutation (entries_upto (length come.now) (map (option_map section_view) come.now)) entries.items) }
-    ensures by_ticket { IfOk result (λ entries. IsByTicket entries.items) }
+    ensures by_ticket { IfOk result (λ entries. AreByTicket entries.items) }
 {
     let mut entries = Vec::new(alloc);
     for section in come {
@@ -64,7 +64,7 @@ fn parts_of(alloc: Global, come: &[Option<Section>]) -> Result<Vec<SavedPart>, N
 
 /// What a machine saved, by vertex and by edge; nothing where its section has not come.
 fn part_of(alloc: Global, section: &Option<Section>) -> Result<SavedPart, NoMemory>
-    ensures { IfOk result (IsPartOf (option_map section_view section.now)) }
+    ensures { IfOk result (IsPartOfRecord (option_map section_view section.now)) }
 {
     let Some(section) = section else {
         return Ok(SavedPart {

@@ -1,6 +1,6 @@
 //! What the coordinator knows of snapshots.
 ghost use Rattle.std.specs.Prelude.{◌≡◌, ◌+◌, ◌^◌, ◌<◌, ◌≤◌, ◌↔◌, true, IsTrue, IfOk, length};
-ghost use Rattle.coord_core.specs.Saving.{HasRoomForRecord, IsApart, IsRecordDue, IsSnapshotDue, nothing_saved, record_size, saved_before, section_view, with_acknowledged, with_begun, with_section, with_want};
+ghost use Rattle.coord_core.specs.Saving.{HasRoomForRecord, IsApart, IsRecordDue, IsSnapshotDue, saving_nothing, saved_length, saved_before, section_view, with_acknowledged, saving_begun, saving_section, with_want};
 ghost use Rattle.coord_core.specs.Records.{IsRecordOf};
 ghost use Rattle.coord_core.specs.Stores.{store_view};
 
@@ -69,7 +69,7 @@ impl Model for Saving {
 impl Saving {
     /// No snapshots are taken.
     pub fn none(alloc: Global, machines: u16) -> Result<Saving, NoMemory>
-        ensures { IfOk result (λ s. s ≡ nothing_saved machines) }
+        ensures { IfOk result (λ s. s ≡ saving_nothing machines) }
     {
         Ok(Saving {
             stored: false,
@@ -158,7 +158,7 @@ impl Saving {
 
     /// How many bytes the record of the sections that have come has, with the gate behind it.
     fn record_size(&self) -> u128
-        ensures size { result ≡ record_size self.now }
+        ensures size { result ≡ saved_length self.now }
         ensures bound { result < 2 ^ 100 }
     {
         let entries = count_entries(&self.come);
@@ -177,7 +177,7 @@ impl Saving {
     pub fn begin(&mut self)
         requires stored { self.old.stored ≡ true }
         requires none { self.old.acknowledged ≡ self.old.begun }
-        ensures { self.new ≡ with_begun self.old }
+        ensures { self.new ≡ saving_begun self.old }
     {
         self.begun += 1;
     }
@@ -186,7 +186,7 @@ impl Saving {
     pub fn put(&mut self, from: MachineNo, section: Section)
         requires machine { from.0 < length self.old.come }
         requires apart { IsApart (section_view section) }
-        ensures { self.new ≡ with_section from.0 (section_view section) self.old }
+        ensures { self.new ≡ saving_section from.0 (section_view section) self.old }
     {
         self.come[from.0 as usize] = Some(section);
     }

@@ -1,6 +1,6 @@
 //! What is known of a store, and the sections of a snapshot that have come.
 ghost use Rattle.std.specs.Prelude.{◌≡◌, ◌↔◌, ◌*◌, ◌≤◌, None, IsTrue, IfOk, length, map, option_map, replicate};
-ghost use Rattle.coord_core.specs.Saving.{HaveAllCome, entries_below, entries_told, section_view};
+ghost use Rattle.coord_core.specs.Saving.{HaveAllCome, entries_come, entries_told, section_view};
 
 use gl_base::NoMemory;
 use std::alloc::Global;
@@ -41,7 +41,7 @@ pub fn have_all_come(come: &[Option<Section>]) -> bool
 
 /// How many entries the sections have that have come.
 pub fn count_entries(come: &[Option<Section>]) -> u128
-    ensures sum { result ≡ entries_below (length come.now) (map (option_map section_view) come.now) }
+    ensures sum { result ≡ entries_come (length come.now) (map (option_map section_view) come.now) }
     ensures bound { result ≤ length come.now * 18446744073709551615 }
 {
     let mut entries = 0;

@@ -3,6 +3,7 @@ pub mod TextsJoined
 pub mod OneCommand
 pub mod FilesMade
 pub mod CutMade
+pub mod StoreMade
 pub mod PlansInRange
 pub mod Results
 pub mod RunsSay

@@ -21,7 +21,7 @@ use Rattle.whole_files.specs.AtomNames.{index_name}
 use Rattle.job_files.specs.declared.jobs.JobVerb.{JobVerb}
 use Rattle.job_files.specs.Atoms.{FindsInAtoms, HasAtoms, OfGraph, RefusesAtoms, atom_files, atoms_fault, given_bytes}
 use Rattle.engine_cli.specs.Says.{IsReadable}
-use Rattle.engine_cli.specs.declared.status.Status.TheVariants.{Done, Usage, BadJob, BadGraph, BadAtoms, ReadFault, WriteFault, BudgetSpent, NoMemory}
+use Rattle.engine_cli.specs.declared.status.Status.TheVariants.{Done, Usage, BadJob, BadGraph, BadAtoms, ReadFault, WriteFault, DiskFault, BadStore, BudgetSpent, NoMemory}
 use Rattle.engine_cli.specs.Status.{IsDoneOrNoMemory}
 use Rattle.job_files.specs.JobTexts.{LacksSource, RefusesEdges, is_weighted, OfJob, OfTexts, RefusesSource, RefusesTexts, DescribeJobGraph, RefusesJob}
 use Rattle.engine_cli.specs.Answer.{IsValid, SpendsBudget}
@@ -161,6 +161,8 @@ sound_is_done file report before now tells order (BadAtoms fault) says sound = n
 sound_is_done file report before now tells order ReadFault says sound = sound.no_read_fault says.1
 sound_is_done file report before now tells order WriteFault says sound =
     ⊎_elim (λ first. sound.no_write_fault first.rose) (λ second. sound.no_fault_of_out second.rose) says.1.2.0
+sound_is_done file report before now tells order DiskFault says sound = says
+sound_is_done file report before now tells order (BadStore fault) says sound = says
 sound_is_done file report before now tells order (BudgetSpent left) says sound =
     let input = sound.input in
     let spends = of_job verb.Run before.files file (λ job. HasAtoms before.files job × OfTexts before.files job (SpendsBudget job left order)) input says in

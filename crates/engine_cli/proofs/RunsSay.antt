@@ -21,7 +21,7 @@ use Rattle.job_files.specs.Inputs.{IsRunInput, RefusesEarly}
 use Rattle.job_files.specs.NamesRead.{HandsForRun}
 use Rattle.engine_cli.specs.Status.{IsRefusedInput, status_of_no_input}
 use Rattle.engine_cli.specs.declared.status.Status.{Status}
-use Rattle.engine_cli.specs.declared.status.Status.TheVariants.{Done, Usage, BadJob, BadGraph, BadAtoms, ReadFault, WriteFault, BudgetSpent, NoMemory}
+use Rattle.engine_cli.specs.declared.status.Status.TheVariants.{Done, Usage, BadJob, BadGraph, BadAtoms, ReadFault, WriteFault, DiskFault, BadStore, BudgetSpent, NoMemory}
 use Rattle.engine_cli.specs.Answer.{IsAnswer, Printed, SpendsBudget}
 use Rattle.job_files.specs.JobTexts.{DescribeJobGraph, SaysJob}
 use Rattle.engine_cli.specs.Ended.{CountsUpdates, IsCount}
@@ -221,6 +221,8 @@ told-says file report before now tells retells order (BadGraph fault) same says 
 told-says file report before now tells retells order (BadAtoms fault) same says = says
 told-says file report before now tells retells order ReadFault same says = says
 told-says file report before now tells retells order WriteFault same says = says
+told-says file report before now tells retells order DiskFault same says = says
+told-says file report before now tells retells order (BadStore fault) same says = says
 told-says file report before now tells retells order (BudgetSpent left) same says = says
 told-says file report before now tells retells order NoMemory same says = says
 

@@ -6,7 +6,7 @@ use Rattle.job_files.specs.declared.jobs.JobVerb.TheVariants as verb
 use Rattle.job_files.specs.JobTexts.{OfJob}
 use Rattle.engine_cli.specs.declared.ended.Ended.{Ended}
 use Rattle.engine_cli.specs.declared.status.Status.{Status}
-use Rattle.engine_cli.specs.declared.status.Status.TheVariants.{Done, Usage, BadJob, BadGraph, BadAtoms, ReadFault, WriteFault, BudgetSpent, NoMemory}
+use Rattle.engine_cli.specs.declared.status.Status.TheVariants.{Done, Usage, BadJob, BadGraph, BadAtoms, ReadFault, WriteFault, DiskFault, BadStore, BudgetSpent, NoMemory}
 use Rattle.engine_cli.specs.Plays.{CountsByMachine}
 
 -- how many updates each of the job's machines made
@@ -26,6 +26,8 @@ CountsUpdates files file order done (BadGraph fault) = AreNone order done
 CountsUpdates files file order done (BadAtoms fault) = AreNone order done
 CountsUpdates files file order done ReadFault = AreNone order done
 CountsUpdates files file order done WriteFault = IsCount files file order done
+CountsUpdates files file order done DiskFault = AreNone order done
+CountsUpdates files file order done (BadStore fault) = AreNone order done
 CountsUpdates files file order done (BudgetSpent left) = IsCount files file order done
 CountsUpdates files file order done NoMemory = AreNone order done
 

@@ -3,6 +3,7 @@ pub mod Says
 pub mod Status
 pub mod NamesWritten
 pub mod CutJobs
+pub mod StoreJobs
 pub mod Ended
 pub mod Plays
 pub mod Notes

@@ -7,9 +7,9 @@ use Rattle.gl_outside.specs.FilesState.{FilesState}
 use Rattle.job_words.specs.CommandLine.{IsCommandLine}
 use Rattle.gl_base.specs.Texts.{Text}
 use Rattle.job_words.specs.declared.words.Words.{Words}
-use Rattle.job_words.specs.declared.words.Words.TheVariants.{Run, Make, Cut}
+use Rattle.job_words.specs.declared.words.Words.TheVariants.{Run, Make, Cut, Init}
 use Rattle.engine_cli.specs.declared.status.Status.{Status}
-use Rattle.engine_cli.specs.declared.status.Status.TheVariants.{Done, Usage, BadJob, BadGraph, BadAtoms, ReadFault, WriteFault, BudgetSpent, NoMemory}
+use Rattle.engine_cli.specs.declared.status.Status.TheVariants.{Done, Usage, BadJob, BadGraph, BadAtoms, ReadFault, WriteFault, DiskFault, BadStore, BudgetSpent, NoMemory}
 use Rattle.graph_files.specs.Made.{vertices_name, edges_name, LeavesText}
 
 -- a command line that some words are
@@ -21,6 +21,7 @@ abbrev pub IsOfFiles : Words → Type 0
 IsOfFiles (Run file report) = ⊥
 IsOfFiles (Make prefix plan) = ⊤
 IsOfFiles (Cut file) = ⊤
+IsOfFiles (Init file) = ⊤
 
 -- What making the two files says by its status: both names give the texts, where names are told; a write fault comes only
 -- where the count rose.
@@ -32,5 +33,7 @@ Makes plan prefix old new (BadGraph fault) = ⊥
 Makes plan prefix old new (BadAtoms fault) = ⊥
 Makes plan prefix old new ReadFault = ⊥
 Makes plan prefix old new WriteFault = Rose old.sinks.faults new.sinks.faults
+Makes plan prefix old new DiskFault = ⊥
+Makes plan prefix old new (BadStore fault) = ⊥
 Makes plan prefix old new (BudgetSpent left) = ⊥
 Makes plan prefix old new NoMemory = ⊤

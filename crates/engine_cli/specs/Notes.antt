@@ -8,10 +8,12 @@ use Rattle.gl_base.specs.declared.job_faults.JobFault.TheVariants.{NotJson, TooL
 use Rattle.gl_base.specs.FaultNames.{key_name, text_file_name, text_kind_name}
 use Rattle.gl_base.specs.declared.text_faults.TextFault.{TextFault}
 use Rattle.gl_outside.specs.Faults.{Rose}
+use Rattle.store_format.specs.declared.faults.StoreFault.{StoreFault}
 use Rattle.engine_cli.specs.declared.status.Status.{Status}
-use Rattle.engine_cli.specs.declared.status.Status.TheVariants.{Done, Usage, BadJob, BadGraph, BadAtoms, ReadFault, WriteFault, BudgetSpent, NoMemory}
+use Rattle.engine_cli.specs.declared.status.Status.TheVariants.{Done, Usage, BadJob, BadGraph, BadAtoms, ReadFault, WriteFault, DiskFault, BadStore, BudgetSpent, NoMemory}
 use Rattle.gl_outside.specs.Fronts.{AppendsFront}
 use Rattle.gl_base.specs.declared.atoms.AtomsKind.TheVariants as kind
+use Rattle.store_format.specs.declared.faults.StoreFault.TheVariants as store
 
 -- texts one after another
 abbrev pub joined : List (List ℕ) → List ℕ
@@ -48,6 +50,16 @@ abbrev pub atoms_note : AtomsFault → List ℕ
 atoms_note fault =
     joined (codes "atoms: " ∷ decimal fault.file ∷ codes ": " ∷ atoms_kind_name fault.kind ∷ codes " at " ∷ decimal fault.at ∷ codes "\n" ∷ [])
 
+-- what is told of a store's fault
+abbrev pub store_note : StoreFault → List ℕ
+store_note (store.Torn at) = joined (codes "store: torn at " ∷ decimal at ∷ codes "\n" ∷ [])
+store_note (store.BadByte at) = joined (codes "store: bad byte at " ∷ decimal at ∷ codes "\n" ∷ [])
+store_note (store.Machines kept given) = joined (codes "store: machines " ∷ decimal kept ∷ codes " " ∷ decimal given ∷ codes "\n" ∷ [])
+store_note (store.Graph kept given) = codes "store: other graph\n"
+store_note (store.Program kept given) = codes "store: other program\n"
+store_note (store.Used count) = joined (codes "store: used " ∷ decimal count ∷ codes "\n" ∷ [])
+store_note (store.NotEmpty length) = joined (codes "store: not empty " ∷ decimal length ∷ codes "\n" ∷ [])
+
 -- the verbs and their words
 abbrev pub usage : List ℕ
 usage = codes "usage: glab run|resume|init|cut JOB\nusage: glab make PREFIX --number N --vertices N --edges N [--weight N]\n"
@@ -61,6 +73,8 @@ note_of (BadGraph fault) = graph_note fault
 note_of (BadAtoms fault) = atoms_note fault
 note_of ReadFault = codes "read fault\n"
 note_of WriteFault = codes "write fault\n"
+note_of DiskFault = codes "disk fault\n"
+note_of (BadStore fault) = store_note fault
 note_of (BudgetSpent left) = codes "budget spent\n"
 note_of NoMemory = codes "out of memory\n"
 

@@ -8,7 +8,7 @@ use Rattle.gl_outside.specs.FilesState.{FilesState}
 use Rattle.gl_outside.specs.Fronts.{AppendsFront}
 use Rattle.job_config.specs.Jobs.{JobSayings}
 use Rattle.engine_cli.specs.declared.status.Status.{Status}
-use Rattle.engine_cli.specs.declared.status.Status.TheVariants.{Done, Usage, BadJob, BadGraph, BadAtoms, ReadFault, WriteFault, BudgetSpent, NoMemory}
+use Rattle.engine_cli.specs.declared.status.Status.TheVariants.{Done, Usage, BadJob, BadGraph, BadAtoms, ReadFault, WriteFault, DiskFault, BadStore, BudgetSpent, NoMemory}
 use Rattle.engine_cli.specs.Answer.{IsAnswer, Printed, IsValid, SpendsBudget}
 use Rattle.whole_files.specs.Leaves.{KeepsOrGives}
 use Rattle.graph_core.specs.DataGraph.{DataGraph}
@@ -68,6 +68,8 @@ Says file report before now tells order (BadAtoms fault) = (order ≡ []) × OfJ
 Says file report before now tells order ReadFault = (order ≡ []) × Rose before.files.sources.faults now.files.sources.faults
 Says file report before now tells order WriteFault =
     PrintsAnswer before.files file report order (λ name printed. FailsAtOrder name before now printed ⊎ FailsAtOut name before now printed)
+Says file report before now tells order DiskFault = ⊥
+Says file report before now tells order (BadStore fault) = ⊥
 Says file report before now tells order (BudgetSpent left) = OfJob verb.Run before.files file (λ job. HasAtoms before.files job × OfTexts before.files job (SpendsBudget job left order))
 Says file report before now tells order NoMemory = order ≡ []
 

@@ -2,10 +2,12 @@
 use Rattle.std.specs.Prelude.{ℕ, ⊤}
 use Rattle.made_graphs.specs.declared.making.Writing.{Writing}
 use Rattle.job_files.specs.declared.inputs.NoInput.{NoInput}
+use Rattle.job_stores.specs.declared.making.NoStore.{NoStore}
 use Rattle.engine_cli.specs.declared.status.Status.{Status}
-use Rattle.engine_cli.specs.declared.status.Status.TheVariants.{Done, Usage, BadJob, BadGraph, BadAtoms, ReadFault, WriteFault, BudgetSpent, NoMemory}
+use Rattle.engine_cli.specs.declared.status.Status.TheVariants.{Done, Usage, BadJob, BadGraph, BadAtoms, ReadFault, WriteFault, DiskFault, BadStore, BudgetSpent, NoMemory}
 use Rattle.made_graphs.specs.declared.making.Writing.TheVariants as out
 use Rattle.job_files.specs.declared.inputs.NoInput.TheVariants as why
+use Rattle.job_stores.specs.declared.making.NoStore.TheVariants as no_store
 
 -- the number that a program ends with
 abbrev pub exit_number : Status → ℕ
@@ -16,6 +18,8 @@ exit_number (BadGraph fault) = 3
 exit_number (BadAtoms fault) = 4
 exit_number ReadFault = 5
 exit_number WriteFault = 6
+exit_number DiskFault = 7
+exit_number (BadStore fault) = 8
 exit_number (BudgetSpent left) = 9
 exit_number NoMemory = 11
 
@@ -28,10 +32,12 @@ IsBeforeWriting (BadGraph fault) = ⊤
 IsBeforeWriting (BadAtoms fault) = ⊤
 IsBeforeWriting ReadFault = ⊤
 IsBeforeWriting WriteFault = ⊥
+IsBeforeWriting DiskFault = ⊤
+IsBeforeWriting (BadStore fault) = ⊤
 IsBeforeWriting (BudgetSpent left) = ⊤
 IsBeforeWriting NoMemory = ⊤
 
--- the statuses at which no file was begun
+-- the statuses at which no file and no store was begun
 abbrev pub IsBeforeMaking : Status → Type 0
 IsBeforeMaking Done = ⊥
 IsBeforeMaking (Usage fault) = ⊤
@@ -40,6 +46,8 @@ IsBeforeMaking (BadGraph fault) = ⊤
 IsBeforeMaking (BadAtoms fault) = ⊤
 IsBeforeMaking ReadFault = ⊤
 IsBeforeMaking WriteFault = ⊥
+IsBeforeMaking DiskFault = ⊥
+IsBeforeMaking (BadStore fault) = ⊥
 IsBeforeMaking (BudgetSpent left) = ⊤
 IsBeforeMaking NoMemory = ⊥
 
@@ -52,6 +60,8 @@ IsRefusedInput (BadGraph fault) = ⊤
 IsRefusedInput (BadAtoms fault) = ⊥
 IsRefusedInput ReadFault = ⊥
 IsRefusedInput WriteFault = ⊥
+IsRefusedInput DiskFault = ⊥
+IsRefusedInput (BadStore fault) = ⊥
 IsRefusedInput (BudgetSpent left) = ⊥
 IsRefusedInput NoMemory = ⊥
 
@@ -64,6 +74,8 @@ IsDoneOrNoMemory (BadGraph fault) = ⊥
 IsDoneOrNoMemory (BadAtoms fault) = ⊥
 IsDoneOrNoMemory ReadFault = ⊥
 IsDoneOrNoMemory WriteFault = ⊥
+IsDoneOrNoMemory DiskFault = ⊥
+IsDoneOrNoMemory (BadStore fault) = ⊥
 IsDoneOrNoMemory (BudgetSpent left) = ⊥
 IsDoneOrNoMemory NoMemory = ⊤
 
@@ -76,6 +88,8 @@ IsRefusal (BadGraph fault) = ⊤
 IsRefusal (BadAtoms fault) = ⊤
 IsRefusal ReadFault = ⊤
 IsRefusal WriteFault = ⊤
+IsRefusal DiskFault = ⊤
+IsRefusal (BadStore fault) = ⊤
 IsRefusal (BudgetSpent left) = ⊤
 IsRefusal NoMemory = ⊤
 
@@ -91,3 +105,9 @@ status_of_no_input why.NoMemory = NoMemory
 abbrev pub status_of_writing : Writing → Status
 status_of_writing out.WriteFault = WriteFault
 status_of_writing out.NoMemory = NoMemory
+
+-- what a call ends with that made no store
+abbrev pub status_of_no_store : NoStore → Status
+status_of_no_store (no_store.BadStore fault) = BadStore fault
+status_of_no_store no_store.DiskFault = DiskFault
+status_of_no_store no_store.NoMemory = NoMemory

@@ -1,5 +1,5 @@
 -- What a call says of each verb.
-use Rattle.std.specs.Prelude.{◌≡◌, ℕ, Bool, false, List, [], ◌∷◌, ⊤}
+use Rattle.std.specs.Prelude.{◌≡◌, ◌≤◌, ℕ, Bool, false, List, [], ◌∷◌, ⊤}
 use Rattle.gl_base.specs.declared.entries.Entry.{Entry}
 use Rattle.gl_base.specs.declared.jobs.MakePlan.{MakePlan}
 use Rattle.gl_base.specs.declared.text_faults.TextFile.TheVariants.{Vertices, Edges}
@@ -7,12 +7,14 @@ use Rattle.gl_outside.specs.Faults.{Rose}
 use Rattle.gl_outside.specs.FilesState.{FilesState}
 use Rattle.gl_outside.specs.Frames.{ChangesSources}
 use Rattle.job_words.specs.declared.words.Words.{Words}
-use Rattle.job_words.specs.declared.words.Words.TheVariants.{Run, Make, Cut}
+use Rattle.job_words.specs.declared.words.Words.TheVariants.{Run, Make, Cut, Init}
 use Rattle.engine_cli.specs.declared.ended.Ended.{Ended}
 use Rattle.engine_cli.specs.declared.status.Status.{Status}
 use Rattle.engine_cli.specs.Ended.{AreNone, CountsUpdates}
 use Rattle.whole_files.specs.FilesUsed.{HandsOver, WritesFiles}
 use Rattle.engine_cli.specs.CutJobs.{Cuts, LeavesCutFronts}
+use Rattle.engine_cli.specs.StoreJobs.{HandsStore, HasEmptyStore, IsStoreName, MakesStore}
+use Rattle.job_stores.specs.NewStores.{KeepsFilledDisks}
 use Rattle.engine_cli.specs.NamesWritten.{HandsWritten, IsWrittenName}
 use Rattle.job_files.specs.NamesRead.{HandsForRun, names_of}
 use Rattle.graph_files.specs.Made.{LeavesFront, edges_name, vertices_name}
@@ -54,14 +56,30 @@ pub record IsCutting (file : List ℕ) (before now : FilesState) (status : Statu
   pub others : (name : List ℕ) → (IsWrittenName verb.Cut before file name → ⊥) → now.contents name ≡ before.contents name
   pub complete : IsReadable verb.Cut before file → (Rose before.sources.faults now.sources.faults → ⊥) → (Rose before.sinks.faults now.sinks.faults → ⊥) → IsDoneOrNoMemory status
 
--- what the words' verb leaves
-abbrev pub IsCall : Words → Moment → Moment → (List ℕ → Type 0) → Ended → Type 0
-IsCall (Run file report) before now tells ended = IsRun file report before now tells ended.order.items ended.done.items ended.status
-IsCall (Make prefix plan) before now tells ended = IsMaking prefix plan before.files now.files ended.status × AreNone ended.order.items ended.done.items
-IsCall (Cut file) before now tells ended = IsCutting file before.files now.files ended.status × AreNone ended.order.items ended.done.items
+-- What `init` leaves: it opens the job's store as a disk and writes it, and no other file. No disk that has bytes changes. It hands the
+-- opens the names of the job's file and of the job's texts at most, in turn, and then that of the store.
+pub record IsInit (told : Bool) (file : List ℕ) (before now : FilesState) (status : Status) : Type 0 where
+  pub says : MakesStore told file before now status
+  pub kept : KeepsFilledDisks told before now
+  pub sources : HandsOver before.sources.names now.sources.names (names_of verb.Init before file)
+  pub disks : HandsStore before now file
+  pub frame : now ≡ record before { sources = now.sources; pasts = now.pasts; disks = now.disks }
+  pub early : IsBeforeMaking status → ChangesSources before now
+  pub others : (name : List ℕ) → (IsStoreName before file name → ⊥) → now.pasts name ≡ before.pasts name
+  pub later : before.disks.faults ≤ now.disks.faults
+  pub complete : (input : IsReadable verb.Init before file) → HasEmptyStore told before input.job.fields → (Rose before.sources.faults now.sources.faults → ⊥) → (Rose before.disks.faults now.disks.faults → ⊥)
+      → IsDoneOrNoMemory status
+
+-- what the words' verb leaves, where `told` says whether it is told what disks hold
+abbrev pub IsCall : Bool → Words → Moment → Moment → (List ℕ → Type 0) → Ended → Type 0
+IsCall told (Run file report) before now tells ended = IsRun file report before now tells ended.order.items ended.done.items ended.status
+IsCall told (Make prefix plan) before now tells ended = IsMaking prefix plan before.files now.files ended.status × AreNone ended.order.items ended.done.items
+IsCall told (Cut file) before now tells ended = IsCutting file before.files now.files ended.status × AreNone ended.order.items ended.done.items
+IsCall told (Init file) before now tells ended = IsInit told file before.files now.files ended.status × AreNone ended.order.items ended.done.items
 
 -- the verbs that tell nothing where they did their work
 abbrev pub IsQuiet : Words → Type 0
 IsQuiet (Run file report) = report ≡ false
 IsQuiet (Make prefix plan) = ⊤
 IsQuiet (Cut file) = ⊤
+IsQuiet (Init file) = ⊤

@@ -1,12 +1,12 @@
-//! The verbs that do their work on files alone: `make` writes a graph, and `cut` the index and the atoms of one.
+//! The verbs that do their work on files alone: `make` writes a graph, `cut` the index and the atoms of one, and `init` a store.
 ghost use Rattle.std.specs.Prelude.{◌≡◌, ◌≤◌, List, ℕ};
 ghost use Rattle.gl_base.specs.declared.jobs.MakePlan.{MakePlan};
-ghost use Rattle.job_words.specs.declared.words.Words.TheVariants.{Cut, Make};
+ghost use Rattle.job_words.specs.declared.words.Words.TheVariants.{Cut, Init, Make};
 ghost use Rattle.engine_cli.specs.declared.status.Status.TheVariants.{Done};
 ghost use Rattle.engine_cli.specs.Status.{IsRefusal};
 ghost use Rattle.engine_cli.specs.Made.{IsAsked, IsOfFiles};
 ghost use Rattle.engine_cli.specs.Notes.{WritesNote, note_of};
-ghost use Rattle.engine_cli.specs.Verbs.{IsCutting, IsMaking};
+ghost use Rattle.engine_cli.specs.Verbs.{IsCutting, IsInit, IsMaking};
 
 use crate::Status;
 use crate::notes::refuse;
@@ -14,14 +14,17 @@ use gl_base::UsageFault;
 use gl_outside::{Files, Sink};
 use graph_files::{make_files, write_cut};
 use job_files::{Input, JobVerb, read_input};
+use job_stores::{header_of, make_store};
 use job_words::Words;
 use std::alloc::Global;
 
 /// Does what a command line asks whose verb is not `run`, as `engine` does it, and writes nothing to `out`. `make`
 /// writes the vertex text and the edge text of the plan's graph to the files PREFIX.v and PREFIX.e. `cut` reads the job and
 /// the graph that it names, cuts the graph into as many atoms as the job has, and writes the index and each atom to the files
-/// PREFIX.index, PREFIX.0.atom, PREFIX.1.atom, .. at the job's prefix for atoms. Where a verb is refused each of its files is
-/// what it was, or holds a front of its bytes.
+/// PREFIX.index, PREFIX.0.atom, PREFIX.1.atom, .. at the job's prefix for atoms. Where one of these two is refused each of its files is
+/// what it was, or holds a front of its bytes. `init` reads the job and the graph that it names, and makes the job's store of a
+/// file that is missing or has no bytes; any other is refused by `NotEmpty`, and stays as it is. After `DiskFault` a file that had no
+/// bytes may have any.
 pub fn files_only<F: Files, K: Sink, N: Sink>(
     alloc: Global,
     words: &Words,
@@ -34,6 +37,7 @@ pub fn files_only<F: Files, K: Sink, N: Sink>(
     ensures make { (prefix : List ℕ) (plan : MakePlan) → words.now ≡ Make prefix plan →
         IsMaking prefix plan (F.state files.old) (F.state files.new) result }
     ensures cut { (file : List ℕ) → words.now ≡ Cut file → IsCutting file (F.state files.old) (F.state files.new) result }
+    ensures init { (file : List ℕ) → words.now ≡ Init file → IsInit F.disks_told file (F.state files.old) (F.state files.new) result }
     ensures reads { (F.state files.old).sources.faults ≤ (F.state files.new).sources.faults }
     ensures later { (F.state files.old).sinks.faults ≤ (F.state files.new).sinks.faults }
     ensures untouched { out.new ≡ out.old }
@@ -49,6 +53,10 @@ pub fn files_only<F: Files, K: Sink, N: Sink>(
             Err(why) => refuse(note, why.into()),
         },
         Words::Cut { file } => match cut_job(alloc, files, file.as_str()) {
+            Status::Done => Status::Done,
+            status => refuse(note, status),
+        },
+        Words::Init { file } => match init_job(alloc, files, file.as_str()) {
             Status::Done => Status::Done,
             status => refuse(note, status),
         },
@@ -69,6 +77,25 @@ fn cut_job<F: Files>(alloc: Global, files: &mut F, file: &str) -> Status
         unreachable!()
     };
     match write_cut(alloc, files, prefix.as_str(), &graph, job.atoms) {
+        Ok(()) => Status::Done,
+        Err(why) => why.into(),
+    }
+}
+
+/// Reads the job and its graph, and makes the job's store.
+fn init_job<F: Files>(alloc: Global, files: &mut F, file: &str) -> Status
+    ensures init { IsInit F.disks_told file.now (F.state files.old) (F.state files.new) result }
+    ensures reads { (F.state files.old).sources.faults ≤ (F.state files.new).sources.faults }
+    ensures writes { (F.state files.old).sinks.faults ≤ (F.state files.new).sinks.faults }
+{
+    let Input { job, graph } = match read_input(alloc, files, file, JobVerb::Init) {
+        Ok(input) => input,
+        Err(why) => return why.into(),
+    };
+    let Some(name) = &job.store else {
+        unreachable!()
+    };
+    match make_store(files, name.as_str(), &header_of(&job, &graph)) {
         Ok(()) => Status::Done,
         Err(why) => why.into(),
     }

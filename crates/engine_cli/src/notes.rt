@@ -1,7 +1,8 @@
 //! WritesNote on standard error why a call was refused.
-ghost use Rattle.std.specs.Prelude.{◌≡◌, ◌≤◌, [], ◌∷◌, codes, map};
+ghost use Rattle.std.specs.Prelude.{◌≡◌, ◌≤◌, [], ◌∷◌, codes, decimal, map};
 ghost use Rattle.gl_base.specs.declared.job_faults.JobFault.TheVariants.{OutOfRange};
-ghost use Rattle.engine_cli.specs.Notes.{WritesNote, atoms_kind_name, atoms_note, graph_note, job_note, note_of, joined};
+ghost use Rattle.store_format.specs.declared.faults.StoreFault.TheVariants.{Machines};
+ghost use Rattle.engine_cli.specs.Notes.{WritesNote, atoms_kind_name, atoms_note, graph_note, job_note, note_of, joined, store_note};
 ghost use Rattle.engine_cli.specs.Inner.Writes.{WritesAll};
 ghost use Rattle.gl_base.specs.FaultNames.{key_name};
 
@@ -9,6 +10,7 @@ use crate::Status;
 use gl_base::{AtomsFault, AtomsKind, JobFault, Key, TextFault, TextFile, TextKind};
 use gl_outside::{Failed, Sink, write_all};
 use itoa::Buffer;
+use store_format::StoreFault;
 
 /// The verbs and their words.
 const USAGE: &str =
@@ -39,6 +41,8 @@ fn tell<N: Sink>(note: &mut N, status: &Status) -> Result<(), Failed>
         Status::BadAtoms(fault) => tell_atoms(note, *fault),
         Status::ReadFault => write_text(note, "read fault\n"),
         Status::WriteFault => write_text(note, "write fault\n"),
+        Status::DiskFault => write_text(note, "disk fault\n"),
+        Status::BadStore(fault) => tell_store(note, fault),
         Status::BudgetSpent { .. } => write_text(note, "budget spent\n"),
         Status::NoMemory => write_text(note, "out of memory\n"),
     }
@@ -123,6 +127,47 @@ fn kind_name(kind: AtomsKind) -> &'static str
         AtomsKind::Differs => "differs",
         AtomsKind::TooLong => "too long",
     }
+}
+
+/// Writes why a store was refused.
+fn tell_store<N: Sink>(note: &mut N, fault: &StoreFault) -> Result<(), Failed>
+    ensures note { WritesAll result (store_note fault.now) (N.held note.old) (N.held note.new) (N.faults note.old) (N.faults note.new) }
+    ensures later { N.faults note.old ≤ N.faults note.new }
+    ensures same { N.same note.old note.new }
+{
+    match fault {
+        StoreFault::Torn(at) => tell_number(note, "store: torn at ", *at),
+        StoreFault::BadByte(at) => tell_number(note, "store: bad byte at ", *at),
+        StoreFault::Machines { kept, given } => tell_machines(note, *kept, *given),
+        StoreFault::Graph { .. } => write_text(note, "store: other graph\n"),
+        StoreFault::Program { .. } => write_text(note, "store: other program\n"),
+        StoreFault::Used(count) => tell_number(note, "store: used ", *count as u64),
+        StoreFault::NotEmpty(length) => tell_number(note, "store: not empty ", *length),
+    }
+}
+
+/// Writes a text and a number.
+fn tell_number<N: Sink>(note: &mut N, text: &str, number: u64) -> Result<(), Failed>
+    ensures note { WritesAll result (joined (text.now ∷ decimal number ∷ codes "\n" ∷ [])) (N.held note.old) (N.held note.new) (N.faults note.old) (N.faults note.new) }
+    ensures later { N.faults note.old ≤ N.faults note.new }
+    ensures same { N.same note.old note.new }
+{
+    let mut digits = Buffer::new();
+    let number = digits.format(number);
+    write_line(note, text, number)
+}
+
+/// Writes that a store is for other machines.
+fn tell_machines<N: Sink>(note: &mut N, kept: u16, given: u16) -> Result<(), Failed>
+    ensures note { WritesAll result (store_note (Machines kept given)) (N.held note.old) (N.held note.new) (N.faults note.old) (N.faults note.new) }
+    ensures later { N.faults note.old ≤ N.faults note.new }
+    ensures same { N.same note.old note.new }
+{
+    let mut first = Buffer::new();
+    let mut second = Buffer::new();
+    let kept = first.format(kept);
+    let given = second.format(given);
+    write_texts(note, &["store: machines ", kept, " ", given, "\n"])
 }
 
 /// Writes a text.

@@ -1,11 +1,13 @@
 //! How a call ended.
 ghost use Rattle.std.specs.Prelude.{◌≡◌};
-ghost use Rattle.engine_cli.specs.Status.{status_of_no_input, status_of_writing};
+ghost use Rattle.engine_cli.specs.Status.{status_of_no_input, status_of_no_store, status_of_writing};
 ghost use Rattle.engine_cli.specs.Status.{exit_number};
 
 use gl_base::{AtomsFault, JobFault, TextFault, UsageFault, Vertex};
 use job_files::NoInput;
+use job_stores::NoStore;
 use made_graphs::Writing;
+use store_format::StoreFault;
 
 /// How a call of the engine ended.
 #[derive(Debug, Drop)]
@@ -25,6 +27,10 @@ pub enum Status {
     ReadFault,
     /// The answer, or a file, could not be written to its end.
     WriteFault,
+    /// The store could not be read or written.
+    DiskFault,
+    /// The store is refused: `init` makes none of a file that has bytes.
+    BadStore(StoreFault),
     /// So many updates were made as the job's budget has, and this vertex is a task all the same.
     BudgetSpent { left: Vertex },
     /// There was not enough memory.
@@ -46,6 +52,8 @@ impl Status {
             Status::BadAtoms(_) => 4,
             Status::ReadFault => 5,
             Status::WriteFault => 6,
+            Status::DiskFault => 7,
+            Status::BadStore(_) => 8,
             Status::BudgetSpent { .. } => 9,
             Status::NoMemory => 11,
         }
@@ -73,6 +81,18 @@ impl From<Writing> for Status {
         match writing {
             Writing::WriteFault => Status::WriteFault,
             Writing::NoMemory => Status::NoMemory,
+        }
+    }
+}
+
+impl From<NoStore> for Status {
+    ghost from_gives = { λ why status. status ≡ status_of_no_store why };
+
+    fn from(why: NoStore) -> Self {
+        match why {
+            NoStore::BadStore(fault) => Status::BadStore(fault),
+            NoStore::DiskFault => Status::DiskFault,
+            NoStore::NoMemory => Status::NoMemory,
         }
     }
 }

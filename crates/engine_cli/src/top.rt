@@ -28,10 +28,11 @@ use std::sync::Wait;
 /// least identifier in its component, its distance from the source, or a colour. Where the job names a file for the order
 /// of the updates, that is written before `out`. With `--report` the report goes to `note`. `make PREFIX ..` writes a graph
 /// to the files PREFIX.v and PREFIX.e. `cut JOB` cuts the job's graph into atoms and writes the index and the atoms at the job's
-/// prefix for them; where `run`'s job has such a prefix, the files there are looked at before the run.
+/// prefix for them; where `run`'s job has such a prefix, the files there are looked at before the run. `init JOB` makes the job's
+/// store, a file without snapshots; no verb uses it yet.
 ///
 /// The words are refused first, then the job's file, what it says, a key that the verb needs, what it asks for that is not
-/// built, the vertex file, the edge file, a source that is no vertex, the index and the atoms, and a run whose budget is spent;
+/// built, the vertex file, the edge file, a source that is no vertex, the index and the atoms, the store, and a run whose budget is spent;
 /// then the order's file and `out` are written, and last one line to `note` for every status but `Done`. A fault of `note` is passed over. `gate` is not passed yet.
 ///
 /// `order` holds the updates of the run and `done` how many of them each machine made, where the status is `Done`, `WriteFault` or
@@ -48,7 +49,7 @@ pub fn engine<R: Wait, F: Files, K: Sink, N: Sink, G: Gate + Sync>(
     requires { length words.now < 4294967295 }
 
     // What the verb leaves, by each status.
-    ensures verb { (asked : Words) → IsCommandLine (texts words.now) asked → IsCall asked (moment (F.state files.old) (K.faults out.old) (K.held out.old))
+    ensures verb { (asked : Words) → IsCommandLine (texts words.now) asked → IsCall F.disks_told asked (moment (F.state files.old) (K.faults out.old) (K.held out.old))
         (moment (F.state files.new) (K.faults out.new) (K.held out.new))
         (λ report. WritesNote report (N.held note.old) (N.held note.new) (N.faults note.old) (N.faults note.new)) result }
     ensures files_only { (asked : Words) → IsCommandLine (texts words.now) asked → IsOfFiles asked → out.new ≡ out.old }
@@ -89,7 +90,7 @@ fn do_command<R: Wait, F: Files, K: Sink, N: Sink>(
     note: &mut N,
 ) -> Ended
     requires { IsAsked asked.now }
-    ensures verb { IsCall asked.now (moment (F.state files.old) (K.faults out.old) (K.held out.old))
+    ensures verb { IsCall F.disks_told asked.now (moment (F.state files.old) (K.faults out.old) (K.held out.old))
         (moment (F.state files.new) (K.faults out.new) (K.held out.new))
         (λ report. WritesNote report (N.held note.old) (N.held note.new) (N.faults note.old) (N.faults note.new)) result }
     ensures files_only { IsOfFiles asked.now → out.new ≡ out.old }
@@ -116,6 +117,7 @@ fn do_command<R: Wait, F: Files, K: Sink, N: Sink>(
         ),
         Words::Make { .. } => no_run(alloc, files_only(alloc, asked, files, out, note)),
         Words::Cut { .. } => no_run(alloc, files_only(alloc, asked, files, out, note)),
+        Words::Init { .. } => no_run(alloc, files_only(alloc, asked, files, out, note)),
     }
 }
 

@@ -1,7 +1,7 @@
 //! Clusters that begin.
-ghost use Rattle.std.specs.Prelude.{◌≡◌, ◌<◌, All, IsTrue, length};
+ghost use Rattle.std.specs.Prelude.{◌≡◌, ◌<◌, All, IfOk, IsTrue, false, length};
 ghost use Rattle.graph_core.specs.DataGraph.{size};
-ghost use Rattle.placed_clusters.specs.Running.{IsBaseFor};
+ghost use Rattle.placed_clusters.specs.Running.{AreStartIn, IsBaseFor, Setting};
 
 use crate::plans::{Placing, Plan};
 use crate::trouble::Trouble;
@@ -118,8 +118,13 @@ pub fn has_numbers(graph: &Graph, base: &Base) -> bool
     base.values.len() == graph.n() as usize && base.edges.len() == graph.m() as usize
 }
 
-/// The cluster, where each vertex has a machine, and a number as each edge has.
-pub fn begun<P: Program>(alloc: Global, beginning: &Beginning<'_, P>) -> Result<Whole<P>, Trouble> {
+/// The machines of the cluster, where each vertex has one, and a number as each edge has.
+pub fn machines_of<P: Program>(
+    alloc: Global,
+    beginning: &Beginning<'_, P>,
+) -> Result<Vec<ProgramMachine<P>>, Trouble>
+    ensures plain { IfOk result (λ machines. (st : Setting) × AreStartIn P.meaning machines.items st × (st.stored ≡ false)) }
+{
     let (graph, base, run) = (beginning.graph, beginning.base, beginning.run);
     let of = beginning.places.of.as_slice();
     let owner = beginning.places.owner.as_slice();
@@ -129,10 +134,17 @@ pub fn begun<P: Program>(alloc: Global, beginning: &Beginning<'_, P>) -> Result<
     if !has_numbers(graph, base) {
         return Err(Trouble::Malformed("not a number for each"));
     }
+    let program = beginning.program;
+    Ok(placed_machines(alloc, graph, program, base, of, owner, run)?)
+}
+
+/// The cluster, where each vertex has a machine, and a number as each edge has.
+pub fn begun<P: Program>(alloc: Global, beginning: &Beginning<'_, P>) -> Result<Whole<P>, Trouble> {
+    let run = beginning.run;
     if run.next >= MOST_TICKETS || run.left >= MOST_TICKETS {
         return Err(Trouble::Malformed("too many tickets"));
     }
-    let machines = placed_machines(alloc, graph, beginning.program, base, of, owner, run)?;
+    let machines = machines_of(alloc, beginning)?;
     if machines.len() > u16::MAX as usize {
         return Err(Trouble::Malformed("too many machines"));
     }

@@ -1,4 +1,5 @@
 //! The lines that say what is to be seen.
+use crate::batches::batch_text;
 use crate::cast::{has_both, has_machine};
 use crate::driving::next_grant;
 use crate::fields::Fields;
@@ -25,6 +26,7 @@ pub fn seen<P: Program>(
             let x = next_grant(scene, fields.machine(0)?)?;
             vertex_text(alloc, graph, x)
         }
+        "batch" => batch_text(alloc, scene, fields.machine(0)?),
         "numbers" | "order" => gathered_text(alloc, graph, &scene.whole, fields),
         "number" | "edge" => number_seen(alloc, graph, &scene.whole, fields),
         "task" | "left" | "next" | "due" | "stopped" => {
@@ -187,7 +189,7 @@ fn yes_or_no(yes: bool) -> &'static str {
     if yes { "yes" } else { "no" }
 }
 
-fn word_text(alloc: Global, word: &str) -> Result<String, Trouble> {
+pub fn word_text(alloc: Global, word: &str) -> Result<String, Trouble> {
     Ok(String::from_str(alloc, word)?)
 }
 
@@ -199,7 +201,7 @@ fn number_text(alloc: Global, number: Option<u64>) -> Result<String, Trouble> {
 }
 
 /// The identifier of a vertex.
-fn vertex_text(alloc: Global, graph: &Graph, vertex: Option<Vertex>) -> Result<String, Trouble> {
+pub fn vertex_text(alloc: Global, graph: &Graph, vertex: Option<Vertex>) -> Result<String, Trouble> {
     number_text(alloc, vertex.and_then(|v| id_of(graph, v)))
 }
 
@@ -248,7 +250,7 @@ fn tickets_text(alloc: Global, entries: &[Entry]) -> Result<String, Trouble> {
 }
 
 /// Adds a word behind a blank.
-fn add_word(text: &mut String, word: &str) -> Result<(), Trouble> {
+pub fn add_word(text: &mut String, word: &str) -> Result<(), Trouble> {
     if !text.is_empty() {
         text.push_str(" ")?;
     }

@@ -6,6 +6,7 @@
 
 mod acts;
 mod answers;
+mod batches;
 mod beginnings;
 mod cast;
 mod chances;

@@ -1,3 +1,4 @@
 pub mod Walking
 pub mod Running
+pub mod InTurn
 pub mod Moving

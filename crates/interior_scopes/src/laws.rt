@@ -1,8 +1,9 @@
 //! Laws of updates that are made at once. Each is the contract of a function that does nothing.
-ghost use Rattle.std.specs.Prelude.{◌≡◌, ℕ, ◌<◌, ◌++◌, ◌∷◌, [], false, List};
+ghost use Rattle.std.specs.Prelude.{◌≡◌, ℕ, ◌<◌, ◌++◌, ◌∷◌, [], false, List, map};
 ghost use Rattle.cluster_core.specs.Runs.{IsActionRun, IsStart};
 ghost use Rattle.graph_core.specs.DataGraph.{size};
-ghost use Rattle.interior_scopes.specs.AtOnce.{Action, IsInterior, IsSetting, Locking, MayUpdateAtOnce, Setting, World, actions_at_once, after_at_once};
+ghost use Rattle.interior_scopes.specs.AtOnce.{Action, Grant, Part, with_part, IsInterior, IsSetting, Locking, MayUpdateAtOnce, Setting, World, actions_at_once, after_at_once};
+ghost use Rattle.interior_scopes.specs.InTurn.{AreGranted};
 ghost use Rattle.interior_scopes.specs.Moves.{AreMoves, MayMove, Move, actions_of, moved};
 
 /// Where scopes take locks, admission, the grant of each lock in turn and the update are a run: each may happen in its turn, and they
@@ -10,6 +11,11 @@ ghost use Rattle.interior_scopes.specs.Moves.{AreMoves, MayMove, Move, actions_o
 pub fn at_once_is_a_run()
     ensures { (st : Setting) (w : World) (a v : ℕ) → IsSetting st → st.engine ≡ Locking → MayUpdateAtOnce st a v (w.part a) w.left →
         IsActionRun st w (actions_at_once st a v (w.part a)) (after_at_once st w a v) }
+{}
+
+/// Locks of a machine that are granted one after another are a run of these grants.
+pub fn grants_are_a_run()
+    ensures { (st : Setting) (w : World) (a : ℕ) (locks : List ℕ) (new : Part) → AreGranted st a locks (w.part a) new → IsActionRun st w (map (Grant a) locks) (with_part w a new) }
 {}
 
 /// Actions and updates at once, mixed in any order, are a run of the actions that they stand for. So each law about runs is one about

@@ -9,7 +9,7 @@ use Rattle.gl_base.specs.declared.jobs.EngineKind.{EngineKind}
 use Rattle.gl_base.specs.declared.jobs.EngineKind.TheVariants.{Locking, Chromatic}
 use Rattle.job_config.specs.Jobs.{JobSayings, job_of}
 use Rattle.job_files.specs.declared.jobs.JobVerb.{JobVerb}
-use Rattle.job_files.specs.declared.jobs.JobVerb.TheVariants.{Run, Cut}
+use Rattle.job_files.specs.declared.jobs.JobVerb.TheVariants.{Run, Cut, Init}
 
 abbrev pub is_locking : EngineKind → Bool
 is_locking Locking = true
@@ -28,14 +28,21 @@ abbrev pub if_built : JobSayings → Option Key → Result JobSayings JobFault
 if_built job None = Ok job
 if_built job (Some key) = Err (NotBuilt key)
 
--- the job, where it has the key that the verb needs: `cut` needs the name for its files
+-- the same of a verb: `init` does none of what is not built
+abbrev pub not_built_for : JobVerb → JobSayings → Option Key
+not_built_for Run job = not_built job
+not_built_for Cut job = not_built job
+not_built_for Init job = None
+
+-- the job, where it has the key that the verb needs: `cut` needs the name for its files, and `init` the store's
 abbrev pub with_needed_key : JobVerb → JobSayings → Result JobSayings JobFault
 with_needed_key Run job = Ok job
 with_needed_key Cut job = if is_some job.fields.atoms_at then Ok job else Err (Missing key.AtomsAt)
+with_needed_key Init job = if is_some job.fields.store then Ok job else Err (Missing key.Store)
 
 -- the job, where the verb can do it, or else the first fault
 abbrev pub doable : JobVerb → JobSayings → Result JobSayings JobFault
-doable verb said = and_then (with_needed_key verb said) (λ job. if_built job (not_built job))
+doable verb said = and_then (with_needed_key verb said) (λ job. if_built job (not_built_for verb job))
 
 -- the job that the bytes say and that the verb can do, or else the first fault
 abbrev pub job_for : JobVerb → List ℕ → Result JobSayings JobFault

@@ -20,6 +20,8 @@ pub enum JobVerb {
     Run,
     /// Cuts the job's graph into atoms. It needs the name for their files.
     Cut,
+    /// Makes the job's store. It needs the store's name, and can do each job that has one.
+    Init,
 }
 
 /// Why there is no job.
@@ -81,6 +83,8 @@ fn refused(job: &Job, verb: JobVerb) -> Option<JobFault>
 {
     match verb {
         JobVerb::Cut if job.atoms_at.is_none() => Some(JobFault::Missing(Key::AtomsAt)),
+        JobVerb::Init if job.store.is_none() => Some(JobFault::Missing(Key::Store)),
+        JobVerb::Init => None,
         _ => match not_built(job) {
             None => None,
             Some(key) => Some(JobFault::NotBuilt(key)),

@@ -12,7 +12,7 @@ use Rattle.gl_base.specs.declared.usage_faults.Opt.TheVariants as opt
 use Rattle.gl_base.specs.declared.usage_faults.UsageFault.{UsageFault}
 use Rattle.gl_base.specs.declared.usage_faults.UsageFault.TheVariants as fault
 use Rattle.job_words.specs.declared.words.Words.{Words}
-use Rattle.job_words.specs.declared.words.Words.TheVariants.{Run, Make, Cut}
+use Rattle.job_words.specs.declared.words.Words.TheVariants.{Run, Make, Cut, Init}
 use Rattle.job_words.specs.Lines.{Sayings}
 use Rattle.gl_base.specs.Results.{and_then}
 use Rattle.gl_base.specs.Texts.{Text}
@@ -68,4 +68,6 @@ meaning_of s = if bytes_eq s.verb (codes "run")
     else make_words s.file (plan_of s.number s.vertices s.edges s.weight))
     else (if bytes_eq s.verb (codes "cut")
     then (if s.report || has_option s then Err fault.NotHere else Ok (Cut s.file))
-    else Err fault.Verb))
+    else (if bytes_eq s.verb (codes "init")
+    then (if s.report || has_option s then Err fault.NotHere else Ok (Init s.file))
+    else Err fault.Verb)))

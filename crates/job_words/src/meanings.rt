@@ -121,6 +121,12 @@ pub fn read_meaning(alloc: Global, line: &Line) -> Result<Words, WordsReading>
         "cut" => Ok(Words::Cut {
             file: own_name(alloc, line.file)?,
         }),
+        "init" if line.report || line.has_option() => {
+            Err(WordsReading::Fault(UsageFault::NotHere))
+        }
+        "init" => Ok(Words::Init {
+            file: own_name(alloc, line.file)?,
+        }),
         _ => Err(WordsReading::Fault(UsageFault::Verb)),
     }
 }

@@ -19,6 +19,8 @@ pub enum Words {
     Make { prefix: Name, plan: MakePlan },
     /// Cut the graph of the job in `file` into atoms.
     Cut { file: Name },
+    /// Make the store of the job in `file`.
+    Init { file: Name },
 }
 
 /// Why no command line was read: the first fault of the words, which are none, or want of memory.

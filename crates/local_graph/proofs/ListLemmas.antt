@@ -75,13 +75,13 @@ all_flat P f (x ∷ xs) each = All-append P (f x) (flat_map f xs) (each x) (all_
 
 -- ---- items that are made place by place
 
-const_key : {Y : Type 0} (g : ℕ → Y) (j k : ℕ) (xs : List ℕ) → with_key k (map (λ a. let p : ℕ × Y = (j, g a) in p) xs) ≡ (if j == k then map g xs else [])
+const_key : {X Y : Type 0} (g : X → Y) (j k : ℕ) (xs : List X) → with_key k (map (λ a. let p : ℕ × Y = (j, g a) in p) xs) ≡ (if j == k then map g xs else [])
 const_key g j k [] = nothing (j == k)
   where
     nothing : {Y : Type 0} (b : Bool) → (let none : List Y = [] in none) ≡ (if b then [] else [])
     nothing true = refl
     nothing false = refl
-const_key {Y} g j k (x ∷ xs) =
+const_key {X} {Y} g j k (x ∷ xs) =
     one_key (j == k) j k (g x) (map (λ a. let p : ℕ × Y = (j, g a) in p) xs) refl
     ∙ ap (λ (ys : List Y). (if j == k then g x ∷ [] else []) ++ ys) (const_key g j k xs) ∙ joined (j == k)
   where
@@ -89,17 +89,25 @@ const_key {Y} g j k (x ∷ xs) =
     joined true = refl
     joined false = refl
 
-past_key : {Y : Type 0} (g : ℕ → Y) (h : ℕ → List ℕ) (k a n : ℕ) → k < a → with_key k (flat_map (λ j. map (λ x. let p : ℕ × Y = (j, g x) in p) (h j)) (range_with_len a n)) ≡ []
+past_key : {X Y : Type 0} (g : X → Y) (h : ℕ → List X) (k a n : ℕ) → k < a → with_key k (flat_map (λ j. map (λ x. let p : ℕ × Y = (j, g x) in p) (h j)) (range_with_len a n)) ≡ []
 past_key g h k a zero past = refl
-past_key {Y} g h k a (suc n) past =
+past_key {X} {Y} g h k a (suc n) past =
     let f = λ (j : ℕ). map (λ x. let p : ℕ × Y = (j, g x) in p) (h j) in
     key-append k (f a) (flat_map f (range_with_len (a + 1) n))
     ∙ ap (λ (ys : List Y). ys ++ with_key k (flat_map f (range_with_len (a + 1) n))) (const_key g a k (h a) ∙ ap (λ b. if b then map g (h a) else []) (ne_eqb a k (λ e. omega arith)))
     ∙ past_key g h k (a + 1) n (omega arith)
 
-pub range_key : {Y : Type 0} (g : ℕ → Y) (h : ℕ → List ℕ) (k a n : ℕ) → a ≤ k → k < a + n → with_key k (flat_map (λ j. map (λ x. let p : ℕ × Y = (j, g x) in p) (h j)) (range_with_len a n)) ≡ map g (h k)
+pub key_beyond : {X Y : Type 0} (g : X → Y) (h : ℕ → List X) (k a n : ℕ) → a + n ≤ k → with_key k (flat_map (λ j. map (λ x. let p : ℕ × Y = (j, g x) in p) (h j)) (range_with_len a n)) ≡ []
+key_beyond g h k a zero beyond = refl
+key_beyond {X} {Y} g h k a (suc n) beyond =
+    let f = λ (j : ℕ). map (λ x. let p : ℕ × Y = (j, g x) in p) (h j) in
+    key-append k (f a) (flat_map f (range_with_len (a + 1) n))
+    ∙ ap (λ (ys : List Y). ys ++ with_key k (flat_map f (range_with_len (a + 1) n))) (const_key g a k (h a) ∙ ap (λ b. if b then map g (h a) else []) (ne_eqb a k (λ e. omega arith)))
+    ∙ key_beyond g h k (a + 1) n (omega arith)
+
+pub range_key : {X Y : Type 0} (g : X → Y) (h : ℕ → List X) (k a n : ℕ) → a ≤ k → k < a + n → with_key k (flat_map (λ j. map (λ x. let p : ℕ × Y = (j, g x) in p) (h j)) (range_with_len a n)) ≡ map g (h k)
 range_key g h k a zero low high = absurd (omega arith)
-range_key {Y} g h k a (suc n) low high =
+range_key {X} {Y} g h k a (suc n) low high =
     let f = λ (j : ℕ). map (λ x. let p : ℕ × Y = (j, g x) in p) (h j) in
     let rest = flat_map f (range_with_len (a + 1) n) in
     key-append k (f a) rest

@@ -1,20 +1,23 @@
 -- Keys and vertices are below the count.
-use Rattle.std.proofs.Common.{◌≡◌, ℕ, zero, suc, ◌+◌, ◌<◌, ◌≤◌, ◌==◌, ◌++◌, Bool, true, false, if◌then◌else◌, Option, Some, List, [], ◌∷◌, length, get_or, map, ap, ◌∙◌, All, arith}
+use Rattle.std.proofs.Common.{◌≡◌, ℕ, zero, suc, ◌+◌, ◌*◌, ◌<◌, ◌≤◌, ◌==◌, ◌++◌, Bool, true, false, if◌then◌else◌, Option, Some, List, [], ◌∷◌, length, get_or, map, ap, ◌∙◌, All, arith}
 use Rattle.std.specs.List.{filter, flat_map, list_any, range_with_len}
 use Rattle.std.specs.List.Sorted.{IsPermutation}
 use Rattle.std.proofs.lemmas.List.{length-append, length-map}
 use Rattle.std.proofs.lemmas.List.Sorted.{All-permutation}
 use Rattle.graph_core.specs.Rows.{with_key}
 use Rattle.std.proofs.lemmas.List.Elements.{All-nil, All-cons, All-append, All-map, All-push}
+use Rattle.gl_base.specs.declared.atoms.EdgeLine.{EdgeLine}
 use Rattle.gl_base.specs.declared.atoms.VertexLine.{VertexLine}
 use Rattle.gl_base.specs.declared.atoms.GhostLine.{GhostLine}
 use Rattle.gl_base.specs.declared.numbers.MachineNo.{MachineNo}
 use Rattle.gl_base.specs.declared.numbers.Vertex.{Vertex}
 use Rattle.local_graph.specs.declared.sides.Side.{Side}
+use Rattle.local_graph.specs.Lines.{halves_of_lines}
 use Rattle.local_graph.specs.Locals.{place_of_vertex}
 use Rattle.local_graph.specs.Played.{meets, place_or}
+use Rattle.local_graph.specs.Inner.Ends.{end_pairs}
 use Rattle.local_graph.specs.Inner.Pairs.{once, with_new, parts_in, scope_in}
-use Rattle.local_graph.proofs.EndLemmas.{place_or-le}
+use Rattle.local_graph.proofs.EndLemmas.{ends_at, length-end_pairs, place_or-le}
 use Rattle.local_graph.proofs.ListLemmas.{all_flat}
 
 pub known_low : (n : ℕ) (own : List VertexLine) (ghosts : List GhostLine) → All (λ v. v.vertex.0 < n) own → All (λ g. g.vertex.0 < n) ghosts
@@ -23,19 +26,20 @@ known_low n own ghosts own_low ghosts_low =
     All-append (λ (v : Vertex). v.0 < n) (map (λ (v : VertexLine). v.vertex) own) (map (λ (g : GhostLine). g.vertex) ghosts)
     (All-map (λ (v : Vertex). v.0 < n) (λ (v : VertexLine). v.vertex) own own_low) (All-map (λ (v : Vertex). v.0 < n) (λ (g : GhostLine). g.vertex) ghosts ghosts_low)
 
-same_low : {Y : Type 0} (n k : ℕ) (g : ℕ → Y) (xs : List ℕ) → k < n → All (λ (p : ℕ × Y). p.0 < n) (map (λ a. let p : ℕ × Y = (k, g a) in p) xs)
-same_low {Y} n k g [] low = All-nil (λ (p : ℕ × Y). p.0 < n)
-same_low {Y} n k g (x ∷ xs) low = All-cons (λ (p : ℕ × Y). p.0 < n) (k, g x) (map (λ a. let p : ℕ × Y = (k, g a) in p) xs) low (same_low n k g xs low)
+same_low : {X Y : Type 0} (n k : ℕ) (g : X → Y) (xs : List X) → k < n → All (λ (p : ℕ × Y). p.0 < n) (map (λ a. let p : ℕ × Y = (k, g a) in p) xs)
+same_low {X} {Y} n k g [] low = All-nil (λ (p : ℕ × Y). p.0 < n)
+same_low {X} {Y} n k g (x ∷ xs) low = All-cons (λ (p : ℕ × Y). p.0 < n) (k, g x) (map (λ a. let p : ℕ × Y = (k, g a) in p) xs) low (same_low n k g xs low)
 
-parts_below : (sides : List (List Side)) (me : MachineNo) (machines a n m : ℕ) → a + n ≤ m → All (λ (p : ℕ × MachineNo). p.0 < m) (flat_map (parts_in sides me machines) (range_with_len a n))
-parts_below sides me machines a zero m fits = All-nil (λ (p : ℕ × MachineNo). p.0 < m)
-parts_below sides me machines a (suc n) m fits =
-    let machine : ℕ → MachineNo = λ a. record { 0 = a } in
-    All-append (λ (p : ℕ × MachineNo). p.0 < m) (parts_in sides me machines a) (flat_map (parts_in sides me machines) (range_with_len (a + 1) n))
-    (same_low m a machine (filter (meets me (get_or sides a [])) (range_with_len 0 machines)) (omega arith)) (parts_below sides me machines (a + 1) n m (omega arith))
+pub ranged_low : {X Y : Type 0} (g : X → Y) (h : ℕ → List X) (a n m : ℕ) → a + n ≤ m → All (λ (p : ℕ × Y). p.0 < m) (flat_map (λ j. map (λ x. let p : ℕ × Y = (j, g x) in p) (h j)) (range_with_len a n))
+ranged_low {X} {Y} g h a zero m fits = All-nil (λ (p : ℕ × Y). p.0 < m)
+ranged_low {X} {Y} g h a (suc n) m fits =
+    let f = λ (j : ℕ). map (λ x. let p : ℕ × Y = (j, g x) in p) (h j) in
+    All-append (λ (p : ℕ × Y). p.0 < m) (f a) (flat_map f (range_with_len (a + 1) n)) (same_low m a g (h a) (omega arith)) (ranged_low g h (a + 1) n m (omega arith))
 
 pub parts_low : (sides : List (List Side)) (me : MachineNo) (machines many : ℕ) → All (λ (p : ℕ × MachineNo). p.0 < many) (flat_map (parts_in sides me machines) (range_with_len 0 many))
-parts_low sides me machines many = parts_below sides me machines 0 many many (omega arith)
+parts_low sides me machines many =
+    let machine : ℕ → MachineNo = λ a. record { 0 = a } in
+    ranged_low machine (λ k. filter (meets me (get_or sides k [])) (range_with_len 0 machines)) 0 many many (omega arith)
 
 -- ---- scopes
 
@@ -86,3 +90,11 @@ pub few_keyed : {X : Type 0} (k : ℕ) (pairs : List (ℕ × X)) → length (wit
 few_keyed {X} k pairs =
     let few = few_passing (λ (p : ℕ × X). p.0 == k) pairs in
     omega (arith, length-map (filter (λ (p : ℕ × X). p.0 == k) pairs) (λ (p : ℕ × X). p.1))
+
+-- ---- the half-edges at one vertex
+
+pub few_halves : (directed : Bool) (edges : List EdgeLine) (v : ℕ) → length (halves_of_lines directed edges v) ≤ 2 * length edges
+few_halves directed edges v =
+    let pairs = end_pairs directed (v + 1) edges in
+    let is = ap length (ends_at directed (v + 1) v edges (omega arith)) in
+    omega (arith, few_keyed v pairs, length-end_pairs directed (v + 1) edges)

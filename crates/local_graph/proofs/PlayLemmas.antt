@@ -1,8 +1,8 @@
 -- What was made by place is what `play` promises by vertex.
-use Rattle.std.proofs.Common.{◌≡◌, ℕ, ◌+◌, ◌<◌, ◌==◌, ◌||◌, ◌++◌, Bool, true, false, if◌then◌else◌, Option, Some, None, is_some, List, [], ◌∷◌, length, get_or, map, replicate, refl, sym, ap, ◌∙◌, subst, All, arith, inl, inr}
+use Rattle.std.proofs.Common.{◌≡◌, ℕ, ◌+◌, ◌<◌, ◌≤◌, ◌==◌, ◌||◌, ◌++◌, Bool, true, false, if◌then◌else◌, min, Option, Some, None, is_some, List, [], ◌∷◌, length, get_or, map, replicate, refl, sym, ap, ◌∙◌, subst, All, arith, inl, inr}
 use Rattle.std.specs.List.{filter, flat_map, list_any, range_with_len}
 use Rattle.std.specs.List.Sorted.{IsPermutation}
-use Rattle.std.proofs.lemmas.Bool.{cases_lt, true≢false}
+use Rattle.std.proofs.lemmas.Bool.{cases_eq, cases_lt, true≢false}
 use Rattle.std.proofs.lemmas.List.{length-append, length-map, length-replicate, get_or_past, get_or_append_left, get_or-map}
 use Rattle.std.proofs.lemmas.List.Sorted.{All-permutation, IsPermutation-sym}
 use Rattle.std.proofs.lemmas.List.Elements.{All-nil, All-cons, All-map, All-filter, All-head, All-tail}
@@ -20,11 +20,11 @@ use Rattle.local_graph.specs.declared.sides.Side.{Side}
 use Rattle.local_graph.specs.Lines.{halves_of_lines, line_out, line_into, links_from}
 use Rattle.local_graph.specs.Locals.{LocalView, AreTheirPlaces, at_place, got_at, place_of_vertex, is_own, links_at, sides_at, parts_at, part_at, machine_numbers}
 use Rattle.local_graph.specs.Played.{IsPlayedFrom, leads_to, meets, no_datum, place_or, side_of}
-use Rattle.local_graph.specs.Inner.ByPlace.{known_vertices, pairs_of}
-use Rattle.local_graph.specs.Inner.Ends.{end_pairs, side_pair}
+use Rattle.local_graph.specs.Inner.ByPlace.{halves_here, known_vertices}
+use Rattle.local_graph.specs.Inner.Ends.{end_pairs}
 use Rattle.local_graph.specs.Inner.Kept.{HasAsMany, IsWellKept}
 use Rattle.local_graph.specs.Inner.Pairs.{parts_in, scope_in}
-use Rattle.local_graph.proofs.EndLemmas.{ends_at, key-map, key_is}
+use Rattle.local_graph.proofs.EndLemmas.{ends_at, key_is}
 use Rattle.local_graph.proofs.ListLemmas.{length-links, range_key}
 use Rattle.local_graph.proofs.RowLemmas.{own_place}
 use Rattle.local_graph.proofs.ScopeLemmas.{has, places_near, scopes_key}
@@ -41,9 +41,10 @@ pub record IsMade (me : MachineNo) (lines : Lines) (outline : Outline) (order : 
   pub ids : l.ids ≡ map (λ v. v.id) order
   pub kept : l.kept ≡ replicate (length order) no_datum
   pub many_rows : length l.rows ≡ length order
-  pub rows : (k : ℕ) → k < length order → get_or l.rows k None ≡ Some (links_from 0 (with_key k (pairs_of lines outline l.places none)))
+  pub rows : (k : ℕ) → k < length order → get_or l.rows k None ≡ Some (links_from 0 (halves_here lines outline (known_vertices order lines.ghosts.items) k))
   pub many_sides : length l.sides ≡ none + 1
-  pub sides : (k : ℕ) → k < none + 1 → get_or l.sides k [] ≡ with_key k (map (side_pair me (length order) lines.ghosts.items l.places) (pairs_of lines outline l.places none))
+  pub sides : (k : ℕ) → k < none → get_or l.sides k [] ≡ map (side_of me (length order) lines.ghosts.items l.places) (halves_here lines outline (known_vertices order lines.ghosts.items) k)
+  pub last_sides : get_or l.sides none [] ≡ []
   pub many_parts : length l.parts ≡ length order
   pub parts : (k : ℕ) → k < length order → get_or l.parts k [] ≡ with_key k (flat_map (parts_in l.sides me outline.machines) (range_with_len 0 (length order)))
   pub many_part : length l.part ≡ none + 1
@@ -85,19 +86,25 @@ all_keyed : {X : Type 0} (P : X → Type 0) (k : ℕ) (pairs : List (ℕ × X)) 
 all_keyed {X} P k pairs all = All-map P (λ (p : ℕ × X). p.1) (filter (λ (p : ℕ × X). p.0 == k) pairs) (All-filter (λ (p : ℕ × X). p.0 == k) (λ (p : ℕ × X). P p.1) pairs all)
 
 -- the half-edges of lines have their edges
-ends_listed : (directed : Bool) (places : List (Option ℕ)) (none m : ℕ) (edges : List EdgeLine) → All (λ e. e.edge.0 < m) edges → All (λ (p : ℕ × Half). p.1.edge.0 < m) (end_pairs directed places none edges)
-ends_listed directed places none m [] all = All-nil (λ (p : ℕ × Half). p.1.edge.0 < m)
-ends_listed directed places none m (e ∷ edges) all =
+ends_listed : (directed : Bool) (none m : ℕ) (edges : List EdgeLine) → All (λ e. e.edge.0 < m) edges → All (λ (p : ℕ × Half). p.1.edge.0 < m) (end_pairs directed none edges)
+ends_listed directed none m [] all = All-nil (λ (p : ℕ × Half). p.1.edge.0 < m)
+ends_listed directed none m (e ∷ edges) all =
     let here = All-head (λ (e : EdgeLine). e.edge.0 < m) e edges all in
-    let rest = ends_listed directed places none m edges (All-tail (λ (e : EdgeLine). e.edge.0 < m) e edges all) in
-    let more = end_pairs directed places none edges in
-    let out : ℕ × Half = (place_or none (place_of_vertex places e.from.0), line_out directed e) in
-    let into : ℕ × Half = (place_or none (place_of_vertex places e.to.0), line_into directed e) in
+    let rest = ends_listed directed none m edges (All-tail (λ (e : EdgeLine). e.edge.0 < m) e edges all) in
+    let more = end_pairs directed none edges in
+    let out : ℕ × Half = (min e.from.0 none, line_out directed e) in
+    let into : ℕ × Half = (min e.to.0 none, line_into directed e) in
     All-cons (λ (p : ℕ × Half). p.1.edge.0 < m) out (into ∷ more) here (All-cons (λ (p : ℕ × Half). p.1.edge.0 < m) into more here rest)
 
+halves_listed : (directed : Bool) (m v : ℕ) (edges : List EdgeLine) → All (λ e. e.edge.0 < m) edges → All (λ (h : Half). h.edge.0 < m) (halves_of_lines directed edges v)
+halves_listed directed m v edges all =
+    subst (All (λ (h : Half). h.edge.0 < m)) (ends_at directed (v + 1) v edges (omega arith))
+    (all_keyed (λ (h : Half). h.edge.0 < m) v (end_pairs directed (v + 1) edges) (ends_listed directed (v + 1) m edges all))
+
 module _ (me : MachineNo) (lines : Lines) (outline : Outline) (order : List VertexLine) (none : ℕ) (l : LocalView) (made : IsMade me lines outline order none l) where
-  abbrev pairs : List (ℕ × Half)
-  pairs = pairs_of lines outline l.places none
+  -- the half-edges at the vertex with place k
+  abbrev here : ℕ → List Half
+  here k = halves_here lines outline (known_vertices order lines.ghosts.items) k
 
   abbrev as_side : Half → Side
   as_side = side_of me (length order) lines.ghosts.items l.places
@@ -117,21 +124,18 @@ module _ (me : MachineNo) (lines : Lines) (outline : Outline) (order : List Vert
   apart : (x y k : ℕ) → place_of_vertex l.places x ≡ Some k → place_of_vertex l.places y ≡ Some k → x ≡ y
   apart x y k here there = sym (made.places.stands x k no_vertex here) ∙ made.places.stands y k no_vertex there
 
-  sides_here : (k : ℕ) → k < none + 1 → get_or l.sides k [] ≡ map as_side (with_key k pairs)
-  sides_here k low = made.sides k low ∙ key-map as_side k pairs
+  here_is : (v k : ℕ) → place_of_vertex l.places v ≡ Some k → here k ≡ halves_of_lines outline.directed lines.edges.items v
+  here_is v k at = ap (halves_of_lines outline.directed lines.edges.items) (made.places.stands v k no_vertex at)
 
   sides_is : (v k : ℕ) → place_of_vertex l.places v ≡ Some k → sides_at l v ≡ map as_side (halves_of_lines outline.directed lines.edges.items v)
-  sides_is v k at =
-      ap (λ o. at_place l.sides o []) at ∙ sides_here k (let low = inside v k at in omega arith)
-      ∙ ap (map as_side) (ends_at outline.directed l.places none v k lines.edges.items (inside v k at) apart at)
+  sides_is v k at = ap (λ o. at_place l.sides o []) at ∙ made.sides k (inside v k at) ∙ ap (map as_side) (here_is v k at)
 
   own_inside : (v k : ℕ) → place_of_vertex l.places v ≡ Some k → is_own l v ≡ true → k < length order
   own_inside v k at own = subst (λ (n : ℕ). k < n) many_kept (own_place l.kept (place_of_vertex l.places v) k at own)
 
   row_is : (v k : ℕ) → place_of_vertex l.places v ≡ Some k → k < length order → links_at l v ≡ Some (links_from 0 (halves_of_lines outline.directed lines.edges.items v))
   row_is v k at low =
-      ap (λ o. at_place l.rows o None) at ∙ made.rows k low
-      ∙ ap (λ (hs : List Half). Some (links_from 0 hs)) (ends_at outline.directed l.places none v k lines.edges.items (inside v k at) apart at)
+      ap (λ o. at_place l.rows o None) at ∙ made.rows k low ∙ ap (λ (hs : List Half). Some (links_from 0 hs)) (here_is v k at)
 
   parts_is : (v k : ℕ) → place_of_vertex l.places v ≡ Some k → k < length order → machine_numbers (parts_at l v) ≡ filter (meets me (sides_at l v)) (range_with_len 0 outline.machines)
   parts_is v k at low =
@@ -163,9 +167,9 @@ module _ (me : MachineNo) (lines : Lines) (outline : Outline) (order : List Vert
       let there : place_of_vertex l.places x ≡ Some j = (some_place (place_of_vertex l.places x) known).1 in
       let low = inside x j there in
       let is : place_or none (place_of_vertex l.places x) ≡ j = ap (place_or none) there ∙ omega arith in
-      let sides = sides_here j (omega arith) in
+      let sides = made.sides j low in
       let near : has (places_near none (get_or l.sides j [])) k ≡ list_any (λ (s : Side). s.other.0 == v) (sides_at l x) =
-      ap (λ (ss : List Side). has (places_near none ss) k) sides ∙ near_all v k at (with_key j pairs)
+      ap (λ (ss : List Side). has (places_near none ss) k) sides ∙ near_all v k at (here j)
       ∙ ap (list_any (λ (s : Side). s.other.0 == v)) (sym sides ∙ ap (λ o. at_place l.sides o []) (sym there)) in
       ap (λ b. b || has (places_near none (get_or l.sides (place_or none (place_of_vertex l.places x)) [])) k) (key_is l.places none v k x (inside v k at) apart at)
       ∙ ap (λ (n : ℕ). (x == v) || has (places_near none (get_or l.sides n [])) k) is ∙ ap (λ b. (x == v) || b) near
@@ -231,17 +235,24 @@ module _ (me : MachineNo) (lines : Lines) (outline : Outline) (order : List Vert
         parts = made.many_parts ∙ sym many_kept;
         fit = λ k low.
             let own_low : k < length order = omega (arith, made.many_rows) in
-            let side_low : k < none + 1 = omega (arith, long) in
-            let many : length (links_from 0 (with_key k pairs)) ≡ length (get_or l.sides k []) =
-            length-links 0 (with_key k pairs) ∙ sym (ap length (sides_here k side_low) ∙ length-map (with_key k pairs) as_side) in
+            let side_low : k < none = omega (arith, long) in
+            let many : length (links_from 0 (here k)) ≡ length (get_or l.sides k []) =
+            length-links 0 (here k) ∙ sym (ap length (made.sides k side_low) ∙ length-map (here k) as_side) in
             subst (HasAsMany (length (get_or l.sides k []))) (sym (made.rows k own_low)) many;
-        edges = λ k. elim (cases_lt k (none + 1)) [
+        edges = λ k. elim (cases_lt k none) [
           | inl low ↦
-              let listed = all_keyed (λ (h : Half). h.edge.0 < length l.numbers) k pairs (subst (λ (m : ℕ). All (λ (p : ℕ × Half). p.1.edge.0 < m) pairs) (sym many_numbers) (ends_listed outline.directed l.places none outline.edges lines.edges.items below)) in
-              subst (All (λ (s : Side). s.edge.0 < length l.numbers)) (sym (sides_here k low)) (All-map (λ (s : Side). s.edge.0 < length l.numbers) as_side (with_key k pairs) listed)
-          | inr past ↦ subst (All (λ (s : Side). s.edge.0 < length l.numbers)) (sym (get_or_past l.sides k [] (omega (arith, made.many_sides)))) (All-nil (λ (s : Side). s.edge.0 < length l.numbers))
+              let v = (get_or (known_vertices order lines.ghosts.items) k no_vertex).0 in
+              let listed = halves_listed outline.directed (length l.numbers) v lines.edges.items (subst (λ (m : ℕ). All (λ (e : EdgeLine). e.edge.0 < m) lines.edges.items) (sym many_numbers) below) in
+              subst (All (λ (s : Side). s.edge.0 < length l.numbers)) (sym (made.sides k low)) (All-map (λ (s : Side). s.edge.0 < length l.numbers) as_side (here k) listed)
+          | inr past ↦ subst (All (λ (s : Side). s.edge.0 < length l.numbers)) (sym (none_past k past)) (All-nil (λ (s : Side). s.edge.0 < length l.numbers))
         ];
       }
     where
       many_numbers : length l.numbers ≡ outline.edges
       many_numbers = ap length made.numbers ∙ length-replicate outline.edges 0
+
+      none_past : (k : ℕ) → none ≤ k → get_or l.sides k [] ≡ []
+      none_past k past = elim (cases_eq k none) [
+        | inl same ↦ ap (λ (n : ℕ). get_or l.sides n []) same ∙ made.last_sides
+        | inr other ↦ get_or_past l.sides k [] (omega (arith, made.many_sides))
+      ]

@@ -1,4 +1,4 @@
-//! Both ends of each edge of lines, by the places of these in a machine's order.
+//! Both ends of each edge of lines, by the numbers of these.
 ghost use Rattle.std.specs.Prelude.{◌≡◌, ◌<◌, ◌^◌, length};
 ghost use Rattle.local_graph.specs.Lines.{line_out, line_into};
 ghost use Rattle.local_graph.specs.Locals.{place_of_vertex};
@@ -9,12 +9,11 @@ use gl_base::{EdgeLine, GhostLine, MachineNo, Vertex};
 use graph_core::{Half, Keyed};
 use vertex_places::Places;
 
-/// The half-edges of lines, each by the place of the vertex where it is, and by `none` where that has no place.
+/// The half-edges of lines, each by the vertex where it is, and by `none` where that is not below it.
 #[derive(Drop)]
 pub struct EndsOf<'a> {
     pub edges: &'a [EdgeLine],
     pub directed: bool,
-    pub places: &'a Places,
     pub none: u32,
     ghost few: { length edges.now < 2 ^ 31 },
 }
@@ -24,7 +23,7 @@ impl Keyed for EndsOf<'_> {
 
     ghost use Rattle.local_graph.specs.Inner.Ends.{end_pairs};
 
-    ghost list = { λ h. end_pairs h.directed h.places.now h.none h.edges.now };
+    ghost list = { λ h. end_pairs h.directed h.none h.edges.now };
 
     #[inline]
     fn len(&self) -> usize {
@@ -35,15 +34,9 @@ impl Keyed for EndsOf<'_> {
     fn at(&self, place: usize) -> (u32, Half) {
         let line = self.edges[place / 2];
         if place % 2 == 0 {
-            (
-                key_at(self.places, line.from, self.none),
-                half_out(line, self.directed),
-            )
+            (line.from.0.min(self.none), half_out(line, self.directed))
         } else {
-            (
-                key_at(self.places, line.to, self.none),
-                half_into(line, self.directed),
-            )
+            (line.to.0.min(self.none), half_into(line, self.directed))
         }
     }
 }
@@ -75,6 +68,7 @@ fn half_into(line: EdgeLine, directed: bool) -> Half
 }
 
 /// The place of a vertex, and `none` where it has none.
+#[inline]
 pub fn key_at(places: &Places, v: Vertex, none: u32) -> u32
     ensures { result ≡ place_or none (place_of_vertex places.now v.0) }
 {
@@ -84,52 +78,31 @@ pub fn key_at(places: &Places, v: Vertex, none: u32) -> u32
     }
 }
 
-/// The half-edges of lines as sides. The own vertices have the first so many places, and the ghosts those behind.
+/// What stands at which place of a machine's order: its own vertices at the first so many, and its ghosts behind them.
 #[derive(Drop)]
-pub struct SidesOf<'a> {
-    pub ends: &'a EndsOf<'a>,
+pub struct Standing<'a> {
     pub me: MachineNo,
     pub many: usize,
     pub ghosts: &'a [GhostLine],
-}
-
-impl Keyed for SidesOf<'_> {
-    type Item = Side;
-
-    ghost use Rattle.std.specs.Prelude.{map};
-    ghost use Rattle.local_graph.specs.Inner.Ends.{end_pairs, side_pair};
-
-    ghost list = { λ s. map (side_pair s.me s.many s.ghosts.now s.ends.now.places.now) (end_pairs s.ends.now.directed s.ends.now.places.now s.ends.now.none s.ends.now.edges.now) };
-
-    #[inline]
-    fn len(&self) -> usize {
-        self.ends.len()
-    }
-
-    #[inline]
-    fn at(&self, place: usize) -> (u32, Side) {
-        let (key, half) = self.ends.at(place);
-        (
-            key,
-            side_at(half, self.ends.places, self.me, self.many, self.ghosts),
-        )
-    }
+    pub places: &'a Places,
 }
 
 /// A half-edge as a side.
-fn side_at(half: Half, places: &Places, me: MachineNo, many: usize, ghosts: &[GhostLine]) -> Side
-    ensures { result ≡ side_of me many ghosts.now places.now half }
+#[inline]
+pub fn side_at(half: &Half, standing: &Standing<'_>) -> Side
+    ensures { result ≡ side_of standing.now.me standing.now.many standing.now.ghosts.now standing.now.places.now half.now }
 {
-    let place = key_at(places, half.other, u32::MAX);
+    let place = key_at(standing.places, half.other, u32::MAX);
     Side {
         edge: half.edge,
         other: half.other,
         place,
-        owner: owner_of(place as usize, me, many, ghosts),
+        owner: owner_of(place as usize, standing.me, standing.many, standing.ghosts),
     }
 }
 
 /// The owner of the vertex at a place.
+#[inline]
 fn owner_of(place: usize, me: MachineNo, many: usize, ghosts: &[GhostLine]) -> MachineNo
     ensures { result ≡ place_owner me many ghosts.now place }
 {

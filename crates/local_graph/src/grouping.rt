@@ -2,34 +2,47 @@
 ghost use Rattle.std.specs.Prelude.{◌≡◌, ℕ, ◌+◌, ◌-◌, ◌<◌, ◌≤◌, ◌^◌, [], length, map, slice_index_or, IfOk};
 ghost use Rattle.std.specs.List.{All, flat_map, range_with_len};
 ghost use Rattle.graph_core.specs.Rows.{with_key};
-ghost use Rattle.local_graph.specs.Inner.Ends.{end_pairs, side_pair};
-ghost use Rattle.local_graph.specs.Inner.Pairs.{parts_in, scope_in};
+ghost use Rattle.local_graph.specs.Lines.{halves_of_lines};
+ghost use Rattle.local_graph.specs.Played.{side_of};
+ghost use Rattle.local_graph.specs.Inner.Pairs.{parts_in, halves_known, scope_in};
 
 use crate::Side;
-use crate::ends::{EndsOf, PairsOf, SidesOf};
+use crate::ends::{EndsOf, PairsOf, Standing};
 use crate::machines::list_parts;
 use crate::scopes::list_scopes;
+use crate::siding::list_sides;
 use gl_base::{MachineNo, NoMemory, Vertex};
 use graph_core::{Half, Rows};
 use std::alloc::Global;
 use vertex_places::Places;
 
-/// The half-edges at each place, and behind them those at none.
-pub fn halves_by_place(alloc: Global, ends: &EndsOf<'_>) -> Result<Rows<Half>, NoMemory>
+/// The half-edges at each vertex below `none`, and behind them those at none.
+pub fn halves_by_vertex(alloc: Global, ends: &EndsOf<'_>) -> Result<Rows<Half>, NoMemory>
     requires { ends.now.none + 1 < 2 ^ 32 }
     ensures count { IfOk result (λ rows. length rows ≡ ends.now.none + 1) }
-    ensures each { IfOk result (λ rows. (k : ℕ) → k < ends.now.none + 1 → slice_index_or rows k [] ≡ with_key k (end_pairs ends.now.directed ends.now.places.now ends.now.none ends.now.edges.now)) }
+    ensures each { IfOk result (λ rows. (v : ℕ) → v < ends.now.none → slice_index_or rows v [] ≡ halves_of_lines ends.now.directed ends.now.edges.now v) }
 {
-    Rows::group(alloc, ends.none as usize + 1, ends)
+    let rows = Rows::group(alloc, ends.none as usize + 1, ends)?;
+    Ok(rows)
 }
 
-/// The same as sides.
-pub fn sides_by_place(alloc: Global, sides: &SidesOf<'_>) -> Result<Rows<Side>, NoMemory>
-    requires { sides.now.ends.now.none + 1 < 2 ^ 32 }
-    ensures count { IfOk result (λ rows. length rows ≡ sides.now.ends.now.none + 1) }
-    ensures each { IfOk result (λ rows. (k : ℕ) → k < sides.now.ends.now.none + 1 → slice_index_or rows k [] ≡ with_key k (map (side_pair sides.now.me sides.now.many sides.now.ghosts.now sides.now.ends.now.places.now) (end_pairs sides.now.ends.now.directed sides.now.ends.now.places.now sides.now.ends.now.none sides.now.ends.now.edges.now))) }
+/// The sides at each place of these vertices, from the half-edges at them, and none behind.
+pub fn sides_by_place(
+    alloc: Global,
+    known: &[Vertex],
+    halves: &Rows<Half>,
+    standing: &Standing<'_>,
+    room: usize,
+) -> Result<Rows<Side>, NoMemory>
+    requires few { length known.now + 1 < 2 ^ 32 }
+    requires below { All (λ v. v.0 < length halves.now) known.now }
+    ensures count { IfOk result (λ rows. length rows ≡ length known.now + 1) }
+    ensures each { IfOk result (λ rows. (k : ℕ) → k < length known.now → slice_index_or rows k [] ≡ map (side_of standing.now.me standing.now.many standing.now.ghosts.now standing.now.places.now) (halves_known halves.now known.now k)) }
+    ensures last { IfOk result (λ rows. slice_index_or rows (length known.now) [] ≡ []) }
 {
-    Rows::group(alloc, sides.ends.none as usize + 1, sides)
+    let pairs = list_sides(alloc, known, halves, standing, room)?;
+    let rows = group_pairs(alloc, known.len() + 1, &pairs)?;
+    Ok(rows)
 }
 
 /// The machines of the scope at each of the first so many places.

@@ -7,6 +7,7 @@ mod graphs;
 mod grouping;
 mod linking;
 mod machines;
+mod moving;
 mod numbers;
 mod order;
 mod outlines;
@@ -14,6 +15,7 @@ mod playing;
 mod rows;
 mod scopes;
 mod sides;
+mod siding;
 mod works;
 
 pub use graphs::LocalGraph;

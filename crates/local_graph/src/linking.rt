@@ -1,49 +1,49 @@
 //! The rows of a machine's own vertices.
-ghost use Rattle.std.specs.Prelude.{◌≡◌, ℕ, ◌+◌, ◌^◌, ◌<◌, ◌≤◌, None, Some, [], length, map, slice_index_or, IfOk};
-ghost use Rattle.graph_core.specs.Rows.{with_key};
-ghost use Rattle.std.specs.List.{range_with_len};
+ghost use Rattle.std.specs.Prelude.{◌≡◌, ℕ, ◌^◌, ◌<◌, ◌≤◌, None, Some, length, map, slice_index_or, IfOk};
+ghost use Rattle.std.specs.List.{All, range_with_len};
 ghost use Rattle.local_graph.specs.Lines.{direction_of, link_of, links_from};
 ghost use Rattle.local_graph.specs.Inner.Kept.{links_of};
-ghost use Rattle.local_graph.specs.Inner.Ends.{end_pairs};
-ghost use Rattle.local_graph.specs.Inner.Pairs.{row_at};
+ghost use Rattle.local_graph.specs.Inner.Pairs.{row_at, halves_known};
 
-use crate::ends::EndsOf;
-use crate::grouping::halves_by_place;
-use gl_base::NoMemory;
+use gl_base::{NoMemory, Vertex};
 use graph_core::{Half, Rows};
 use std::alloc::Global;
 use update_api::{Direction, Link};
 
-/// The rows at the first so many places.
+/// The rows of the first so many of these vertices, from the half-edges at them.
 pub fn rows_by_place(
     alloc: Global,
     many: usize,
-    ends: &EndsOf<'_>,
+    known: &[Vertex],
+    halves: &Rows<Half>,
 ) -> Result<Vec<Option<Vec<Link>>>, NoMemory>
-    requires none { ends.now.none + 1 < 2 ^ 32 }
-    requires many { many ≤ ends.now.none }
+    requires many { many ≤ length known.now }
+    requires below { All (λ v. v.0 < length halves.now) known.now }
+    requires few { (k : ℕ) → k < many → length (halves_known halves.now known.now k) < 2 ^ 32 }
     ensures count { IfOk result (λ rows. length rows.items ≡ many) }
-    ensures each { IfOk result (λ rows. (k : ℕ) → k < many → slice_index_or (map links_of rows.items) k None ≡ Some (links_from 0 (with_key k (end_pairs ends.now.directed ends.now.places.now ends.now.none ends.now.edges.now)))) }
+    ensures each { IfOk result (λ rows. (k : ℕ) → k < many → slice_index_or (map links_of rows.items) k None ≡ Some (links_from 0 (halves_known halves.now known.now k))) }
 {
-    let halves = halves_by_place(alloc, ends)?;
-    let rows = list_rows(alloc, many, &halves)?;
+    let rows = list_rows(alloc, many, known, halves)?;
     Ok(rows)
 }
 
-/// The rows at the first so many places of half-edges.
+/// The rows in turn.
 #[tactic(auto, using(crate::proofs::ListLemmas::map_range_more))]
 fn list_rows(
     alloc: Global,
     many: usize,
+    known: &[Vertex],
     halves: &Rows<Half>,
 ) -> Result<Vec<Option<Vec<Link>>>, NoMemory>
-    requires many { many ≤ length halves.now }
-    requires few { (k : ℕ) → k < many → length (slice_index_or halves.now k []) < 2 ^ 32 }
-    ensures { IfOk result (λ rows. map links_of rows.items ≡ map (row_at halves.now) (range_with_len 0 many)) }
+    requires many { many ≤ length known.now }
+    requires below { All (λ v. v.0 < length halves.now) known.now }
+    requires few { (k : ℕ) → k < many → length (halves_known halves.now known.now k) < 2 ^ 32 }
+    ensures { IfOk result (λ rows. map links_of rows.items ≡ map (row_at halves.now known.now) (range_with_len 0 many)) }
 {
     let mut rows = Vec::with_capacity(alloc, many)?;
     for place in 0..many {
-        rows.push(Some(link_all(alloc, halves.row(place))?))?;
+        let row = halves.row(known[place].0 as usize);
+        rows.push(Some(link_all(alloc, row)?))?;
     }
     Ok(rows)
 }

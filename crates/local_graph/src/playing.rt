@@ -1,18 +1,18 @@
 //! The part of the graph that a machine owns, made from its lines.
-ghost use Rattle.std.specs.Prelude.{◌≡◌, ◌+◌, ◌-◌, ◌^◌, ◌<◌, ◌≤◌, ◌++◌, length, map, IfOk};
+ghost use Rattle.std.specs.Prelude.{◌≡◌, ◌+◌, ◌^◌, ◌<◌, ◌≤◌, ◌++◌, length, map, IfOk};
 ghost use Rattle.std.specs.List.{All};
 ghost use Rattle.gl_base.specs.declared.limits.TheConstants.{MAX_VERTICES};
 ghost use Rattle.local_graph.specs.Locals.{AreTheirPlaces};
 ghost use Rattle.local_graph.specs.Played.{IsPermutation, IsPlayedFrom};
-ghost use Rattle.local_graph.specs.Inner.ByPlace.{AreByPlace, known_vertices};
+ghost use Rattle.local_graph.specs.Inner.ByPlace.{AreByPlace, AreHalvesOf, known_vertices};
 
-use crate::ends::{EndsOf, SidesOf};
-use crate::grouping::{parts_by_place, scopes_by_place, sides_by_place};
+use crate::ends::{EndsOf, Standing};
+use crate::grouping::{halves_by_vertex, parts_by_place, scopes_by_place, sides_by_place};
 use crate::linking::rows_by_place;
 use crate::order::{growth_order, list_known};
 use crate::{LocalGraph, Outline, Side};
 use gl_base::{Datum, Lines, MAX_VERTICES, MachineNo, NoMemory, Vertex, VertexLine};
-use graph_core::Rows;
+use graph_core::{Half, Rows};
 use std::alloc::Global;
 use update_api::Link;
 use vertex_places::Places;
@@ -44,33 +44,51 @@ impl LocalGraph {
         requires few_edges { length lines.now.edges.items < 2 ^ 31 }
         ensures { IfOk result (λ local. IsPlayedFrom me lines.now outline local) }
     {
-        let order = growth_order(alloc, lines, outline, first)?;
-        let known = list_known(alloc, &order, &lines.ghosts)?;
-        let places = Places::new(alloc, &known, outline.vertices)?;
-        play_in_order(alloc, me, lines, outline, &order, places)
+        let ends = EndsOf {
+            edges: &lines.edges,
+            directed: outline.directed,
+            none: outline.vertices,
+        };
+        let halves = halves_by_vertex(alloc, &ends)?;
+        let order = growth_order(alloc, &lines.vertices, outline.vertices, first, &halves)?;
+        play_in_order(alloc, me, lines, outline, &order, &halves)
     }
 }
 
-/// The part of the graph, with the own vertices in this order and at these places.
+/// The part of the graph, with the own vertices in this order, from the half-edges at each vertex.
 fn play_in_order(
     alloc: Global,
     me: MachineNo,
     lines: &Lines,
     outline: Outline,
     order: &[VertexLine],
-    places: Places,
+    halves: &Rows<Half>,
 ) -> Result<LocalGraph, NoMemory>
-    requires few { length order.now + length lines.now.ghosts.items ≤ MAX_VERTICES }
+    requires vertices { All (λ v. v.vertex.0 < outline.vertices) lines.now.vertices.items }
+    requires ghosts { All (λ g. g.vertex.0 < outline.vertices) lines.now.ghosts.items }
+    requires few { length lines.now.vertices.items + length lines.now.ghosts.items ≤ outline.vertices }
+    requires limit { outline.vertices ≤ MAX_VERTICES }
     requires edges { All (λ e. e.edge.0 < outline.edges) lines.now.edges.items }
     requires few_edges { length lines.now.edges.items < 2 ^ 31 }
     requires order { IsPermutation lines.now.vertices.items order.now }
-    requires places { AreTheirPlaces places (known_vertices order.now lines.now.ghosts.items) }
+    requires many { length halves.now ≡ outline.vertices + 1 }
+    requires halves { AreHalvesOf lines.now outline halves.now }
     ensures { IfOk result (λ local. IsPlayedFrom me lines.now outline local) }
 {
+    let known = list_known(alloc, order, &lines.ghosts)?;
+    let places = Places::new(alloc, &known, outline.vertices)?;
     let owned = list_vertices(alloc, &lines.vertices)?;
-    let many = order.len() as u32;
-    let none = many + lines.ghosts.len() as u32;
-    let lists = lists_by_place(alloc, me, lines, outline, many, &owned, &places, none)?;
+    let lists = lists_by_place(
+        alloc,
+        me,
+        lines,
+        outline,
+        order.len() as u32,
+        &known,
+        &owned,
+        &places,
+        halves,
+    )?;
     join(alloc, me, lines, outline, order, owned, places, lists)
 }
 
@@ -84,39 +102,38 @@ struct ByPlace {
     part: Rows<Vertex>,
 }
 
-/// The lists, where the own vertices have the first so many places and no vertex has the place `none`.
+/// The lists, where these vertices have the places in turn, and the own ones are the first so many.
 fn lists_by_place(
     alloc: Global,
     me: MachineNo,
     lines: &Lines,
     outline: Outline,
     many: u32,
+    known: &[Vertex],
     owned: &[Vertex],
     places: &Places,
-    none: u32,
+    halves: &Rows<Half>,
 ) -> Result<ByPlace, NoMemory>
-    requires many { many ≤ none }
-    requires none { none + 1 < 2 ^ 32 }
-    requires few { length owned.now < 2 ^ 32 - 1 }
+    requires many { many ≤ length known.now }
+    requires few { length known.now ≤ MAX_VERTICES }
+    requires few_owned { length owned.now ≤ MAX_VERTICES }
     requires few_edges { length lines.now.edges.items < 2 ^ 31 }
-    ensures { IfOk result (λ lists. AreByPlace me lines.now outline many none owned.now places.now lists) }
+    requires known { All (λ v. v.0 < outline.vertices) known.now }
+    requires rows { length halves.now ≡ outline.vertices + 1 }
+    requires halves { AreHalvesOf lines.now outline halves.now }
+    ensures { IfOk result (λ lists. AreByPlace me lines.now outline many known.now owned.now places.now lists) }
 {
-    let ends = EndsOf {
-        edges: &lines.edges,
-        directed: outline.directed,
-        places,
-        none,
-    };
-    let rows = rows_by_place(alloc, many as usize, &ends)?;
-    let sides_of = SidesOf {
-        ends: &ends,
+    let standing = Standing {
         me,
         many: many as usize,
         ghosts: &lines.ghosts,
+        places,
     };
-    let sides = sides_by_place(alloc, &sides_of)?;
+    let room = 2 * lines.edges.len();
+    let rows = rows_by_place(alloc, many as usize, known, halves)?;
+    let sides = sides_by_place(alloc, known, halves, &standing, room)?;
     let parts = parts_by_place(alloc, many, &sides, me, outline.machines)?;
-    let part = scopes_by_place(alloc, owned, &sides, places, none)?;
+    let part = scopes_by_place(alloc, owned, &sides, places, known.len() as u32)?;
     Ok(ByPlace {
         rows,
         sides,
@@ -141,7 +158,7 @@ fn join(
     requires order { IsPermutation lines.now.vertices.items order.now }
     requires owned { owned.items ≡ map (λ v. v.vertex) lines.now.vertices.items }
     requires places { AreTheirPlaces places (known_vertices order.now lines.now.ghosts.items) }
-    requires lists { AreByPlace me lines.now outline (length order.now) (length order.now + length lines.now.ghosts.items) owned.items places lists }
+    requires lists { AreByPlace me lines.now outline (length order.now) (known_vertices order.now lines.now.ghosts.items) owned.items places lists }
     ensures { IfOk result (λ local. IsPlayedFrom me lines.now outline local) }
 {
     let ghosts = Vec::from_slice(alloc, &lines.ghosts)?;

@@ -43,13 +43,6 @@ rows_kept old new keeps rows v own =
 
 -- ---- data
 
-renewed_version : (d : Datum) (x : ℕ) → (renewed d x).version ≤ d.version + 1
-renewed_version d x = by (x == d.value)
-  where
-    by : (b : Bool) → (if b then d else record { value = x; version = suc d.version; mark = d.mark }).version ≤ d.version + 1
-    by true = omega arith
-    by false = omega arith
-
 renewed_mark : (d : Datum) (x : ℕ) → (renewed d x).mark ≡ d.mark
 renewed_mark d x = by (x == d.value)
   where
@@ -59,7 +52,7 @@ renewed_mark d x = by (x == d.value)
 
 -- what a machine in order says of a vertex of its own
 pub can_be_made : (m : Core) (v : Vertex) → IsOrderly m → is_own m.numbers.local v.0 ≡ true → CanBeMade m.numbers v
-can_be_made m v is own = record { sides = is.numbers.sides v.0 own; tasks = is.numbers.tasks; version = is.numbers.versions v.0 own; outside = is.numbers.outside }
+can_be_made m v is own = record { sides = is.numbers.sides v.0 own; tasks = is.numbers.tasks; outside = is.numbers.outside }
 
 -- ---- numbers in order
 
@@ -72,7 +65,6 @@ made_numbers p old new v entry base own_v made n =
     let was : (u : ℕ) → is_own new.local u ≡ true → is_own old.local u ≡ true = λ u is. sym (made.graph.own u) ∙ is in
     let next = renewed (datum_here old c) o.value in
     let long : length new.log.items ≡ length old.log.items + 1 = ap length made.updated.log ∙ length-append old.log.items (entry ∷ []) in
-    let few : Datum → Type 0 = λ d. d.version ≤ length new.log.items in
     let marked : Datum → Type 0 = λ d. base ≤ d.mark in
     record {
       tasks = made.run.tasks;
@@ -80,12 +72,6 @@ made_numbers p old new v entry base own_v made n =
       ghosts = λ x.
           ap (λ (g : CacheView). is_some (ghost_datum g x)) made.ghosts ∙ n.ghosts x
           ∙ ap (λ (gs : List GhostLine). list_any (λ g. g.vertex.0 == x) gs) (sym (ghosts_kept old.local new.local graph));
-      versions = λ u is.
-          let before = n.versions u (was u is) in
-          let here = n.versions c mine in
-          let rises = renewed_version (datum_here old c) o.value in
-          let longer = long in
-          subst few (sym (made.updated.datum u)) (set_at-cases few (datum_here old) c next u (λ same. omega arith) (λ off. omega arith));
       marks = λ u is.
           subst marked (sym (made.updated.datum u))
           (set_at-cases marked (datum_here old) c next u (λ same. subst (λ (k : ℕ). base ≤ k) (sym (renewed_mark (datum_here old c) o.value)) (n.marks c mine)) (λ off. n.marks u (was u is)));
@@ -109,7 +95,6 @@ back_numbers old new base same n =
       };
       sides = λ u is. sides_here old.local new.local graph u (n.sides u (was u is));
       ghosts = λ x. ap (λ (k : Numbers). is_some (ghost_datum k.ghosts x)) same.rest ∙ n.ghosts x ∙ ap (λ (gs : List GhostLine). list_any (λ g. g.vertex.0 == x) gs) (sym (ghosts_kept old.local new.local graph));
-      versions = λ u is. let before = n.versions u (was u is) in let kept = ap (λ (d : Datum). d.version) (datum u) in let long = ap length same.log in omega arith;
       marks = λ u is. subst (λ (d : Datum). base ≤ d.mark) (sym (datum u)) (n.marks u (was u is));
       outside = let before = n.outside in let kept = ap (λ (t : TasksView). t.outside) tasks in let long = ap length same.log in omega arith;
     }

@@ -77,7 +77,7 @@ module _ (n : Numbers) (t : TasksView) (o : Outcome) (place : Vertex) (can : Can
         task = ap (flag_there n.tasks.task) can.waits.at ∙ flags.0;
         not_pending = ap (flag_there n.tasks.pending) can.waits.at ∙ can.waits.quiet;
         outside = let most = can.can.outside in let few = can.few in omega arith;
-        version = let most = can.can.version in let few = can.few in omega arith;
+        version = can.version;
         room = can.room;
       })
 
@@ -102,13 +102,13 @@ module _ (n : Numbers) (t : TasksView) (o : Outcome) (place : Vertex) (can : Can
 
 module _ (n roomy out new : Numbers) (scope : ScopeId) (v : Vertex) (work : Work) (roomy_is : roomy ≡ record n { log = roomy.log }) (items : roomy.log.items ≡ n.log.items) (taken : HasTakenOut roomy out scope v work) where
   -- the numbers while the work is out
-  out_is : out ≡ record n { local = record n.local { rows = out.local.rows }; log = roomy.log }
+  pub out_is : out ≡ record n { local = record n.local { rows = out.local.rows }; log = roomy.log }
   out_is = taken.rest ∙ ap (λ (k : Numbers). record k { local = record k.local { rows = out.local.rows } }) roomy_is
 
   links_before : links_at n.local v.0 ≡ Some work.row.links.items
   links_before = sym (ap (λ (k : Numbers). links_at k.local v.0) roomy_is) ∙ taken.links
 
-  graph_kept : (own : (x : ℕ) → is_own new.local x ≡ is_own out.local x)
+  pub graph_kept : (own : (x : ℕ) → is_own new.local x ≡ is_own out.local x)
       → ((x : ℕ) → links_at new.local x ≡ (if x == work.vertex.0 then Some work.row.links.items else links_at out.local x))
       → length new.local.numbers ≡ length out.local.numbers
       → new.local ≡ record out.local { kept = new.local.kept; rows = new.local.rows; numbers = new.local.numbers }
@@ -132,7 +132,7 @@ module _ (n roomy out new : Numbers) (scope : ScopeId) (v : Vertex) (work : Work
       }
 
   module _ (p : Update) (o : Outcome) (entry : Entry) (same : o.work ≡ work) (made : IsMadeOfWork p o) (own_v : is_own n.local v.0 ≡ true) where
-    is_outcome : (st : Setting) → IsLocalOf st n.local → st.program ≡ p → IsOutcomeOf st n o
+    pub is_outcome : (st : Setting) → IsLocalOf st n.local → st.program ≡ p → IsOutcomeOf st n o
     is_outcome st local program =
         let there : IsLocalOf st roomy.local = subst (λ (k : Numbers). IsLocalOf st k.local) (sym roomy_is) local in
         let own : is_own roomy.local v.0 ≡ true = ap (λ (k : Numbers). is_own k.local v.0) roomy_is ∙ own_v in
@@ -140,7 +140,7 @@ module _ (n roomy out new : Numbers) (scope : ScopeId) (v : Vertex) (work : Work
         let now : IsOutcomeOf st (record n { log = roomy.log }) o = subst (λ (k : Numbers). IsOutcomeOf st k o) roomy_is is in
         record { row = now.row; owners = now.owners; numbers = now.numbers; value = now.value; marks = now.marks; woken = now.woken }
 
-    updated_from : HasUpdated out new o entry → HasUpdated n new o entry
+    pub updated_from : HasUpdated out new o entry → HasUpdated n new o entry
     updated_from has =
         let now = subst (λ (k : Numbers). HasUpdated k new o entry) out_is has in
         record { datum = now.datum; edge = now.edge; task = now.task; log = now.log ∙ ap (λ (es : List Entry). es ++ entry ∷ []) items }
@@ -217,8 +217,8 @@ module _ (roomy out : Numbers) (scope : ScopeId) (v : Vertex) (work : Work) (tak
   edges_lent edges = ap length edges ∙ many_numbers ∙ sym many_near ∙ ap (λ (w : Work). length w.near.items) (sym same)
 
   -- the outcome can be kept
-  pub can_keep : (place : Vertex) → WaitsAt roomy place v → CanBeMade roomy v → length o.edges.items ≡ length work.row.numbers.items → vec_len roomy.log < vec_capacity roomy.log → length roomy.log.items < 4294967295 → CanBeKept out o place
-  can_keep place waits can edges room few =
+  pub can_keep : (place : Vertex) → WaitsAt roomy place v → CanBeMade roomy v → length o.edges.items ≡ length work.row.numbers.items → vec_len roomy.log < vec_capacity roomy.log → length roomy.log.items < 4294967295 → (datum_here roomy v.0).version < 4294967295 → CanBeKept out o place
+  can_keep place waits can edges room few version =
       let vertex : o.work.vertex ≡ v = ap (λ (w : Work). w.vertex) same ∙ taken.vertex in
       let mid : Numbers = record roomy { local = record roomy.local { rows = out.local.rows } } in
       let kept : CanBeKept mid o place =
@@ -229,13 +229,13 @@ module _ (roomy out : Numbers) (scope : ScopeId) (v : Vertex) (work : Work) (tak
             (record {
               sides = λ k d low. let here = can.sides k d low in record { place = here.place; own = here.own };
               tasks = record { apart = can.tasks.apart; own = can.tasks.own };
-              version = can.version;
               outside = can.outside;
             });
         links = ap (λ (w : Work). length w.row.links.items) same ∙ taken.many ∙ ap (λ (u : Vertex). length (sides_at roomy.local u.0)) (sym vertex);
         edges = edges ∙ many_numbers ∙ ap (λ (u : Vertex). length (sides_at roomy.local u.0)) (sym vertex);
         room = room;
         few = few;
+        version = subst (λ (u : Vertex). (datum_here mid u.0).version < 4294967295) (sym vertex) version;
       } in
       subst (λ (k : Numbers). CanBeKept k o place) (sym taken.rest) kept
 
@@ -249,7 +249,6 @@ can_room n roomy v is items can = subst (λ (k : Numbers). CanBeMade k v) (sym i
     (record {
       sides = can.sides;
       tasks = can.tasks;
-      version = subst (λ (es : List Entry). (datum_here n v.0).version ≤ length es) (sym items) can.version;
       outside = subst (λ (es : List Entry). n.tasks.outside ≤ length es) (sym items) can.outside;
     })
 

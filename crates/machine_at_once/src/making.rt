@@ -1,5 +1,5 @@
 //! Updates that are made on a machine's own numbers.
-ghost use Rattle.std.specs.Prelude.{◌≡◌, ℕ, ◌<◌, ◌==◌, Some, length, vec_len, vec_capacity, if◌then◌else◌, OnOk, OnErr};
+ghost use Rattle.std.specs.Prelude.{◌≡◌, ℕ, ◌==◌, Some, length, if◌then◌else◌, OnOk, OnErr};
 ghost use Rattle.gl_base.specs.declared.entries.Entry.TheVariants.{Go};
 ghost use Rattle.machine_at_once.specs.Picks.{IsRowIn, is_own, links_at};
 ghost use Rattle.machine_at_once.specs.Inner.Finding.{WaitsAt};
@@ -9,12 +9,9 @@ use crate::finding::Found;
 use gl_base::{Entry, NoMemory, ScopeId, Vertex};
 use local_graph::Outcome;
 use machine_numbers::{Numbers, Spent};
-use machine_updates::Spares;
+use machine_updates::{Spares, reserve_log};
 use std::alloc::Global;
 use update_api::Program;
-
-/// As many updates may be in a log. The version of a vertex counts up to this.
-const MAX_LOG: usize = 4294967295;
 
 /// Makes the update of a task and keeps it under this ticket. For want of memory no number changes.
 pub fn make<P: Program>(
@@ -32,7 +29,8 @@ pub fn make<P: Program>(
     ensures made { OnOk result (HasMadeHere (P.meaning program.now) numbers.old numbers.new found.vertex (Go numbers.old.local.me found.vertex ticket)) }
     ensures same { OnErr result (HasSameNumbers numbers.old numbers.new) }
 {
-    reserve_log(&mut numbers.log)?;
+    let version = numbers.datum(found.vertex).version;
+    reserve_log(&mut numbers.log, version)?;
     let degree = numbers.local.sides(found.vertex).len();
     let spare = spares.fitted(alloc, degree)?;
     let work = numbers.take_work(scope, found.vertex, spare);
@@ -47,19 +45,6 @@ pub fn make<P: Program>(
             Err(NoMemory)
         }
     }
-}
-
-/// Makes room for one entry more.
-fn reserve_log(log: &mut Vec<Entry>) -> Result<(), NoMemory>
-    ensures room { OnOk result (vec_len log.new < vec_capacity log.new) }
-    ensures few { OnOk result (length log.new.items < 4294967295) }
-    ensures items { log.new.items ≡ log.old.items }
-{
-    if log.len() >= MAX_LOG {
-        return Err(NoMemory);
-    }
-    log.reserve(1)?;
-    Ok(())
 }
 
 /// Keeps an update that was made, of the task at this place, under this ticket. It takes no memory.

@@ -12,8 +12,8 @@ use update_api::Program;
 
 /// Updates the vertex that the tasks pick, where it is not pending, its scope has this machine alone, and nobody holds or waits for
 /// a lock of it: as if a scope of it were admitted, took each lock in turn and made its update. It touches no lock and sends no
-/// message. It is logged under the ticket. A log that holds as many updates as it may is want of memory too, and so is it that no
-/// serial is left.
+/// message. It is logged under the ticket. A log that holds as many updates as it may is want of memory too, and so is it that the
+/// version of the vertex can't count one more, or that no serial is left.
 #[tactic(auto, using(crate::proofs::Scopes::can_update))]
 pub fn update_at_once<P: Program>(
     alloc: Global,

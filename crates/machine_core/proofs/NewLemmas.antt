@@ -27,7 +27,6 @@ new_is st m setting part new = record {
     tasks = new.tasks;
     sides = λ v own. sides_are st m.numbers.local v part.local own;
     ghosts = new.ghosts;
-    versions = λ v own. subst (λ (k : ℕ). k ≤ length m.numbers.log.items) (sym (new.versions v own)) (omega arith);
     marks = λ v own. subst (λ (k : ℕ). m.terms.base ≤ k) (sym (new.marks v own)) (omega arith);
     outside = subst (λ (k : ℕ). k ≤ length m.numbers.log.items) (sym new.outside) (omega arith);
   };

@@ -12,7 +12,7 @@ use Rattle.wire_msgs.specs.Views.{message_view}
 use Rattle.wire_msgs.specs.declared.messages.Message.{Message}
 use Rattle.machine_parts.specs.declared.cores.Core.{Core}
 use Rattle.machine_parts.specs.Order.{IsGraphInOrder, HasComeRight}
-use Rattle.machine_parts.specs.Parts.{message_of, part_of}
+use Rattle.machine_parts.specs.Parts.{message_of, messages_for, part_of}
 use Rattle.machine_core.specs.Machines.{IsMachine}
 use Rattle.machine_core.specs.Messages.{HasSentFirst, message_told}
 
@@ -59,6 +59,31 @@ box_behind boxes b q box ws low is = elim (cases_eq q b) [
       ∙ sym (ap (λ (t : Bool). if t then map message_of ws else map message_of (get_or boxes q no_outbox).messages) (ne_eqb q b other))
 ]
 
+-- what waits, where the first for machine `to` is taken
+module _ (before out : OutboxesView) (to : MachineNo) (behind : out ≡ with_outbox before (Machine to) (without_first (outbox_to before (Machine to)))) where
+  pub boxes_same : length out.machines ≡ length before.machines
+  boxes_same = ap (λ (o : OutboxesView). length o.machines) behind ∙ length-set before.machines to.0 (without_first (outbox_to before (Machine to)))
+
+  pub first_taken : (message : Message) → Some (message_view message) ≡ slice_get (waiting_for before (Machine to)) 0
+      → (rest : List law.Message) × (messages_for before to.0 ≡ message_told message ∷ rest) × ((q : ℕ) → messages_for out q ≡ set_at (messages_for before) to.0 rest q)
+  first_taken message first =
+      let box = outbox_to before (Machine to) in
+      let left = first_behind box.messages (message_view message) box.room first in
+      let low = is_there before.machines to.0 (message_view message) first in
+      ( map message_of left.0
+      , ap (map message_of) left.1
+      , λ q. ap (λ (o : OutboxesView). messages_for o q) behind ∙ box_behind before.machines to.0 q (without_first box) left.0 low left.2
+      )
+
+  pub none_taken : None ≡ slice_get (waiting_for before (Machine to)) 0 → out ≡ before
+  none_taken first =
+      let box = outbox_to before (Machine to) in
+      let empty = none_waits box.messages first in
+      let same : without_first box ≡ box = ap (λ (ws : List MessageView). left_behind ws box.room) empty ∙ (λ i. record { messages = (sym empty) i; room = box.room }) in
+      behind
+      ∙ ap (λ (b : OutboxView). record before { machines = set before.machines to.0 b }) same
+      ∙ (λ i. record before { machines = (set-get_or before.machines to.0 no_outbox) i })
+
 -- ---- the machine
 
 -- as many outboxes: the machine is in order as it was
@@ -77,35 +102,15 @@ order_stays m out many is = record {
 
 module _ (m : Core) (to : MachineNo) (out : OutboxesView) (behind : out ≡ with_outbox m.out (Machine to) (without_first (outbox_to m.out (Machine to)))) where
   pub as_many : length out.machines ≡ length m.out.machines
-  as_many = ap (λ (o : OutboxesView). length o.machines) behind ∙ length-set m.out.machines to.0 (without_first (outbox_to m.out (Machine to)))
-
-  first_sent : (message : Message) → Some (message_view message) ≡ slice_get (waiting_for m.out (Machine to)) 0 → HasSentFirst (part_of m) to.0 (message_told message) (part_of (record m { out = out }))
-  first_sent message first =
-      let box = outbox_to m.out (Machine to) in
-      let left = first_behind box.messages (message_view message) box.room first in
-      let low = is_there m.out.machines to.0 (message_view message) first in
-      record {
-        behind = map message_of left.0;
-        first = ap (map message_of) left.1;
-        after =
-            ap (λ (o : OutboxesView). part_of (record m { out = o })) behind
-            ∙ (λ i. record (part_of m) { out = λ q. box_behind m.out.machines to.0 q (without_first box) left.0 low left.2 i });
-      }
+  as_many = boxes_same m.out out to behind
 
   pub sent_first : (o : Option Message) → option_map message_view o ≡ slice_get (waiting_for m.out (Machine to)) 0
       → IfSome o (λ message. HasSentFirst (part_of m) to.0 (message_told message) (part_of (record m { out = out })))
   sent_first None first = tt
-  sent_first (Some message) first = first_sent message first
-
-  nothing_sent : None ≡ slice_get (waiting_for m.out (Machine to)) 0 → out ≡ m.out
-  nothing_sent first =
-      let box = outbox_to m.out (Machine to) in
-      let empty = none_waits box.messages first in
-      let same : without_first box ≡ box = ap (λ (ws : List MessageView). left_behind ws box.room) empty ∙ (λ i. record { messages = (sym empty) i; room = box.room }) in
-      behind
-      ∙ ap (λ (b : OutboxView). record m.out { machines = set m.out.machines to.0 b }) same
-      ∙ (λ i. record m.out { machines = (set-get_or m.out.machines to.0 no_outbox) i })
+  sent_first (Some message) first =
+      let taken = first_taken m.out out to behind message first in
+      record { behind = taken.0; first = taken.1; after = λ i. record (part_of m) { out = λ q. taken.2 q i } }
 
   pub sent_none : (o : Option Message) → option_map message_view o ≡ slice_get (waiting_for m.out (Machine to)) 0 → IfNone o (record m { out = out } ≡ m)
-  sent_none None first = ap (λ (o : OutboxesView). record m { out = o }) (nothing_sent first)
+  sent_none None first = ap (λ (o : OutboxesView). record m { out = o }) (none_taken m.out out to behind first)
   sent_none (Some message) first = tt

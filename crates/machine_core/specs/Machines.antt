@@ -10,7 +10,7 @@ pub use Rattle.machine_parts.specs.Order.{IsOrderly, KnowsPlaces}
 pub use Rattle.machine_parts.specs.Parts.{part_of, machine_numbers}
 pub use Rattle.machine_parts.specs.Rooms.{HasOnlyMadeRoom}
 pub use Rattle.machine_parts.specs.Settings.{Setting, IsPartOf, SameSettings}
-pub use Rattle.machine_scopes.specs.Granting.{MayGrantLock, MayNotGrantLock, HasGrantedLock, WaitsFirst, WantedNext}
+pub use Rattle.machine_scopes.specs.Granting.{MayGrantLock, MayNotGrantLock, HasGrantedInTurn, HasGrantedLock, WaitsFirst, WantedNext}
 pub use Rattle.machine_scopes.specs.Asking.{IsSetting, IsNewAt, AreMachinesFor, CanBecomeReady, HasReceivedMessage, Ask, Ready, come}
 pub use Rattle.machine_scopes.specs.Admitting.{CanAdmitPick, MayAdmitNone, HasAdmittedPick}
 use Rattle.std.specs.Prelude.{◌≡◌, ℕ, ◌==◌, true, false, is_some}

@@ -1,6 +1,6 @@
 //! A machine.
 ghost use Rattle.std.specs.Prelude.{◌≡◌, ℕ, ◌<◌, IfOk, IfErr, IfSome, IfNone, OnOk, OnErr, IsErrOf};
-ghost use Rattle.machine_core.specs.Machines.{IsMachine, IsOrderly, KnowsPlaces, SameSettings, HasOnlyMadeRoom, part_of, come, next_scope, machine_numbers, MayGrantLock, MayNotGrantLock, HasGrantedLock, WaitsFirst, WantedNext, IsNewAt, AreMachinesFor, CanBecomeReady, HasReceivedMessage, Ask, Ready, CanAdmitPick, MayAdmitNone, HasAdmittedPick};
+ghost use Rattle.machine_core.specs.Machines.{IsMachine, IsOrderly, KnowsPlaces, SameSettings, HasOnlyMadeRoom, part_of, come, next_scope, machine_numbers, MayGrantLock, MayNotGrantLock, HasGrantedInTurn, HasGrantedLock, WaitsFirst, WantedNext, IsNewAt, AreMachinesFor, CanBecomeReady, HasReceivedMessage, Ask, Ready, CanAdmitPick, MayAdmitNone, HasAdmittedPick};
 
 use gl_base::{MachineNo, Refused, ScopeId, Vertex};
 use machine_parts::Core;
@@ -72,6 +72,20 @@ impl Machine {
         ensures numbers { self.new.numbers ≡ self.old.numbers }
     {
         machine_scopes::grant(&mut self.core, x)
+    }
+
+    /// The first that waits for the lock of x holds it, where it goes together with each holder, and goes on; and then it is granted
+    /// one lock after another for which it asks here, where nobody else claims that.
+    pub fn grant_in_turn(&mut self, x: Vertex) -> Result<ScopeId, Refused>
+        ensures settings { SameSettings self.old self.new }
+        ensures granted { IfOk result (λ scope. HasGrantedInTurn self.old self.new x.0) }
+        ensures scope { IfOk result (λ scope. WaitsFirst self.old x.0 scope) }
+        ensures not_now { IsErrOf result Refused.NotNow → MayNotGrantLock self.old x.0 }
+        ensures no_memory { IsErrOf result Refused.NoMemory → MayGrantLock self.old x.0 }
+        ensures unchanged { OnErr result (HasOnlyMadeRoom self.old self.new × (part_of self.new ≡ part_of self.old)) }
+        ensures numbers { self.new.numbers ≡ self.old.numbers }
+    {
+        machine_scopes::grant_in_turn(&mut self.core, x)
     }
 
     /// A vertex whose lock may be granted, and `None` exactly where there is none. It takes no memory, and no claim changes.

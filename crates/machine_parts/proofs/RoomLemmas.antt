@@ -5,7 +5,7 @@ use Rattle.gl_base.specs.declared.scopes.ScopeId.{ScopeId}
 use Rattle.vertex_locks.specs.Locks.{LockView}
 use Rattle.machine_numbers.specs.declared.keeping.Numbers.{Numbers}
 use Rattle.machine_parts.specs.declared.cores.Core.{Core}
-use Rattle.machine_parts.specs.Parts.{LocalView, PipeView, part_of, message_of, datum_here}
+use Rattle.machine_parts.specs.Parts.{LocalView, PipeView, part_of, message_of}
 use Rattle.machine_parts.specs.Settings.{IsPartOf, SameSettings}
 use Rattle.machine_parts.specs.Order.{IsGraphInOrder, AreNumbersInOrder, HasComeRight, StandsAtLock, AreLocksInOrder, IsOrderlyBut}
 use Rattle.machine_parts.specs.Rooms.{HaveSameClaims, HasOnlyMadeRoom}
@@ -52,7 +52,6 @@ numbers_same n new base rest same are = subst (λ (m : Numbers). AreNumbersInOrd
       tasks = are.tasks;
       sides = are.sides;
       ghosts = are.ghosts;
-      versions = λ v own. subst (λ (k : ℕ). (datum_here n v).version ≤ k) (sym (ap length same)) (are.versions v own);
       marks = are.marks;
       outside = subst (λ (k : ℕ). n.tasks.outside ≤ k) (sym (ap length same)) are.outside;
     })

@@ -29,13 +29,12 @@ pub record IsGraphInOrder (local : LocalView) (machines : ℕ) : Type 0 where
 
 -- ---- numbers
 
--- Tasks have the places of own vertices, sides say what is so, each ghost has a copy; no own vertex has a greater version than there
--- are entries in the log, or a mark before the snapshot that the run began with.
+-- Tasks have the places of own vertices, sides say what is so, each ghost has a copy; and no own vertex has a mark before the snapshot
+-- that the run began with.
 pub record AreNumbersInOrder (n : Numbers) (base : ℕ) : Type 0 where
   pub tasks : AreTasksOf n.local n.tasks
   pub sides : (v : ℕ) → is_own n.local v ≡ true → All (IsSideHere n.local) (sides_at n.local v)
   pub ghosts : (x : ℕ) → is_some (ghost_datum n.ghosts x) ≡ list_any (λ g. g.vertex.0 == x) n.local.ghosts
-  pub versions : (v : ℕ) → is_own n.local v ≡ true → (datum_here n v).version ≤ length n.log.items
   pub marks : (v : ℕ) → is_own n.local v ≡ true → base ≤ (datum_here n v).mark
   pub outside : n.tasks.outside ≤ length n.log.items
 

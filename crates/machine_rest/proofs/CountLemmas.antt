@@ -5,7 +5,7 @@ use Rattle.std.proofs.lemmas.List.Sums.{sum_by-cons}
 use Rattle.cluster_model.specs.Totals.{total, total_from}
 use Rattle.outboxes.specs.Outboxes.{OutboxView, no_outbox}
 use Rattle.machine_parts.specs.declared.cores.Core.{Core}
-use Rattle.machine_parts.specs.Parts.{message_of, part_of}
+use Rattle.machine_parts.specs.Parts.{OutboxesView, message_of, messages_for, part_of}
 use Rattle.machine_parts.specs.Settings.{IsPartOf, Setting}
 use Rattle.wire_msgs.specs.Views.{MessageView}
 
@@ -20,7 +20,7 @@ total_same k zero f g same = refl
 total_same k (suc many) f g same = ap (λ (n : ℕ). n + total_from (suc k) many f) (same k) ∙ ap (λ (n : ℕ). g k + n) (total_same (suc k) many f g same)
 
 -- how many wait in an outbox
-abbrev many_in : OutboxView → ℕ
+abbrev pub many_in : OutboxView → ℕ
 many_in box = length box.messages
 
 boxes_sum : (boxes : List OutboxView) → sum_by many_in boxes ≡ total (length boxes) (λ q. many_in (get_or boxes q no_outbox))
@@ -35,8 +35,11 @@ length_told : (ms : List MessageView) → length ms ≡ length (map message_of m
 length_told [] = refl
 length_told (m ∷ ms) = ap suc (length_told ms)
 
+pub boxes_waiting : (out : OutboxesView) (many : ℕ) → length out.machines ≡ many → sum_by many_in out.machines ≡ total many (λ q. length (messages_for out q))
+boxes_waiting out many is =
+    boxes_sum out.machines
+    ∙ ap (λ (n : ℕ). total n (λ q. many_in (get_or out.machines q no_outbox))) is
+    ∙ total_same 0 many (λ q. many_in (get_or out.machines q no_outbox)) (λ q. length (messages_for out q)) (λ q. length_told (get_or out.machines q no_outbox).messages)
+
 pub waiting_is : (st : Setting) (m : Core) → IsPartOf st m → sum_by many_in m.out.machines ≡ total st.machines (λ q. length ((part_of m).out q))
-waiting_is st m here =
-    boxes_sum m.out.machines
-    ∙ ap (λ (n : ℕ). total n (λ q. many_in (get_or m.out.machines q no_outbox))) here.machines
-    ∙ total_same 0 st.machines (λ q. many_in (get_or m.out.machines q no_outbox)) (λ q. length ((part_of m).out q)) (λ q. length_told (get_or m.out.machines q no_outbox).messages)
+waiting_is st m here = boxes_waiting m.out st.machines here.machines

@@ -37,11 +37,11 @@ passes_none test n none = by (first_passing test 0 n) refl
 
 -- ---- the parts of being idle
 
-record IsIdle (st : Setting) (part : Part) : Type 0 where
-  task : (u : ℕ) → u < size st.graph → part.task u ≡ false
-  pending : (u : ℕ) → u < size st.graph → part.pending u ≡ false
-  flying : part.flying ≡ 0
-  queue : (x : ℕ) → x < size st.graph → waits (part.queue x) ≡ false
+pub record IsIdle (st : Setting) (part : Part) : Type 0 where
+  pub task : (u : ℕ) → u < size st.graph → part.task u ≡ false
+  pub pending : (u : ℕ) → u < size st.graph → part.pending u ≡ false
+  pub flying : part.flying ≡ 0
+  pub queue : (x : ℕ) → x < size st.graph → waits (part.queue x) ≡ false
 
 idle_parts : (st : Setting) (part : Part) → is_idle st part ≡ true → IsIdle st part
 idle_parts st part idle =
@@ -59,7 +59,7 @@ idle_parts st part idle =
       queue = none_passes (λ x. waits (part.queue x)) n first.1;
     }
 
-idle_from : (st : Setting) (part : Part) → IsIdle st part → is_idle st part ≡ true
+pub idle_from : (st : Setting) (part : Part) → IsIdle st part → is_idle st part ≡ true
 idle_from st part idle =
     let n : ℕ = size st.graph in
     let no_tasks : Bool = is_none (first_passing part.task 0 n) in
@@ -72,7 +72,7 @@ idle_from st part idle =
     (passes_none (λ x. waits (part.queue x)) n idle.queue)
 
 -- what is not idle
-not_idle : (st : Setting) (part : Part) → (IsIdle st part → ⊥) → is_idle st part ≡ false
+pub not_idle : (st : Setting) (part : Part) → (IsIdle st part → ⊥) → is_idle st part ≡ false
 not_idle st part refuted = elim (cases_Bool (is_idle st part)) [
   | inl idle ↦ absurd (refuted (idle_parts st part idle))
   | inr busy ↦ busy

@@ -77,7 +77,6 @@ numbers_picked n new base many outside are = record {
   tasks = tasks_same n.local n.tasks new many are.tasks;
   sides = are.sides;
   ghosts = are.ghosts;
-  versions = are.versions;
   marks = are.marks;
   outside = subst (λ (k : ℕ). k ≤ length n.log.items) (sym outside) are.outside;
 }

@@ -7,6 +7,7 @@ pub mod GrantLemmas
 pub mod ComeLemmas
 pub mod WantLemmas
 pub mod RoomForNext
+pub mod TakeLemmas
 pub mod LawLemmas
 pub mod PickLemmas
 pub mod StartLemmas

@@ -1,6 +1,7 @@
 -- What a grant promises, for each setting of which the machine is a part.
 pub use Rattle.cluster_core.specs.Actions.{MayGrant}
 pub use Rattle.cluster_core.specs.Effects.{granted}
+pub use Rattle.interior_scopes.specs.InTurn.{AreGranted}
 pub use Rattle.machine_parts.specs.Order.{IsOrderly}
 pub use Rattle.machine_parts.specs.Parts.{part_of, is_owned, holder_at, queue_at}
 pub use Rattle.machine_parts.specs.Rooms.{HasOnlyMadeRoom}
@@ -26,6 +27,10 @@ MayNotGrantLock m x = (st : Setting) → IsPartOf st m → MayGrant st m.numbers
 -- it was, and all is as the cluster has it then
 abbrev pub HasGrantedLock : Core → Core → ℕ → Type 0
 HasGrantedLock old new x = (st : Setting) → IsPartOf st old → part_of new ≡ granted st old.numbers.local.me.0 x (part_of old)
+
+-- it was, and then in turn the locks of some other vertices were, each where it might be
+abbrev pub HasGrantedInTurn : Core → Core → ℕ → Type 0
+HasGrantedInTurn old new x = (more : List ℕ) × ((st : Setting) → IsPartOf st old → AreGranted st old.numbers.local.me.0 (x ∷ more) (part_of old) (part_of new))
 
 -- of those that wait for the lock of x the first is of this scope
 abbrev pub WaitsFirst : Core → ℕ → ScopeId → Type 0

@@ -1,4 +1,5 @@
 -- What the clauses of private functions cite. Who reads the public clauses need not read it.
 pub mod Going
+pub mod Taking
 pub mod Setting
 pub mod Picking

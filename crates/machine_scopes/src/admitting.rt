@@ -23,6 +23,8 @@ pub fn admit(alloc: Global, core: &mut Core) -> Result<ScopeId, Refused>
     ensures no_memory { IsErrOf result Refused.NoMemory → CanAdmitPick core.old }
     ensures unchanged { OnErr result (part_of core.new ≡ part_of core.old) }
     ensures local { core.new.numbers.local ≡ core.old.numbers.local }
+    ensures outside { core.new.numbers.tasks.outside ≡ core.old.numbers.tasks.outside }
+    ensures terms { core.new.terms ≡ core.old.terms }
 {
     if core.pipe.flight_count() >= core.terms.pipeline as usize {
         return Err(Refused::NotNow);

@@ -1,7 +1,7 @@
 //! How a scope goes on that has the locks that it asked for so far.
-ghost use Rattle.std.specs.Prelude.{◌≡◌, true, is_some, OnOk};
+ghost use Rattle.std.specs.Prelude.{◌≡◌, ℕ, ◌≤◌, true, is_some, OnOk};
 ghost use Rattle.machine_scopes.specs.Granting.{SameSettings, HasOnlyMadeRoom};
-ghost use Rattle.machine_scopes.specs.Inner.Going.{IsOrderly, IsOrderlyBut, LeadsWithin, HasNextRoom, Wants, HasGoneOn, is_scope, entered_at};
+ghost use Rattle.machine_scopes.specs.Inner.Going.{IsOrderly, IsOrderlyBut, LeadsWithin, HasNextRoom, Wants, HasGoneOn, is_scope, entered_at, room_at};
 
 use gl_base::{Claim, MachineNo, Mode, NoMemory, Peer, ScopeId, Vertex};
 use machine_parts::Core;
@@ -14,6 +14,7 @@ pub fn reserve_next(core: &mut Core, scope: ScopeId, next: Next) -> Result<(), N
     requires { LeadsWithin core.old scope next }
     ensures room { OnOk result (HasNextRoom core.new scope next) }
     ensures same { HasOnlyMadeRoom core.old core.new }
+    ensures locks { (y : ℕ) → room_at core.old.locks y ≤ room_at core.new.locks y }
     ensures rest { core.new ≡ record core.old { locks = core.new.locks; out = core.new.out } }
 {
     match next {
@@ -28,6 +29,7 @@ fn reserve_home(core: &mut Core, scope: ScopeId) -> Result<(), NoMemory>
     requires { LeadsWithin core.old scope Next.Home }
     ensures room { OnOk result (HasNextRoom core.new scope Next.Home) }
     ensures same { HasOnlyMadeRoom core.old core.new }
+    ensures locks { core.new.locks ≡ core.old.locks }
     ensures rest { core.new ≡ record core.old { locks = core.new.locks; out = core.new.out } }
 {
     if scope.home.0 == core.numbers.local.me().0 {

@@ -1,8 +1,9 @@
 //! Granting locks.
 ghost use Rattle.std.specs.Prelude.{◌≡◌, ℕ, true, IfOk, IfErr, IfSome, IfNone, OnErr, IsErrOf};
-ghost use Rattle.machine_scopes.specs.Granting.{IsOrderly, SameSettings, HasOnlyMadeRoom, MayGrantLock, MayNotGrantLock, HasGrantedLock, WaitsFirst, WantedNext, IsNext, WaitOnce, part_of, is_owned, holder_at, queue_at};
+ghost use Rattle.machine_scopes.specs.Granting.{IsOrderly, SameSettings, HasOnlyMadeRoom, MayGrantLock, MayNotGrantLock, HasGrantedInTurn, HasGrantedLock, WaitsFirst, WantedNext, IsNext, WaitOnce, part_of, is_owned, holder_at, queue_at};
 
 use crate::going::{go_on, reserve_next};
+use crate::taking::take_free;
 use gl_base::{Claim, Refused, ScopeId, Vertex};
 use machine_parts::Core;
 use scope_pipe::Next;
@@ -35,6 +36,28 @@ pub fn grant(core: &mut Core, x: Vertex) -> Result<Moved, Refused>
     }
     match core.locks.look(x) {
         Turn::Granted(claim) => grant_first(core, x, claim),
+        Turn::Waiting => Err(Refused::NotNow),
+    }
+}
+
+/// The first that waits for the lock of x holds it, where it goes together with each holder, and goes on; and then it is granted one
+/// lock after another for which it asks here, where nobody else claims that.
+pub fn grant_in_turn(core: &mut Core, x: Vertex) -> Result<ScopeId, Refused>
+    requires { IsOrderly core.old }
+    ensures orderly { IsOrderly core.new }
+    ensures settings { SameSettings core.old core.new }
+    ensures granted { IfOk result (λ scope. HasGrantedInTurn core.old core.new x.0) }
+    ensures scope { IfOk result (λ scope. WaitsFirst core.old x.0 scope) }
+    ensures not_now { IsErrOf result Refused.NotNow → MayNotGrantLock core.old x.0 }
+    ensures no_memory { IsErrOf result Refused.NoMemory → MayGrantLock core.old x.0 }
+    ensures rest { core.new ≡ record core.old { pipe = core.new.pipe; locks = core.new.locks; out = core.new.out; spare = core.new.spare } }
+    ensures unchanged { OnErr result (HasOnlyMadeRoom core.old core.new × (part_of core.new ≡ part_of core.old)) }
+{
+    if !core.locks.owns(x) {
+        return Err(Refused::NotNow);
+    }
+    match core.locks.look(x) {
+        Turn::Granted(claim) => grant_from(core, x, claim),
         Turn::Waiting => Err(Refused::NotNow),
     }
 }
@@ -76,4 +99,30 @@ fn grant_first(core: &mut Core, x: Vertex, claim: Claim) -> Result<Moved, Refuse
         scope: claim.scope,
         next,
     })
+}
+
+/// The first that waits for the lock of x, which goes together with each holder, holds it and goes on, through one lock after another
+/// that nobody claims.
+#[inline(always)]
+fn grant_from(core: &mut Core, x: Vertex, claim: Claim) -> Result<ScopeId, Refused>
+    requires orderly { IsOrderly core.old }
+    requires owned { is_owned core.old.locks x.0 ≡ true }
+    requires first { IsNext (holder_at core.old.locks x.0) (queue_at core.old.locks x.0) claim }
+    requires once { WaitOnce (holder_at core.old.locks x.0) (queue_at core.old.locks x.0) }
+    ensures orderly { IsOrderly core.new }
+    ensures settings { SameSettings core.old core.new }
+    ensures granted { IfOk result (λ scope. HasGrantedInTurn core.old core.new x.0) }
+    ensures scope { IfOk result (λ scope. scope ≡ claim.scope) }
+    ensures refused { IfErr result (λ e. e ≡ Refused.NoMemory) }
+    ensures rest { core.new ≡ record core.old { pipe = core.new.pipe; locks = core.new.locks; out = core.new.out; spare = core.new.spare } }
+    ensures unchanged { OnErr result (HasOnlyMadeRoom core.old core.new) }
+{
+    let next = core.pipe.look(claim.scope);
+    if reserve_next(core, claim.scope, next).is_err() {
+        return Err(Refused::NoMemory);
+    }
+    let _ = core.locks.grant(x);
+    let next = take_free(core, claim.scope, next);
+    go_on(core, claim.scope, next);
+    Ok(claim.scope)
 }

@@ -9,9 +9,10 @@ mod laws;
 mod picking;
 mod readying;
 mod starting;
+mod taking;
 
 pub use admitting::admit;
 pub use asking::receive_ask;
-pub use granting::{Moved, grant, next_grant};
+pub use granting::{Moved, grant, grant_in_turn, next_grant};
 pub use laws::{asks_are_new, words_come_home};
 pub use readying::receive_ready;

@@ -1,8 +1,14 @@
 -- An update that was made of a work is one of the numbers that the work holds.
-use Rattle.std.proofs.Common.{◌≡◌, ℕ, List, [], ◌∷◌, ◌++◌, sym, ap, ◌∙◌, subst}
+use Rattle.std.proofs.Common.{◌≡◌, ℕ, suc, ◌==◌, Bool, true, false, if◌then◌else◌, List, [], ◌∷◌, ◌++◌, refl, sym, ap, ◌∙◌, subst}
+use Rattle.gl_base.specs.declared.entries.Entry.{Entry}
+use Rattle.gl_base.specs.declared.scopes.Datum.{Datum}
+use Rattle.cluster_core.proofs.Basics.{set_at-cases}
 use Rattle.local_graph.specs.declared.works.Outcome.{Outcome}
 use Rattle.local_graph.specs.declared.works.Work.{Work}
+use Rattle.machine_numbers.specs.declared.keeping.Numbers.{Numbers}
 use Rattle.machine_numbers.specs.Settings.{IsMadeOfWork}
+use Rattle.machine_numbers.specs.Steps.{HasUpdated, renewed}
+use Rattle.machine_numbers.specs.Views.{datum_here}
 use Rattle.update_api.specs.Links.{nears_at}
 use Rattle.update_api.specs.Marks.{AreMarked}
 use Rattle.update_api.specs.Updates.{Update}
@@ -27,3 +33,21 @@ module _ (p : Update) (w : Work) (first made : Outcome) (work : first.work ≡ w
             (subst (λ (l : List ℕ). AreMarked (p.mark made.value) (first.work.near.items ++ first.value ∷ []) l first.work.row.links.items made.edges.items) numbers marks));
         woken = woken ∙ ap (λ (k : ℕ). p.woken k made.value) own;
       }
+
+-- ---- marks
+
+renewed_mark : (d : Datum) (x : ℕ) → (renewed d x).mark ≡ d.mark
+renewed_mark d x = by (x == d.value)
+  where
+    by : (b : Bool) → (if b then d else record { value = x; version = suc d.version; mark = d.mark }).mark ≡ d.mark
+    by true = refl
+    by false = refl
+
+-- an update leaves each mark as it is
+pub marks_kept : (old new : Numbers) (o : Outcome) (entry : Entry) → HasUpdated old new o entry → (x : ℕ) → (datum_here new x).mark ≡ (datum_here old x).mark
+marks_kept old new o entry has x =
+    let v = o.work.vertex.0 in
+    let is : Datum → Type 0 = λ d. d.mark ≡ (datum_here old x).mark in
+    subst is (sym (has.datum x))
+    (set_at-cases is (datum_here old) v (renewed (datum_here old v) o.value) x
+    (λ same. renewed_mark (datum_here old v) o.value ∙ ap (λ u. (datum_here old u).mark) (sym same)) (λ off. refl))

@@ -37,7 +37,7 @@ may_update m s v can =
 pub reserved_still : (old new : Core) (s : ScopeId) (v : Vertex) (ps : List Prepared)
     → new ≡ record old { numbers = record old.numbers { local = record old.numbers.local { rows = new.numbers.local.rows } } }
     → IsReserved old s v ps → IsReserved new s v ps
-reserved_still old new s v ps rest is = subst (λ (m : Core). IsReserved m s v ps) (sym rest) (record { can = is.can; told = is.told; room = is.room; few = is.few })
+reserved_still old new s v ps rest is = subst (λ (m : Core). IsReserved m s v ps) (sym rest) (record { can = is.can; told = is.told; room = is.room; few = is.few; version = is.version })
 
 -- A machine, the same with room for the commit, the same while the work is out, and the same behind that.
 module _ (m roomy out new : Core) (w : Work) (f : ScopeId) (v : Vertex) (scope : w.scope ≡ f) (vertex : w.vertex ≡ v) (room : HasOnlyMadeRoom m roomy)

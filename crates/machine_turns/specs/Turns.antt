@@ -3,13 +3,15 @@ pub use Rattle.cluster_core.specs.Actions.{MayUpdate}
 pub use Rattle.cluster_core.specs.Effects.{updated}
 pub use Rattle.cluster_core.specs.Settings.{IsSetting}
 pub use Rattle.local_parts.specs.Parts.{IsLocalOf, AreIn}
+pub use Rattle.machine_numbers.specs.Steps.{HasRun}
 pub use Rattle.machine_parts.specs.Order.{IsOrderly, KnowsPlaces}
-pub use Rattle.machine_parts.specs.Parts.{LocalView, part_of, is_ready, is_own, links_at, sides_at, task_here, pending_here}
+pub use Rattle.machine_parts.specs.Parts.{LocalView, part_of, datum_here, flight_at, place_at, is_ready, is_own, links_at, sides_at, task_here, pending_here}
 pub use Rattle.machine_parts.specs.Rooms.{HasOnlyMadeRoom}
 pub use Rattle.machine_parts.specs.Settings.{Setting, IsPartOf, SameSettings}
 pub use Rattle.machine_updates.specs.Works.{IsOut}
 use Rattle.std.specs.Prelude.{◌≡◌, ℕ, true, Option, Some, None, List, length}
 use Rattle.gl_base.specs.declared.entries.Entry.TheVariants.{Go}
+use Rattle.gl_base.specs.declared.numbers.Vertex.{Vertex}
 use Rattle.gl_base.specs.declared.scopes.ScopeId.{ScopeId}
 use Rattle.local_graph.specs.Works.{IsRow}
 use Rattle.update_api.specs.Updates.{Update}
@@ -36,6 +38,11 @@ pub record HasMadeUpdate (program : Update) (old new : Core) (s : ScopeId) (tick
   pub home : s.home ≡ old.numbers.local.me
   pub after : (st : Setting) → IsSetting st → IsPartOf st old → st.program ≡ program →
       part_of new ≡ updated st s.home.0 s may.vertex (Go s.home (record { 0 = may.vertex }) ticket) (part_of old)
+
+-- The vertex of the scope is not admitted any more, and one update more is outside the last acknowledged snapshot.
+abbrev pub HasRunOf : Core → Core → ScopeId → Type 0
+HasRunOf old new s =
+    (v : Vertex) (place : ℕ) → flight_at old.pipe s ≡ Some v → place_at old.numbers.local v.0 ≡ Some place → HasRun old.numbers.tasks new.numbers.tasks place
 
 -- The part is as before. But for how rows and the numbers of edges are kept, only room has changed.
 pub record IsAsBefore (old new : Core) : Type 0 where

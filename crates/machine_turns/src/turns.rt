@@ -1,8 +1,8 @@
 //! The update of a scope.
 ghost use Rattle.std.specs.Prelude.{◌≡◌, ℕ, ◌==◌, Some, length, if◌then◌else◌, OnOk, OnErr, IsErrOf};
 ghost use Rattle.local_graph.specs.Works.{IsRow};
-ghost use Rattle.machine_turns.specs.Turns.{IsOrderly, KnowsPlaces, SameSettings, HasEachRow, MayUpdate, HasMadeUpdate, IsAsBefore, IsOut, Setting, IsPartOf, part_of, is_own, links_at, sides_at};
-ghost use Rattle.machine_turns.specs.Inner.Taking.{CanBeTaken, HasItsRow, IsReserved, HasCompleted};
+ghost use Rattle.machine_turns.specs.Turns.{IsOrderly, KnowsPlaces, SameSettings, HasEachRow, MayUpdate, HasMadeUpdate, HasRunOf, IsAsBefore, IsOut, Setting, IsPartOf, part_of, datum_here, is_own, links_at, sides_at};
+ghost use Rattle.machine_turns.specs.Inner.Taking.{CanBeTaken, HasItsRow, IsReserved, HasCompleted, HasRunAt};
 
 use crate::waiting::centre_to_update;
 use gl_base::{NoMemory, Refused, ScopeId};
@@ -26,12 +26,15 @@ pub fn update<P: Program>(
     requires orderly { IsOrderly core.old }
     requires rows { HasEachRow core.old.numbers.local }
     ensures updated { OnOk result (HasMadeUpdate (P.meaning program.now) core.old core.new scope ticket) }
+    ensures run { OnOk result (HasRunOf core.old core.new scope) }
     ensures not_now { IsErrOf result Refused.NotNow → MayUpdate scope (part_of core.old) 1 → ⊥ }
     ensures no_memory { IsErrOf result Refused.NoMemory → MayUpdate scope (part_of core.old) 1 }
     ensures same { IsErrOf result Refused.NotNow → core.new ≡ core.old }
     ensures unchanged { OnErr result (IsAsBefore core.old core.new) }
     ensures rows { HasEachRow core.new.numbers.local }
     ensures links { (x : ℕ) → links_at core.new.numbers.local x ≡ links_at core.old.numbers.local x }
+    ensures own { (x : ℕ) → is_own core.new.numbers.local x ≡ is_own core.old.numbers.local x }
+    ensures marks { (x : ℕ) → (datum_here core.new.numbers x).mark ≡ (datum_here core.old.numbers x).mark }
     ensures local { let old = core.old.numbers.local in let new = core.new.numbers.local in new ≡ record old { kept = new.kept; rows = new.rows; numbers = new.numbers } }
     ensures orderly { IsOrderly core.new }
     ensures places { KnowsPlaces core.old → KnowsPlaces core.new }
@@ -68,9 +71,12 @@ fn make<P: Program>(
     requires rows { HasEachRow core.old.numbers.local }
     requires can { CanBeTaken core.old flight.scope flight.centre }
     ensures made { OnOk result (HasMadeUpdate (P.meaning program.now) core.old core.new flight.scope ticket) }
+    ensures run { OnOk result (HasRunOf core.old core.new flight.scope) }
     ensures unchanged { OnErr result (IsAsBefore core.old core.new) }
     ensures rows { HasEachRow core.new.numbers.local }
     ensures links { (x : ℕ) → links_at core.new.numbers.local x ≡ links_at core.old.numbers.local x }
+    ensures own { (x : ℕ) → is_own core.new.numbers.local x ≡ is_own core.old.numbers.local x }
+    ensures marks { (x : ℕ) → (datum_here core.new.numbers x).mark ≡ (datum_here core.old.numbers x).mark }
     ensures local { let old = core.old.numbers.local in let new = core.new.numbers.local in new ≡ record old { kept = new.kept; rows = new.rows; numbers = new.numbers } }
     ensures orderly { IsOrderly core.new }
     ensures places { KnowsPlaces core.old → KnowsPlaces core.new }
@@ -100,11 +106,13 @@ fn complete<P: Program>(
     requires row { IsRow work.row.links.items (length (sides_at core.old.numbers.local work.vertex.0)) }
     requires reserved { IsReserved core.old work.scope work.vertex prepared.items }
     ensures completed { OnOk result (HasCompleted (P.meaning program.now) core.old core.new work ticket) }
+    ensures run { OnOk result (HasRunAt core.old core.new work.vertex) }
     ensures part { OnErr result (part_of core.new ≡ part_of core.old) }
     ensures back { OnErr result (core.new ≡ record core.old { numbers = record core.old.numbers { local = record core.old.numbers.local { rows = core.new.numbers.local.rows; numbers = core.new.numbers.local.numbers } } }) }
     ensures rows { (x : ℕ) → links_at core.new.numbers.local x ≡ (if x == work.vertex.0 then Some work.row.links.items else links_at core.old.numbers.local x) }
     ensures local { let old = core.old.numbers.local in let new = core.new.numbers.local in new ≡ record old { kept = new.kept; rows = new.rows; numbers = new.numbers } }
     ensures own { (x : ℕ) → is_own core.new.numbers.local x ≡ is_own core.old.numbers.local x }
+    ensures marks { (x : ℕ) → (datum_here core.new.numbers x).mark ≡ (datum_here core.old.numbers x).mark }
     ensures orderly { IsOrderly core.new }
     ensures places { KnowsPlaces core.old → KnowsPlaces core.new }
     ensures settings { (st : Setting) → IsPartOf st core.old → HasItsRow st core.old work → IsPartOf st core.new }

@@ -1,6 +1,7 @@
 -- What a commit leaves is what the cluster's effect makes of the machine's part.
-use Rattle.std.proofs.Common.{◌≡◌, ℕ, ◌+◌, ◌==◌, ◌&&◌, ◌++◌, Bool, true, false, true≢false, not, pred, if◌then◌else◌, Option, Some, None, List, [], ◌∷◌, refl, sym, ap, ◌∙◌, subst, add-one}
+use Rattle.std.proofs.Common.{◌≡◌, ◌≢◌, ℕ, ◌+◌, ◌<◌, ◌==◌, ◌&&◌, ◌++◌, Bool, true, false, true≢false, not, pred, if◌then◌else◌, Option, Some, None, List, [], ◌∷◌, length, refl, sym, ap, ◌∙◌, subst, add-one, All}
 use Rattle.std.specs.Prelude.{is_some}
+use Rattle.std.specs.List.{AllPairs, list_any}
 use Rattle.gl_base.specs.declared.numbers.Vertex.{Vertex}
 use Rattle.gl_base.specs.declared.scopes.ScopeId.{ScopeId}
 use Rattle.scope_lists.specs.Scopes.{is_scope, set_for}
@@ -17,19 +18,20 @@ use Rattle.cluster_core.specs.Settings.{IsSetting}
 use Rattle.local_parts.proofs.SharedLemmas.{edges_shared}
 use Rattle.wire_msgs.specs.Views as told
 use Rattle.outboxes.specs.Outboxes.{OutboxesView}
-use Rattle.machine_numbers.specs.Views.{TasksView, AreTasksOf, near_along, value_here}
+use Rattle.machine_numbers.specs.Views.{TasksView, AreTasksOf, numbers_along, near_along, value_here}
 use Rattle.machine_numbers.specs.Steps.{HasUpdated, HasRun}
-use Rattle.machine_numbers.specs.Settings.{with_numbers, IsOutcomeOf, IsMadeOfWork, lent_along}
+use Rattle.machine_numbers.specs.declared.keeping.Numbers.{Numbers}
+use Rattle.machine_numbers.specs.Settings.{with_numbers, IsOutcomeOf, IsMadeOfWork, IsRowOf, lent_along}
 use Rattle.machine_numbers.proofs.JoinLemmas.{updated_is, news_are}
 use Rattle.machine_parts.specs.declared.cores.Core.{Core}
-use Rattle.machine_parts.specs.Parts.{LocalView, PipeView, place_at, is_own, links_at, sides_at, flag_there, pending_here, flight_at, entered_at, is_owned, holder_at, queue_at, messages_for, message_of, number_of, stand_at, news_told, part_of}
+use Rattle.machine_parts.specs.Parts.{LocalView, Part, PipeView, place_at, is_own, links_at, sides_at, parts_at, edge_here, flag_there, pending_here, flight_at, entered_at, is_owned, holder_at, queue_at, messages_for, message_of, number_of, stand_at, news_told, part_of}
 use Rattle.machine_parts.specs.Order.{IsOrderly}
-use Rattle.machine_parts.specs.Settings.{Setting, IsPartOf}
+use Rattle.machine_parts.specs.Settings.{Setting, IsLocalOf, IsPartOf}
 use Rattle.machine_updates.specs.declared.reserving.Prepared.{Prepared}
 use Rattle.machine_updates.specs.Works.{IsOut, HasItsRow}
 use Rattle.machine_updates.specs.Reserving.{IsReserved, is_to_be_told}
 use Rattle.machine_updates.specs.Committing.{done_told, after_told, entry_logged, HasCommitted}
-use Rattle.machine_updates.specs.Inner.Telling.{HasWord}
+use Rattle.machine_updates.specs.Telling.{HasWord}
 use Rattle.machine_updates.proofs.TellLemmas.{done_is}
 use Rattle.machine_updates.proofs.ToldLemmas.{told_at, parts_are}
 use Rattle.machine_updates.proofs.GraphLemmas.{SameGraph, place_kept}
@@ -54,24 +56,56 @@ pub record HasDone (old new : Core) (o : Outcome) (ps : List Prepared) (ticket :
 
 -- ---- of a work that is out, what its program makes
 
-pub outcome_is : (st : Setting) (m : Core) (o : Outcome) → IsPartOf st m → is_own m.numbers.local o.work.vertex.0 ≡ true → IsOut m o.work → HasItsRow st m o.work → IsMadeOfWork st.program o → IsOutcomeOf st m.numbers o
-outcome_is st m o part own out row made =
-    let n = m.numbers in
-    let x = o.work.vertex.0 in
-    let links = o.work.row.links.items in
-    let numbers = o.work.row.numbers.items in
-    let lent : o.work.near.items ++ o.work.value ∷ [] ≡ lent_along n x =
-    ap (λ (ns : List ℕ). ns ++ o.work.value ∷ []) out.near ∙ ap (λ (k : ℕ). near_along (value_here n) (sides_at n.local x) ++ k ∷ []) out.value in
-    record {
-      row = row;
-      owners = part.local.owners x own;
-      numbers = out.numbers;
-      value =
-          made.value ∙ ap (λ (k : ℕ). st.program.number k (nears_at (o.work.near.items ++ o.work.value ∷ []) numbers links)) out.value
-          ∙ ap (λ (vs : List ℕ). st.program.number (value_here n x) (nears_at vs numbers links)) lent;
-      marks = subst (λ (vs : List ℕ). AreMarked (st.program.mark o.value) vs numbers links o.edges.items) lent made.marks;
-      woken = made.woken ∙ ap (λ (k : ℕ). st.program.woken k o.value) out.value;
-    }
+module _ (st : Setting) (n : Numbers) (o : Outcome) (local : IsLocalOf st n.local) (own : is_own n.local o.work.vertex.0 ≡ true) where
+  pub outcome_is : o.work.value ≡ value_here n o.work.vertex.0 → o.work.row.numbers.items ≡ numbers_along (edge_here n) (sides_at n.local o.work.vertex.0)
+      → o.work.near.items ≡ near_along (value_here n) (sides_at n.local o.work.vertex.0) → IsRowOf st o.work.vertex.0 (sides_at n.local o.work.vertex.0) o.work.row.links.items → IsMadeOfWork st.program o → IsOutcomeOf st n o
+  outcome_is value edges near row made =
+      let x = o.work.vertex.0 in
+      let links = o.work.row.links.items in
+      let numbers = o.work.row.numbers.items in
+      let lent : o.work.near.items ++ o.work.value ∷ [] ≡ lent_along n x =
+      ap (λ (ns : List ℕ). ns ++ o.work.value ∷ []) near ∙ ap (λ (k : ℕ). near_along (value_here n) (sides_at n.local x) ++ k ∷ []) value in
+      record {
+        row = row;
+        owners = local.owners x own;
+        numbers = edges;
+        value =
+            made.value ∙ ap (λ (k : ℕ). st.program.number k (nears_at (o.work.near.items ++ o.work.value ∷ []) numbers links)) value
+            ∙ ap (λ (vs : List ℕ). st.program.number (value_here n x) (nears_at vs numbers links)) lent;
+        marks = subst (λ (vs : List ℕ). AreMarked (st.program.mark o.value) vs numbers links o.edges.items) lent made.marks;
+        woken = made.woken ∙ ap (λ (k : ℕ). st.program.woken k o.value) value;
+      }
+
+-- ---- what waits for each machine once the others of the scope were told
+
+module _ (st : Setting) (n : Numbers) (part : Part) (out : OutboxesView) (o : Outcome) (ps : List Prepared) (setting : IsSetting st) (is : IsOutcomeOf st n o) where
+  word_is : (q : ℕ) → HasWord n o q → message_of (told.Done (done_told n o (record { 0 = q }))) ≡ law.Done o.work.scope (news_for st (with_numbers n part) o.work.vertex.0 q)
+  word_is q word =
+      let same = done_is n (record { 0 = q }) o word.done word.tells in
+      let news : news_told (done_told n o (record { 0 = q })) ≡ news_for st (with_numbers n part) o.work.vertex.0 q =
+      ap news_told (sym same) ∙ news_are st (record { 0 = q }) o word.done n part is (edges_shared st o.work.vertex.0 setting) word.tells in
+      ap (law.Done o.work.scope) news
+
+  pub outbox_told : IsLocalOf st n.local → is_own n.local o.work.vertex.0 ≡ true → All (λ (p : Prepared). p.to.0 < length out.machines) ps
+      → AllPairs (λ (one other : Prepared). one.to.0 ≢ other.to.0) ps
+      → ((q : ℕ) → is_to_be_told ps q ≡ (list_any (λ b. b.0 == q) (parts_at n.local o.work.vertex.0) && not (q == n.local.me.0)))
+      → ((q : ℕ) → is_to_be_told ps q ≡ true → HasWord n o q)
+      → (q : ℕ) → messages_for (after_told (done_told n o) ps out) q ≡ tell st n.local.me.0 o.work.vertex.0 o.work.scope (λ p. news_for st (with_numbers n part) o.work.vertex.0 p) (messages_for out) q
+  outbox_told local own machines apart one_of words q =
+      let s = o.work.scope in
+      let v = o.work.vertex.0 in
+      let me = n.local.me.0 in
+      let waited = messages_for out q in
+      let word = law.Done s (news_for st (with_numbers n part) v q) in
+      let said = message_of (told.Done (done_told n o (record { 0 = q }))) in
+      let who : is_to_be_told ps q ≡ (takes_part st v q && not (q == me)) = one_of q ∙ ap (λ (b : Bool). b && not (q == me)) (parts_are st n.local v q setting local own) in
+      let by : (b : Bool) → is_to_be_told ps q ≡ b → (if b then waited ++ said ∷ [] else waited) ≡ (if b then waited ++ word ∷ [] else waited) = λ b. elim b as (λ c. is_to_be_told ps q ≡ c → (if c then waited ++ said ∷ [] else waited) ≡ (if c then waited ++ word ∷ [] else waited)) [
+        | true ↦ λ is_one. ap (λ (m : Message). waited ++ m ∷ []) (word_is q (words q is_one))
+        | false ↦ λ none. refl
+      ] in
+      told_at (done_told n o) ps out q machines apart
+      ∙ by (is_to_be_told ps q) refl
+      ∙ ap (λ (b : Bool). if b then waited ++ word ∷ [] else waited) who
 
 -- ---- the parts
 
@@ -101,32 +135,11 @@ module _ (old new : Core) (o : Outcome) (ps : List Prepared) (ticket : ℕ) (ord
   own : is_own old.numbers.local o.work.vertex.0 ≡ true
   own = order.flights.own o.work.scope o.work.vertex out.flight
 
-  word_is : (st : Setting) (q : ℕ) → IsSetting st → IsOutcomeOf st old.numbers o → is_to_be_told ps q ≡ true → message_of (told.Done (done_told old.numbers o (record { 0 = q }))) ≡ law.Done o.work.scope (news_for st (part_of old) o.work.vertex.0 q)
-  word_is st q setting is is_one =
-      let word = done.words q is_one in
-      let same = done_is old.numbers (record { 0 = q }) o word.done word.tells in
-      let news : news_told (done_told old.numbers o (record { 0 = q })) ≡ news_for st (part_of old) o.work.vertex.0 q =
-      ap news_told (sym same) ∙ news_are st (record { 0 = q }) o word.done old.numbers (part_of old) is (edges_shared st o.work.vertex.0 setting) word.tells in
-      ap (law.Done o.work.scope) news
-
   out_is : (st : Setting) (q : ℕ) → IsSetting st → IsPartOf st old → IsOutcomeOf st old.numbers o → messages_for new.out q
       ≡ tell st old.numbers.local.me.0 o.work.vertex.0 o.work.scope (λ p. news_for st (part_of old) o.work.vertex.0 p) (messages_for old.out) q
   out_is st q setting part is =
-      let s = o.work.scope in
-      let v = o.work.vertex.0 in
-      let me = old.numbers.local.me.0 in
-      let waited = messages_for old.out q in
-      let word = law.Done s (news_for st (part_of old) v q) in
-      let said = message_of (told.Done (done_told old.numbers o (record { 0 = q }))) in
-      let who : is_to_be_told ps q ≡ (takes_part st v q && not (q == me)) = reserved.told q ∙ ap (λ (b : Bool). b && not (q == me)) (parts_are st old.numbers.local v q setting part.local own) in
-      let by : (b : Bool) → is_to_be_told ps q ≡ b → (if b then waited ++ said ∷ [] else waited) ≡ (if b then waited ++ word ∷ [] else waited) = λ b. elim b as (λ c. is_to_be_told ps q ≡ c → (if c then waited ++ said ∷ [] else waited) ≡ (if c then waited ++ word ∷ [] else waited)) [
-        | true ↦ λ is_one. ap (λ (m : Message). waited ++ m ∷ []) (word_is st q setting is is_one)
-        | false ↦ λ none. refl
-      ] in
       ap (λ (boxes : OutboxesView). messages_for boxes q) done.out
-      ∙ told_at (done_told old.numbers o) ps old.out q reserved.can.machines reserved.can.apart
-      ∙ by (is_to_be_told ps q) refl
-      ∙ ap (λ (b : Bool). if b then waited ++ word ∷ [] else waited) who
+      ∙ outbox_told st old.numbers (part_of old) old.out o ps setting is part.local own reserved.can.machines reserved.can.apart reserved.told done.words q
 
   pub pending_kept : (u : ℕ) → pending_here new.numbers u ≡ pending_here old.numbers u
   pending_kept u =
@@ -139,7 +152,7 @@ module _ (old new : Core) (o : Outcome) (ps : List Prepared) (ticket : ℕ) (ord
   committed st setting part row made =
       let s = o.work.scope in
       let v = o.work.vertex.0 in
-      let is = outcome_is st old o part own out row made in
+      let is = outcome_is st old.numbers o part.local own out.value out.numbers out.near row made in
       let after = updated st old.numbers.local.me.0 s v (entry_logged o ticket) (part_of old) in
       let rest : part_of new ≡ with_numbers new.numbers after = λ i.
       record (part_of new) {

@@ -7,6 +7,7 @@ pub mod ToldLemmas
 pub mod CommitLemmas
 pub mod OrderLemmas
 pub mod StayLemmas
+pub mod SeedLemmas
 pub mod ReceiveLemmas
 pub mod WorkLemmas
 pub mod TurnLemmas

@@ -32,13 +32,6 @@ use Rattle.machine_updates.proofs.CommitLemmas.{HasDone, placed}
 
 -- ---- data
 
-renewed_version : (d : Datum) (x : ℕ) → (renewed d x).version ≤ d.version + 1
-renewed_version d x = by (x == d.value)
-  where
-    by : (b : Bool) → (if b then d else record { value = x; version = suc d.version; mark = d.mark }).version ≤ d.version + 1
-    by true = omega arith
-    by false = omega arith
-
 renewed_mark : (d : Datum) (x : ℕ) → (renewed d x).mark ≡ d.mark
 renewed_mark d x = by (x == d.value)
   where
@@ -128,10 +121,8 @@ module _ (old new : Core) (o : Outcome) (ps : List Prepared) (ticket : ℕ) (ord
   numbers_kept =
       let n = order.numbers in
       let v = o.work.vertex.0 in
-      let most = length old.numbers.log.items in
       let was : (u : ℕ) → is_own new.numbers.local u ≡ true → is_own old.numbers.local u ≡ true = λ u is. sym (done.graph.own u) ∙ is in
       let next = renewed (datum_here old.numbers v) o.value in
-      let few : Datum → Type 0 = λ d. d.version ≤ length new.numbers.log.items in
       let marked : Datum → Type 0 = λ d. old.terms.base ≤ d.mark in
       let at = placed old.numbers.local v own in
       let run = done.run at.0 at.1 in
@@ -141,12 +132,6 @@ module _ (old new : Core) (o : Outcome) (ps : List Prepared) (ticket : ℕ) (ord
         ghosts = λ x.
             ap (λ (g : CacheView). is_some (ghost_datum g x)) done.ghosts ∙ n.ghosts x
             ∙ ap (λ (gs : List GhostLine). list_any (λ g. g.vertex.0 == x) gs) (sym (ghosts_kept old.numbers.local new.numbers.local done.graph));
-        versions = λ u is.
-            let before = n.versions u (was u is) in
-            let mine = n.versions v own in
-            let rises = renewed_version (datum_here old.numbers v) o.value in
-            let longer = long in
-            subst few (sym (done.updated.datum u)) (set_at-cases few (datum_here old.numbers) v next u (λ same. omega arith) (λ off. omega arith));
         marks = λ u is.
             subst marked (sym (done.updated.datum u))
             (set_at-cases marked (datum_here old.numbers) v next u (λ same. subst (λ (m : ℕ). old.terms.base ≤ m) (sym (renewed_mark (datum_here old.numbers v) o.value)) (n.marks v own)) (λ off. n.marks u (was u is)));

@@ -1,9 +1,9 @@
 -- What word of an update elsewhere leaves is what the cluster's effect makes of the machine's part.
-use Rattle.std.proofs.Common.{◌≡◌, ℕ, zero, suc, ◌+◌, ◌<◌, ◌≤◌, ◌==◌, ◌&&◌, ◌||◌, Bool, true, false, true≢false, if◌then◌else◌, Option, Some, None, List, length, max, refl, sym, ap, ◌∙◌, subst, arith, inl, inr}
+use Rattle.std.proofs.Common.{◌≡◌, ℕ, ◌≤◌, ◌==◌, ◌||◌, Bool, true, false, true≢false, if◌then◌else◌, Option, Some, None, List, length, max, refl, sym, ap, ◌∙◌, subst, arith, inl, inr}
 use Rattle.std.specs.Prelude.{is_some, nat_lt}
 use Rattle.std.specs.List.{list_any}
 use Rattle.std.proofs.Math.Nat.{max-zero}
-use Rattle.std.proofs.lemmas.Bool.{cases_Bool, ne_eqb, or_parts}
+use Rattle.std.proofs.lemmas.Bool.{ne_eqb, or_parts}
 use Rattle.gl_base.specs.declared.atoms.GhostLine.{GhostLine}
 use Rattle.gl_base.specs.declared.numbers.MachineNo.{MachineNo}
 use Rattle.gl_base.specs.declared.numbers.Vertex.{Vertex}
@@ -15,22 +15,21 @@ use Rattle.scope_lists.proofs.SameScope.{one_or_two, set_for-here, set_for-there
 use Rattle.scope_pipe.specs.Pipes.{flight_scope}
 use Rattle.scope_pipe.proofs.FlightLemmas.{in_flight_where}
 use Rattle.wire_msgs.specs.declared.messages.Done.{Done}
-use Rattle.graph_core.specs.DataGraph.{size}
 use Rattle.cluster_core.specs.Effects.{applied, nothing_saved, first_unmarked, first_pending, seed_if, is_at, knows, newer_datum}
-use Rattle.cluster_core.specs.Ranges.{first_passing}
 use Rattle.machine_numbers.specs.declared.keeping.Numbers.{Numbers}
 use Rattle.machine_numbers.specs.Views.{TasksView, AreTasksOf, ghost_datum, news_of, is_named}
 use Rattle.machine_numbers.specs.Steps.{HasLearned}
 use Rattle.machine_numbers.specs.Settings.{with_numbers, IsRowOf}
 use Rattle.local_graph.specs.declared.sides.Side.{Side}
 use Rattle.machine_parts.specs.declared.cores.Core.{Core}
-use Rattle.machine_parts.specs.Parts.{LocalView, PipeView, Part, place_at, is_own, links_at, datum_here, flag_there, pending_here, admitted_here, flight_at, is_ready, is_owned, holder_at, queue_at, part_of}
+use Rattle.machine_parts.specs.Parts.{LocalView, PipeView, place_at, is_own, links_at, datum_here, flag_there, pending_here, admitted_here, flight_at, is_ready, is_owned, holder_at, queue_at, part_of}
 use Rattle.machine_parts.specs.Order.{IsOrderly, AreNumbersInOrder, AreFlightsInOrder, IsReadyAt, KnowsPlaces}
 use Rattle.machine_parts.specs.Settings.{Setting, IsPartOf, SameSettings}
 use Rattle.machine_updates.specs.Learning.{CanLearn, HasReceivedDone}
 use Rattle.machine_updates.proofs.GraphLemmas.{HasSameEdges, SameGraph, place_kept, me_kept, sides_kept, ghosts_kept, graph_kept, sides_here}
 use Rattle.machine_updates.proofs.LeaveLemmas.{IsWithout, none_or, come_kept, other_entered, locks_left}
 use Rattle.machine_updates.proofs.OrderLemmas.{local_kept}
+use Rattle.machine_updates.proofs.SeedLemmas.{no_seed, not_below, seed_none}
 
 -- ---- the graph here, where numbers of edges alone have changed
 
@@ -90,37 +89,6 @@ pub record HasHeard (old new : Core) (done : Done) : Type 0 where
   pub queue : (x : ℕ) → queue_at new.locks x ≡ queue_at old.locks x
   pub rest : new ≡ record old { numbers = new.numbers; locks = new.locks }
 
--- ---- nothing is seeded
-
-none_first : (test : ℕ → Bool) (k many : ℕ) → ((x : ℕ) → k ≤ x → x < k + many → test x ≡ false) → first_passing test k many ≡ None
-unfolding first_passing
-none_first test k zero fails = refl
-none_first test k (suc many) fails =
-    ap (λ (b : Bool). if b then Some k else first_passing test (suc k) many) (fails k (omega arith) (omega arith))
-    ∙ none_first test (suc k) many (λ x from below. fails x (omega arith) (omega arith))
-
-seed_none : (o : Option ℕ) → seed_if o None ≡ None
-seed_none None = refl
-seed_none (Some v) = refl
-
-not_below : (a b : ℕ) → b ≤ a → nat_lt a b ≡ false
-not_below a b up = grind arith
-
-no_seed : (st : Setting) (m : Core) (part : Part) → IsPartOf st m → AreNumbersInOrder m.numbers m.terms.base → part.datum ≡ datum_here m.numbers → part.known ≡ m.terms.base → first_unmarked st m.numbers.local.me.0 part ≡ None
-no_seed st m part is numbers data_is known =
-    let a = m.numbers.local.me.0 in
-    let test : ℕ → Bool = λ v. st.owner v == a && nat_lt (part.datum v).mark part.known in
-    none_first test 0 (size st.graph) (λ v from below. elim (cases_Bool (st.owner v == a)) [
-      | inl mine ↦
-          let inside : nat_lt v (size st.graph) ≡ true = grind arith in
-          let own : is_own m.numbers.local v ≡ true = is.local.own v ∙ ap (λ (b : Bool). b && st.owner v == a) inside ∙ mine in
-          let marked : m.terms.base ≤ (datum_here m.numbers v).mark = numbers.marks v own in
-          let low : nat_lt (part.datum v).mark part.known ≡ false =
-          ap (λ (f : ℕ → Datum). nat_lt (f v).mark part.known) data_is ∙ ap (λ (n : ℕ). nat_lt (datum_here m.numbers v).mark n) known ∙ not_below (datum_here m.numbers v).mark m.terms.base marked in
-          ap (λ (b : Bool). b && nat_lt (part.datum v).mark part.known) mine ∙ low
-      | inr other ↦ ap (λ (b : Bool). b && nat_lt (part.datum v).mark part.known) other
-    ])
-
 module _ (old new : Core) (done : Done) (order : IsOrderly old) (can : CanLearn old done) (heard : HasHeard old new done) where
   graph : SameGraph old.numbers.local new.numbers.local
   graph = numbers_written old.numbers.local new.numbers.local heard.local
@@ -139,7 +107,7 @@ module _ (old new : Core) (done : Done) (order : IsOrderly old) (can : CanLearn 
       let a = old.numbers.local.me.0 in
       let known : max old.terms.base done.number ≡ old.terms.base = ap (max old.terms.base) can.number ∙ max-zero old.terms.base in
       let before = knows done.number (part_of old) in
-      let none : first_unmarked st a before ≡ None = no_seed st old before part order.numbers refl known in
+      let none : first_unmarked st a before ≡ None = no_seed st old.numbers old.terms.base before part.local order.numbers refl known in
       let unseeded : is_at (seed_if (first_pending st before) (first_unmarked st a before)) u ≡ false =
       ap (λ (o : Option ℕ). is_at (seed_if (first_pending st before) o) u) none ∙ ap (λ (o : Option ℕ). is_at o u) (seed_none (first_pending st before)) in
       ap (λ (o : Option ℕ). flag_there new.numbers.tasks.pending o) (place_kept old.numbers.local new.numbers.local graph u)
@@ -185,8 +153,6 @@ module _ (old new : Core) (done : Done) (order : IsOrderly old) (can : CanLearn 
         tasks = heard.tasks_kept;
         sides = λ u is. sides_here old.numbers.local new.numbers.local graph u (n.sides u (was u is));
         ghosts = λ x. heard.ghosts x ∙ n.ghosts x ∙ ap (λ (gs : List GhostLine). list_any (λ g. g.vertex.0 == x) gs) (sym (ghosts_kept old.numbers.local new.numbers.local graph));
-        versions = λ u is.
-            let own = was u is in subst (λ (k : ℕ). (datum_here new.numbers u).version ≤ k) long (subst (λ (d : Datum). d.version ≤ length old.numbers.log.items) (sym (datum u own)) (n.versions u own));
         marks = λ u is.
             let own = was u is in subst (λ (d : Datum). old.terms.base ≤ d.mark) (sym (datum u own)) (n.marks u own);
         outside = subst (λ (k : ℕ). new.numbers.tasks.outside ≤ k) long (subst (λ (t : TasksView). t.outside ≤ length old.numbers.log.items) (sym heard.tasks) n.outside);

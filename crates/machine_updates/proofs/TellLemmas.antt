@@ -2,7 +2,9 @@
 use Rattle.std.proofs.Common.{◌≡◌, ◌≢◌, ◌⊎◌, ℕ, suc, ◌<◌, ◌==◌, true, true≢false, List, [], ◌∷◌, length, get_or, set, refl, sym, ap, ◌∙◌, subst, arith, inl, inr, length-set, get_or-set_other}
 use Rattle.std.proofs.lemmas.Bool.{or_cases, eqb-true}
 use Rattle.gl_base.specs.declared.numbers.MachineNo.{MachineNo}
+use Rattle.gl_base.specs.declared.numbers.Vertex.{Vertex}
 use Rattle.gl_base.specs.declared.scopes.Peer.TheVariants.{Machine}
+use Rattle.gl_base.specs.declared.scopes.ScopeId.{ScopeId}
 use Rattle.local_graph.specs.declared.works.Outcome.{Outcome}
 use Rattle.wire_msgs.specs.declared.messages.Done.{Done}
 use Rattle.wire_msgs.specs.Views.{DoneView, MessageView, done_view}
@@ -14,7 +16,7 @@ use Rattle.machine_parts.specs.Parts.{sides_at}
 use Rattle.machine_updates.specs.declared.reserving.Prepared.{Prepared}
 use Rattle.machine_updates.specs.Reserving.{CanTell, is_to_be_told}
 use Rattle.machine_updates.specs.Committing.{done_told, posted, after_told}
-use Rattle.machine_updates.specs.Inner.Telling.{HasWord}
+use Rattle.machine_updates.specs.Telling.{HasWord}
 
 pub nothing_left : {X : Type 0} (l : List X) → length l ≡ 0 → l ≡ []
 nothing_left [] none = refl
@@ -40,13 +42,13 @@ pub record IsTelling (old now : OutboxesView) (n : Numbers) (o : Outcome) (all l
   pub same : after_told (done_told n o) left now ≡ after_told (done_told n o) all old
   pub words : (q : ℕ) → is_to_be_told all q ≡ true → (is_to_be_told left q ≡ true) ⊎ HasWord n o q
 
-can_step : (now : OutboxesView) (n : Numbers) (o : Outcome) (x : Prepared) (rest : List Prepared) (m : MessageView) → CanTell now o.work.scope o.work.vertex (length (sides_at n.local o.work.vertex.0)) (x ∷ rest)
-    → CanTell (posted x.to m now) o.work.scope o.work.vertex (length (sides_at n.local o.work.vertex.0)) rest
-can_step now n o x rest m can =
+-- those behind the first can be told still
+pub can_step : (now : OutboxesView) (scope : ScopeId) (v : Vertex) (many : ℕ) (x : Prepared) (rest : List Prepared) (m : MessageView) → CanTell now scope v many (x ∷ rest) → CanTell (posted x.to m now) scope v many rest
+can_step now scope v many x rest m can =
     let box = with_message m (outbox_to now (Machine x.to)) in
-    let many : length (set now.machines x.to.0 box) ≡ length now.machines = length-set now.machines x.to.0 box in
+    let boxes : length (set now.machines x.to.0 box) ≡ length now.machines = length-set now.machines x.to.0 box in
     record {
-      machines = λ k d low. subst (λ (j : ℕ). (get_or rest k d).to.0 < j) (sym many) (can.machines (suc k) d (omega arith));
+      machines = λ k d low. subst (λ (j : ℕ). (get_or rest k d).to.0 < j) (sym boxes) (can.machines (suc k) d (omega arith));
       room = λ k d low.
           let p = get_or rest k d in
           let other : p.to.0 ≢ x.to.0 = λ same. can.apart 0 (suc k) d (omega arith) (omega arith) (sym same) in
@@ -72,7 +74,7 @@ telling_on old now next n o all left x rest done telling left_is tells next_is =
     let can : CanTell now o.work.scope o.work.vertex many (x ∷ rest) = subst (CanTell now o.work.scope o.work.vertex many) left_is telling.can in
     let is : next ≡ posted x.to (told.Done (done_told n o x.to)) now = next_is ∙ ap (λ (d : DoneView). posted x.to (told.Done d) now) (done_is n x.to o done tells) in
     record {
-      can = subst (λ (out : OutboxesView). CanTell out o.work.scope o.work.vertex many rest) (sym next_is) (can_step now n o x rest (told.Done (done_view done)) can);
+      can = subst (λ (out : OutboxesView). CanTell out o.work.scope o.work.vertex many rest) (sym next_is) (can_step now o.work.scope o.work.vertex many x rest (told.Done (done_view done)) can);
       same = ap (after_told (done_told n o) rest) is ∙ ap (λ (ps : List Prepared). after_told (done_told n o) ps now) (sym left_is) ∙ telling.same;
       words = λ q is_one. words_step n o x rest done q tells (subst (λ (ps : List Prepared). (is_to_be_told ps q ≡ true) ⊎ HasWord n o q) left_is (telling.words q is_one));
     }

@@ -16,7 +16,7 @@ use Rattle.graph_core.specs.Neighbours.{neighbours_of}
 use Rattle.cluster_core.specs.Effects.{is_shared}
 use Rattle.cluster_core.specs.Places.{IsAtHome}
 use Rattle.cluster_core.specs.Receiving.{MayLearn}
-use Rattle.cluster_core.specs.Scopes.{own_from}
+use Rattle.cluster_core.specs.Scopes.{own_from, takes_part}
 use Rattle.cluster_core.specs.Settings.{IsSetting, nth_edge, is_in_scope, is_near}
 use Rattle.cluster_core.proofs.Nearness.{near_within}
 use Rattle.cluster_core.proofs.Nearness as near
@@ -29,16 +29,16 @@ use Rattle.scope_pipe.specs.Entered.{EnteredView}
 use Rattle.wire_msgs.specs.declared.messages.Done.{Done}
 use Rattle.machine_numbers.specs.Views.{HasEdge, is_named, news_of, number_told}
 use Rattle.machine_parts.specs.declared.cores.Core.{Core}
-use Rattle.machine_parts.specs.Parts.{Stand, is_own, part_at, part_of, entered_at, holder_at, stand_at, lock_asked, machine_numbers}
+use Rattle.machine_parts.specs.Parts.{LocalView, Stand, is_own, part_at, part_of, entered_at, holder_at, stand_at, lock_asked, machine_numbers}
 use Rattle.machine_parts.specs.Order.{IsOrderly, is_one_of}
-use Rattle.machine_parts.specs.Settings.{Setting, IsPartOf}
+use Rattle.machine_parts.specs.Settings.{Setting, IsLocalOf, IsPartOf}
 use Rattle.machine_updates.specs.Learning.{CanLearn}
 use Rattle.machine_updates.proofs.ToldLemmas.{any_passes, passes_any, found_one}
 
 -- ---- lists
 
 -- a number is told of an edge that is named
-told_some : (edges : List (EdgeNo × ℕ)) (k : ℕ) (d : EdgeNo × ℕ) → k < length edges → is_some (number_told edges (get_or edges k d).0.0) ≡ true
+pub told_some : (edges : List (EdgeNo × ℕ)) (k : ℕ) (d : EdgeNo × ℕ) → k < length edges → is_some (number_told edges (get_or edges k d).0.0) ≡ true
 told_some edges k d low = by edges k low
   where
     first : (one : EdgeNo × ℕ) (edges : List (EdgeNo × ℕ)) (e : ℕ) (b : Bool) → (e == one.0.0) ≡ b → (b ≡ false → is_some (number_told edges e) ≡ true) → is_some (number_told (one ∷ edges) e) ≡ true
@@ -51,7 +51,7 @@ told_some edges k d low = by edges k low
     by (one ∷ edges) (suc k) low = let e = (get_or edges k d).0.0 in first one edges e (e == one.0.0) refl (λ no. by edges k (omega arith))
 
 -- nobody is named
-named_none : (vs : List Vertex) → ((u : ℕ) → is_named vs u ≡ false) → vs ≡ []
+pub named_none : (vs : List Vertex) → ((u : ℕ) → is_named vs u ≡ false) → vs ≡ []
 named_none [] none = refl
 named_none (v ∷ vs) none = absurd (true≢false (sym (ap (λ (b : Bool). b || is_named vs v.0) (eq-eqb v.0 v.0 refl)) ∙ none v.0))
 
@@ -64,6 +64,37 @@ stand_some e (Some x) at some = let stand : Vertex → Stand = λ y. record { ce
 come_none : (m : Core) (s : ScopeId) → IsOrderly m → (o : Option EnteredView) → entered_at m.pipe s ≡ o → stand_at o ≡ None → o ≡ None
 come_none m s is None at none = refl
 come_none m s is (Some e) at none = absurd (true≢false (sym (stand_some e (lock_asked e) refl ((is.entered s e at).stands refl)) ∙ ap is_some none))
+
+-- ---- the graph here
+
+module _ (st : Setting) (l : LocalView) (c : ℕ) (setting : IsSetting st) (local : IsLocalOf st l) (elsewhere : st.owner c ≢ l.me.0) where
+  -- a vertex of another machine in whose scope this one takes part is a ghost here
+  pub ghost_known : c < size st.graph → takes_part st c l.me.0 ≡ true → list_any (λ g. g.vertex.0 == c) l.ghosts ≡ true
+  ghost_known low takes =
+      let a = l.me.0 in
+      let one = found_one (own_from st c a 0) takes in
+      let own = near.is_own st c a 0 one.0 one.1 in
+      let beside : list_any (λ (u : ℕ). st.owner u == a) (neighbours_of st.graph c) ≡ true = elim (or_cases (one.0 == c) (is_near st c one.0) own.2) [
+        | inl same ↦ absurd (elsewhere (sym (ap st.owner (eqb-true one.0 c same)) ∙ own.3))
+        | inr close ↦ neighbour_passes st.graph (λ (u : ℕ). st.owner u == a) c one.0 own.1 close (eq-eqb (st.owner one.0) a own.3)
+      ] in
+      let other : (st.owner c == a) ≡ false = false_from_ne_true (st.owner c == a) (λ same. elsewhere (eqb-true (st.owner c) a same)) in
+      let passes : is_ghost_of st a c ≡ true = ap (λ (b : Bool). not b && list_any (λ (u : ℕ). st.owner u == a) (neighbours_of st.graph c)) other ∙ beside in
+      sym (any_mapped (λ (k : ℕ). k == c) (λ (g : GhostLine). g.vertex.0) l.ghosts) ∙ ap (λ (ks : List ℕ). list_any (λ k. k == c) ks) local.ghosts
+      ∙ passes_any (is_ghost_of st a) 0 (size st.graph) c (omega arith) (omega arith) passes
+
+  -- an edge that leads from it to an own vertex is here
+  pub edge_known : (e : ℕ) → is_shared st c l.me.0 (nth_edge st e) ≡ true → HasEdge l e
+  edge_known e shared = subst (λ (n : ℕ). e < n) (sym local.edges) (inside (cases_lt e (length st.graph.edges)))
+    where
+      inside : (e < length st.graph.edges) ⊎ (length st.graph.edges ≤ e) → e < length st.graph.edges
+      inside (inl low) = low
+      inside (inr high) =
+          let none : nth_edge st e ≡ record { from = 0; to = 0; weight = 0 } = get_or_past st.graph.edges e (record { from = 0; to = 0; weight = 0 }) high in
+          let at : is_shared st c l.me.0 (record { from = 0; to = 0; weight = 0 }) ≡ true = ap (is_shared st c l.me.0) (sym none) ∙ shared in
+          let both : (0 == c && st.owner 0 == l.me.0) ≡ true = ⊎_elim (λ yes. yes) (λ yes. yes) (or_cases (0 == c && st.owner 0 == l.me.0) (0 == c && st.owner 0 == l.me.0) at) in
+          let parts = and_parts (0 == c) (st.owner 0 == l.me.0) both in
+          absurd (elsewhere (sym (ap st.owner (eqb-true 0 c parts.0)) ∙ eqb-true (st.owner 0) l.me.0 parts.1))
 
 -- ---- the machine
 
@@ -107,36 +138,6 @@ module _ (st : Setting) (p : ℕ) (m : Core) (done : Done) (setting : IsSetting 
       let both = and_parts (is_in_scope st c x) (st.owner x == a) (any_passes test 0 (size st.graph) x (sym listed ∙ one)) in
       ap is_some (may.locks x both.0 (eqb-true (st.owner x) a both.1)))
 
-  -- the centre is a ghost here
-  ghost : list_any (λ g. g.vertex.0 == done.centre.0) m.numbers.local.ghosts ≡ true
-  ghost =
-      let a = m.numbers.local.me.0 in
-      let c = done.centre.0 in
-      let low = home.vertex in
-      let one = found_one (own_from st c a 0) may.part_of in
-      let own = near.is_own st c a 0 one.0 one.1 in
-      let beside : list_any (λ (u : ℕ). st.owner u == a) (neighbours_of st.graph c) ≡ true = elim (or_cases (one.0 == c) (is_near st c one.0) own.2) [
-        | inl same ↦ absurd (elsewhere (sym (ap st.owner (eqb-true one.0 c same)) ∙ own.3))
-        | inr close ↦ neighbour_passes st.graph (λ (u : ℕ). st.owner u == a) c one.0 own.1 close (eq-eqb (st.owner one.0) a own.3)
-      ] in
-      let other : (st.owner c == a) ≡ false = false_from_ne_true (st.owner c == a) (λ same. elsewhere (eqb-true (st.owner c) a same)) in
-      let passes : is_ghost_of st a c ≡ true = ap (λ (b : Bool). not b && list_any (λ (u : ℕ). st.owner u == a) (neighbours_of st.graph c)) other ∙ beside in
-      sym (any_mapped (λ (k : ℕ). k == c) (λ (g : GhostLine). g.vertex.0) m.numbers.local.ghosts) ∙ ap (λ (ks : List ℕ). list_any (λ k. k == c) ks) part.local.ghosts
-      ∙ passes_any (is_ghost_of st a) 0 (size st.graph) c (omega arith) (omega arith) passes
-
-  -- an edge that is told is one of the graph
-  edge_here : (e : ℕ) → is_shared st done.centre.0 m.numbers.local.me.0 (nth_edge st e) ≡ true → HasEdge m.numbers.local e
-  edge_here e shared = subst (λ (n : ℕ). e < n) (sym part.local.edges) (inside (cases_lt e (length st.graph.edges)))
-    where
-      inside : (e < length st.graph.edges) ⊎ (length st.graph.edges ≤ e) → e < length st.graph.edges
-      inside (inl low) = low
-      inside (inr high) =
-          let none : nth_edge st e ≡ record { from = 0; to = 0; weight = 0 } = get_or_past st.graph.edges e (record { from = 0; to = 0; weight = 0 }) high in
-          let at : is_shared st done.centre.0 m.numbers.local.me.0 (record { from = 0; to = 0; weight = 0 }) ≡ true = ap (is_shared st done.centre.0 m.numbers.local.me.0) (sym none) ∙ shared in
-          let both : (0 == done.centre.0 && st.owner 0 == m.numbers.local.me.0) ≡ true = ⊎_elim (λ yes. yes) (λ yes. yes) (or_cases (0 == done.centre.0 && st.owner 0 == m.numbers.local.me.0) (0 == done.centre.0 && st.owner 0 == m.numbers.local.me.0) at) in
-          let parts = and_parts (0 == done.centre.0) (st.owner 0 == m.numbers.local.me.0) both in
-          absurd (elsewhere (sym (ap st.owner (eqb-true 0 done.centre.0 parts.0)) ∙ eqb-true (st.owner 0) m.numbers.local.me.0 parts.1))
-
   pub done_can_be_learned : (part_of m).stand done.scope ≡ None → ((x : ℕ) → st.owner x ≡ m.numbers.local.me.0 → is_in_scope st done.centre.0 x ≡ false → (part_of m).holder x done.scope ≡ None)
       → ((u : ℕ) → is_named done.wakes.items u ≡ true → is_near st done.centre.0 u ≡ true) → ((u : ℕ) → is_named done.pends.items u ≡ false) → done.number ≡ 0 → CanLearn m done
   done_can_be_learned stand others close pends number =
@@ -144,9 +145,9 @@ module _ (st : Setting) (p : ℕ) (m : Core) (done : Done) (setting : IsSetting 
         away = away;
         gone = come_none m done.scope order (entered_at m.pipe done.scope) refl stand;
         holds = holds others;
-        ghost = ghost;
+        ghost = ghost_known st m.numbers.local done.centre.0 setting part.local elsewhere home.vertex may.part_of;
         not_own = not_own;
-        edges = λ k d low. edge_here (get_or done.edges.items k d).0.0 (may.edges (get_or done.edges.items k d).0.0 (told_some done.edges.items k d low));
+        edges = λ k d low. edge_known st m.numbers.local done.centre.0 setting part.local elsewhere (get_or done.edges.items k d).0.0 (may.edges (get_or done.edges.items k d).0.0 (told_some done.edges.items k d low));
         wakes = λ k d low.
             let u = (get_or done.wakes.items k d).0 in
             let named : is_named done.wakes.items u ≡ true = list_any_at (λ (v : Vertex). v.0 == u) done.wakes.items k d low (eq-eqb u u refl) in

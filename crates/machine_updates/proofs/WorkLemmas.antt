@@ -47,7 +47,6 @@ order_with m rows numbers ready order =
             sides = λ v own k d low.
                 let side = order.numbers.sides v own k d low in record { place = side.place; own = side.own };
             ghosts = order.numbers.ghosts;
-            versions = order.numbers.versions;
             marks = order.numbers.marks;
             outside = order.numbers.outside;
           };

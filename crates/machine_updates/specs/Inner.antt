@@ -1,3 +1,2 @@
 -- What the clauses of private functions cite. Who reads the public clauses need not read it.
-pub mod Telling
 pub mod Dues

@@ -8,7 +8,7 @@ use Rattle.gl_base.specs.declared.scopes.ScopeId.{ScopeId}
 use Rattle.outboxes.specs.Outboxes.{OutboxesView, outbox_to}
 use Rattle.machine_numbers.specs.Steps.{IsBlank}
 use Rattle.machine_parts.specs.declared.cores.Core.{Core}
-use Rattle.machine_parts.specs.Parts.{sides_at, parts_at}
+use Rattle.machine_parts.specs.Parts.{datum_here, sides_at, parts_at}
 use Rattle.machine_updates.specs.declared.reserving.Prepared.{Prepared}
 
 -- there is room for a message to machine b
@@ -26,9 +26,11 @@ pub record CanTell (out : OutboxesView) (scope : ScopeId) (centre : Vertex) (man
   pub blank : All (λ p. IsBlank p.done scope centre many) ps
   pub apart : AllPairs (λ one other. one.to.0 ≢ other.to.0) ps
 
--- There is room for the commit of this scope: in the log, and to tell each other machine of the scope, and no one else.
+-- There is room for the commit of this scope: in the log, for a version more of its vertex, and to tell each other machine of the
+-- scope, and no one else.
 pub record IsReserved (m : Core) (scope : ScopeId) (v : Vertex) (ps : List Prepared) : Type 0 where
   pub can : CanTell m.out scope v (length (sides_at m.numbers.local v.0)) ps
   pub told : (q : ℕ) → is_to_be_told ps q ≡ (list_any (λ b. b.0 == q) (parts_at m.numbers.local v.0) && not (q == m.numbers.local.me.0))
   pub room : vec_len m.numbers.log < vec_capacity m.numbers.log
   pub few : length m.numbers.log.items < 4294967295
+  pub version : (datum_here m.numbers v.0).version < 4294967295

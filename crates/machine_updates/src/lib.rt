@@ -15,6 +15,7 @@ pub use batches::take_batch;
 pub use committing::commit;
 pub use laws::{dones_can_be_learned, works_of_strangers_are_apart};
 pub use receiving::receive_done;
-pub use reserving::{Prepared, reserve_commit};
+pub use reserving::{Prepared, prepare, reserve_commit, reserve_log};
 pub use spares::Spares;
+pub use telling::tell_all;
 pub use works::{put_back, take_work};

@@ -17,7 +17,7 @@ use outboxes::Outboxes;
 use std::alloc::Global;
 use wire_msgs::Done;
 
-/// As many updates may be in a log. The version of a vertex counts up to this.
+/// As many updates may be in a log.
 const MAX_LOG: usize = 4294967295;
 
 /// What another machine of a scope will be told of its update, with room for it.
@@ -28,7 +28,8 @@ pub struct Prepared {
 }
 
 /// Makes room for the commit of a scope in flight: in the log, and for what each other machine of it will be told, which it hands
-/// out. Where no other machine takes part, nothing is made but room in the log.
+/// out. Where no other machine takes part, nothing is made but room in the log. It is want of memory too where the log has as many
+/// updates as it may, or the version of the scope's vertex can't count one more.
 pub fn reserve_commit(
     alloc: Global,
     core: &mut Core,
@@ -43,8 +44,9 @@ pub fn reserve_commit(
     ensures places { KnowsPlaces core.old → KnowsPlaces core.new }
     ensures settings { SameSettings core.old core.new }
 {
-    reserve_log(&mut core.numbers.log)?;
     let v = core.pipe.centre(scope);
+    let version = core.numbers.datum(v).version;
+    reserve_log(&mut core.numbers.log, version)?;
     let local = &core.numbers.local;
     let degree = local.sides(v).len();
     prepare(
@@ -58,21 +60,24 @@ pub fn reserve_commit(
     )
 }
 
-/// Makes room for one entry more.
-fn reserve_log(log: &mut Vec<Entry>) -> Result<(), NoMemory>
+/// Makes room for one entry more, of an update of a vertex with this version. It is want of memory too where the log has as many
+/// updates as it may, or the version can't count one more.
+pub fn reserve_log(log: &mut Vec<Entry>, version: u32) -> Result<(), NoMemory>
     ensures room { OnOk result (vec_len log.new < vec_capacity log.new) }
     ensures few { OnOk result (length log.new.items < 4294967295) }
+    ensures version { OnOk result (version < 4294967295) }
     ensures items { log.new.items ≡ log.old.items }
 {
-    if log.len() >= MAX_LOG {
+    if log.len() >= MAX_LOG || version == u32::MAX {
         return Err(NoMemory);
     }
     log.reserve(1)?;
     Ok(())
 }
 
-/// Makes room for what the other machines of a scope will be told.
-fn prepare(
+/// Makes room for what each of these machines but `me` will be told of the update of a scope of v, which has so many edges, and hands
+/// it out.
+pub fn prepare(
     alloc: Global,
     out: &mut Outboxes,
     scope: ScopeId,

@@ -4,7 +4,7 @@ ghost use Rattle.outboxes.specs.Outboxes.{OutboxesView};
 ghost use Rattle.machine_parts.specs.Parts.{sides_at, datum_here};
 ghost use Rattle.machine_updates.specs.Reserving.{CanTell, is_to_be_told};
 ghost use Rattle.machine_updates.specs.Committing.{done_told, after_told};
-ghost use Rattle.machine_updates.specs.Inner.Telling.{HasWord};
+ghost use Rattle.machine_updates.specs.Telling.{HasWord};
 
 use crate::reserving::Prepared;
 use gl_base::Peer;

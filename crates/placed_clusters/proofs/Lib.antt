@@ -1,5 +1,3 @@
-pub mod OntoLemmas
-pub mod PlaceLemmas
 pub mod NewLemmas
 pub mod ManyLemmas
 pub mod ProgramLemmas

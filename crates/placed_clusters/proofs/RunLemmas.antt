@@ -11,6 +11,7 @@ use Rattle.gl_base.specs.declared.numbers.MachineNo.{MachineNo}
 use Rattle.gl_base.specs.declared.snapshots.Base.{Base}
 use Rattle.graph_core.specs.DataGraph.{DataGraph, IsDataGraph, size}
 use Rattle.machine_parts.specs.declared.cores.Core.{Core}
+use Rattle.machine_places.proofs.OwnerLemmas.{owner_low}
 use Rattle.local_graph.specs.Locals.{LocalView, is_own, links_at, sides_at}
 use Rattle.local_parts.specs.Parts.{AreIn, IsLocalOf}
 use Rattle.machine_parts.specs.Parts.{part_of}
@@ -21,17 +22,6 @@ use Rattle.placed_clusters.specs.Beginning.{AreNewIn, GoesBy, IsNewIn}
 use Rattle.placed_clusters.specs.Running.{AreStartIn, IsBaseFor, IsMachineOf, IsRunOf, ProgramMachineView, Setting, StartIn, StartsIn, atom_numbers, placed_owner}
 use Rattle.placed_clusters.specs.Inner.Programs.{HaveProgram, RunsOn}
 use Rattle.placed_clusters.specs.declared.clusters.Run.{Run}
-
--- the owner of each vertex is one of the machines
-pub owner_low : (g : DataGraph) (machines : ℕ) (of : List AtomNo) (owner : List MachineNo) → length of ≡ size g → All (λ (a : AtomNo). a.0 < length owner) of → All (λ (m : MachineNo). m.0 < machines) owner →
-    (v : ℕ) → v < size g → placed_owner of owner v < machines
-owner_low g machines of owner each atoms below v low =
-    let inside : v < length of = subst (λ (n : ℕ). v < n) (sym each) low in
-    let no_atom : AtomNo = record { 0 = 0 } in
-    let no_machine : MachineNo = record { 0 = 0 } in
-    let atom = slice_index (atom_numbers of) v in
-    let atom_low : atom < length owner = subst (λ (n : ℕ). n < length owner) (sym (get_or-map (λ (a : AtomNo). a.0) of v no_atom 0 inside)) (atoms v no_atom inside) in
-    subst (λ (n : ℕ). n < machines) (sym (get_or-map (λ (m : MachineNo). m.0) owner atom no_machine 0 atom_low)) (below atom no_machine atom_low)
 
 -- one setting in which the cluster begins
 abbrev pub run_setting : DataGraph → Update → (ℕ → ℕ) → Base → Run → Setting

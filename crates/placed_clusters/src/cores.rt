@@ -1,9 +1,9 @@
 //! The parts of a new machine.
 ghost use Rattle.std.specs.Prelude.{◌<◌, ◌≤◌, length, All, IfOk};
-ghost use Rattle.placed_clusters.specs.Inner.Places.{HaveFirstPlaces};
+ghost use Rattle.machine_places.specs.Places.{HaveFirstPlaces};
 ghost use Rattle.placed_clusters.specs.Inner.Making.{IsMadeWith};
 
-use crate::places::vertices_by_place;
+use machine_places::vertices_by_place;
 use gl_base::NoMemory;
 use machine_numbers::Numbers;
 use machine_parts::{Core, SpareParts, Terms};

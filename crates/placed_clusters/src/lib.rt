@@ -4,7 +4,6 @@
 mod clusters;
 mod cores;
 mod machines;
-mod places;
 mod programs;
 
 pub use clusters::{Run, bare_machines, placed_cluster, placed_machines};

@@ -1,6 +1,6 @@
 -- From what the calls of a machine promise of its parts to what a cluster is promised of its machines.
 use Rattle.std.proofs.Common.{◌≡◌, ℕ, ◌+◌, false, true, None, Some, refl, sym, ap, ◌∙◌, subst, inl, inr}
-use Rattle.std.specs.Prelude.{Option, Result, Ok, Err, IfNone, IfOk, IfSome, IsErr, IsErrAnd, IsErrOf, OnErr, OnOk}
+use Rattle.std.specs.Prelude.{List, ◌∷◌, Option, Result, Ok, Err, IfNone, IfOk, IfSome, IsErr, IsErrAnd, IsErrOf, OnErr, OnOk}
 use Rattle.gl_base.specs.declared.numbers.MachineNo.{MachineNo}
 use Rattle.gl_base.specs.declared.numbers.Vertex.{Vertex}
 use Rattle.gl_base.specs.declared.refusals.Refused.{Refused}
@@ -13,11 +13,11 @@ use Rattle.local_graph.specs.Locals.{LocalView}
 use Rattle.machine_parts.specs.declared.cores.Core.{Core}
 use Rattle.machine_parts.specs.Settings.{SameSettings, window_of}
 use Rattle.machine_scopes.specs.Admitting.{CanAdmitPick, HasAdmittedPick, MayAdmitNone, is_open}
-use Rattle.machine_scopes.specs.Granting.{HasGrantedLock, MayGrantLock, MayNotGrantLock, WaitsFirst}
+use Rattle.machine_scopes.specs.Granting.{HasGrantedInTurn, HasGrantedLock, MayGrantLock, MayNotGrantLock, WaitsFirst}
 use Rattle.machine_turns.specs.Turns.{HasMadeUpdate, IsAsBefore}
 use Rattle.machine_at_once.specs.Picks.{CanUpdatePick, HasNoneAtOnce, HasUpdatedPick}
 use Rattle.task_sched.specs.Tasks.{is_below}
-use Rattle.cluster_machines.specs.Promises.{AdmitsNone, AdmitsSome, GrantsIt, GrantsNone, GrantsNot, IsAdmission, IsGrant, IsSameMachine, IsUpdateAtOnce, MakesAdmission, MakesGrant, MakesUpdate, MakesUpdateAtOnce, MayUpdateAtOnce, UpdatesAtOnce, UpdatesIt, UpdatesNoneAtOnce}
+use Rattle.cluster_machines.specs.Promises.{AdmitsNone, AdmitsSome, AreGranted, GrantsIt, GrantsNone, GrantsNot, IsAdmission, IsGrant, IsSameMachine, IsUpdateAtOnce, MakesAdmission, MakesGrant, MakesGrants, MakesUpdate, MakesUpdateAtOnce, MayUpdateAtOnce, UpdatesAtOnce, UpdatesIt, UpdatesNoneAtOnce}
 use Rattle.program_machines.specs.Machines.{HasEachRow, IsMachineOf, IsPartOf, ProgramMachineView, Setting, part_of}
 
 -- ---- answers of calls
@@ -91,6 +91,9 @@ module _ {P : Type 0} (meaning : P → Update) where
 
   -- ---- grants
 
+  pub grants_in_turn : (old new : ProgramMachineView P) (x : ℕ) → HasGrantedInTurn old.core new.core x → MakesGrants belongs_to holds old x new
+  grants_in_turn old new x has = (has.0, λ st a here. subst (λ (k : ℕ). AreGranted st k (x ∷ has.0) (part_of old.core) (part_of new.core)) here.number (has.1 st here.part))
+
   pub grants : (old new : ProgramMachineView P) (x : ℕ) (s : ScopeId) → MayGrantLock old.core x → HasGrantedLock old.core new.core x → WaitsFirst old.core x s → MakesGrant belongs_to holds old x s new
   grants old new x s may has first st a here =
       let might = may st here.part in
@@ -138,13 +141,13 @@ module _ {P : Type 0} (meaning : P → Update) where
 
   pub at_once_none : (m : ProgramMachineView P) → HasNoneAtOnce m.core → UpdatesNoneAtOnce belongs_to holds m
   at_once_none m (inl none) = inl (admits_none m none)
-  at_once_none m (inr one) = inr (
+  at_once_none m (inr one) = inr (inl (
     one.0.0,
     record {
       may = λ st a here. subst (λ (k : ℕ). MayAdmit st k one.0.0 (part_of m.core)) here.number (one.1 st here.part);
       not_at_once = λ st a here may. one.2 st here.setting here.part (subst (λ (k : ℕ). MayUpdateAtOnce st k one.0.0 (part_of m.core) 1) (sym here.number) may);
     },
-  )
+  ))
 
 pub same_part : {X E : Type 0} (old new : Core) (r : Result X E) → OnErr r (IsAsBefore old new) → OnErr r (part_of new ≡ part_of old)
 same_part old new (Ok x) as_before = tt

@@ -19,7 +19,7 @@ use Rattle.wire_msgs.specs.Views as told
 use Rattle.wire_msgs.specs.declared.messages.Message as sent
 use Rattle.wire_msgs.specs.declared.messages.Returned.{Returned}
 use Rattle.wire_msgs.specs.declared.messages.Message.TheVariants as wire
-use Rattle.cluster_machines.specs.Promises.{CanReceive, IsAsExpected, IsSending, MakesReceipt}
+use Rattle.cluster_machines.specs.Promises.{CanReceive, Engine, IsAsExpected, IsExpectedBy, IsSending, MakesReceipt, MayReceiveBy}
 use Rattle.cluster_machines.specs.Told.{message_read, told_by}
 use Rattle.program_machines.specs.Machines.{IsPartOf, ProgramMachineView, Setting, part_of}
 use Rattle.program_machines.proofs.CallLemmas.{belongs_to, holds}
@@ -71,8 +71,10 @@ module _ {P : Type 0} (meaning : P → Update) where
       let can : CanReceive (belongs_to meaning) (holds meaning) m p message = subst (λ (k : ProgramMachineView P). CanReceive (belongs_to meaning) (holds meaning) k p message) (sym same) may_now in
       let at = sym can.here.number in
       can_come can.setting m.core p can.is can.here.part orderly low message
-      (subst (λ (k : ℕ). MayReceive can.setting p k (part_of m.core) (told_by message)) at can.may)
-      (subst (λ (k : ℕ). IsAsExpected can.setting k (part_of m.core) (told_by message)) at can.expected)
+      (subst (λ (k : ℕ). MayReceive can.setting p k (part_of m.core) (told_by message)) at
+      (subst (λ (e : Engine). MayReceiveBy e can.setting p can.number (part_of m.core) (told_by message)) can.here.part.engine can.may))
+      (subst (λ (k : ℕ). IsAsExpected can.setting k (part_of m.core) (told_by message)) at
+      (subst (λ (e : Engine). IsExpectedBy e can.setting can.number (part_of m.core) (told_by message)) can.here.part.engine can.expected))
 
   -- and has been received as the cluster says
   makes_receipt : (old new : ProgramMachineView P) (p : ℕ) (message : sent.Message) → HasReceivedMessage old.core new.core (message_told message) → MakesReceipt (belongs_to meaning) (holds meaning) old p message new

@@ -47,6 +47,13 @@ impl<P: Program> ProgramMachine<P> {
         })
     }
 
+    /// The machine without its program.
+    pub fn into_machine(self) -> Machine
+        ensures { result ≡ self.core }
+    {
+        self.machine
+    }
+
     /// Its program.
     pub fn program(&self) -> &P
         ensures { result.now ≡ self.now.program }

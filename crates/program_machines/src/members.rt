@@ -27,6 +27,11 @@ impl<P: Program> ClusterMachine for ProgramMachine<P> {
         Ok(moved.scope)
     }
 
+    fn grant_in_turn(&mut self, x: Vertex) -> Result<(), Refused> {
+        self.machine.grant_in_turn(x)?;
+        Ok(())
+    }
+
     fn next_grant(&mut self) -> Option<Vertex> {
         self.machine.next_grant()
     }

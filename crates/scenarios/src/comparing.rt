@@ -6,7 +6,7 @@ use gl_base::Entry;
 use std::alloc::{AllocError, Global};
 
 /// Adds a line for each part that is not as it had to be. A part that nothing is said of has to be empty, and a file that
-/// nothing is said of as it was.
+/// nothing is said of as it was, and so has a disk.
 pub fn compare(
     alloc: Global,
     scene: &Scene<'_>,
@@ -34,6 +34,13 @@ pub fn compare(
             left.files.bytes(name),
             differences,
         )?;
+    }
+    for name in scene.disks {
+        let part = Part::Disk(name);
+        let before = Wanted::Bytes(scene.disk_bytes(name));
+        let wanted = wanted_of(wants, part).or(Some(before));
+        let came = left.files.disk_bytes(name);
+        add_difference(alloc, name, part, wanted, Some(came), differences)?;
     }
     Ok(())
 }
@@ -105,7 +112,7 @@ fn text_of(alloc: Global, left: &Left, part: Part<'_>) -> Result<Vec<u8>, AllocE
             }
         }
         Part::Snapshots => add_snapshots(&mut text, left)?,
-        Part::File(_) => {}
+        Part::File(_) | Part::Disk(_) => {}
     }
     Ok(text.into_bytes())
 }

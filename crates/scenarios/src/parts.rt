@@ -16,9 +16,11 @@ pub enum Part<'a> {
     Snapshots,
     /// The file of this name.
     File(&'a str),
+    /// The disk of this name.
+    Disk(&'a str),
 }
 
-/// Each part but files with its word.
+/// Each part but files and disks with its word.
 pub static PARTS: [(Part<'static>, &str); 9] = [
     (Part::Status, "status"),
     (Part::Cause, "cause"),

@@ -19,11 +19,12 @@ pub struct Left {
     pub note: MemSink,
 }
 
-/// A step, the names of the scenario's files, and what the step before left.
+/// A step, the names of the scenario's files and disks, and what the step before left.
 #[derive(Drop)]
 pub struct Scene<'a> {
     step: &'a Step<'a>,
     pub names: &'a [&'a str],
+    pub disks: &'a [&'a str],
     files: &'a MemFiles,
 }
 
@@ -32,6 +33,17 @@ impl Scene<'_> {
     pub fn bytes(&self, name: &str) -> Option<&[u8]> {
         let mut bytes = self.files.bytes(name);
         for put in self.step.puts.iter() {
+            if put.name == name {
+                bytes = put.bytes;
+            }
+        }
+        bytes
+    }
+
+    /// What a disk reads before the call.
+    pub fn disk_bytes(&self, name: &str) -> &[u8] {
+        let mut bytes = self.files.disk_bytes(name);
+        for put in self.step.disks.iter() {
             if put.name == name {
                 bytes = put.bytes;
             }
@@ -47,6 +59,7 @@ pub fn play<R: Wait>(
     scenario: &Scenario<'_>,
 ) -> Result<Vec<String>, AllocError> {
     let names = names_of(alloc, scenario)?;
+    let disks = disks_of(alloc, scenario)?;
     let mut differences = Vec::new(alloc);
     let mut files = MemFiles::new(
         alloc,
@@ -59,6 +72,7 @@ pub fn play<R: Wait>(
         let scene = Scene {
             step,
             names: &names,
+            disks: &disks,
             files: &files,
         };
         files = play_step(rt, alloc, &scene, &mut differences)?;
@@ -79,6 +93,30 @@ fn names_of<'a>(alloc: Global, scenario: &Scenario<'a>) -> Result<Vec<&'a str>, 
         }
     }
     Ok(names)
+}
+
+/// The names of the disks that it speaks of.
+fn disks_of<'a>(alloc: Global, scenario: &Scenario<'a>) -> Result<Vec<&'a str>, AllocError> {
+    let mut names = Vec::new(alloc);
+    for step in scenario.steps.iter() {
+        for put in step.disks.iter() {
+            add_name(&mut names, put.name)?;
+        }
+        add_disks(&mut names, &step.wants)?;
+        if let Some(turns) = &step.turns {
+            add_disks(&mut names, &turns.wants)?;
+        }
+    }
+    Ok(names)
+}
+
+fn add_disks<'a>(names: &mut Vec<&'a str>, wants: &[Want<'a>]) -> Result<(), AllocError> {
+    for want in wants {
+        if let Part::Disk(name) = want.part {
+            add_name(names, name)?;
+        }
+    }
+    Ok(())
 }
 
 fn add_names<'a>(names: &mut Vec<&'a str>, wants: &[Want<'a>]) -> Result<(), AllocError> {
@@ -172,11 +210,12 @@ fn numbers(alloc: Global, faults: &[Fault], calls: Calls) -> Result<Vec<u64>, Al
     Ok(numbers)
 }
 
-/// The files that are there.
+/// The files and disks that are there.
 fn files_of(alloc: Global, scene: &Scene<'_>, faults: &[Fault]) -> Result<MemFiles, AllocError> {
     let reads = numbers(alloc, faults, Calls::Reads)?;
     let writes = numbers(alloc, faults, Calls::Writes)?;
-    let mut files = MemFiles::new(alloc, reads, writes, Vec::new(alloc), u64::MAX);
+    let disks = numbers(alloc, faults, Calls::Disks)?;
+    let mut files = MemFiles::new(alloc, reads, writes, disks, u64::MAX);
     for name in scene.names {
         if let Some(bytes) = scene.bytes(name) {
             let Ok(()) = files.put(name, Vec::from_slice(alloc, bytes)?) else {
@@ -184,5 +223,17 @@ fn files_of(alloc: Global, scene: &Scene<'_>, faults: &[Fault]) -> Result<MemFil
             };
         }
     }
+    put_disks(alloc, scene, &mut files)?;
     Ok(files)
+}
+
+/// Puts the disks that are there.
+fn put_disks(alloc: Global, scene: &Scene<'_>, files: &mut MemFiles) -> Result<(), AllocError> {
+    for name in scene.disks {
+        let bytes = Vec::from_slice(alloc, scene.disk_bytes(name))?;
+        let Ok(()) = files.put_disk(name, bytes) else {
+            return Err(AllocError);
+        };
+    }
+    Ok(())
 }

@@ -1,15 +1,16 @@
 //! The scenarios of a file.
 use crate::escapes::unescaped_word;
 use crate::parts::Part;
-use crate::scenario::{Calls, Fault, Put, Scenario, Step, Turns, Want, Wanted, wanted_of};
+use crate::scenario::{Calls, Fault, Put, PutDisk, Scenario, Step, Turns, Want, Wanted, wanted_of};
 use crate::sections::Section;
 use crate::trouble::{Trouble, Wrong, note_trouble};
 use std::alloc::{AllocError, Global};
 
-/// The files that each scenario begins with, and the first line there that is malformed.
+/// The files and disks that each scenario begins with, and the first line there that is malformed.
 #[derive(Drop)]
 struct Given<'a> {
     puts: Vec<Put<'a>>,
+    disks: Vec<PutDisk<'a>>,
     wrong: Option<Wrong>,
 }
 
@@ -20,6 +21,7 @@ pub fn read_scenarios<'a>(
 ) -> Result<Vec<Scenario<'a>>, AllocError> {
     let mut given = Given {
         puts: Vec::new(alloc),
+        disks: Vec::new(alloc),
         wrong: None,
     };
     let mut scenarios = Vec::new(alloc);
@@ -29,6 +31,7 @@ pub fn read_scenarios<'a>(
             "given" => {
                 is_given = true;
                 given.puts.clear();
+                given.disks.clear();
                 given.wrong = None;
             }
             "scenario" => {
@@ -54,7 +57,9 @@ fn begin<'a>(
     section: &'a Section<'a>,
 ) -> Result<Scenario<'a>, AllocError> {
     let mut steps = Vec::new(alloc);
-    steps.push(Step::new(alloc, Vec::from_slice(alloc, &given.puts)?))?;
+    let puts = Vec::from_slice(alloc, &given.puts)?;
+    let disks = Vec::from_slice(alloc, &given.disks)?;
+    steps.push(Step::new(alloc, puts, disks))?;
     Ok(Scenario {
         name: section.said,
         line: section.line,
@@ -69,6 +74,7 @@ fn add_given<'a>(given: &mut Given<'a>, section: &'a Section<'a>) -> Result<(), 
     let outcome = match section.keyword {
         "given" => no_text(section),
         "file" => add_file(&mut given.puts, section),
+        "disk" => add_disk(&mut given.disks, section),
         _ => Err(Trouble::Malformed("no scenario has begun")),
     };
     note_trouble(&mut given.wrong, section.line, outcome)
@@ -140,7 +146,7 @@ fn add_section<'a>(
     section: &'a Section<'a>,
 ) -> Result<(), Trouble> {
     match section.keyword {
-        "file" | "missing" | "fail" | "room" | "call" => {
+        "file" | "missing" | "disk" | "fail" | "room" | "call" => {
             begin_next(alloc, steps)?;
             match steps.last_mut() {
                 Some(step) => prepare(alloc, step, section),
@@ -163,7 +169,7 @@ fn add_section<'a>(
 /// Begins the next step where the last has its call.
 fn begin_next(alloc: Global, steps: &mut Vec<Step<'_>>) -> Result<(), AllocError> {
     if called(steps).is_ok() {
-        steps.push(Step::new(alloc, Vec::new(alloc)))?;
+        steps.push(Step::new(alloc, Vec::new(alloc), Vec::new(alloc)))?;
     }
     Ok(())
 }
@@ -176,6 +182,7 @@ fn prepare<'a>(
 ) -> Result<(), Trouble> {
     match section.keyword {
         "file" => return add_file(&mut step.puts, section),
+        "disk" => return add_disk(&mut step.disks, section),
         "missing" => step.puts.push(Put {
             name: section.said,
             bytes: None,
@@ -191,6 +198,14 @@ fn add_file<'a>(puts: &mut Vec<Put<'a>>, section: &'a Section<'a>) -> Result<(),
     puts.push(Put {
         name: section.said,
         bytes: Some(section.text.as_slice()),
+    })?;
+    Ok(())
+}
+
+fn add_disk<'a>(disks: &mut Vec<PutDisk<'a>>, section: &'a Section<'a>) -> Result<(), Trouble> {
+    disks.push(PutDisk {
+        name: section.said,
+        bytes: section.text.as_slice(),
     })?;
     Ok(())
 }
@@ -246,7 +261,9 @@ fn set_room(step: &mut Step<'_>, said: &str) -> Result<(), Trouble> {
     match calls {
         Calls::Out => step.room_of_out = room,
         Calls::Note => step.room_of_note = room,
-        Calls::Reads | Calls::Writes => return Err(Trouble::Malformed("files have room")),
+        Calls::Reads | Calls::Writes | Calls::Disks => return Err(Trouble::Malformed(
+            "files have room",
+        )),
     }
     Ok(())
 }
@@ -269,6 +286,7 @@ fn want_of<'a>(section: &'a Section<'a>) -> Result<Want<'a>, Trouble> {
         (None, "left") => (Part::File(section.said), Wanted::Bytes(&section.text)),
         (None, "gone") => (Part::File(section.said), Wanted::Missing),
         (None, "any") => (Part::File(section.said), Wanted::Anything),
+        (None, "holds") => (Part::Disk(section.said), Wanted::Bytes(&section.text)),
         _ => return Err(Trouble::Malformed("no such word")),
     };
     if let Wanted::Missing | Wanted::Anything = wanted {

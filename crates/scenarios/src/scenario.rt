@@ -17,6 +17,7 @@ pub struct Scenario<'a> {
 #[derive(Drop)]
 pub struct Step<'a> {
     pub puts: Vec<Put<'a>>,
+    pub disks: Vec<PutDisk<'a>>,
     pub faults: Vec<Fault>,
     pub room_of_out: u64,
     pub room_of_note: u64,
@@ -34,11 +35,19 @@ pub struct Put<'a> {
     pub bytes: Option<&'a [u8]>,
 }
 
+/// A disk and its bytes.
+#[derive(Clone, Copy)]
+pub struct PutDisk<'a> {
+    pub name: &'a str,
+    pub bytes: &'a [u8],
+}
+
 /// The calls that are counted together.
 #[derive(Clone, Copy, PartialEq)]
 pub enum Calls {
     Reads,
     Writes,
+    Disks,
     Out,
     Note,
 }
@@ -78,6 +87,7 @@ impl Calls {
         match word {
             "reads" => Some(Calls::Reads),
             "writes" => Some(Calls::Writes),
+            "disks" => Some(Calls::Disks),
             "out" => Some(Calls::Out),
             "note" => Some(Calls::Note),
             _ => None,
@@ -86,9 +96,10 @@ impl Calls {
 }
 
 impl<'a> Step<'a> {
-    pub fn new(alloc: Global, puts: Vec<Put<'a>>) -> Step<'a> {
+    pub fn new(alloc: Global, puts: Vec<Put<'a>>, disks: Vec<PutDisk<'a>>) -> Step<'a> {
         Step {
             puts,
+            disks,
             faults: Vec::new(alloc),
             room_of_out: 1000000,
             room_of_note: 1000000,

@@ -52,6 +52,19 @@ impl Entered {
         next_at(self.centre, &self.part, self.place, &self.rest)
     }
 
+    /// What it wants next once it has gone on to what is next.
+    #[inline(always)]
+    pub fn after_next(&self) -> Next
+        ensures { result ≡ next_of (moved_on self.now) }
+    {
+        let place = if self.place < self.part.len() {
+            self.place + 1
+        } else {
+            self.place
+        };
+        next_at(self.centre, &self.part, place, &self.rest)
+    }
+
     /// Goes on to what is next, and tells what it was.
     #[inline(always)]
     pub fn advance(&mut self) -> Next

@@ -226,6 +226,16 @@ impl ScopePipe {
         self.entered[place].next()
     }
 
+    /// What the scope wants next here once it has asked for the lock that it wants next.
+    #[inline(always)]
+    pub fn look_ahead(&self, scope: ScopeId) -> Next
+        requires { is_some (entered_at self.now scope) ≡ true }
+        ensures { (e : EnteredView) → entered_at self.now scope ≡ Some e → result ≡ next_of (moved_on e) }
+    {
+        let place = entered_place(&self.entered, self.entered_hints.place(scope), scope);
+        self.entered[place].after_next()
+    }
+
     /// What the scope wants next here. Where that is a lock, the scope has asked for it then.
     #[inline(always)]
     pub fn advance(&mut self, scope: ScopeId) -> Next

@@ -11,13 +11,13 @@ use Rattle.snap_journal.specs.Formats.{read_store}
 abbrev pub IsFullFor : ℕ → ℕ → ℕ → Type 0
 IsFullFor count length size = (4096 ≤ count) ⊎ (2 ^ 30 < length + size)
 
--- why no store was made: it has bytes already, or there was a fault of the disk or want of memory
+-- why no store was made: it has bytes already, or there was a fault of the disk
 abbrev pub IsWhyNotMade : Type 0 → ℕ → ℕ → ℕ → JournalFault → Type 0
 IsWhyNotMade told length before now DiskFault = Rose before now
 IsWhyNotMade told length before now (BadStore fault) = told → (0 < length) × (fault ≡ NotEmpty length)
 IsWhyNotMade told length before now (Full stored bytes) = ⊥
 IsWhyNotMade told length before now Failed = ⊥
-IsWhyNotMade told length before now NoMemory = ⊤
+IsWhyNotMade told length before now NoMemory = ⊥
 
 -- why a store was not opened: it has this first fault, or there was a fault of the disk or want of memory
 abbrev pub IsWhyNotOpened : Type 0 → Header → List ℕ → ℕ → ℕ → JournalFault → Type 0

@@ -1,5 +1,6 @@
 //! How a store is made.
-ghost use Rattle.std.specs.Prelude.{◌≡◌, ◌≤◌, ◌++◌, [], ◌∷◌, length, IsTrue, IfErr, OnOk};
+ghost use Rattle.std.specs.Prelude.{◌≡◌, ◌<◌, ◌≤◌, ◌++◌, [], ◌∷◌, ℕ, List, length, IsTrue, IfErr, OnOk};
+ghost use Rattle.snap_journal.specs.Disks.{images_now};
 ghost use Rattle.snap_journal.specs.Formats.{store_header, IsAllowed};
 ghost use Rattle.snap_journal.specs.Journals.{AllStandFor};
 ghost use Rattle.snap_journal.specs.Answers.{IsWhyNotMade};
@@ -9,13 +10,16 @@ use gl_outside::Disk;
 use store_format::{Header, StoreFault, new_store};
 
 /// Makes a store without snapshots on a disk that has no bytes: writes its 65 bytes, and syncs. `NotEmpty` tells how many bytes
-/// there are. Of a crash before `Ok` nothing is promised.
+/// there are, and a disk that has some stays as it is. After `Ok` a crash leaves just these 65 bytes; of a crash before it nothing
+/// is promised.
 pub fn init<D: Disk>(disk: &mut D, header: &Header) -> Result<(), JournalFault>
     requires { IsAllowed header.now }
     ensures bytes { IsTrue D.told → OnOk result ((D.past disk.new).now.seen ≡ store_header header.now ++ 0 ∷ []) }
+    ensures images { IsTrue D.told → OnOk result ((image : List ℕ) → images_now (D.past disk.new) image → image ≡ store_header header.now ++ 0 ∷ []) }
     ensures stands { IsTrue D.told → OnOk result (AllStandFor header.now [] (D.past disk.new)) }
     ensures empty { IsTrue D.told → OnOk result (length (D.past disk.old).now.seen ≡ 0) }
     ensures fault { IfErr result (IsWhyNotMade (IsTrue D.told) (length (D.past disk.old).now.seen) (D.faults disk.old) (D.faults disk.new)) }
+    ensures kept { IsTrue D.told → 0 < length (D.past disk.old).now.seen → D.past disk.new ≡ D.past disk.old }
     ensures same { D.same disk.old disk.new }
     ensures later { D.faults disk.old ≤ D.faults disk.new }
 {

@@ -2,3 +2,10 @@ pub mod PendLemmas
 pub mod SeedLemmas
 pub mod BeginLemmas
 pub mod ApartLemmas
+pub mod HalfLemmas
+pub mod MarkLemmas
+pub mod MarkedLemmas
+pub mod SaveLemmas
+pub mod EndLemmas
+pub mod SendLemmas
+pub mod LearnLemmas

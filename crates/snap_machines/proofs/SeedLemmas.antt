@@ -34,7 +34,6 @@ numbers_pended m t are =
       tasks = record { apart = are.tasks.apart; own = are.tasks.own };
       sides = are.sides;
       ghosts = are.ghosts;
-      versions = are.versions;
       marks = are.marks;
       outside = are.outside;
     }
@@ -72,7 +71,7 @@ pub below_pended : (old new : Core) (k place : ℕ) → HasOtherPending old new 
 below_pended old new k place rest below = subst (λ (m : Core). AreMarkedBelow m.numbers k place) (sym rest) below
 
 -- the part, where these are pending now
-part_pended : (w : SnapView) (old new : Core) (pending : ℕ → Bool) → HasOtherPending old new → ((u : ℕ) → pending_here new.numbers u ≡ pending u)
+pub part_pended : (w : SnapView) (old new : Core) (pending : ℕ → Bool) → HasOtherPending old new → ((u : ℕ) → pending_here new.numbers u ≡ pending u)
     → with_snaps w (part_of new) ≡ record (with_snaps w (part_of old)) { pending = pending }
 part_pended w old new pending rest is =
     ap (λ (m : Core). with_snaps w (part_of m)) rest
@@ -80,7 +79,7 @@ part_pended w old new pending rest is =
 
 -- ---- ranges
 
-first_none : (test : ℕ → Bool) (k n : ℕ) → ((x : ℕ) → test x ≡ false) → first_passing test k n ≡ None
+pub first_none : (test : ℕ → Bool) (k n : ℕ) → ((x : ℕ) → test x ≡ false) → first_passing test k n ≡ None
 unfolding first_passing
 first_none test k zero fails = refl
 first_none test k (suc n) fails = ap (λ (b : Bool). if b then Some k else first_passing test (suc k) n) (fails k) ∙ first_none test (suc k) n fails
@@ -131,7 +130,7 @@ module _ (st : Setting) (m : Core) (w : SnapView) (is : IsPartOf st m) where
   owned_at : (i : ℕ) → slice_get (all_passing (λ x. st.owner x == m.numbers.local.me.0) 0 (size st.graph)) i ≡ option_map (λ (v : Vertex). v.0) (slice_get m.numbers.local.owned i)
   owned_at i = ap (λ (xs : List ℕ). slice_get xs i) (sym is.local.owned) ∙ slice_get-map (λ (v : Vertex). v.0) m.numbers.local.owned i
 
-  from_owned : (i x : ℕ) → slice_get (all_passing (λ x. st.owner x == m.numbers.local.me.0) 0 (size st.graph)) i ≡ Some x → (v : Vertex) × (slice_get m.numbers.local.owned i ≡ Some v) × (v.0 ≡ x)
+  pub from_owned : (i x : ℕ) → slice_get (all_passing (λ x. st.owner x == m.numbers.local.me.0) 0 (size st.graph)) i ≡ Some x → (v : Vertex) × (slice_get m.numbers.local.owned i ≡ Some v) × (v.0 ≡ x)
   from_owned i x at = by (slice_get m.numbers.local.owned i) refl (sym (owned_at i) ∙ at)
     where
       by : (o : Option Vertex) → slice_get m.numbers.local.owned i ≡ o → option_map (λ (v : Vertex). v.0) o ≡ Some x → (v : Vertex) × (slice_get m.numbers.local.owned i ≡ Some v) × (v.0 ≡ x)

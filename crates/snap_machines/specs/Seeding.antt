@@ -1,5 +1,5 @@
 -- Which own vertices have the mark of a snapshot.
-use Rattle.std.specs.Prelude.{◌≡◌, ℕ, ◌<◌, ◌≤◌, true, Some, slice_get}
+use Rattle.std.specs.Prelude.{◌≡◌, ℕ, ◌<◌, ◌≤◌, true, false, Some, slice_get}
 use Rattle.gl_base.specs.declared.numbers.Vertex.{Vertex}
 use Rattle.cluster_core.specs.Effects.{part_seeded}
 use Rattle.machine_numbers.specs.declared.keeping.Numbers.{Numbers}
@@ -26,3 +26,13 @@ HasSeeded old new k =
 abbrev pub HasOtherPending : Core → Core → Type 0
 HasOtherPending old new =
     new ≡ record old { numbers = record old.numbers { tasks = record old.numbers.tasks { pending = new.numbers.tasks.pending; asked = new.numbers.tasks.asked } } }
+
+-- no own vertex stands at this place
+abbrev pub IsPastLast : Numbers → ℕ → Type 0
+IsPastLast n place = (v : Vertex) → slice_get n.local.owned place ≡ Some v → is_own n.local v.0 ≡ false
+
+-- an own vertex has no mark of snapshot k
+pub record HasUnmarked (n : Numbers) (k : ℕ) : Type 0 where
+  pub vertex : Vertex
+  pub own : is_own n.local vertex.0 ≡ true
+  pub left : (datum_here n vertex.0).mark < k

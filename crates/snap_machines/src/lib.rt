@@ -3,10 +3,18 @@
 
 mod hearing;
 mod laws;
+mod learning;
+mod marking;
+mod marks;
 mod pending;
+mod saving;
 mod seeding;
+mod sending;
 
 pub use hearing::{begin, committed};
 pub use laws::{news_come_in_steps, scopes_go_apart_from_snapshots};
+pub use learning::learn;
+pub use marking::mark;
 pub use pending::{pend_named, pend_one};
 pub use seeding::seed;
+pub use sending::section;

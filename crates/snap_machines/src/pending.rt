@@ -33,7 +33,7 @@ pub fn pend_one(tasks: &mut TaskSet, local: &LocalGraph, v: Vertex)
 }
 
 /// Makes the vertex at this place pending.
-fn pend_place(tasks: &mut TaskSet, place: usize)
+pub fn pend_place(tasks: &mut TaskSet, place: usize)
     requires { place < length tasks.old.task }
     ensures set { tasks.new.pending ≡ slice_set tasks.old.pending place true }
     ensures is_pending { is_flagged tasks.new.pending place ≡ true }

@@ -34,7 +34,7 @@ pub fn seed(core: &mut Core, known: u32, seen: &mut usize)
 }
 
 /// The own vertex at this place, where they stand ascending.
-fn own_at(numbers: &Numbers, place: usize) -> Option<Vertex>
+pub fn own_at(numbers: &Numbers, place: usize) -> Option<Vertex>
     ensures some { IfSome result (λ v. (slice_get numbers.now.local.owned place ≡ Some v) × (is_own numbers.now.local v.0 ≡ true)) }
     ensures none { result ≡ None → (v : Vertex) → slice_get numbers.now.local.owned place ≡ Some v → is_own numbers.now.local v.0 ≡ false }
 {

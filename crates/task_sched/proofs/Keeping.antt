@@ -8,6 +8,7 @@ use Rattle.vertex_queue.specs.Inner.Queues.{bit_if}
 use Rattle.task_sched.specs.Tasks.{is_flagged, is_free, is_below, IsUpTo}
 use Rattle.task_sched.specs.Inner.Stages.{StagesView, stage_count, is_staged}
 use Rattle.task_sched.specs.Inner.Kept.{AreTasksKept}
+use Rattle.task_sched.proofs.Counting.{none_counted}
 use Rattle.task_sched.proofs.Staging.{flag-set}
 
 -- ---- flags
@@ -85,10 +86,6 @@ none_fit None = tt
 none_fit (Some most) = omega arith
 
 -- ---- counts
-
-none_counted : (flags : List Bool) → ((u : ℕ) → is_flagged flags u ≡ false) → sum_by bit_if flags ≡ 0
-none_counted flags none =
-    let most = sum_by-le bit_if 0 flags (λ k d within. let down : bit_if (slice_index_or flags k d) ≡ 0 = rw (get_or_default flags k d false within ∙ none k) in omega arith) in omega arith
 
 pub planned_counted : (flags : List Bool) (v : ℕ) → v < length flags → bit_if (is_flagged flags v) ≤ sum_by bit_if flags
 planned_counted flags v within = let less = sum_by-set bit_if flags v false false within in omega (arith, less)

@@ -1,3 +1,4 @@
 mod Staging
+mod Counting
 mod Keeping
 mod Picks

@@ -1,4 +1,5 @@
 -- What the clauses of private functions and the invariants cite. Who reads the public clauses need not read it.
+pub mod Flags
 pub mod Stages
 pub mod Kept
 pub mod Picking

@@ -1,6 +1,7 @@
 //! The tasks of a machine, its pending vertices, and which of them it admits next.
 #![tactic(auto)]
 
+mod flags;
 mod stages;
 mod task_sets;
 

@@ -4,6 +4,7 @@ ghost use Rattle.std.specs.List.{list_any};
 ghost use Rattle.task_sched.specs.Inner.Picking.{IsFreeTask, pick_of};
 ghost use Rattle.task_sched.specs.Tasks.{TasksView, is_flagged, is_free, is_below, is_open, HasPending, IsUpTo, IsNextPick};
 
+use crate::flags::CountedFlags;
 use crate::stages::Stages;
 use gl_base::{NoMemory, Vertex};
 use std::alloc::Global;
@@ -24,7 +25,7 @@ pub struct Pick {
 pub struct TaskSet {
     count: u32,
     tasks: Vec<bool>,
-    pending: Vec<bool>,
+    pending: CountedFlags,
     admitted: Vec<bool>,
     planned: Vec<bool>,
     stages: Stages,
@@ -43,7 +44,7 @@ impl Model for TaskSet {
 
     ghost view = { λ t. record {
       task = t.tasks.items;
-      pending = t.pending.items;
+      pending = t.pending;
       admitted = t.admitted.items;
       planned = t.planned.items;
       asked = t.asked.line;
@@ -52,7 +53,7 @@ impl Model for TaskSet {
       window = t.window;
     } };
 
-    ghost invariant = { λ t. AreTasksKept t.count t.tasks.items t.pending.items t.admitted.items t.planned.items t.stages t.asked.among t.plans t.outside t.window };
+    ghost invariant = { λ t. AreTasksKept t.count t.tasks.items t.pending t.admitted.items t.planned.items t.stages t.asked.among t.plans t.outside t.window };
 }
 
 impl TaskSet {
@@ -69,7 +70,7 @@ impl TaskSet {
         Ok(TaskSet {
             count,
             tasks: Vec::from_elem(alloc, true, count as usize)?,
-            pending: Vec::from_elem(alloc, false, count as usize)?,
+            pending: CountedFlags::none(alloc, count)?,
             admitted: Vec::from_elem(alloc, false, count as usize)?,
             planned: Vec::from_elem(alloc, false, count as usize)?,
             stages: Stages::new(alloc, count)?,
@@ -101,8 +102,8 @@ impl TaskSet {
         ensures rest { self.new ≡ record self.old { pending = self.new.pending; asked = self.new.asked } }
     {
         let place = v.0 as usize;
-        let was_pending = self.pending[place];
-        self.pending[place] = true;
+        let was_pending = self.pending.has(v);
+        self.pending.set(v);
         if was_pending {
             return;
         }
@@ -177,7 +178,7 @@ impl TaskSet {
     {
         let place = v.0 as usize;
         let plan = one_where(self.planned[place]);
-        self.pending[place] = false;
+        self.pending.take(v);
         self.admitted[place] = false;
         self.planned[place] = false;
         self.plans -= plan;
@@ -220,7 +221,7 @@ impl TaskSet {
     pub fn is_pending(&self, v: Vertex) -> bool
         ensures { result ≡ is_flagged self.now.pending v.0 }
     {
-        flag_at(&self.pending, v)
+        flag_at(self.pending.as_slice(), v)
     }
 
     /// Whether v is admitted.
@@ -247,17 +248,16 @@ impl TaskSet {
     {
         match self.asked.first() {
             Some(vertex) => Some(vertex),
-            None => first_flag(&self.pending, self.count),
+            None => first_flag(self.pending.as_slice(), self.count),
         }
     }
 
-    /// Whether a vertex is pending, admitted or not. It looks at each vertex where all pending ones are admitted.
+    /// Whether a vertex is pending, admitted or not.
     pub fn has_pending(&self) -> bool
         ensures some { result ≡ true → HasPending self.now }
         ensures none { result ≡ false → (u : ℕ) → is_flagged self.now.pending u ≡ false }
     {
-        let _ = &self.count;
-        self.some_pending().is_some()
+        self.pending.has_some()
     }
 
     /// As after `new`: every vertex is a task, none is pending or admitted, and no update is outside.
@@ -270,7 +270,7 @@ impl TaskSet {
         ensures counts { (self.new.plans ≡ 0) × (self.new.outside ≡ 0) × (self.new.window ≡ self.old.window) }
     {
         set_all(&mut self.tasks, true);
-        set_all(&mut self.pending, false);
+        self.pending.clear();
         set_all(&mut self.admitted, false);
         set_all(&mut self.planned, false);
         self.stages.reset(self.count);

@@ -65,6 +65,11 @@ impl ClusterMachine for Lone {
         }
     }
 
+    fn grant_in_turn(&mut self, x: Vertex) -> Result<(), Refused> {
+        self.grant(x)?;
+        Ok(())
+    }
+
     fn next_grant(&mut self) -> Option<Vertex> {
         match self.progress {
             Progress::Asked => Some(Vertex(0)),

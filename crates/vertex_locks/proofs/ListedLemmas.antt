@@ -1,5 +1,5 @@
 -- Which locks would be granted, and which vertices are listed.
-use Rattle.std.proofs.Common.{◌≡◌, ◌≢◌, ℕ, zero, suc, ◌<◌, Bool, true, false, Option, None, Some, is_some, List, [], ◌∷◌, length, IfSome, slice_index, slice_index_or, slice_set, if◌then◌else◌, refl, sym, ◌∙◌, ap, subst, ⊎_elim, arith, ne_eqb}
+use Rattle.std.proofs.Common.{◌≡◌, ◌≢◌, ℕ, zero, suc, ◌<◌, Bool, true, false, Option, None, Some, is_some, List, [], ◌∷◌, ◌++◌, drop, length, IfSome, slice_index, slice_index_or, slice_set, if◌then◌else◌, refl, sym, ◌∙◌, ap, subst, ⊎_elim, arith, eq-eqb, ne_eqb}
 use Rattle.std.specs.List.{sum_by}
 use Rattle.std.proofs.lemmas.Bool.{cases_eq, true≢false, lt-ltb}
 use Rattle.std.proofs.lemmas.List.{get_or-set_same, get_or-set_other, get_or_default, length-map}
@@ -10,7 +10,7 @@ use Rattle.gl_base.specs.declared.scopes.ScopeId.{ScopeId}
 use Rattle.vertex_queue.specs.Flags.{is_flagged}
 use Rattle.vertex_locks.specs.Locks.{LockView, IsNext, mode_of}
 use Rattle.vertex_locks.specs.Inner.KeptTables.{ArePlacesApart, ListsGrantable, IsFree, IsListedAgain, IsTable}
-use Rattle.vertex_locks.specs.Tables.{is_owned, holder_at, queue_at, lock_at, lock_there, table_of, no_lock, HasAsked, HasGranted, HasReleased, HasRoomFor, HasTaken, IsGrantable, IsTurn, IsUnclaimed}
+use Rattle.vertex_locks.specs.Tables.{is_owned, holder_at, queue_at, lock_at, lock_there, table_of, no_lock, HasAsked, HasGranted, HasReleased, HasRoomFor, HasTaken, HasTakenFree, asked_at, IsGrantable, IsTurn, IsUnclaimed}
 use Rattle.vertex_locks.specs.declared.turns.Turn.{Turn}
 use Rattle.vertex_locks.specs.declared.turns.Turn.TheVariants.{Granted, Waiting}
 use Rattle.vertex_locks.proofs.TableLemmas.{is_placed, is_read, owned_inside}
@@ -62,15 +62,32 @@ listed_released old new flags x s inside owned has are =
     (λ y other. has.queue y)
     (listed_more old flags x inside owned are)
 
--- a claim went for which nobody waits
-pub listed_left : (old new : List (Option LockView)) (flags : List Bool) (x : ℕ) (s : ScopeId) → queue_at new x ≡ [] → HasReleased old new x s → ListsGrantable old flags → ListsGrantable new flags
-listed_left old new flags x s none has are = record {
-  owned = λ y flagged. has.owned y ∙ are.owned y flagged;
+-- nobody has come or gone but at x, where nobody waits
+listed_none : (old new : List (Option LockView)) (flags : List Bool) (x : ℕ) → queue_at new x ≡ [] → ((y : ℕ) → is_owned new y ≡ is_owned old y) → ((y : ℕ) → y ≢ x → (s : ScopeId) → holder_at new y s ≡ holder_at old y s)
+    → ((y : ℕ) → y ≢ x → queue_at new y ≡ queue_at old y) → ListsGrantable old flags → ListsGrantable new flags
+listed_none old new flags x none owned holder queue are = record {
+  owned = λ y flagged. owned y ∙ are.owned y flagged;
   waits = λ y c next. ⊎_elim
       (λ (same : y ≡ x). absurd (none_first c next.behind (sym none ∙ (sym (ap (queue_at new) same) ∙ next.first))))
-      (λ (other : y ≢ x). are.waits y c (next_back old new y c (λ t. has.holder y t ∙ rw (ne_eqb y x other) refl) (has.queue y) next))
+      (λ (other : y ≢ x). are.waits y c (next_back old new y c (holder y other) (queue y other) next))
       (cases_eq y x);
 }
+
+-- a claim went for which nobody waits
+pub listed_left : (old new : List (Option LockView)) (flags : List Bool) (x : ℕ) (s : ScopeId) → queue_at new x ≡ [] → HasReleased old new x s → ListsGrantable old flags → ListsGrantable new flags
+listed_left old new flags x s none has are =
+    listed_none old new flags x none has.owned (λ y other t. has.holder y t ∙ rw (ne_eqb y x other) refl) (λ y other. has.queue y) are
+
+-- a claim came where there was none
+pub listed_free_taken : (old new : List (Option LockView)) (flags : List Bool) (x : ℕ) (c : Claim) → HasTakenFree old new x c → ListsGrantable old flags → ListsGrantable new flags
+listed_free_taken old new flags x c has are =
+    let asked_here : queue_at (asked_at old x c) x ≡ c ∷ [] = has.asked.queue x ∙ rw (eq-eqb x x refl) (ap (λ (q : List Claim). q ++ c ∷ []) has.free.none_waits) in
+    listed_none old new flags x
+    (has.taken.queue x ∙ rw (eq-eqb x x refl) (ap (drop 1) asked_here))
+    (λ y. has.taken.owned y ∙ has.asked.owned y)
+    (λ y other s. has.taken.holder y s ∙ (rw (ne_eqb y x other) refl) ∙ has.asked.holder y s)
+    (λ y other. has.taken.queue y ∙ (rw (ne_eqb y x other) refl) ∙ has.asked.queue y ∙ (rw (ne_eqb y x other) refl))
+    are
 
 pub listed_taken : (old new : List (Option LockView)) (flags : List Bool) (x : ℕ) (c : Claim) → IsNext (holder_at old x) (queue_at old x) c → HasTaken old new x c → ListsGrantable old flags → ListsGrantable new flags
 listed_taken old new flags x c next has are =
@@ -171,6 +188,12 @@ module _ (places : List ℕ) (locks after : List LockView) (table : List (Option
   pub table_granted : (x : ℕ) (turn : Turn) → IsTurn (holder_at table x) (queue_at table x) turn → HasGranted table (table_of places after) x turn → IsTable places after flags
   table_granted x (Granted c) next has = with_table places locks after flags flags many refl is (listed_taken table (table_of places after) flags x c next has was_listed)
   table_granted x Waiting next same = with_table places locks after flags flags many refl is (subst (λ (t : List (Option LockView)). ListsGrantable t flags) (sym same) was_listed)
+
+  pub table_free_taken : (x : ℕ) (c : Claim) → HasTakenFree table (table_of places after) x c → IsTable places after flags
+  table_free_taken x c has = with_table places locks after flags flags many refl is (listed_free_taken table (table_of places after) flags x c has was_listed)
+
+  pub table_same : table_of places after ≡ table → IsTable places after flags
+  table_same same = with_table places locks after flags flags many refl is (subst (λ (t : List (Option LockView)). ListsGrantable t flags) (sym same) was_listed)
 
   pub table_reset : ((k : ℕ) → IsFree (slice_index_or after k no_lock)) → IsTable places after flags
   table_reset free = with_table places locks after flags flags many refl is

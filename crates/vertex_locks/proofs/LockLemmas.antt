@@ -20,7 +20,7 @@ use Rattle.scope_lists.proofs.FoundLemmas.{apart_head, apart_tail, found_at, non
 use Rattle.scope_lists.proofs.Edited.{found_removed, apart_removed}
 use Rattle.vertex_locks.specs.Inner.KeptLocks.{ReadTogether, IsLock, IsTaken, IsReleased}
 use Rattle.scope_lists.specs.Scopes.{GoTogether}
-use Rattle.vertex_locks.specs.Locks.{LockView, claimant, has, mode_of, IsNext, IsFreeLock, WritesAlone, WaitOnce, view_of, without_claim, released}
+use Rattle.vertex_locks.specs.Locks.{LockView, claimant, has, mode_of, IsNext, IsFreeLock, WritesAlone, WaitOnce, view_of, requested, without_claim, released}
 
 -- ---- holders
 
@@ -385,3 +385,26 @@ some_there (c ∷ claims) (suc held) lock many is =
     let long = length-take-le (suc held) (c ∷ claims) lock.within in
     let holds = holds_at (take (suc held) (c ∷ claims)) 0 c apart (omega arith) in
     absurd (none-some (slice_index_or (take (suc held) (c ∷ claims)) 0 c).mode (sym (is.unheld (slice_index_or (take (suc held) (c ∷ claims)) 0 c).scope) ∙ holds))
+
+-- ---- a claim comes where there is none
+
+alone_lock : (c : Claim) → IsLock (c ∷ []) 0
+alone_lock c = request_keeps [] 0 c (record { within = omega arith; once = λ i j d before late. absurd (omega (arith, late)); together = λ i j d before late. absurd (omega (arith, late)) }) refl refl
+
+pub free_keeps : (claims : List Claim) (c : Claim) → length claims ≡ 0 → IsLock (claims ++ c ∷ []) 1
+free_keeps [] c none = grant_keeps (c ∷ []) 0 c (alone_lock c) (next_alone (c ∷ []) 0 c refl (omega arith) refl)
+free_keeps (d ∷ claims) c none = absurd (omega arith)
+
+pub free_shows : (claims : List Claim) (held room : ℕ) (c : Claim) → length claims ≡ 0 → IsLock claims held → IsTaken (requested c (view_of claims held room)) (view_of (claims ++ c ∷ []) 1 (room - 1)) c
+free_shows [] held room c none is =
+    let zero : held ≡ 0 = let within = is.within in omega arith in
+    subst (λ (h : ℕ). IsTaken (requested c (view_of [] h room)) (view_of (c ∷ []) 1 (room - 1)) c) (sym zero)
+    (grant_shows (c ∷ []) 0 (room - 1) c (alone_lock c) (next_alone (c ∷ []) 0 c refl (omega arith) refl))
+free_shows (d ∷ claims) held room c none is = absurd (omega arith)
+
+-- the last claim is taken out
+pub remove_last : (claims : List Claim) (i : ℕ) → i + 1 ≡ length claims → remove claims i ≡ take i claims
+remove_last [] i last = absurd (omega (arith, last))
+remove_last (c ∷ []) zero last = refl
+remove_last (c ∷ d ∷ claims) zero last = absurd (omega (arith, last))
+remove_last (c ∷ claims) (suc i) last = ap (λ (cs : List Claim). c ∷ cs) (remove_last claims i (omega (arith, last)))

@@ -1,7 +1,7 @@
 -- What becomes of a table where one lock is written.
 use Rattle.std.proofs.Common.{◌≡◌, ◌≢◌, ℕ, ◌<◌, ◌≤◌, Bool, true, false, Option, Some, None, is_some, option_map, List, length, slice_index, slice_index_or, slice_set, if◌then◌else◌, refl, sym, ◌∙◌, ap, subst, ⊎_elim, arith, eq-eqb, ne_eqb}
 use Rattle.std.proofs.lemmas.Bool.{cases_lt, cases_eq, true≢false, lt-ltb, le-ltb}
-use Rattle.std.proofs.lemmas.List.{length-map, get_or-map, get_or-set_same, get_or-set_other, get_or_default, get_or_past, same_lists, set-get_or}
+use Rattle.std.proofs.lemmas.List.{length-map, get_or-map, get_or-set_same, get_or-set_other, get_or_default, get_or_past, same_lists, set-get_or, set-set}
 use Rattle.std.proofs.Math.ListN.{length-set}
 use Rattle.gl_base.specs.declared.scopes.Claim.{Claim}
 use Rattle.gl_base.specs.declared.scopes.Mode.{Mode}
@@ -9,9 +9,9 @@ use Rattle.gl_base.specs.declared.scopes.ScopeId.{ScopeId}
 use Rattle.scope_lists.specs.Scopes.{is_scope, set_for, set_at}
 use Rattle.scope_lists.specs.Found.{by_scope}
 use Rattle.vertex_locks.specs.Inner.KeptLocks.{requested, IsTaken, IsReleased, SameClaims}
-use Rattle.vertex_locks.specs.Locks.{has, LockView, claimant, mode_of}
+use Rattle.vertex_locks.specs.Locks.{has, IsFreeLock, LockView, claimant, mode_of}
 use Rattle.vertex_locks.specs.Inner.KeptTables.{ArePlacesApart}
-use Rattle.vertex_locks.specs.Tables.{no_lock, lock_or, lock_at, is_owned, holder_at, queue_at, room_at, HasAsked, HasTaken, HasReleased, HasRoomFor, lock_there, table_of}
+use Rattle.vertex_locks.specs.Tables.{no_lock, lock_or, lock_at, is_owned, holder_at, queue_at, room_at, HasAsked, HasTaken, HasTakenFree, HasReleased, HasRoomFor, lock_there, table_of}
 
 -- l for the lock of x
 abbrev pub with_lock : List (Option LockView) → ℕ → LockView → List (Option LockView)
@@ -180,6 +180,21 @@ has_taken table x l c owned is = record {
   queue = λ y. looked (λ (k : LockView). k.queue) table x l owned y ∙ ap (λ q. set_at (queue_at table) x q y) is.queue;
   room = looked_same (λ (k : LockView). k.room) table x l owned is.room;
 }
+
+-- a claim that comes where there is none has asked, and then holds the lock
+pub has_taken_free : (table : List (Option LockView)) (x : ℕ) (l : LockView) (c : Claim) → is_owned table x ≡ true → IsFreeLock (holder_at table x) (queue_at table x) → 0 < room_at table x → IsTaken (requested c (lock_at table x)) l c
+    → HasTakenFree table (with_lock table x l) x c
+has_taken_free table x l c owned free room is =
+    let k = requested c (lock_at table x) in
+    let asked = with_lock table x k in
+    let owns : is_owned asked x ≡ true = owned-kept table x k x owned ∙ owned in
+    record {
+      free = free;
+      room = room;
+      asked = has_asked table x c owned;
+      taken = subst (λ (t : List (Option LockView)). HasTaken asked t x c) (set-set table x (Some k) (Some l))
+          (has_taken asked x l c owns (subst (λ (j : LockView). IsTaken j l c) (sym (lock-here table x k owned)) is));
+    }
 
 pub has_released : (table : List (Option LockView)) (x : ℕ) (l : LockView) (s : ScopeId) → is_owned table x ≡ true → IsReleased (lock_at table x) l s → HasReleased table (with_lock table x l) x s
 has_released table x l s owned is = record {

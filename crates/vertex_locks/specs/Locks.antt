@@ -1,5 +1,5 @@
 -- A lock: who holds it, and who waits for it.
-use Rattle.std.specs.Prelude.{◌≡◌, ℕ, ◌+◌, Bool, Option, Some, None, is_some, option_map, List, [], ◌∷◌, take, drop, if◌then◌else◌}
+use Rattle.std.specs.Prelude.{◌≡◌, ℕ, ◌+◌, ◌-◌, ◌++◌, Bool, Option, Some, None, is_some, option_map, List, [], ◌∷◌, take, drop, if◌then◌else◌}
 use Rattle.std.specs.List.{AllPairs, AllByRecursion}
 use Rattle.gl_base.specs.declared.scopes.Claim.{Claim}
 use Rattle.gl_base.specs.declared.scopes.Mode.{Mode}
@@ -45,6 +45,10 @@ WritesAlone holder = (s t : ScopeId) (mode : Mode) → holder s ≡ Some Writer 
 pub record WaitOnce (holder : ScopeId → Option Mode) (queue : List Claim) : Type 0 where
   pub once : AllPairs (AreOfTwoScopes claimant) queue
   pub hold_not : AllByRecursion (λ c. holder c.scope ≡ None) queue
+
+-- the claim waits behind the others
+abbrev pub requested : Claim → LockView → LockView
+requested c l = record { holders = l.holders; queue = l.queue ++ c ∷ []; room = l.room - 1 }
 
 -- the claims without the first of the scope
 abbrev pub without_claim : ScopeId → List Claim → List Claim

@@ -1,12 +1,12 @@
 -- The locks of a machine's vertices, by the vertex's number.
-use Rattle.std.specs.Prelude.{◌≡◌, ℕ, ◌+◌, ◌-◌, ◌≤◌, Bool, true, Option, Some, None, is_some, List, [], ◌∷◌, ◌++◌, length, drop, map, slice_index_or, slice_set, nat_lt, if◌then◌else◌}
+use Rattle.std.specs.Prelude.{◌≡◌, ℕ, ◌+◌, ◌-◌, ◌<◌, ◌≤◌, Bool, true, Option, Some, None, is_some, List, [], ◌∷◌, ◌++◌, length, drop, map, slice_index_or, slice_set, nat_lt, if◌then◌else◌}
 use Rattle.gl_base.specs.declared.scopes.Claim.{Claim}
 use Rattle.gl_base.specs.declared.scopes.Mode.{Mode}
 use Rattle.gl_base.specs.declared.scopes.ScopeId.{ScopeId}
 use Rattle.scope_lists.specs.Scopes.{set_for, set_at}
 use Rattle.vertex_locks.specs.declared.turns.Turn.{Turn}
 use Rattle.vertex_locks.specs.declared.turns.Turn.TheVariants.{Granted, Waiting}
-use Rattle.vertex_locks.specs.Locks.{LockView, mode_of, released, IsNext}
+use Rattle.vertex_locks.specs.Locks.{LockView, mode_of, requested, released, IsNext, IsFreeLock}
 
 abbrev pub no_lock : LockView
 no_lock = record { holders = []; queue = []; room = 0 }
@@ -52,6 +52,17 @@ pub record HasTaken (old new : List (Option LockView)) (x : ℕ) (c : Claim) : T
   pub holder : (y : ℕ) (s : ScopeId) → holder_at new y s ≡ set_at (holder_at old) x (set_for (holder_at old x) c.scope (Some c.mode)) y s
   pub queue : (y : ℕ) → queue_at new y ≡ set_at (queue_at old) x (drop 1 (queue_at old x)) y
   pub room : (y : ℕ) → room_at new y ≡ room_at old y
+
+-- the table when the claim has asked for the lock of x
+abbrev pub asked_at : List (Option LockView) → ℕ → Claim → List (Option LockView)
+asked_at table x c = slice_set table x (Some (requested c (lock_at table x)))
+
+-- nobody claimed the lock of x, and there was room: the claim has asked for it, and then holds it
+pub record HasTakenFree (old new : List (Option LockView)) (x : ℕ) (c : Claim) : Type 0 where
+  pub free : IsFreeLock (holder_at old x) (queue_at old x)
+  pub room : 0 < room_at old x
+  pub asked : HasAsked old (asked_at old x c) x c
+  pub taken : HasTaken (asked_at old x c) new x c
 
 -- the scope holds the lock of x no more
 pub record HasReleased (old new : List (Option LockView)) (x : ℕ) (s : ScopeId) : Type 0 where

@@ -1,6 +1,7 @@
 //! One lock.
-ghost use Rattle.std.specs.Prelude.{◌≡◌, ◌+◌, ◌<◌, ◌≤◌, ◌==◌, true, false, None, [], ◌∷◌, ◌++◌, length, nat_lt, take, drop, OnOk, IfSome};
-ghost use Rattle.std.specs.List.{position, list_any};
+ghost use Rattle.std.specs.Prelude.{◌≡◌, ◌+◌, ◌<◌, ◌≤◌, ◌==◌, true, false, None, [], ◌∷◌, ◌++◌, length, nat_lt, take, drop, vec_len, OnOk, IfSome};
+ghost use Rattle.std.specs.List.{position, list_any, remove};
+ghost use Rattle.std.specs.Vec.{vec_capacity};
 ghost use Rattle.gl_base.specs.declared.scopes.Claim.{Claim};
 ghost use Rattle.scope_lists.specs.Scopes.{is_scope};
 ghost use Rattle.vertex_locks.specs.Locks.{LockView, has, mode_of, released, IsNext, IsFreeLock, WritesAlone, WaitOnce};
@@ -66,6 +67,25 @@ impl Lock {
         self.claims.push_reserved(claim);
     }
 
+    /// The claim holds the lock at once, where nobody claims it and there is room.
+    #[inline(always)]
+    pub fn take(&mut self, claim: Claim) -> bool
+        ensures free { result ≡ true → IsFreeLock (mode_of self.old.holders) self.old.queue × (0 < self.old.room) }
+        ensures taken { result ≡ true → IsTaken (requested claim self.old) self.new claim }
+        ensures claimed { result ≡ false → IsFreeLock (mode_of self.old.holders) self.old.queue → self.old.room ≡ 0 }
+        ensures same { result ≡ false → self.new ≡ self.old }
+    {
+        if !self.claims.is_empty() {
+            return false;
+        }
+        if self.claims.capacity() == 0 {
+            return false;
+        }
+        self.claims.push_reserved(claim);
+        self.held = 1;
+        true
+    }
+
     /// The first that waits, where it goes together with each holder.
     #[inline(always)]
     pub fn next(&self) -> Option<Claim>
@@ -97,7 +117,7 @@ impl Lock {
         ensures exact { self.new ≡ released scope self.old }
     {
         if let Some(place) = place_of(&self.claims, scope) {
-            self.claims.remove(place);
+            take_out(&mut self.claims, place);
             self.held -= 1;
         }
     }
@@ -193,4 +213,19 @@ fn place_of(claims: &[Claim], scope: ScopeId) -> Option<usize>
     ensures { result ≡ position (λ c. is_scope c.scope scope) claims.now }
 {
     claims.iter().position(|claim| is_scope(claim.scope, scope))
+}
+
+/// Takes a claim out. Most often it is the last one, and then none has to be moved.
+#[inline(always)]
+fn take_out(claims: &mut Vec<Claim>, place: usize)
+    requires { place < vec_len claims.old }
+    ensures items { claims.new.items ≡ remove claims.old.items place }
+    ensures len { vec_len claims.new + 1 ≡ vec_len claims.old }
+    ensures capacity { vec_capacity claims.new ≡ vec_capacity claims.old }
+{
+    if place + 1 == claims.len() {
+        let _ = claims.pop();
+    } else {
+        let _ = claims.remove(place);
+    }
 }

@@ -2,7 +2,7 @@
 ghost use Rattle.std.specs.Prelude.{◌≡◌, ℕ, ◌+◌, ◌<◌, ◌≤◌, ◌==◌, true, false, is_some, None, length, slice_index_or, IfOk, OnOk, OnErr, MatchOption};
 ghost use Rattle.std.specs.List.{All, list_any};
 ghost use Rattle.vertex_locks.specs.Locks.{has, IsFreeLock, WritesAlone, WaitOnce};
-ghost use Rattle.vertex_locks.specs.Tables.{is_owned, holder_at, queue_at, room_at, HasAsked, HasTaken, HasReleased, released_at, HasRoomFor, HasGranted, IsUnclaimed, IsTurn, IsGrantable, no_lock};
+ghost use Rattle.vertex_locks.specs.Tables.{is_owned, holder_at, queue_at, room_at, HasAsked, HasTaken, HasTakenFree, HasReleased, released_at, HasRoomFor, HasGranted, IsUnclaimed, IsTurn, IsGrantable, no_lock};
 ghost use Rattle.vertex_locks.specs.Inner.KeptTables.{IsFree, IsListedAgain, IsTable, table_of};
 
 use crate::locks::Lock;
@@ -91,6 +91,19 @@ impl LockTable {
         let place = self.places[x.0 as usize] as usize;
         self.locks[place].request(claim);
         self.listed.add(x);
+    }
+
+    /// The claim holds the lock of x at once, where nobody claims it and there is room: as if it had asked and then been granted. Else
+    /// nothing changes.
+    #[inline(always)]
+    pub fn take(&mut self, x: Vertex, claim: Claim) -> bool
+        requires { is_owned self.old x.0 ≡ true }
+        ensures taken { result ≡ true → HasTakenFree self.old self.new x.0 claim }
+        ensures claimed { result ≡ false → IsFreeLock (holder_at self.old x.0) (queue_at self.old x.0) → room_at self.old x.0 ≡ 0 }
+        ensures same { result ≡ false → self.new ≡ self.old }
+    {
+        let place = self.places[x.0 as usize] as usize;
+        self.locks[place].take(claim)
     }
 
     /// Whether the scope holds the lock of x.

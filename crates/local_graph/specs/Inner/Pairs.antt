@@ -10,9 +10,17 @@ use Rattle.local_graph.specs.Lines.{links_from}
 use Rattle.local_graph.specs.Locals.{place_of_vertex}
 use Rattle.local_graph.specs.Played.{meets, place_or}
 
--- the links of the row at place k
-abbrev pub row_at : List (List Half) → ℕ → Option (List Link)
-row_at halves k = Some (links_from 0 (slice_index_or halves k []))
+-- the half-edges at the vertex with place k among these
+abbrev pub halves_known : List (List Half) → List Vertex → ℕ → List Half
+halves_known halves known k = slice_index_or halves (slice_index_or known k (record { 0 = 0 })).0 []
+
+-- the links of its row
+abbrev pub row_at : List (List Half) → List Vertex → ℕ → Option (List Link)
+row_at halves known k = Some (links_from 0 (halves_known halves known k))
+
+-- place k behind it the sides of the vertex there
+abbrev pub sides_in : (Half → Side) → List (List Half) → List Vertex → ℕ → List (ℕ × Side)
+sides_in side halves known k = map (λ h. (k, side h)) (halves_known halves known k)
 
 -- place k behind it the machines of the scope of the vertex there
 abbrev pub parts_in : List (List Side) → MachineNo → ℕ → ℕ → List (ℕ × MachineNo)

@@ -17,10 +17,9 @@ use Rattle.machine_at_once.specs.Inner.Finding.{WaitsAt}
 pub record CanBeMade (n : Numbers) (v : Vertex) : Type 0 where
   pub sides : All (IsSideHere n.local) (sides_at n.local v.0)
   pub tasks : AreTasksOf n.local n.tasks
-  pub version : (datum_here n v.0).version ≤ length n.log.items
   pub outside : n.tasks.outside ≤ length n.log.items
 
--- the same, with an outcome of v and room in the log
+-- the same, with an outcome of v, room in the log and for a version more
 pub record CanBeKept (n : Numbers) (o : Outcome) (place : Vertex) : Type 0 where
   pub waits : WaitsAt n place o.work.vertex
   pub can : CanBeMade n o.work.vertex
@@ -28,6 +27,7 @@ pub record CanBeKept (n : Numbers) (o : Outcome) (place : Vertex) : Type 0 where
   pub edges : length o.edges.items ≡ length (sides_at n.local o.work.vertex.0)
   pub room : vec_len n.log < vec_capacity n.log
   pub few : length n.log.items < 4294967295
+  pub version : (datum_here n o.work.vertex.0).version < 4294967295
 
 -- data, rows and the numbers of edges alone may have changed, and each row is as it was
 pub record KeepsGraph (old new : LocalView) : Type 0 where

@@ -3,6 +3,7 @@ pub use Rattle.machine_parts.specs.Order.{IsOrderly, IsOrderlyBut}
 pub use Rattle.machine_parts.specs.Parts.{part_of, entered_at}
 pub use Rattle.scope_lists.specs.Scopes.{is_scope, mode_at}
 pub use Rattle.scope_pipe.specs.Entered.{next_at}
+pub use Rattle.vertex_locks.specs.Tables.{room_at}
 use Rattle.std.specs.Prelude.{◌≡◌, ◌<◌, ◌==◌, Bool, true, false, Some, length, slice_get}
 use Rattle.gl_base.specs.declared.numbers.MachineNo.{MachineNo}
 use Rattle.gl_base.specs.declared.scopes.Peer.TheVariants.{Machine}
@@ -12,7 +13,7 @@ use Rattle.outboxes.specs.Outboxes.{outbox_to}
 use Rattle.scope_pipe.specs.Entered.{EnteredView, next_of}
 use Rattle.scope_pipe.specs.declared.next.Next.{Next}
 use Rattle.scope_pipe.specs.declared.next.Next.TheVariants.{Lock, Forward, Home}
-use Rattle.vertex_locks.specs.Tables.{is_owned, room_at}
+use Rattle.vertex_locks.specs.Tables.{is_owned}
 use Rattle.machine_parts.specs.declared.cores.Core.{Core}
 use Rattle.machine_parts.specs.Parts.{machine_numbers, number_of}
 

@@ -1,5 +1,6 @@
 -- How a lock is kept, and what each call makes of it.
-use Rattle.std.specs.Prelude.{◌≡◌, ℕ, ◌+◌, ◌-◌, ◌≤◌, Some, None, List, [], ◌∷◌, ◌++◌, length, take, drop, if◌then◌else◌}
+pub use Rattle.vertex_locks.specs.Locks.{requested}
+use Rattle.std.specs.Prelude.{◌≡◌, ℕ, ◌+◌, ◌≤◌, Some, None, List, length, take, drop, if◌then◌else◌}
 use Rattle.std.specs.List.{AllPairs}
 use Rattle.gl_base.specs.declared.scopes.Claim.{Claim}
 use Rattle.gl_base.specs.declared.scopes.ScopeId.{ScopeId}
@@ -15,10 +16,6 @@ pub record IsLock (claims : List Claim) (held : ℕ) : Type 0 where
   pub within : held ≤ length claims
   pub once : AllPairs (AreOfTwoScopes claimant) claims
   pub together : AllPairs ReadTogether (take held claims)
-
--- the claim waits behind the others
-abbrev pub requested : Claim → LockView → LockView
-requested c l = record { holders = l.holders; queue = l.queue ++ c ∷ []; room = l.room - 1 }
 
 -- the claim, the first that waited, holds the lock
 pub record IsTaken (old new : LockView) (c : Claim) : Type 0 where

@@ -1,7 +1,7 @@
 use Rattle.std.proofs.Common.{◌≡◌, ◌≤◌, ◌<◌, ℕ, length, map, vec_capacity}
 use Rattle.std.specs.Prelude.{option_map, slice_index_or}
 use Rattle.gl_base.specs.declared.snapshots.SavedPart.{SavedPart}
-use Rattle.coord_core.specs.Records.{IsPartOf}
+use Rattle.coord_core.specs.Records.{IsPartOfRecord}
 use Rattle.coord_core.specs.Saving.{come_at, section_view}
 use Rattle.coord_core.proofs.records.parts_of.Given as goal
 
@@ -10,5 +10,5 @@ invariant-loop-section l =
     record {
       many : length l.parts.items ≡ l.section-index;
       room : length l.come ≤ vec_capacity l.parts;
-      each : (a : ℕ) (d : SavedPart) → a < l.section-index → IsPartOf (come_at (map (option_map section_view) l.come) a) (slice_index_or l.parts.items a d);
+      each : (a : ℕ) (d : SavedPart) → a < l.section-index → IsPartOfRecord (come_at (map (option_map section_view) l.come) a) (slice_index_or l.parts.items a d);
     }

@@ -8,3 +8,9 @@ returns-in-ReadFault-clause-note g c = rw c.in-ReadFault.is c.write_text-in-Read
 
 pub returns-in-BudgetSpent-clause-note : goal.returns-in-BudgetSpent-clause-note
 returns-in-BudgetSpent-clause-note g c = rw c.in-BudgetSpent.is c.write_text-in-BudgetSpent.ensures.note
+
+pub returns-in-DiskFault-clause-note : goal.returns-in-DiskFault-clause-note
+returns-in-DiskFault-clause-note g c = rw c.in-DiskFault.is c.write_text-in-DiskFault.ensures.note
+
+pub returns-in-BadStore-clause-note : goal.returns-in-BadStore-clause-note
+returns-in-BadStore-clause-note g c = rw c.in-BadStore.is c.tell_store.ensures.note

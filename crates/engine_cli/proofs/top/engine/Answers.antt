@@ -13,7 +13,7 @@ returns-in-Ok-clause-verb g c asked is =
     let before = moment (g.F.Files.state c.args.files.now) (g.K.Sink.faults c.args.out.now) (g.K.Sink.held c.args.out.now) in
     let now = moment (g.F.Files.state c.do_command.new.files) (g.K.Sink.faults c.do_command.new.out) (g.K.Sink.held c.do_command.new.out) in
     let V : Words → Type 0 =
-    λ a. IsCall a before now (λ told. WritesNote told (g.N.Sink.held c.args.note.now) (g.N.Sink.held c.do_command.new.note) (g.N.Sink.faults c.args.note.now) (g.N.Sink.faults c.do_command.new.note)) c.do_command.result in
+    λ a. IsCall g.F.Files.disks_told a before now (λ told. WritesNote told (g.N.Sink.held c.args.note.now) (g.N.Sink.held c.do_command.new.note) (g.N.Sink.faults c.args.note.now) (g.N.Sink.faults c.do_command.new.note)) c.do_command.result in
     subst V (one_command (texts c.args.words.now) c.in-Ok.asked asked c.in-Ok.ensures.asked is) c.do_command.ensures.verb
 
 pub returns-in-Ok-clause-files_only : goal.returns-in-Ok-clause-files_only

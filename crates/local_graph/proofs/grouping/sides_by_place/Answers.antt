@@ -1,19 +1,27 @@
-use Rattle.std.proofs.Common.{ℕ, ◌+◌, ◌<◌, arith}
-use Rattle.std.proofs.lemmas.List.{length-map}
-use Rattle.std.proofs.lemmas.List.Elements.{All-map}
-use Rattle.local_graph.specs.declared.sides.Side.{Side}
-use Rattle.local_graph.specs.Inner.Ends.{end_pairs, side_pair}
-use Rattle.local_graph.proofs.EndLemmas.{length-end_pairs, end_keys}
+use Rattle.std.proofs.Common.{◌+◌, ◌∙◌, length, ap, arith}
+use Rattle.graph_core.specs.Rows.{with_key}
+use Rattle.local_graph.specs.Played.{side_of}
+use Rattle.local_graph.specs.Inner.Pairs.{halves_known}
+use Rattle.local_graph.proofs.ListLemmas.{key_beyond, range_key}
+use Rattle.local_graph.proofs.LowLemmas.{ranged_low}
 use Rattle.local_graph.proofs.grouping.sides_by_place.Goals as goal
 
-pub group-requires-clause-few_items : goal.group-requires-clause-few_items
-group-requires-clause-few_items c =
-    let s = c.args.sides.now in
-    let h = s.ends.now in
-    omega (arith, length-end_pairs h.directed h.places.now h.none h.edges.now, length-map (end_pairs h.directed h.places.now h.none h.edges.now) (side_pair s.me s.many s.ghosts.now h.places.now), h.few)
+pub group_pairs-requires-clause-keys : goal.group_pairs-requires-clause-keys
+group_pairs-requires-clause-keys c =
+    let s = c.args.standing.now in
+    let known = c.args.known.now in
+    rw (c.deref.ensures.value, c.in_ok-pairs.ensures) (ranged_low (side_of s.me s.many s.ghosts.now s.places.now) (halves_known c.args.halves.now known) 0 (length known) (length known + 1) (omega arith))
 
-pub group-requires-clause-keys : goal.group-requires-clause-keys
-group-requires-clause-keys c =
-    let s = c.args.sides.now in
-    let h = s.ends.now in
-    All-map (λ (p : ℕ × Side). p.0 < h.none + 1) (side_pair s.me s.many s.ghosts.now h.places.now) (end_pairs h.directed h.places.now h.none h.edges.now) (end_keys h.directed h.places.now h.none h.edges.now)
+pub returns-clause-each : goal.returns-clause-each
+returns-clause-each c = λ k low.
+    let s = c.args.standing.now in
+    let known = c.args.known.now in
+    c.in_ok-rows.ensures.each k (omega arith) ∙ ap (with_key k) (c.deref.ensures.value ∙ c.in_ok-pairs.ensures)
+    ∙ range_key (side_of s.me s.many s.ghosts.now s.places.now) (halves_known c.args.halves.now known) k 0 (length known) (omega arith) (omega arith)
+
+pub returns-clause-last : goal.returns-clause-last
+returns-clause-last c =
+    let s = c.args.standing.now in
+    let known = c.args.known.now in
+    c.in_ok-rows.ensures.each (length known) (omega arith) ∙ ap (with_key (length known)) (c.deref.ensures.value ∙ c.in_ok-pairs.ensures)
+    ∙ key_beyond (side_of s.me s.many s.ghosts.now s.places.now) (halves_known c.args.halves.now known) (length known) 0 (length known) (omega arith)

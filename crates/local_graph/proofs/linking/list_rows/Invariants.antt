@@ -5,4 +5,4 @@ use Rattle.local_graph.specs.Inner.Pairs.{row_at}
 use Rattle.local_graph.proofs.linking.list_rows.Given as goal
 
 abbrev pub invariant-loop-place : goal.invariant-loop-place
-invariant-loop-place l = map links_of l.rows.items ≡ map (row_at l.halves) (range_with_len 0 l.place)
+invariant-loop-place l = map links_of l.rows.items ≡ map (row_at l.halves l.known) (range_with_len 0 l.place)

@@ -1,6 +1,7 @@
 -- The row goes out, and comes back with what the program makes of it, or as it was.
-use Rattle.std.proofs.Common.{◌≡◌, ℕ, ◌==◌, ◌∙◌, Some, if◌then◌else◌, length, refl, ap, subst}
+use Rattle.std.proofs.Common.{◌≡◌, ℕ, ◌<◌, ◌==◌, ◌∙◌, Some, if◌then◌else◌, length, refl, ap, subst}
 use Rattle.gl_base.specs.declared.entries.Entry.{Entry}
+use Rattle.gl_base.specs.declared.scopes.Datum.{Datum}
 use Rattle.gl_base.specs.declared.entries.Entry.TheVariants.{Go}
 use Rattle.local_graph.specs.declared.works.Work.{Work}
 use Rattle.machine_numbers.specs.declared.keeping.Numbers.{Numbers}
@@ -32,6 +33,7 @@ keep-requires g c =
     can_keep roomy c.take_work-work.new.self c.args.scope v c.take_work-work.result c.take_work-work.ensures c.requires.row c.update.new.self (c.update.ensures.work ∙ c.in-Ok.ensures.work)
     c.args.found.place (waits_room n roomy c.args.found.place v refl c.requires.waits) (can_room n roomy v refl room.items c.requires.can)
     (c.update.ensures.many ∙ ap length c.in-Ok.ensures.edges) room.room room.few
+    (subst (λ (d : Datum). d.version < 4294967295) c.datum-version.ensures room.version)
 
 pub returns-in-Ok-clause-made : goal.returns-in-Ok-clause-made
 returns-in-Ok-clause-made g c =

@@ -4,9 +4,10 @@ use Rattle.gl_base.specs.declared.entries.Entry.TheVariants.{Go}
 use Rattle.local_graph.specs.declared.works.Work.{Work}
 use Rattle.machine_numbers.specs.Settings.{IsMadeOfWork}
 use Rattle.update_api.specs.Updates.{Update}
-use Rattle.machine_turns.specs.Turns.{part_of, updated}
+use Rattle.machine_parts.specs.declared.cores.Core.{Core}
+use Rattle.machine_turns.specs.Turns.{datum_here, part_of, place_at, updated}
 use Rattle.machine_turns.specs.Inner.Taking.{HasItsRow}
-use Rattle.machine_turns.proofs.MadeLemmas.{made_of_work}
+use Rattle.machine_turns.proofs.MadeLemmas.{made_of_work, marks_kept}
 use Rattle.machine_turns.proofs.turns.complete.Goals as goal
 
 pub returns-in-Ok-clause-completed : goal.returns-in-Ok-clause-completed
@@ -19,3 +20,14 @@ returns-in-Ok-clause-completed g c st setting here row program =
     let outcome = made_of_work (g.P.Program.meaning c.args.program.now) c.args.work c.in-Ok.outcome made first.work first.value first.edges done.work done.number done.marks done.woken in
     c.commit.ensures.committed st setting here (subst (λ (w : Work). HasItsRow st m w) (sym is) row) (subst (λ (p : Update). IsMadeOfWork p made) (sym program) outcome)
     ∙ ap (λ (w : Work). updated st m.numbers.local.me.0 w.scope w.vertex.0 (Go w.scope.home w.vertex c.args.ticket) (part_of m)) is
+
+pub returns-in-Ok-clause-marks : goal.returns-in-Ok-clause-marks
+returns-in-Ok-clause-marks g c = marks_kept c.args.core.now.numbers c.commit.new.core.numbers c.update.new.self _ c.commit.ensures.numbers
+
+pub returns-in-Err-clause-marks : goal.returns-in-Err-clause-marks
+returns-in-Err-clause-marks g c x = ap (λ (m : Core). (datum_here m.numbers x).mark) c.put_back.ensures.rest
+
+pub returns-in-Ok-clause-run : goal.returns-in-Ok-clause-run
+returns-in-Ok-clause-run g c place at =
+    let is : c.update.new.self.work ≡ c.args.work = c.update.ensures.work ∙ c.in-Ok.ensures.work in
+    c.commit.ensures.tasks place (ap (λ (w : Work). place_at c.args.core.now.numbers.local w.vertex.0) is ∙ at)

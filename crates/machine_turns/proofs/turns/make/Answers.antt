@@ -1,8 +1,11 @@
 -- The scope is taken alone, so no other work is out.
-use Rattle.std.proofs.Common.{sym, subst}
+use Rattle.std.proofs.Common.{◌≡◌, ℕ, Some, ap, ◌∙◌, sym, subst}
 use Rattle.gl_base.specs.declared.numbers.Vertex.{Vertex}
 use Rattle.gl_base.specs.declared.scopes.ScopeId.{ScopeId}
-use Rattle.machine_turns.specs.Inner.Taking.{IsReserved}
+use Rattle.machine_numbers.specs.Views.{TasksView}
+use Rattle.machine_parts.specs.declared.cores.Core.{Core}
+use Rattle.machine_turns.specs.Turns.{HasRun, datum_here, is_own, place_at}
+use Rattle.machine_turns.specs.Inner.Taking.{HasRunAt, IsReserved}
 use Rattle.machine_turns.proofs.TurnLemmas.{on_ok, reserved_still, row_taken, links_same, local_same, rows_in, has_made}
 use Rattle.machine_turns.proofs.turns.make.Goals as goal
 
@@ -64,3 +67,30 @@ returns-clause-settings g c st here =
     let e = c.take_work-work.ensures in
     let roomy = c.reserve_commit.ensures.settings st here in
     c.complete.ensures.settings st (e.settings st roomy) (e.row st roomy)
+
+pub returns-clause-marks : goal.returns-clause-marks
+returns-clause-marks g c x =
+    let mark : Core → ℕ = λ m. (datum_here m.numbers x).mark in
+    c.complete.ensures.marks x ∙ ap mark c.take_work-work.ensures.rest ∙ ap mark c.reserve_commit.ensures.same.rest
+
+pub returns-clause-run : goal.returns-clause-run
+returns-clause-run g c =
+    let m = c.args.core.now in
+    let out = c.take_work-work.new.core in
+    let e = c.take_work-work.ensures in
+    let room = c.reserve_commit.ensures.same in
+    on_ok c.complete.result
+    (λ (run : HasRunAt out c.complete.new.core c.take_work-work.result.vertex) v place flies at.
+    let same : v ≡ c.args.flight.centre = one_flight v c.args.flight.centre (sym flies ∙ c.requires.can.flight) in
+    let there : place_at out.numbers.local c.take_work-work.result.vertex.0 ≡ Some place =
+    ap (λ (u : Vertex). place_at out.numbers.local u.0) (e.scope.1 ∙ sym same) ∙ ap (λ (k : Core). place_at k.numbers.local v.0) e.rest ∙ ap (λ (k : Core). place_at k.numbers.local v.0) room.rest ∙ at in
+    let tasks : out.numbers.tasks ≡ m.numbers.tasks = ap (λ (k : Core). k.numbers.tasks) e.rest ∙ ap (λ (k : Core). k.numbers.tasks) room.rest in
+    subst (λ (t : TasksView). HasRun t c.complete.new.core.numbers.tasks place) tasks (run place there))
+    c.complete.ensures.run
+  where
+    one_flight : (u v : Vertex) → Some u ≡ Some v → u ≡ v
+    one_flight u v is = cc
+
+pub returns-clause-own : goal.returns-clause-own
+returns-clause-own g c x =
+    c.complete.ensures.own x ∙ ap (λ (m : Core). is_own m.numbers.local x) c.take_work-work.ensures.rest ∙ ap (λ (m : Core). is_own m.numbers.local x) c.reserve_commit.ensures.same.rest

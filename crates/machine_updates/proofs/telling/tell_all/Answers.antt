@@ -3,7 +3,7 @@ use Rattle.std.proofs.Common.{◌≡◌, ◌⊎◌, true, List, ◌∷◌, [], l
 use Rattle.std.specs.Vec.Iter.{into_iter_items}
 use Rattle.machine_updates.specs.declared.reserving.Prepared.{Prepared}
 use Rattle.machine_updates.specs.Reserving.{is_to_be_told}
-use Rattle.machine_updates.specs.Inner.Telling.{HasWord}
+use Rattle.machine_updates.specs.Telling.{HasWord}
 use Rattle.machine_updates.proofs.TellLemmas.{telling_on, nothing_left, word_of}
 use Rattle.machine_updates.proofs.telling.tell_all.Goals as goal
 

@@ -1,7 +1,7 @@
 use Rattle.std.proofs.Common.{subst, sym}
 use Rattle.placed_clusters.specs.Beginning.{IsNewIn}
 use Rattle.placed_clusters.proofs.NewLemmas.{few_here, low_here, new_in, orderly_here, places_here}
-use Rattle.placed_clusters.proofs.PlaceLemmas.{first_places}
+use Rattle.machine_places.proofs.PlaceLemmas.{first_places}
 use Rattle.placed_clusters.proofs.machines.new_machine.Goals as goal
 
 pub first_numbers-requires : goal.first_numbers-requires

@@ -7,8 +7,8 @@ use Rattle.snap_journal.specs.Inner.Settled.{IsAtRest}
 use Rattle.snap_journal.proofs.AppendLemmas.{rest_leaves, after_sync_rests, fresh_piece}
 use Rattle.snap_journal.proofs.making.init.Goals as goal
 
-pub returns-clause-stands : goal.returns-clause-stands
-returns-clause-stands g c = λ told image left.
+pub returns-clause-images : goal.returns-clause-images
+returns-clause-images g c = λ told image left.
     let past = g.D.Disk.past in
     let bytes = c.new_store.result in
     let mid = past c.write_at.new.self in
@@ -16,5 +16,9 @@ returns-clause-stands g c = λ told image left.
     let seen : mid.now.seen ≡ bytes = ap (λ (p : DiskPast). p.now.seen) (c.in_ok-write_at.ensures.past told) ∙ fresh_piece (past c.len.new.self).now.seen bytes none in
     let rests : IsAtRest (after_sync mid.now) bytes = after_sync_rests mid.now bytes seen in
     let now : IsAtRest (past c.sync.new.self).now bytes = subst (λ (p : DiskPast). IsAtRest p.now bytes) (sym (c.in_ok-sync.ensures.past told)) rests in
-    let is : image ≡ store_header c.args.header.now ++ 0 ∷ [] = rest_leaves (past c.sync.new.self).now bytes image now left ∙ c.new_store.ensures.bytes in
+    rest_leaves (past c.sync.new.self).now bytes image now left ∙ c.new_store.ensures.bytes
+
+pub returns-clause-stands : goal.returns-clause-stands
+returns-clause-stands g c = λ told image left.
+    let is : image ≡ store_header c.args.header.now ++ 0 ∷ [] = returns-clause-images g c told image left in
     subst (StandsFor c.args.header.now []) (sym is) (new_stands c.args.header.now c.requires c.new_store.ensures.fits)

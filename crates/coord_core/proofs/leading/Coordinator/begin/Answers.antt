@@ -1,7 +1,7 @@
 -- The next snapshot begins as it may.
 use Rattle.std.proofs.Common.{◌∙◌, ◌<◌, ◌++◌, [], ◌∷◌, ℕ, List, ap, refl, rules, subst, sym}
 use Rattle.wire_msgs.specs.Views as wire
-use Rattle.coord_core.specs.Calls.{HasBegun, MayBegin}
+use Rattle.coord_core.specs.Calls.{HasBegunNext, MayLeadBegin}
 use Rattle.coord_core.specs.Coordinators.{CoordinatorView, MessageView}
 use Rattle.coord_core.specs.Inner.Seen.{WantsSnapshot}
 use Rattle.coord_core.proofs.DueLemmas.{may_begin}
@@ -14,8 +14,8 @@ returns-clause-begun c =
     let new : CoordinatorView = record old { saving = c.begin.new.self; out = c.tell_each.new.out } in
     let wants_now : WantsSnapshot c.args.self.now = c.wants_snapshot.ensures.0 (search rules) in
     let wants : WantsSnapshot old = subst WantsSnapshot (sym c.self.view_is) wants_now in
-    let may : MayBegin old = may_begin old c.self.invariant.2 wants in
-    let begun : HasBegun old new =
+    let may : MayLeadBegin old = may_begin old c.self.invariant.2 wants in
+    let begun : HasBegunNext old new =
     has_begun old new (wire.Begin c.next_number-number.result) (c.tell_each.ensures.many ∙ sym c.self.invariant.0.many)
     (λ b inside.
     let below : b < c.self.inside.machines = subst (λ (n : ℕ). b < n) c.self.invariant.0.many inside in
@@ -23,4 +23,4 @@ returns-clause-begun c =
     ∙ ap (λ (messages : List MessageView). messages ++ wire.Begin c.next_number-number.result ∷ []) (c.in_ok-reserve_each.ensures.same.each b))
     refl c.begin.ensures (ap wire.Begin c.next_number-number.ensures) wants.stored
     in
-    (subst MayBegin c.self.view_is may, subst (λ (view : CoordinatorView). HasBegun view new) c.self.view_is begun)
+    (subst MayLeadBegin c.self.view_is may, subst (λ (view : CoordinatorView). HasBegunNext view new) c.self.view_is begun)

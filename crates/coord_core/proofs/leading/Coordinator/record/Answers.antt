@@ -1,6 +1,6 @@
 -- The record is that of the law.
 use Rattle.std.proofs.Common.{inl, inr, rules, subst}
-use Rattle.coord_core.specs.Calls.{IsRecordDueOf, MayNotRecord, MayRecord}
+use Rattle.coord_core.specs.Calls.{IsRecordDueOf, MayNotRecord, MayLeadRecord}
 use Rattle.coord_core.specs.Coordinators.{CoordinatorView}
 use Rattle.coord_core.specs.Saving.{IsRecordDue}
 use Rattle.coord_core.proofs.DueLemmas.{may_not_record, may_record_it}
@@ -22,17 +22,17 @@ returns-then-not-is_record_due-clause-not_now c =
 pub returns-in_err-reserve_each-clause-no_memory : goal.returns-in_err-reserve_each-clause-no_memory
 returns-in_err-reserve_each-clause-no_memory c =
     let old : CoordinatorView = record { counting = record { put_out = c.self.inside.put_out; waiting = c.self.inside.waiting; waves = c.self.inside.waves }; saving = c.self.inside.saving; out = c.self.inside.out } in
-    λ _. subst MayRecord c.self.view_is (may_record_it old c.self.invariant.2 (c.is_record_due.ensures.0 (search rules)) (c.has_room.ensures.0 (search rules)))
+    λ _. subst MayLeadRecord c.self.view_is (may_record_it old c.self.invariant.2 (c.is_record_due.ensures.0 (search rules)) (c.has_room.ensures.0 (search rules)))
 
 pub returns-in_err-record-clause-no_memory : goal.returns-in_err-record-clause-no_memory
 returns-in_err-record-clause-no_memory c =
     let old : CoordinatorView = record { counting = record { put_out = c.self.inside.put_out; waiting = c.self.inside.waiting; waves = c.self.inside.waves }; saving = c.self.inside.saving; out = c.self.inside.out } in
-    λ _. subst MayRecord c.self.view_is (may_record_it old c.self.invariant.2 (c.is_record_due.ensures.0 (search rules)) (c.has_room.ensures.0 (search rules)))
+    λ _. subst MayLeadRecord c.self.view_is (may_record_it old c.self.invariant.2 (c.is_record_due.ensures.0 (search rules)) (c.has_room.ensures.0 (search rules)))
 
 pub returns-clause-due : goal.returns-clause-due
 returns-clause-due c =
     let old : CoordinatorView = record { counting = record { put_out = c.self.inside.put_out; waiting = c.self.inside.waiting; waves = c.self.inside.waves }; saving = c.self.inside.saving; out = c.self.inside.out } in
-    subst MayRecord c.self.view_is (may_record_it old c.self.invariant.2 (c.is_record_due.ensures.0 (search rules)) (c.has_room.ensures.0 (search rules)))
+    subst MayLeadRecord c.self.view_is (may_record_it old c.self.invariant.2 (c.is_record_due.ensures.0 (search rules)) (c.has_room.ensures.0 (search rules)))
 
 pub returns-clause-made : goal.returns-clause-made
 returns-clause-made c =

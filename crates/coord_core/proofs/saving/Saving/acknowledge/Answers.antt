@@ -3,7 +3,7 @@ use Rattle.std.proofs.Common.{◌≡◌, ◌∙◌, ◌+◌, ◌++◌, ℕ, None
 use Rattle.std.specs.Prelude.{option_map}
 use Rattle.std.proofs.lemmas.List.{length-map}
 use Rattle.coord_core.specs.Inner.Kept.{IsSavingKept}
-use Rattle.coord_core.specs.Saving.{HasRoomForRecord, IsRecordDue, SavingView, SectionView, entries_below, record_size, section_view, with_acknowledged}
+use Rattle.coord_core.specs.Saving.{HasRoomForRecord, IsRecordDue, SavingView, SectionView, entries_come, saved_length, section_view, with_acknowledged}
 use Rattle.wire_msgs.specs.declared.messages.Section.{Section}
 use Rattle.coord_core.proofs.KeptLemmas.{acknowledged_kept}
 use Rattle.coord_core.proofs.StoreLemmas.{all_gone, told}
@@ -33,15 +33,15 @@ gone c =
     all_gone c.self.inside.come.items c.forget.new.come c.self.inside.come.len many
     (c.forget.ensures ∙ ap (λ (xs : List (Option Section)). replicate (length xs) None) c.deref_mut.ensures.value)
 
-sum : (c : goal.After-self-6-1) → c.count_entries-entries.result ≡ entries_below (length (told c.self.inside.come.items)) (told c.self.inside.come.items)
+sum : (c : goal.After-self-6-1) → c.count_entries-entries.result ≡ entries_come (length (told c.self.inside.come.items)) (told c.self.inside.come.items)
 sum c =
-    c.count_entries-entries.ensures.sum ∙ ap (λ (xs : List (Option Section)). entries_below (length xs) (told xs)) c.deref.ensures.value
-    ∙ ap (λ (n : ℕ). entries_below n (told c.self.inside.come.items)) (sym (length-map c.self.inside.come.items (option_map section_view)))
+    c.count_entries-entries.ensures.sum ∙ ap (λ (xs : List (Option Section)). entries_come (length xs) (told xs)) c.deref.ensures.value
+    ∙ ap (λ (n : ℕ). entries_come n (told c.self.inside.come.items)) (sym (length-map c.self.inside.come.items (option_map section_view)))
 
 is_acknowledged : (c : goal.After-self-6-1) →
     new (old c) (told (take c.self.inside.come.len (c.forget.new.come ++ drop (length c.forget.new.come) c.self.inside.come.items))) (c.self.inside.entries + c.count_entries-entries.result) (c.self.inside.store_end + c.record_size-size.result)
     ≡ with_acknowledged (old c)
-is_acknowledged c = λ i. new (old c) (gone c i) (c.self.inside.entries + sum c i) (c.self.inside.store_end + (c.record_size-size.ensures.size ∙ ap record_size (sym c.self.view_is)) i)
+is_acknowledged c = λ i. new (old c) (gone c i) (c.self.inside.entries + sum c i) (c.self.inside.store_end + (c.record_size-size.ensures.size ∙ ap saved_length (sym c.self.view_is)) i)
 
 pub invariant_of-self : goal.invariant_of-self
 invariant_of-self c =

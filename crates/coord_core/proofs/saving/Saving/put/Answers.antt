@@ -1,7 +1,7 @@
 -- The section stands where its machine's is.
 use Rattle.std.proofs.Common.{◌∙◌, ◌<◌, List, Option, ap, length, subst, sym}
 use Rattle.coord_core.specs.Inner.Kept.{IsSavingKept}
-use Rattle.coord_core.specs.Saving.{SavingView, SectionView, section_view, with_section}
+use Rattle.coord_core.specs.Saving.{SavingView, SectionView, section_view, saving_section}
 use Rattle.coord_core.proofs.KeptLemmas.{section_kept}
 use Rattle.coord_core.proofs.StoreLemmas.{put_come, told}
 use Rattle.coord_core.proofs.saving.Saving.put.Goals as goal
@@ -16,4 +16,4 @@ invariant_of-self c =
 pub returns : goal.returns
 returns c =
     let view : List (Option SectionView) → SavingView = λ come. record { stored = c.self.inside.stored; vertices = c.self.inside.vertices; edges = c.self.inside.edges; begun = c.self.inside.begun; acknowledged = c.self.inside.acknowledged; come = come; wanted = c.self.inside.wanted; entries = c.self.inside.entries; saved = c.self.inside.saved; store_end = c.self.inside.store_end } in
-    ap view (put_come c.self.inside.come.items c.args.from.0 c.args.section) ∙ ap (with_section c.args.from.0 (section_view c.args.section)) c.self.view_is
+    ap view (put_come c.self.inside.come.items c.args.from.0 c.args.section) ∙ ap (saving_section c.args.from.0 (section_view c.args.section)) c.self.view_is

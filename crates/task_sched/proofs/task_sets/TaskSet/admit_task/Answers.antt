@@ -25,7 +25,7 @@ invariant_of-self c =
     let many = c.self.invariant.tasks in
     let within : v < m.count = omega (arith, there, many) in
     let task : is_free m.tasks.items m.admitted.items v ≡ true = subst (λ (t : TasksView). is_free t.task t.admitted v ≡ true) (sym c.self.view_is) c.requires.task in
-    let quiet : is_flagged m.pending.items v ≡ false = subst (λ (t : TasksView). is_flagged t.pending v ≡ false) (sym c.self.view_is) c.requires.quiet in
+    let quiet : is_flagged m.pending v ≡ false = subst (λ (t : TasksView). is_flagged t.pending v ≡ false) (sym c.self.view_is) c.requires.quiet in
     let room : is_below m.window (m.outside + m.plans) ≡ true = subst (λ (t : TasksView). is_open t ≡ true) (sym c.self.view_is) c.requires.room in
-    kept_update m.count m.tasks.items m.pending.items m.admitted.items m.planned.items m.stages c.settle.new.self m.asked.among m.plans m.outside m.window v c.self.invariant within task quiet room
+    kept_update m.count m.tasks.items m.pending m.admitted.items m.planned.items m.stages c.settle.new.self m.asked.among m.plans m.outside m.window v c.self.invariant within task quiet room
     (c.settle.ensures.count ∙ c.remove.ensures.count) (λ u. c.settle.ensures.waits u ∙ c.remove.ensures.waits u)

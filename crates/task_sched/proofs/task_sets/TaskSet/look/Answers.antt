@@ -18,4 +18,4 @@ returns-clause-within c =
     let free = subst (λ (t : TasksView). IsFreeTask t c.free_task.result) (sym c.self.view_is) c.free_task.ensures in
     subst (λ (o : Option Pick). IfSome o (λ pick. pick.vertex.0 < length c.args.self.now.task)) (sym c.pick_of.ensures)
     (subst (λ (t : TasksView). IfSome (pick_of c.first.result c.free_task.result) (λ pick. pick.vertex.0 < length t.task)) c.self.view_is
-    (pick_within m.tasks.items m.pending.items m.admitted.items m.planned.items m.stages m.asked.among m.count m.plans m.outside m.window m.asked.line c.first.result c.free_task.result c.self.invariant c.first.ensures.among free))
+    (pick_within m.tasks.items m.pending m.admitted.items m.planned.items m.stages m.asked.among m.count m.plans m.outside m.window m.asked.line c.first.result c.free_task.result c.self.invariant c.first.ensures.among free))

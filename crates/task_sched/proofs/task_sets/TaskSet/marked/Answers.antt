@@ -1,8 +1,9 @@
-use Rattle.std.proofs.Common.{◌≡◌, ◌<◌, ◌+◌, ◌-◌, ◌≤◌, ◌==◌, ◌∙◌, ℕ, Bool, true, false, if◌then◌else◌, length, sym, ap, subst, refl, arith}
+use Rattle.std.proofs.Common.{◌≡◌, ◌<◌, ◌+◌, ◌-◌, ◌≤◌, ◌==◌, ◌∙◌, ℕ, Bool, true, false, if◌then◌else◌, List, length, slice_set, sym, ap, subst, refl, arith}
 use Rattle.std.proofs.lemmas.List.{get_or_default}
 use Rattle.vertex_queue.specs.Inner.Queues.{bit_if}
 use Rattle.vertex_queue.proofs.Queueing.{flag_within}
 use Rattle.task_sched.specs.Tasks.{TasksView, is_flagged}
+use Rattle.task_sched.specs.Inner.Kept.{AreTasksKept}
 use Rattle.task_sched.specs.Inner.Stages.{is_staged}
 use Rattle.task_sched.proofs.Keeping.{planned_counted, kept_marked, chosen_same}
 use Rattle.task_sched.proofs.task_sets.TaskSet.marked.Goals as goal
@@ -24,8 +25,9 @@ invariant_of-self c =
     let counted = c.self.invariant.counted in
     let fewer : (m.plans - c.one_where-plan.result) + bit_if (is_flagged m.planned.items v) ≡ m.plans = omega (arith, plan, some, counted) in
     let task : is_flagged m.tasks.items v ≡ true = sym (c.index-2.ensures ∙ get_or_default m.tasks.items v c.index-2.result.now false in_t) ∙ c.if-index.true in
-    kept_marked m.count m.tasks.items m.pending.items m.admitted.items m.planned.items m.stages c.add.new.self m.asked.among m.plans (m.plans - c.one_where-plan.result) m.outside m.window v c.self.invariant within busy fewer
-    c.add.ensures.count (λ u. subst (λ (b : Bool). is_staged c.add.new.self u ≡ (if u == v then b else is_staged m.stages u)) (sym task) (c.add.ensures.waits u))
+    subst (λ (p : List Bool). AreTasksKept m.count m.tasks.items p (slice_set m.admitted.items v false) (slice_set m.planned.items v false) c.add.new.self m.asked.among (m.plans - c.one_where-plan.result) m.outside m.window) (sym c.take.ensures)
+    (kept_marked m.count m.tasks.items m.pending m.admitted.items m.planned.items m.stages c.add.new.self m.asked.among m.plans (m.plans - c.one_where-plan.result) m.outside m.window v c.self.invariant within busy fewer
+    c.add.ensures.count (λ u. subst (λ (b : Bool). is_staged c.add.new.self u ≡ (if u == v then b else is_staged m.stages u)) (sym task) (c.add.ensures.waits u)))
 
 pub invariant_of-self-else-index : goal.invariant_of-self-else-index
 invariant_of-self-else-index c =
@@ -44,5 +46,6 @@ invariant_of-self-else-index c =
     let counted = c.self.invariant.counted in
     let fewer : (m.plans - c.one_where-plan.result) + bit_if (is_flagged m.planned.items v) ≡ m.plans = omega (arith, plan, some, counted) in
     let none : is_flagged m.tasks.items v ≡ false = sym (c.index-2.ensures ∙ get_or_default m.tasks.items v c.index-2.result.now false in_t) ∙ c.if-index.false in
-    kept_marked m.count m.tasks.items m.pending.items m.admitted.items m.planned.items m.stages m.stages m.asked.among m.plans (m.plans - c.one_where-plan.result) m.outside m.window v c.self.invariant within busy fewer
-    refl (chosen_same m.tasks.items m.admitted.items m.stages v c.self.invariant.free_tasks none)
+    subst (λ (p : List Bool). AreTasksKept m.count m.tasks.items p (slice_set m.admitted.items v false) (slice_set m.planned.items v false) m.stages m.asked.among (m.plans - c.one_where-plan.result) m.outside m.window) (sym c.take.ensures)
+    (kept_marked m.count m.tasks.items m.pending m.admitted.items m.planned.items m.stages m.stages m.asked.among m.plans (m.plans - c.one_where-plan.result) m.outside m.window v c.self.invariant within busy fewer
+    refl (chosen_same m.tasks.items m.admitted.items m.stages v c.self.invariant.free_tasks none))

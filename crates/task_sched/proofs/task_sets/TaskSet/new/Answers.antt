@@ -17,22 +17,20 @@ pub invariant_of-result : goal.invariant_of-result
 invariant_of-result c =
     let n = c.args.count in
     let tasks : c.in_ok-from_elem.field-0.items ≡ replicate n true = c.in_ok-from_elem.ensures.items_if_clones_equal (λ y clone. clone) in
-    let pending : c.in_ok-from_elem-2.field-0.items ≡ replicate n false = c.in_ok-from_elem-2.ensures.items_if_clones_equal (λ y clone. clone) in
-    let admitted : c.in_ok-from_elem-3.field-0.items ≡ replicate n false = c.in_ok-from_elem-3.ensures.items_if_clones_equal (λ y clone. clone) in
-    let planned : c.in_ok-from_elem-4.field-0.items ≡ replicate n false = c.in_ok-from_elem-4.ensures.items_if_clones_equal (λ y clone. clone) in
-    rw (tasks, pending, admitted, planned)
-    (kept_new n (replicate n true) (replicate n false) (replicate n false) (replicate n false) c.in_ok-new.field-0 c.in_ok-new-2.field-0.among c.args.window
-    (omega (arith, c.ranges.count.fits)) (length-replicate n true) (length-replicate n false) (length-replicate n false) (length-replicate n false) c.in_ok-new.ensures.count c.in_ok-new-2.ensures.count
-    (flags_up n) (flags_down n) (flags_down n) (flags_down n) c.in_ok-new.ensures.all c.in_ok-new-2.ensures.none)
+    let admitted : c.in_ok-from_elem-2.field-0.items ≡ replicate n false = c.in_ok-from_elem-2.ensures.items_if_clones_equal (λ y clone. clone) in
+    let planned : c.in_ok-from_elem-3.field-0.items ≡ replicate n false = c.in_ok-from_elem-3.ensures.items_if_clones_equal (λ y clone. clone) in
+    rw (tasks, admitted, planned)
+    (kept_new n (replicate n true) c.in_ok-none.field-0 (replicate n false) (replicate n false) c.in_ok-new.field-0 c.in_ok-new-2.field-0.among c.args.window
+    (omega (arith, c.ranges.count.fits)) (length-replicate n true) c.in_ok-none.ensures.count (length-replicate n false) (length-replicate n false) c.in_ok-new.ensures.count c.in_ok-new-2.ensures.count
+    (flags_up n) c.in_ok-none.ensures.none (flags_down n) (flags_down n) c.in_ok-new.ensures.all c.in_ok-new-2.ensures.none)
 
 pub returns-clause-none : goal.returns-clause-none
 returns-clause-none c =
     let n = c.args.count in
-    let pending : c.in_ok-from_elem-2.field-0.items ≡ replicate n false = c.in_ok-from_elem-2.ensures.items_if_clones_equal (λ y clone. clone) in
-    let admitted : c.in_ok-from_elem-3.field-0.items ≡ replicate n false = c.in_ok-from_elem-3.ensures.items_if_clones_equal (λ y clone. clone) in
-    let planned : c.in_ok-from_elem-4.field-0.items ≡ replicate n false = c.in_ok-from_elem-4.ensures.items_if_clones_equal (λ y clone. clone) in
+    let admitted : c.in_ok-from_elem-2.field-0.items ≡ replicate n false = c.in_ok-from_elem-2.ensures.items_if_clones_equal (λ y clone. clone) in
+    let planned : c.in_ok-from_elem-3.field-0.items ≡ replicate n false = c.in_ok-from_elem-3.ensures.items_if_clones_equal (λ y clone. clone) in
     λ u. (
-      ap (λ (flags : List Bool). is_flagged flags u) pending ∙ flags_down n u,
+      c.in_ok-none.ensures.none u,
       ap (λ (flags : List Bool). is_flagged flags u) admitted ∙ flags_down n u,
       ap (λ (flags : List Bool). is_flagged flags u) planned ∙ flags_down n u,
     )

@@ -10,7 +10,7 @@ invariant_of-self c =
     let m = c.self.inside in
     let v = c.args.v.0 in
     let busy : is_flagged m.admitted.items v ≡ true = subst (λ (t : TasksView). is_flagged t.admitted v ≡ true) (sym c.self.view_is) c.requires.admitted in
-    let quiet : is_flagged m.pending.items v ≡ false = subst (λ (t : TasksView). is_flagged t.pending v ≡ false) (sym c.self.view_is) c.requires.no_snapshot in
+    let quiet : is_flagged m.pending v ≡ false = subst (λ (t : TasksView). is_flagged t.pending v ≡ false) (sym c.self.view_is) c.requires.no_snapshot in
     let there = flag_within m.admitted.items v busy in
     let as_many = c.self.invariant.admissions in
     let plannings = c.self.invariant.plannings in
@@ -19,4 +19,4 @@ invariant_of-self c =
     let some = planned_counted m.planned.items v (omega (arith, within, plannings)) in
     let counted = c.self.invariant.counted in
     let fewer : (m.plans - 1) + 1 ≡ m.plans = omega (arith, one, some, counted) in
-    kept_ran m.count m.tasks.items m.pending.items m.admitted.items m.planned.items m.stages m.asked.among m.plans (m.plans - 1) m.outside m.window v c.self.invariant within busy quiet fewer
+    kept_ran m.count m.tasks.items m.pending m.admitted.items m.planned.items m.stages m.asked.among m.plans (m.plans - 1) m.outside m.window v c.self.invariant within busy quiet fewer

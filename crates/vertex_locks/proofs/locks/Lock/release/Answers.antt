@@ -17,29 +17,29 @@ there c =
     is_place s claims held c.in-Some.place c.self.invariant holds at
 
 pub invariant_of-self : goal.invariant_of-self
-invariant_of-self c = rw c.remove.ensures.items (release_keeps c.args.scope c.self.inside.claims.items c.self.inside.held c.in-Some.place c.self.invariant (there c))
+invariant_of-self c = rw c.take_out.ensures.items (release_keeps c.args.scope c.self.inside.claims.items c.self.inside.held c.in-Some.place c.self.invariant (there c))
 
-more_room : (c : goal.After-self-1) → (c.remove.new.self.cap - c.remove.new.self.len) ≡ (c.self.inside.claims.cap - c.self.inside.claims.len) + 1
+more_room : (c : goal.After-self-1) → (c.take_out.new.claims.cap - c.take_out.new.claims.len) ≡ (c.self.inside.claims.cap - c.self.inside.claims.len) + 1
 more_room c =
     let old = c.self.inside.claims in
     let long = old.ok in
     let place = there c in
     let inside = place.inside in
-    omega (arith, c.remove.ensures.len, c.remove.ensures.capacity)
+    omega (arith, c.take_out.ensures.len, c.take_out.ensures.capacity)
 
 pub returns-in-Some-clause-gone : goal.returns-in-Some-clause-gone
 returns-in-Some-clause-gone c =
     let old = c.self.inside.claims in
-    let new = c.remove.new.self in
+    let new = c.take_out.new.claims in
     let shows = release_shows c.args.scope old.items c.self.inside.held c.in-Some.place (old.cap - old.len) (new.cap - new.len) c.self.invariant (there c) (more_room c) in
-    let seen = rw (← c.remove.ensures.items) at shows in
+    let seen = rw (← c.take_out.ensures.items) at shows in
     subst (λ v. IsReleased v (view_of new.items (c.self.inside.held - 1) (new.cap - new.len)) c.args.scope) c.self.view_is seen
 
 pub returns-in-Some-clause-exact : goal.returns-in-Some-clause-exact
 returns-in-Some-clause-exact c =
     let old = c.self.inside.claims in
-    let new = c.remove.new.self in
-    ap (λ xs. view_of xs (c.self.inside.held - 1) (new.cap - new.len)) c.remove.ensures.items
+    let new = c.take_out.new.claims in
+    ap (λ xs. view_of xs (c.self.inside.held - 1) (new.cap - new.len)) c.take_out.ensures.items
     ∙ release_lists c.args.scope old.items c.self.inside.held c.in-Some.place (old.cap - old.len) (new.cap - new.len) c.self.invariant (there c) (more_room c)
     ∙ ap (released c.args.scope) c.self.view_is
 

@@ -1,0 +1,57 @@
+-- What `init` leaves of the job's store.
+use Rattle.std.specs.Prelude.{◌≡◌, ℕ, Bool, IsTrue, is_some, List, [], length, Some, Result, Ok, Err, IfSome}
+use Rattle.gl_base.specs.declared.job_faults.JobFault.{JobFault}
+use Rattle.gl_outside.specs.Faults.{Rose}
+use Rattle.gl_outside.specs.FilesState.{FilesState}
+use Rattle.job_config.specs.Fields.{JobFields}
+use Rattle.job_config.specs.Jobs.{JobSayings}
+use Rattle.whole_files.specs.FilesUsed.{HandsOver}
+use Rattle.job_files.specs.Atoms.{OfGraph}
+use Rattle.job_files.specs.BuiltJobs.{job_for}
+use Rattle.job_files.specs.JobTexts.{OfJob, OfTexts, RefusesJob, RefusesTexts}
+use Rattle.store_format.specs.declared.header.Header.{Header}
+use Rattle.job_stores.specs.JobHeaders.{header_for}
+use Rattle.job_stores.specs.NewStores.{HasBytes, IfDisksTold, IsNewStore}
+use Rattle.engine_cli.specs.NamesWritten.{order_names}
+use Rattle.engine_cli.specs.declared.status.Status.{Status}
+use Rattle.engine_cli.specs.declared.status.Status.TheVariants.{Done, Usage, BadJob, BadGraph, BadAtoms, ReadFault, WriteFault, DiskFault, BadStore, BudgetSpent, NoMemory}
+use Rattle.job_files.specs.declared.jobs.JobVerb.TheVariants as verb
+
+-- this holds of the name of the job's store, and of what a store of the job on its graph is for
+abbrev pub OfStoreJob : FilesState → List ℕ → (List ℕ → Header → Type 0) → Type 0
+OfStoreJob files file P =
+    OfJob verb.Init files file (λ job. (name : List ℕ) × (job.store ≡ Some name) × OfTexts files job (OfGraph job (λ g. P name (header_for job g))))
+
+-- What `init` says by its status, where `told` says whether it is told what disks hold: the store is made of a file without
+-- bytes, and is on the disk; or why it is not.
+abbrev pub MakesStore : Bool → List ℕ → FilesState → FilesState → Status → Type 0
+MakesStore told file old new Done = OfStoreJob old file (λ name header. IfDisksTold told old (IsNewStore header (old.pasts name) (new.pasts name)))
+MakesStore told file old new (Usage fault) = ⊥
+MakesStore told file old new (BadJob fault) = RefusesJob verb.Init old file fault
+MakesStore told file old new (BadGraph fault) = OfJob verb.Init old file (RefusesTexts old fault)
+MakesStore told file old new (BadAtoms fault) = ⊥
+MakesStore told file old new ReadFault = Rose old.sources.faults new.sources.faults
+MakesStore told file old new WriteFault = ⊥
+MakesStore told file old new DiskFault = Rose old.disks.faults new.disks.faults
+MakesStore told file old new (BadStore fault) = OfStoreJob old file (λ name header. IfDisksTold told old (HasBytes (old.pasts name) fault))
+MakesStore told file old new (BudgetSpent left) = ⊥
+MakesStore told file old new NoMemory = new.pasts ≡ old.pasts
+
+-- the store's name, if these bytes are a job
+abbrev pub store_names : Result JobSayings JobFault → List (List ℕ)
+store_names (Ok job) = order_names job.fields.store
+store_names (Err fault) = []
+
+-- the name that was handed to the open of disks is at most that of the job's store
+abbrev pub HandsStore : FilesState → FilesState → List ℕ → Type 0
+HandsStore old new file = IfSome (old.contents file) (λ bytes. HandsOver old.disks.names new.disks.names (store_names (job_for verb.Init bytes)))
+
+-- the job's store has this name
+abbrev pub IsStoreName : FilesState → List ℕ → List ℕ → Type 0
+IsStoreName files file name = OfJob verb.Init files file (λ job. job.store ≡ Some name)
+
+-- It is told what disks hold and which names they have, and the job's store has no bytes.
+pub record HasEmptyStore (told : Bool) (files : FilesState) (job : JobFields) : Type 0 where
+  pub held : IsTrue told
+  pub named : IsTrue (is_some files.disks.names)
+  pub empty : (name : List ℕ) → job.store ≡ Some name → length (files.pasts name).now.seen ≡ 0

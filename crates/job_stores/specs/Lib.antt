@@ -1,0 +1,3 @@
+pub mod JobHeaders
+pub mod NewStores
+pub mod Inner

@@ -1,9 +1,0 @@
-use Rattle.std.proofs.Common.{arith}
-use Rattle.local_graph.proofs.EndLemmas.{length-end_pairs, end_keys}
-use Rattle.local_graph.proofs.grouping.halves_by_place.Goals as goal
-
-pub group-requires-clause-few_items : goal.group-requires-clause-few_items
-group-requires-clause-few_items c = let h = c.args.ends.now in omega (arith, length-end_pairs h.directed h.places.now h.none h.edges.now, h.few)
-
-pub group-requires-clause-keys : goal.group-requires-clause-keys
-group-requires-clause-keys c = let h = c.args.ends.now in end_keys h.directed h.places.now h.none h.edges.now

@@ -1,0 +1,3 @@
+pub mod OntoLemmas
+pub mod PlaceLemmas
+pub mod OwnerLemmas

@@ -1,0 +1,2 @@
+-- What the clauses of private functions cite. Who reads the public clauses need not read it.
+pub mod Marks

@@ -1,0 +1,30 @@
+-- Word of an update elsewhere, be it a snapshot update or not.
+pub use Rattle.cluster_core.specs.Effects.{applied}
+pub use Rattle.machine_numbers.specs.Views.{news_of}
+use Rattle.std.specs.Prelude.{◌≡◌, ◌≢◌, ℕ, ◌==◌, true, false, None, is_some}
+use Rattle.std.specs.List.{All, list_any}
+use Rattle.wire_msgs.specs.declared.messages.Done.{Done}
+use Rattle.machine_numbers.specs.Views.{HasEdge}
+use Rattle.machine_parts.specs.declared.cores.Core.{Core}
+use Rattle.machine_parts.specs.Order.{is_one_of}
+use Rattle.machine_parts.specs.Parts.{entered_at, holder_at, is_own, part_at}
+use Rattle.machine_parts.specs.Settings.{Setting, IsPartOf}
+use Rattle.snap_machines.specs.Keeping.{SnapView, part_of, with_snaps}
+
+-- The update is of a ghost, by a scope of another machine that is here no more and holds just the locks of its own vertices here;
+-- the edges are here, and the vertices that it wakes or that become pending are own ones.
+pub record CanLearnNews (m : Core) (done : Done) : Type 0 where
+  pub away : done.scope.home.0 ≢ m.pipe.home.0
+  pub gone : entered_at m.pipe done.scope ≡ None
+  pub holds : (x : ℕ) → is_some (holder_at m.locks x done.scope) ≡ is_one_of (part_at m.numbers.local done.centre.0) x
+  pub ghost : list_any (λ g. g.vertex.0 == done.centre.0) m.numbers.local.ghosts ≡ true
+  pub not_own : is_own m.numbers.local done.centre.0 ≡ false
+  pub edges : All (λ e. HasEdge m.numbers.local e.0.0) done.edges.items
+  pub wakes : All (λ v. is_own m.numbers.local v.0 ≡ true) done.wakes.items
+  pub pends : All (λ v. is_own m.numbers.local v.0 ≡ true) done.pends.items
+
+-- the news are received as the cluster says, for each setting of which the machine is a part
+abbrev pub HasLearnedNews : Core → SnapView → Core → SnapView → Done → Type 0
+HasLearnedNews old kept new kept_now done =
+    (st : Setting) → IsPartOf st old →
+    with_snaps kept_now (part_of new) ≡ applied st old.numbers.local.me.0 done.scope (news_of done) (with_snaps kept (part_of old))

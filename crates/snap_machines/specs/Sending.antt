@@ -1,0 +1,20 @@
+-- When a machine sends what it saved for a snapshot.
+pub use Rattle.cluster_core.specs.Actions.{MaySend}
+use Rattle.std.specs.Prelude.{◌≡◌, ℕ, ◌≤◌, true}
+use Rattle.machine_numbers.specs.declared.keeping.Numbers.{Numbers}
+use Rattle.machine_numbers.specs.Views.{datum_here, is_own}
+use Rattle.machine_parts.specs.declared.cores.Core.{Core}
+use Rattle.machine_parts.specs.Settings.{Setting, IsPartOf}
+use Rattle.snap_machines.specs.Keeping.{SnapView, part_of, with_snaps}
+
+-- no own vertex has the mark of a later snapshot than k
+abbrev pub AreMarksUpTo : Numbers → ℕ → Type 0
+AreMarksUpTo n k = (v : ℕ) → is_own n.local v ≡ true → (datum_here n v).mark ≤ k
+
+-- for each setting of which the machine is a part it may send its section
+abbrev pub MaySendSection : Core → SnapView → Type 0
+MaySendSection m w = (st : Setting) → IsPartOf st m → MaySend st m.numbers.local.me.0 (with_snaps w (part_of m))
+
+-- for none of them
+abbrev pub MayNotSendSection : Core → SnapView → Type 0
+MayNotSendSection m w = (st : Setting) → IsPartOf st m → MaySend st m.numbers.local.me.0 (with_snaps w (part_of m)) → ⊥

@@ -1,0 +1,40 @@
+-- A machine that goes by colours stays one, and is the same.
+use Rattle.std.proofs.Common.{◌≡◌, ℕ, true, Option, Some, None, List, length, refl, sym, ap, ◌∙◌, subst}
+use Rattle.std.specs.Prelude.{Result, Ok, Err, IfOk, OnErr}
+use Rattle.gl_base.specs.declared.numbers.MachineNo.{MachineNo}
+use Rattle.gl_base.specs.declared.refusals.Refused.{Refused}
+use Rattle.gl_base.specs.declared.scopes.ScopeId.{ScopeId}
+use Rattle.local_graph.specs.Locals.{LocalView}
+use Rattle.update_api.specs.declared.links.Link.{Link}
+use Rattle.machine_turns.specs.Turns.{HasEachRow}
+use Rattle.color_parts.specs.declared.cores.ColorCore.{ColorCore}
+use Rattle.color_parts.specs.Parts.{next_of_step}
+use Rattle.step_machines.specs.Machines.{ColorMachineView, IsColorMachine, IsInStepOrder, IsSameColorMachine, StaysInSettings, next_scope, part_in_steps}
+
+-- the graph here is the same
+pub kept_with : (old new : ColorCore) → IsInStepOrder new → new.numbers.local ≡ old.numbers.local → IsColorMachine old → IsColorMachine new
+kept_with old new orderly local is = record { orderly = orderly; rows = subst HasEachRow (sym local) is.rows }
+
+-- numbers of edges alone have changed
+pub kept_edges : (old new : ColorCore) → IsInStepOrder new → new.numbers.local ≡ record old.numbers.local { numbers = new.numbers.local.numbers } → IsColorMachine old → IsColorMachine new
+kept_edges old new orderly local is = record { orderly = orderly; rows = subst HasEachRow (sym local) is.rows }
+
+-- the next scope
+pub next_is : (m : ColorCore) (r : Result ScopeId Refused) → IsInStepOrder m → IfOk r (λ s. s ≡ next_of_step m.scopes) → IfOk r (λ s. s ≡ next_scope m.numbers.local.me.0 (part_in_steps m))
+next_is m (Ok s) is same =
+    let of : MachineNo → ScopeId = λ a. record { home = a; serial = (part_in_steps m).serial } in
+    same ∙ ap of is.scopes.home
+next_is m (Err e) is same = tt
+
+module _ {P : Type 0} where
+  abbrev pub with_program : ColorCore → P → ColorMachineView P
+  with_program m program = record { core = m; program = program }
+
+  pub same_with : (old new : ColorCore) (program : P) → StaysInSettings old new → new.numbers.local.me ≡ old.numbers.local.me
+      → IsSameColorMachine (with_program old program) (with_program new program)
+  same_with old new program settings me = record { settings = settings; me = me; program = refl }
+
+  pub err_with : {X E : Type 0} (old new : ColorCore) (program : P) (r : Result X E) → OnErr r (new ≡ old)
+      → OnErr r (with_program new program ≡ with_program old program)
+  err_with old new program (Ok x) same = tt
+  err_with old new program (Err e) same = ap (λ (m : ColorCore). with_program m program) same

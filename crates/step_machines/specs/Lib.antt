@@ -1,0 +1,4 @@
+pub mod Machines
+pub mod Messages
+pub mod Reading
+pub mod Resting

@@ -1,0 +1,11 @@
+//! A machine that goes by colours, with its program.
+#![tactic(auto)]
+
+mod machines;
+mod members;
+mod messages;
+mod reading;
+mod resting;
+mod waves;
+
+pub use machines::ColorMachine;

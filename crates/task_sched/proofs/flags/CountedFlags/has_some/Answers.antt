@@ -1,0 +1,11 @@
+-- Where some are counted there is one.
+use Rattle.std.proofs.Common.{◌≡◌, ◌<◌, ◌∙◌, sym, ap, subst, arith}
+use Rattle.std.proofs.lemmas.Bool.{ltb-true}
+use Rattle.task_sched.specs.Inner.Flags.{HasFlag}
+use Rattle.task_sched.proofs.Counting.{some_flag}
+use Rattle.task_sched.proofs.flags.CountedFlags.has_some.Goals as goal
+
+pub returns-clause-some : goal.returns-clause-some
+returns-clause-some c = λ is.
+    let more = ltb-true 0 c.self.inside.count is in
+    subst HasFlag c.self.view_is (some_flag c.self.inside.flags.items (omega (arith, more, c.self.invariant.0)))
