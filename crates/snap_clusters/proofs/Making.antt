@@ -20,7 +20,7 @@ use Rattle.cluster_model.specs.Working.{hands, hands_report, prompt, receives, t
 use Rattle.cluster_step.specs.Inner.Writing.{HasLinkBetween}
 use Rattle.cluster_step.specs.Links.{LinkView, message_read}
 use Rattle.cluster_step.proofs.WorldLemmas.{has_link}
-use Rattle.coord_core.specs.Calls.{IsHandedOver, IsRecordFor, snapshot_due}
+use Rattle.coord_core.specs.Calls.{IsHandedOver, IsRecordFor, snapshot_come}
 use Rattle.coord_core.specs.Coordinators.{CoordinatorView, IsCoordinatorOf}
 use Rattle.coord_core.proofs.LeadLemmas.{calls_push}
 use Rattle.snap_clusters.specs.Clusters.{AreCalls, AreRecordsOf, AreReports, Cluster, HaveLinks, IsClusterOf, IsGoing, IsSnapSetting, Machine, Parts, Setting, messages_on, told_on}
@@ -299,7 +299,7 @@ module _ {M : Type 0} (stands : Setting → ℕ → Machine → M → Type 0) (s
 
   -- the snapshot under way is acknowledged, and its record is kept
   pub record_made : law.MayOccur st c law.Record → (coordinator : CoordinatorView) → IsCoordinatorOf st coordinator (acknowledges st c.coordinator) →
-      (made : Record) → IsRecordFor st (snapshot_due c.coordinator) made → (records : Vec Record Global) → records.items ≡ old.acknowledged.items ++ made ∷ [] →
+      (made : Record) → IsRecordFor st (snapshot_come c.coordinator) made → (records : Vec Record Global) → records.items ≡ old.acknowledged.items ++ made ∷ [] →
       IsClusterOf stands st (record old { coordinator = coordinator; acknowledged = records }) (law.after_event st c law.Record)
   record_made may coordinator leads made is records items = record {
     many = of.many;
@@ -311,8 +311,8 @@ module _ {M : Type 0} (stands : Setting → ℕ → Machine → M → Type 0) (s
     calls = of.calls;
     reports = of.reports;
     coordinator = leads;
-    acknowledged = subst (AreRecordsOf st (c.coordinator.snapshots ++ snapshot_due c.coordinator ∷ [])) (sym items)
-        (records_push c.coordinator.snapshots old.acknowledged.items (snapshot_due c.coordinator) made of.acknowledged is);
+    acknowledged = subst (AreRecordsOf st (c.coordinator.snapshots ++ snapshot_come c.coordinator ∷ [])) (sym items)
+        (records_push c.coordinator.snapshots old.acknowledged.items (snapshot_come c.coordinator) made of.acknowledged is);
     next = of.next;
     left = of.left;
     few = of.few;
