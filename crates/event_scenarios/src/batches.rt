@@ -26,22 +26,40 @@ pub fn batch_text<P: Program>(
     scene: &mut Scene<'_, P>,
     at: MachineNo,
 ) -> Result<String, Trouble> {
-    let graph = scene.beginning.graph;
     let mut machine = lone_machine(alloc, scene, at)?;
     let mut spares = Spares::with_room(alloc, 1)?;
-    let first = match taken(alloc, graph, &mut machine, &mut spares) {
-        Err(Trouble::NoMemory) => {
-            scene.second_tries = scene.second_tries.saturating_add(1);
-            taken(alloc, graph, &mut machine, &mut spares)?
-        }
-        other => other?,
-    };
-    let second = taken(alloc, graph, &mut machine, &mut spares)?;
+    taken_again(alloc, scene, &mut machine, &mut spares)
+}
+
+/// The same at this machine.
+fn taken_again<P: Program>(
+    alloc: Global,
+    scene: &mut Scene<'_, P>,
+    machine: &mut Machine,
+    spares: &mut Spares,
+) -> Result<String, Trouble> {
+    let first = taken_at_last(alloc, scene, machine, spares)?;
+    let second = taken(alloc, scene.beginning.graph, machine, spares)?;
     if second.as_str() == first.as_str() {
         Ok(first)
     } else {
         Err(Trouble::Differs("what is put back is not taken again"))
     }
+}
+
+/// The vertices that are taken, where there is no memory at the second try.
+fn taken_at_last<P: Program>(
+    alloc: Global,
+    scene: &mut Scene<'_, P>,
+    machine: &mut Machine,
+    spares: &mut Spares,
+) -> Result<String, Trouble> {
+    let first = taken(alloc, scene.beginning.graph, machine, spares);
+    if !matches!(&first, Err(Trouble::NoMemory)) {
+        return first;
+    }
+    scene.second_tries = scene.second_tries.saturating_add(1);
+    taken(alloc, scene.beginning.graph, machine, spares)
 }
 
 /// The machine of a cluster that has no other, made once more.

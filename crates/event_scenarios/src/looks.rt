@@ -201,7 +201,11 @@ fn number_text(alloc: Global, number: Option<u64>) -> Result<String, Trouble> {
 }
 
 /// The identifier of a vertex.
-pub fn vertex_text(alloc: Global, graph: &Graph, vertex: Option<Vertex>) -> Result<String, Trouble> {
+pub fn vertex_text(
+    alloc: Global,
+    graph: &Graph,
+    vertex: Option<Vertex>,
+) -> Result<String, Trouble> {
     number_text(alloc, vertex.and_then(|v| id_of(graph, v)))
 }
 

@@ -69,10 +69,10 @@ module _ (before out : OutboxesView) (to : MachineNo) (behind : out ≡ with_out
   first_taken message first =
       let box = outbox_to before (Machine to) in
       let left = first_behind box.messages (message_view message) box.room first in
-      let low = is_there before.machines to.0 (message_view message) first in
-      ( map message_of left.0
-      , ap (map message_of) left.1
-      , λ q. ap (λ (o : OutboxesView). messages_for o q) behind ∙ box_behind before.machines to.0 q (without_first box) left.0 low left.2
+      let low = is_there before.machines to.0 (message_view message) first in (
+        map message_of left.0,
+        ap (map message_of) left.1,
+        λ q. ap (λ (o : OutboxesView). messages_for o q) behind ∙ box_behind before.machines to.0 q (without_first box) left.0 low left.2,
       )
 
   pub none_taken : None ≡ slice_get (waiting_for before (Machine to)) 0 → out ≡ before
