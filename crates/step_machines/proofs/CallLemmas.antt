@@ -88,9 +88,9 @@ module _ {P : Type 0} (meaning : P → Update) where
   updates_where old new s ticket (Err e) has = tt
 
 pub err_same : {X E : Type 0} {P : Type 0} (old new : ColorMachineView P) (r : Result X E) → OnErr r (new ≡ old) → OnErr r (part_in_steps new.core ≡ part_in_steps old.core)
-err_same old new (Ok x) same = tt
-err_same old new (Err e) same = ap (λ m. part_in_steps m.core) same
+err_same {X} {E} {P} old new (Ok x) same = tt
+err_same {X} {E} {P} old new (Err e) same = ap (λ (m : ColorMachineView P). part_in_steps m.core) same
 
 pub none_same : {X : Type 0} {P : Type 0} (old new : ColorMachineView P) (o : Option X) → IfNone o (new ≡ old) → IfNone o (part_in_steps new.core ≡ part_in_steps old.core)
-none_same old new None same = ap (λ m. part_in_steps m.core) same
-none_same old new (Some x) same = tt
+none_same {X} {P} old new None same = ap (λ (m : ColorMachineView P). part_in_steps m.core) same
+none_same {X} {P} old new (Some x) same = tt

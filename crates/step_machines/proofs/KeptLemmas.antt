@@ -6,10 +6,11 @@ use Rattle.gl_base.specs.declared.refusals.Refused.{Refused}
 use Rattle.gl_base.specs.declared.scopes.ScopeId.{ScopeId}
 use Rattle.local_graph.specs.Locals.{LocalView}
 use Rattle.update_api.specs.declared.links.Link.{Link}
+use Rattle.wire_msgs.specs.declared.messages.Done.{Done}
 use Rattle.machine_turns.specs.Turns.{HasEachRow}
 use Rattle.color_parts.specs.declared.cores.ColorCore.{ColorCore}
 use Rattle.color_parts.specs.Parts.{next_of_step}
-use Rattle.step_machines.specs.Machines.{ColorMachineView, IsColorMachine, IsInStepOrder, IsSameColorMachine, StaysInSettings, next_scope, part_in_steps}
+use Rattle.step_machines.specs.Machines.{CanHear, ColorMachineView, IsColorMachine, IsInStepOrder, IsSameColorMachine, StaysInSettings, next_scope, part_in_steps}
 
 -- the graph here is the same
 pub kept_with : (old new : ColorCore) → IsInStepOrder new → new.numbers.local ≡ old.numbers.local → IsColorMachine old → IsColorMachine new
@@ -29,6 +30,14 @@ next_is m (Err e) is same = tt
 module _ {P : Type 0} where
   abbrev pub with_program : ColorCore → P → ColorMachineView P
   with_program m program = record { core = m; program = program }
+
+  -- no scope is in flight
+  pub none_before : (m now : ColorMachineView P) → m ≡ now → ((s : ScopeId) → (part_in_steps now.core).flight s ≡ None) → (s : ScopeId) → (part_in_steps m.core).flight s ≡ None
+  none_before m now same none s = ap (λ (k : ColorMachineView P). (part_in_steps k.core).flight s) same ∙ none s
+
+  -- word of an update can be heard
+  pub heard_before : (m now : ColorMachineView P) (done : Done) → m ≡ now → CanHear now.core done → CanHear m.core done
+  heard_before m now done same can = subst (λ (k : ColorMachineView P). CanHear k.core done) (sym same) can
 
   pub same_with : (old new : ColorCore) (program : P) → StaysInSettings old new → new.numbers.local.me ≡ old.numbers.local.me
       → IsSameColorMachine (with_program old program) (with_program new program)

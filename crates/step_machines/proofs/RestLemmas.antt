@@ -1,5 +1,5 @@
 -- A machine that goes by colours is idle exactly where it has no task.
-use Rattle.std.proofs.Common.{◌≡◌, ℕ, ◌<◌, ◌&&◌, ◌==◌, Bool, true, false, not, true≢false, Option, Some, None, is_some, length, refl, sym, ap, ◌∙◌}
+use Rattle.std.proofs.Common.{◌≡◌, ℕ, ◌<◌, ◌&&◌, ◌==◌, Bool, true, false, not, true≢false, Option, Some, None, is_some, [], length, refl, sym, ap, ◌∙◌}
 use Rattle.std.specs.Prelude.{MatchOption, nat_lt}
 use Rattle.std.proofs.lemmas.Bool.{and_parts, lt-ltb, ltb-true}
 use Rattle.gl_base.specs.declared.numbers.Vertex.{Vertex}
@@ -9,7 +9,7 @@ use Rattle.machine_numbers.specs.Views.{flag_there, is_flagged, task_here}
 use Rattle.machine_rest.proofs.IdleLemmas.{idle_from, not_idle}
 use Rattle.machine_scopes.proofs.HeldLemmas.{own_in}
 use Rattle.machine_scopes.proofs.PickLemmas.{flag_inside}
-use Rattle.color_tasks.proofs.SlotLemmas.{begun_anew}
+use Rattle.color_tasks.proofs.SlotLemmas.{begun_from}
 use Rattle.color_machine.proofs.CloseLemmas.{no_pending}
 use Rattle.color_machine.proofs.PlaceLemmas.{vertex_at}
 use Rattle.color_parts.specs.declared.cores.ColorCore.{ColorCore}
@@ -57,7 +57,7 @@ module _ (m : ColorCore) (is : IsInStepOrder m) where
         (record {
           task = λ v low. no_task v;
           pending = λ v low. no_pending m is v;
-          flying = sym (begun_anew m.scopes no_centre).count;
+          flying = sym (begun_from m.scopes.home m.scopes.first (length m.scopes.centres) m.scopes.centres [] m.scopes refl no_centre refl refl).count;
           queue = λ x low. refl;
         })
 

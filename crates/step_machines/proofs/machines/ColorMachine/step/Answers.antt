@@ -1,11 +1,11 @@
 -- Nothing of the graph here has changed.
 use Rattle.std.proofs.Common.{ap}
 use Rattle.color_parts.specs.declared.cores.ColorCore.{ColorCore}
-use Rattle.step_machines.proofs.KeptLemmas.{kept_with, same_with}
+use Rattle.step_machines.proofs.KeptLemmas.{kept_with, none_before, same_with}
 use Rattle.step_machines.proofs.machines.ColorMachine.step.Goals as goal
 
 pub step-requires-clause-none : goal.step-requires-clause-none
-step-requires-clause-none g c = rw c.self.view_is c.requires
+step-requires-clause-none g c = none_before (record { core = c.self.inside.core; program = c.self.inside.program }) c.args.self.now c.self.view_is c.requires
 
 pub invariant_of-self : goal.invariant_of-self
 invariant_of-self g c = kept_with c.self.inside.core c.step.new.core c.step.ensures.orderly (ap (λ (m : ColorCore). m.numbers.local) c.step.ensures.rest) c.self.invariant

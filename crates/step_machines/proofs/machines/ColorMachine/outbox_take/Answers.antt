@@ -2,7 +2,7 @@
 use Rattle.std.proofs.Common.{refl}
 use Rattle.step_machines.proofs.KeptLemmas.{same_with}
 use Rattle.step_machines.proofs.SendLemmas.{order_sent, sent_first, sent_none, settings_sent}
-use Rattle.step_machines.proofs.messages.ColorMachine.outbox_take.Goals as goal
+use Rattle.step_machines.proofs.machines.ColorMachine.outbox_take.Goals as goal
 
 pub invariant_of-self : goal.invariant_of-self
 invariant_of-self g c = order_sent c.self.inside.core c.args.to c.take.new.self c.take.ensures.behind c.self.invariant
