@@ -12,9 +12,9 @@ use Rattle.cluster_model.specs.Events as law
 use Rattle.cluster_step.specs.Inner.Writing.{HasLinkBetween, behind_first, with_link_between}
 use Rattle.cluster_step.specs.Links.{LinkView, link_between, message_read}
 use Rattle.cluster_step.proofs.WorldLemmas.{has_stays, links_stay}
-use Rattle.snap_clusters.specs.Clusters.{Cluster, HaveLinks, IsClusterOf, IsSnapSetting, Machine, Parts, Setting, StandsForSome, StandsForTheSame, messages_on}
-use Rattle.snap_clusters.specs.Events.{AnswersEvent, CanHappen, CanNotHappen, IsEventOf, MakesEvent}
-use Rattle.snap_clusters.specs.Promises.{Admit, CanAdmit, CanDo, CanNotAdmit, CanNotDo, CanReceive, Deed, HasAdmitted, HasDone, HasReceived, IsFirstFrom, IsSending, MayBeDone, MessageView, OfEach, StandsStill, Update, does, message_view, told_by}
+use Rattle.snap_clusters.specs.Clusters.{Cluster, HaveLinks, IsSavingClusterOf, IsSnapSetting, Machine, Parts, Setting, StandsForSaving, StandsForSameSaving, messages_on}
+use Rattle.snap_clusters.specs.Events.{AnswersEvent, CanTakePlace, CanNotTakePlace, IsNamedEvent, TakesPlace}
+use Rattle.snap_clusters.specs.Promises.{Admit, CanAdmit, CanDo, CanNotAdmit, CanNotDo, MayReceiveFirst, Deed, HasAdmittedSome, HasDone, HasReceived, IsFirstFrom, SendsItsFirst, MayBeDone, MessageView, OfEach, StandsStill, Update, does, message_view, told_by}
 use Rattle.snap_clusters.specs.declared.events.Event.{Event}
 use Rattle.snap_clusters.specs.declared.events.Event.TheVariants as event
 use Rattle.snap_clusters.specs.declared.events.Local.TheVariants as local
@@ -32,24 +32,24 @@ pub first_none : (o : Option Message) (messages : List MessageView) → o ≡ No
 first_none o messages is first = none_is messages (ap (option_map message_view) (sym is) ∙ first)
 
 module _ {M : Type 0} (stands : Setting → ℕ → Machine → M → Type 0) (old : Parts M) where
-  pub ok_answers : (what : Event) (new : Parts M) → MakesEvent stands old what new → AnswersEvent stands old what (Ok tt) new
+  pub ok_answers : (what : Event) (new : Parts M) → TakesPlace stands old what new → AnswersEvent stands old what (Ok tt) new
   ok_answers what new made = record { made = made; not_now = λ is. absurd (cc); no_memory = λ is. absurd (cc); unchanged = tt }
 
-  pub not_now_answers : (what : Event) (new : Parts M) → CanNotHappen stands old what → StandsForTheSame stands old new → AnswersEvent stands old what (Err NotNow) new
+  pub not_now_answers : (what : Event) (new : Parts M) → CanNotTakePlace stands old what → StandsForSameSaving stands old new → AnswersEvent stands old what (Err NotNow) new
   not_now_answers what new cannot same = record { made = tt; not_now = λ is. cannot; no_memory = λ is. absurd (cc); unchanged = same }
 
-  pub no_memory_answers : (what : Event) (new : Parts M) → CanHappen stands old what → StandsForTheSame stands old new → AnswersEvent stands old what (Err NoMemory) new
+  pub no_memory_answers : (what : Event) (new : Parts M) → CanTakePlace stands old what → StandsForSameSaving stands old new → AnswersEvent stands old what (Err NoMemory) new
   no_memory_answers what new can same = record { made = tt; not_now = λ is. absurd (cc); no_memory = λ is. can; unchanged = same }
 
-  pub same_here : StandsForTheSame stands old old
+  pub same_here : StandsForSameSaving stands old old
   same_here st c setting of = of
 
   module _ (runs : old.stopped ≡ false) where
-    pub going : (st : Setting) (c : Cluster) → IsClusterOf stands st old c → c.stopped ≡ false
+    pub going : (st : Setting) (c : Cluster) → IsSavingClusterOf stands st old c → c.stopped ≡ false
     going st c of = of.stopped ∙ runs
 
     -- nothing happens where nothing of the kind might be done
-    pub never : (what : Event) → ((st : Setting) (c : Cluster) → IsSnapSetting st → IsClusterOf stands st old c → (e : law.Event) → IsEventOf what e → law.MayDo st c e → ⊥) → CanNotHappen stands old what
+    pub never : (what : Event) → ((st : Setting) (c : Cluster) → IsSnapSetting st → IsSavingClusterOf stands st old c → (e : law.Event) → IsNamedEvent what e → law.MayDo st c e → ⊥) → CanNotTakePlace stands old what
     never what cannot st c setting of e is may = cannot st c setting of e is may.1
 
     -- no ticket is left
@@ -66,28 +66,28 @@ module _ {M : Type 0} (stands : Setting → ℕ → Machine → M → Type 0) (o
     -- ---- machine a
 
     module _ (a : ℕ) (inside : a < length old.machines.items) (x : M) (read : x ≡ get_or old.machines.items a x) where
-      low : (st : Setting) (c : Cluster) → IsClusterOf stands st old c → a < st.machines
+      low : (st : Setting) (c : Cluster) → IsSavingClusterOf stands st old c → a < st.machines
       low st c of = subst (λ (n : ℕ). a < n) of.many inside
 
-      here : (st : Setting) (c : Cluster) (setting : IsSnapSetting st) (of : IsClusterOf stands st old c) → stands st a (c.machine a) x
+      here : (st : Setting) (c : Cluster) (setting : IsSnapSetting st) (of : IsSavingClusterOf stands st old c) → stands st a (c.machine a) x
       here st c setting of = machine_here stands st setting old c of a (low st c of) x read
 
       -- it is what it was
       pub still_here : (y : M) → StandsStill stands x y → (links : List (List LinkView)) → ((n : ℕ) → HaveLinks old.links n → HaveLinks links n) →
-          ((i j : ℕ) → messages_on links i j ≡ messages_on old.links i j) → StandsForTheSame stands old (record old { machines = with_item old.machines a y; links = links })
+          ((i j : ℕ) → messages_on links i j ≡ messages_on old.links i j) → StandsForSameSaving stands old (record old { machines = with_item old.machines a y; links = links })
       still_here y still links have same st c setting of =
           same_made stands st setting old c of a (low st c of) y (still st a (c.machine a) setting (here st c setting of)) links (have (suc st.machines) of.links) same
 
-      pub still_alone : (y : M) → StandsStill stands x y → StandsForTheSame stands old (record old { machines = with_item old.machines a y })
+      pub still_alone : (y : M) → StandsStill stands x y → StandsForSameSaving stands old (record old { machines = with_item old.machines a y })
       still_alone y still = still_here y still old.links (λ n have. have) (λ i j. refl)
 
       -- a deed that draws no ticket
-      module _ (what : Event) (d : Deed) (is : IsEventOf what (event_of a d)) (one : (e : law.Event) → IsEventOf what e → e ≡ event_of a d) (home : IsHomeOf a d)
+      module _ (what : Event) (d : Deed) (is : IsNamedEvent what (event_of a d)) (one : (e : law.Event) → IsNamedEvent what e → e ≡ event_of a d) (home : IsHomeOf a d)
           (turn : (c : Cluster) → IsInTurn c d) (none : (c : Cluster) → (next_behind d c.next ≡ c.next) × (left_behind d c.left ≡ c.left)) where
-        deed_may : (st : Setting) (c : Cluster) (setting : IsSnapSetting st) (of : IsClusterOf stands st old c) → MayBeDone st a (c.machine a) d → law.MayOccur st c (event_of a d)
+        deed_may : (st : Setting) (c : Cluster) (setting : IsSnapSetting st) (of : IsSavingClusterOf stands st old c) → MayBeDone st a (c.machine a) d → law.MayOccur st c (event_of a d)
         deed_may st c setting of may = (going st c of, law_may st c a (is_awake stands st setting old c of a (low st c of)) d (turn c) may)
 
-        pub deed_happens : (y : M) → HasDone stands x d y → MakesEvent stands old what (record old { machines = with_item old.machines a y })
+        pub deed_happens : (y : M) → HasDone stands x d y → TakesPlace stands old what (record old { machines = with_item old.machines a y })
         deed_happens y has st c setting of =
             let done = has st a (c.machine a) setting (here st c setting of) in
             let awake = is_awake stands st setting old c of a (low st c of) in
@@ -100,10 +100,10 @@ module _ {M : Type 0} (stands : Setting → ℕ → Machine → M → Type 0) (o
                   ((none c).0 ∙ of.next) ((none c).1 ∙ of.left) of.few (does_so st c a awake d (turn c) done.0);
             }
 
-        pub deed_can : CanDo stands x d → CanHappen stands old what
+        pub deed_can : CanDo stands x d → CanTakePlace stands old what
         deed_can can st c setting of = (event_of a d, is, deed_may st c setting of (can st a (c.machine a) setting (here st c setting of)))
 
-        pub deed_cannot : CanNotDo stands x d → CanNotHappen stands old what
+        pub deed_cannot : CanNotDo stands x d → CanNotTakePlace stands old what
         deed_cannot cannot =
             never what (λ st c setting of e is_e may. cannot st a (c.machine a) setting (here st c setting of)
             (own_may st c a (is_awake stands st setting old c of a (low st c of)) d home (subst (law.MayDo st c) (one e is_e) may)))
@@ -115,7 +115,7 @@ module _ {M : Type 0} (stands : Setting → ℕ → Machine → M → Type 0) (o
         deed_answers (Err NoMemory) y has cannot can still = no_memory_answers what (record old { machines = with_item old.machines a y }) (deed_can (can refl)) (still_alone y still)
 
       -- an admission, of a vertex of the machine's choice
-      pub admit_answers : (at : MachineNo) → at.0 ≡ a → (r : Result (Unit {0}) Refused) (y : M) → OnOk r (HasAdmitted stands x y) → (r ≡ Err NotNow → CanNotAdmit stands x) →
+      pub admit_answers : (at : MachineNo) → at.0 ≡ a → (r : Result (Unit {0}) Refused) (y : M) → OnOk r (HasAdmittedSome stands x y) → (r ≡ Err NotNow → CanNotAdmit stands x) →
           (r ≡ Err NoMemory → CanAdmit stands x) → OnErr r (StandsStill stands x y) → AnswersEvent stands old (event.Local (local.Admit at)) r (record old { machines = with_item old.machines a y })
       admit_answers at at_is (Ok u) y has cannot can still =
           ok_answers (event.Local (local.Admit at)) (record old { machines = with_item old.machines a y })
@@ -146,7 +146,7 @@ module _ {M : Type 0} (stands : Setting → ℕ → Machine → M → Type 0) (o
       -- ---- an update, which draws the next ticket
 
       module _ (s : ScopeId) (at_home : s.home.0 ≡ a) where
-        update_may : (st : Setting) (c : Cluster) (setting : IsSnapSetting st) (of : IsClusterOf stands st old c) → 0 < old.left → MayBeDone st a (c.machine a) (Update s old.next) → law.MayOccur st c (law.Update s)
+        update_may : (st : Setting) (c : Cluster) (setting : IsSnapSetting st) (of : IsSavingClusterOf stands st old c) → 0 < old.left → MayBeDone st a (c.machine a) (Update s old.next) → law.MayOccur st c (law.Update s)
         update_may st c setting of some may =
             (going st c of, law_may st c a (is_awake stands st setting old c of a (low st c of)) (Update s old.next) (subst (λ (n : ℕ). 0 < n) (sym of.left) some, sym of.next) may)
 
@@ -227,7 +227,7 @@ module _ {M : Type 0} (stands : Setting → ℕ → Machine → M → Type 0) (o
 
     -- only links are others, which tell the same
     pub still_lines : (links : List (List LinkView)) → ((n : ℕ) → HaveLinks old.links n → HaveLinks links n) → ((i j : ℕ) → messages_on links i j ≡ messages_on old.links i j) →
-        StandsForTheSame stands old (record old { links = links })
+        StandsForSameSaving stands old (record old { links = links })
     still_lines links have same st c setting of = same_lines stands st setting old c of links (have (suc st.machines) of.links) same old.coordinator of.coordinator
 
     -- nothing was on the link
@@ -241,18 +241,18 @@ module _ {M : Type 0} (stands : Setting → ℕ → Machine → M → Type 0) (o
     taken_line p q has links behind rest = line_changes old.links p q has links rest (behind_first (messages_on old.links p q)) behind
 
     module _ (p q : MachineNo) (in_p : p.0 < length old.machines.items) (in_q : q.0 < length old.machines.items) where
-      low_p : (st : Setting) (c : Cluster) → IsClusterOf stands st old c → p.0 < st.machines
+      low_p : (st : Setting) (c : Cluster) → IsSavingClusterOf stands st old c → p.0 < st.machines
       low_p st c of = subst (λ (n : ℕ). p.0 < n) of.many in_p
 
-      low_q : (st : Setting) (c : Cluster) → IsClusterOf stands st old c → q.0 < st.machines
+      low_q : (st : Setting) (c : Cluster) → IsSavingClusterOf stands st old c → q.0 < st.machines
       low_q st c of = subst (λ (n : ℕ). q.0 < n) of.many in_q
 
       module _ (x : M) (read : x ≡ get_or old.machines.items p.0 x) where
-        sender : (st : Setting) (c : Cluster) (setting : IsSnapSetting st) (of : IsClusterOf stands st old c) → stands st p.0 (c.machine p.0) x
+        sender : (st : Setting) (c : Cluster) (setting : IsSnapSetting st) (of : IsSavingClusterOf stands st old c) → stands st p.0 (c.machine p.0) x
         sender st c setting of = machine_here stands st setting old c of p.0 (low_p st c of) x read
 
         -- nothing waits there
-        pub send_none : (new : Parts M) → OfEach stands x (λ st a m. HasFirst (m.part.out q.0) → ⊥) → StandsForTheSame stands old new → AnswersEvent stands old (event.Passage (passage.Send p q)) (Err NotNow) new
+        pub send_none : (new : Parts M) → OfEach stands x (λ st a m. HasFirst (m.part.out q.0) → ⊥) → StandsForSameSaving stands old new → AnswersEvent stands old (event.Passage (passage.Send p q)) (Err NotNow) new
         send_none new none same =
             not_now_answers (event.Passage (passage.Send p q)) new
             (never (event.Passage (passage.Send p q)) (λ st c setting of e is_e may.
@@ -260,14 +260,14 @@ module _ {M : Type 0} (stands : Setting → ℕ → Machine → M → Type 0) (o
             none st p.0 (c.machine p.0) setting (sender st c setting of) there.2))
             same
 
-        send_may : (st : Setting) (c : Cluster) (setting : IsSnapSetting st) (of : IsClusterOf stands st old c) → HasFirst ((c.machine p.0).part.out q.0) → law.MayOccur st c (law.Send p.0 q.0)
+        send_may : (st : Setting) (c : Cluster) (setting : IsSnapSetting st) (of : IsSavingClusterOf stands st old c) → HasFirst ((c.machine p.0).part.out q.0) → law.MayOccur st c (law.Send p.0 q.0)
         send_may st c setting of first = (going st c of, (is_awake stands st setting old c of p.0 (low_p st c of), low_q st c of, first))
 
-        pub send_full : (new : Parts M) → OfEach stands x (λ st a m. HasFirst (m.part.out q.0)) → StandsForTheSame stands old new → AnswersEvent stands old (event.Passage (passage.Send p q)) (Err NoMemory) new
+        pub send_full : (new : Parts M) → OfEach stands x (λ st a m. HasFirst (m.part.out q.0)) → StandsForSameSaving stands old new → AnswersEvent stands old (event.Passage (passage.Send p q)) (Err NoMemory) new
         send_full new some same =
             no_memory_answers (event.Passage (passage.Send p q)) new (λ st c setting of. (law.Send p.0 q.0, refl, send_may st c setting of (some st p.0 (c.machine p.0) setting (sender st c setting of)))) same
 
-        pub send_answers : (y : M) (message : Message) (links : List (List LinkView)) → ((n : ℕ) → HaveLinks old.links n → HaveLinks links n) → OfEach stands x (IsSending stands q.0 message y) →
+        pub send_answers : (y : M) (message : Message) (links : List (List LinkView)) → ((n : ℕ) → HaveLinks old.links n → HaveLinks links n) → OfEach stands x (SendsItsFirst stands q.0 message y) →
             ChangesLine old.links links p.0 q.0 (messages_on old.links p.0 q.0 ++ message_view message ∷ []) →
             AnswersEvent stands old (event.Passage (passage.Send p q)) (Ok tt) (record old { machines = with_item old.machines p.0 y; links = links })
         send_answers y message links have sends changes =
@@ -284,7 +284,7 @@ module _ {M : Type 0} (stands : Setting → ℕ → Machine → M → Type 0) (o
 
       -- ---- what comes
 
-      pub deliver_none : (new : Parts M) → messages_on old.links p.0 q.0 ≡ [] → StandsForTheSame stands old new → AnswersEvent stands old (event.Passage (passage.Deliver p q)) (Err NotNow) new
+      pub deliver_none : (new : Parts M) → messages_on old.links p.0 q.0 ≡ [] → StandsForSameSaving stands old new → AnswersEvent stands old (event.Passage (passage.Deliver p q)) (Err NotNow) new
       deliver_none new none same =
           not_now_answers (event.Passage (passage.Deliver p q)) new
           (never (event.Passage (passage.Deliver p q)) (λ st c setting of e is_e may.
@@ -298,15 +298,15 @@ module _ {M : Type 0} (stands : Setting → ℕ → Machine → M → Type 0) (o
         abbrev told_behind : List law_messages.Message
         told_behind = map message_read (behind_first (messages_on old.links p.0 q.0))
 
-        link_first : (st : Setting) (c : Cluster) → IsClusterOf stands st old c → c.link p.0 q.0 ≡ told_by message ∷ told_behind
+        link_first : (st : Setting) (c : Cluster) → IsSavingClusterOf stands st old c → c.link p.0 q.0 ≡ told_by message ∷ told_behind
         link_first st c of = of.told p.0 q.0 (low_p st c of) (low_q st c of) ∙ ap (map message_read) (first_is (messages_on old.links p.0 q.0) (message_view message) is)
 
-        deliver_may : (st : Setting) (c : Cluster) (setting : IsSnapSetting st) (of : IsClusterOf stands st old c) → law.MayOccur st c (law.Deliver p.0 q.0)
+        deliver_may : (st : Setting) (c : Cluster) (setting : IsSnapSetting st) (of : IsSavingClusterOf stands st old c) → law.MayOccur st c (law.Deliver p.0 q.0)
         deliver_may st c setting of =
             (going st c of, (is_awake stands st setting old c of q.0 (low_q st c of), low_p st c of, record { message = told_by message; behind = told_behind; first = link_first st c of }))
 
         module _ (x : M) (read : x ≡ get_or old.machines.items q.0 x) where
-          first_from : (st : Setting) (c : Cluster) (setting : IsSnapSetting st) (of : IsClusterOf stands st old c) → IsFirstFrom stands x p.0 message st c q.0
+          first_from : (st : Setting) (c : Cluster) (setting : IsSnapSetting st) (of : IsSavingClusterOf stands st old c) → IsFirstFrom stands x p.0 message st c q.0
           first_from st c setting of = record {
             setting = setting;
             going = of.going;
@@ -316,10 +316,10 @@ module _ {M : Type 0} (stands : Setting → ℕ → Machine → M → Type 0) (o
             first = link_first st c of;
           }
 
-          pub can_receive : StandsForSome stands old → CanReceive stands x p.0 message
+          pub can_receive : StandsForSaving stands old → MayReceiveFirst stands x p.0 message
           can_receive some = (some.0, some.1, q.0, first_from some.0 some.1 some.2 some.3)
 
-          pub deliver_full : (new : Parts M) → StandsForTheSame stands old new → AnswersEvent stands old (event.Passage (passage.Deliver p q)) (Err NoMemory) new
+          pub deliver_full : (new : Parts M) → StandsForSameSaving stands old new → AnswersEvent stands old (event.Passage (passage.Deliver p q)) (Err NoMemory) new
           deliver_full new same = no_memory_answers (event.Passage (passage.Deliver p q)) new (λ st c setting of. (law.Deliver p.0 q.0, refl, deliver_may st c setting of)) same
 
           pub deliver_answers : (y : M) (links : List (List LinkView)) → ((n : ℕ) → HaveLinks old.links n → HaveLinks links n) → HasReceived stands x p.0 message y →
@@ -344,7 +344,7 @@ module _ {M : Type 0} (stands : Setting → ℕ → Machine → M → Type 0) (o
 
   -- ---- where the links are
 
-  module _ (some : StandsForSome stands old) where
+  module _ (some : StandsForSaving stands old) where
     pub few_here : old.next + old.left < 2 ^ 64
     few_here = some.3.few
 

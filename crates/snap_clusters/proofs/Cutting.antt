@@ -18,15 +18,15 @@ use Rattle.cluster_whole.specs.Logged.{entries_to}
 use Rattle.coord_core.specs.Calls.{IsDueOf, IsFirstWith, IsRecordFor}
 use Rattle.coord_core.specs.declared.leading.Due.{Due}
 use Rattle.coord_core.specs.declared.leading.Due.TheVariants as due
-use Rattle.snap_clusters.specs.Clusters.{AreCalls, AreRecordsOf, AreReports, BaseView, Cluster, HaveLinks, IsClusterOf, IsCoordinatorOf, IsSnapSetting, Machine, Parts, Setting, StandsForSome, StartsIn, StoreView, messages_on}
+use Rattle.snap_clusters.specs.Clusters.{AreCalls, AreRecordsOf, AreReports, BaseView, Cluster, HaveLinks, IsSavingClusterOf, IsCoordinatorOf, IsSnapSetting, Machine, Parts, Setting, StandsForSaving, StartsSaving, StoreView, messages_on}
 use Rattle.snap_clusters.specs.Events.{AnswersEvent}
 use Rattle.snap_clusters.specs.declared.events.Event.{Event}
-use Rattle.snap_clusters.specs.Cuts.{IsCut}
+use Rattle.snap_clusters.specs.Cuts.{RecordsCut}
 use Rattle.snap_clusters.specs.Promises.{MessageView}
 use Rattle.snap_clusters.proofs.Goings.{going_first}
 
-module _ {M : Type 0} (stands : Setting → ℕ → Machine → M → Type 0) (p : Parts M) (st : Setting) (c : Cluster) (setting : IsSnapSetting st) (of : IsClusterOf stands st p c) where
-  one_cut : (snapshot : Snapshot) (made : Record) → IsRecordFor st snapshot made → IsGoodSnapshot st of.going.logged snapshot → IsCut st c made
+module _ {M : Type 0} (stands : Setting → ℕ → Machine → M → Type 0) (p : Parts M) (st : Setting) (c : Cluster) (setting : IsSnapSetting st) (of : IsSavingClusterOf stands st p c) where
+  one_cut : (snapshot : Snapshot) (made : Record) → IsRecordFor st snapshot made → IsGoodSnapshot st of.going.logged snapshot → RecordsCut st c made
   one_cut snapshot made is good =
       let replayed = snapshot_replayed st setting.is c of.going.followed.0 of.going.logged of.going.accounts of.going.based snapshot good in
       record {
@@ -35,13 +35,13 @@ module _ {M : Type 0} (stands : Setting → ℕ → Machine → M → Type 0) (p
         numbers = λ none v low. ap or_zero (sym ((is.parts (st.owner v) none (setting.is.owner v low)).saved.vertices v)) ∙ replayed.vertices v low;
       }
 
-  all_cuts : (snapshots : List Snapshot) (records : List Record) → AreRecordsOf st snapshots records → AllByRecursion (IsGoodSnapshot st of.going.logged) snapshots → AllByRecursion (IsCut st c) records
+  all_cuts : (snapshots : List Snapshot) (records : List Record) → AreRecordsOf st snapshots records → AllByRecursion (IsGoodSnapshot st of.going.logged) snapshots → AllByRecursion (RecordsCut st c) records
   all_cuts [] [] are good = tt
   all_cuts [] (made ∷ records) are good = absurd are
   all_cuts (snapshot ∷ snapshots) [] are good = absurd are
   all_cuts (snapshot ∷ snapshots) (made ∷ records) are good = (one_cut snapshot made are.0 good.0, all_cuts snapshots records are.1 good.1)
 
-  pub cuts : AllByRecursion (IsCut st c) p.acknowledged.items
+  pub cuts : AllByRecursion (RecordsCut st c) p.acknowledged.items
   cuts = all_cuts c.coordinator.snapshots p.acknowledged.items of.acknowledged of.going.accounts.records.good
 
   pub finished : (answer : Due) → IsDueOf p.coordinator answer → answer ≡ due.Ended → HasFinishedOrder st c
@@ -63,8 +63,8 @@ none_reports messages none = subst (λ (ms : List MessageView). AreReports ms []
 module _ {M : Type 0} (stands : Setting → ℕ → Machine → M → Type 0) (p : Parts M) (store : StoreView) (next left : ℕ)
     (have : HaveLinks p.links (suc (length p.machines.items))) (none : (a b : ℕ) → (link_between p.links a b).messages ≡ []) (few : next + left < 2 ^ 64) (small : length p.machines.items < 65535)
     (leads : IsFirstWith (length p.machines.items) store p.coordinator) (no_records : p.acknowledged.items ≡ []) (next_is : p.next ≡ next) (left_is : p.left ≡ left) where
-  pub begun_first : (runs : p.stopped ≡ false) (st : Setting) (base : BaseView) (before : Cluster) → StartsIn stands p.machines.items store next left st base before →
-      IsClusterOf stands (going_on st base.numbers base.number) p (recovers st base before)
+  pub begun_first : (runs : p.stopped ≡ false) (st : Setting) (base : BaseView) (before : Cluster) → StartsSaving stands p.machines.items store next left st base before →
+      IsSavingClusterOf stands (going_on st base.numbers base.number) p (recovers st base before)
   begun_first runs st base before start =
       let now : Setting = going_on st base.numbers base.number in
       let first : IsCoordinatorOf now p.coordinator (first_coordinator now store.newest store.store_end) =
@@ -91,8 +91,8 @@ module _ {M : Type 0} (stands : Setting → ℕ → Machine → M → Type 0) (p
 
 -- ---- after an event
 
-module _ {M : Type 0} (stands : Setting → ℕ → Machine → M → Type 0) (old : Parts M) (some : StandsForSome stands old) (what : Event) where
-  pub some_after : (r : Result (Unit {0}) Refused) (new : Parts M) → AnswersEvent stands old what r new → StandsForSome stands new
+module _ {M : Type 0} (stands : Setting → ℕ → Machine → M → Type 0) (old : Parts M) (some : StandsForSaving stands old) (what : Event) where
+  pub some_after : (r : Result (Unit {0}) Refused) (new : Parts M) → AnswersEvent stands old what r new → StandsForSaving stands new
   some_after (Ok u) new answers =
       let has = answers.made some.0 some.1 some.2 some.3 in
       (some.0, after_event some.0 some.1 has.event, some.2, has.after)

@@ -23,9 +23,9 @@ use Rattle.coord_core.specs.Calls.{HasHandedOver, HasRecorded, HasTakenReport, I
 use Rattle.coord_core.specs.Coordinators.{CoordinatorView, no_outbox}
 use Rattle.coord_core.proofs.LeadLemmas.{FirstCall, first_call}
 use Rattle.outboxes.specs.Outboxes.{has_waiting}
-use Rattle.snap_clusters.specs.Clusters.{AreCalls, AreRecordsOf, AreReports, Cluster, HaveLinks, IsClusterOf, IsCoordinatorOf, IsSnapSetting, Machine, Parts, Setting, StandsForSome, StandsForTheSame, messages_on}
-use Rattle.snap_clusters.specs.Events.{AnswersEvent, IsEventOf}
-use Rattle.snap_clusters.specs.Promises.{CanHear, HasHeard, HasNext, IsFirstCall, IsReporting, MessageView, OfEach, TellsReport, message_view}
+use Rattle.snap_clusters.specs.Clusters.{AreCalls, AreRecordsOf, AreReports, Cluster, HaveLinks, IsSavingClusterOf, IsCoordinatorOf, IsSnapSetting, Machine, Parts, Setting, StandsForSaving, StandsForSameSaving, messages_on}
+use Rattle.snap_clusters.specs.Events.{AnswersEvent, IsNamedEvent}
+use Rattle.snap_clusters.specs.Promises.{MayHearCall, HasHeard, HasNext, IsFirstCall, IsReporting, MessageView, OfEach, TellsReport, message_view}
 use Rattle.snap_clusters.specs.declared.events.Event.{Event}
 use Rattle.snap_clusters.specs.declared.events.Event.TheVariants as event
 use Rattle.snap_clusters.specs.declared.events.Lead.TheVariants as lead
@@ -66,16 +66,16 @@ empty_next xs none next = let first = next.first in cc
 module _ {M : Type 0} (stands : Setting → ℕ → Machine → M → Type 0) (old : Parts M) (runs : old.stopped ≡ false) where
   -- ---- the coordinator alone
 
-  pub stays_led : (next : CoordinatorView) → StaysCoordinator old.coordinator next → StandsForTheSame stands old (record old { coordinator = next })
+  pub stays_led : (next : CoordinatorView) → StaysCoordinator old.coordinator next → StandsForSameSaving stands old (record old { coordinator = next })
   stays_led next stays st c setting of = same_lines stands st setting old c of old.links of.links (λ i j. refl) next (stays st c.coordinator of.coordinator)
 
   -- only room on links has changed, and the coordinator is what it was
   pub still_led_lines : (next : CoordinatorView) → next ≡ old.coordinator → (links : List (List LinkView)) → ((n : ℕ) → HaveLinks old.links n → HaveLinks links n) →
-      ((i j : ℕ) → messages_on links i j ≡ messages_on old.links i j) → StandsForTheSame stands old (record old { links = links; coordinator = next })
+      ((i j : ℕ) → messages_on links i j ≡ messages_on old.links i j) → StandsForSameSaving stands old (record old { links = links; coordinator = next })
   still_led_lines next is links have same st c setting of =
       same_lines stands st setting old c of links (have (suc st.machines) of.links) same next (subst (λ (view : CoordinatorView). IsCoordinatorOf st view c.coordinator) (sym is) of.coordinator)
 
-  module _ (what : Event) (e : law.Event) (is : IsEventOf what e) (one : (f : law.Event) → IsEventOf what f → f ≡ e) (same : (st : Setting) → law.setting_after st e ≡ st)
+  module _ (what : Event) (e : law.Event) (is : IsNamedEvent what e) (one : (f : law.Event) → IsNamedEvent what f → f ≡ e) (same : (st : Setting) → law.setting_after st e ≡ st)
       (leads : Coordinator → Coordinator) (effect : (st : Setting) (c : Cluster) → law.after_event st c e ≡ with_coordinator c (leads c.coordinator)) (snapshots : (k : Coordinator) → (leads k).snapshots ≡ k.snapshots) where
     pub led_answers : (r : Result (Unit {0}) Refused) (next : CoordinatorView) →
         OnOk r (MayLead e old.coordinator × ((st : Setting) (k : Coordinator) → IsCoordinatorOf st old.coordinator k → IsCoordinatorOf st next (leads k))) →
@@ -161,12 +161,12 @@ module _ {M : Type 0} (stands : Setting → ℕ → Machine → M → Type 0) (o
   -- ---- between the coordinator and machine a, where the coordinator's links are the last ones
 
   module _ (at : MachineNo) (inside : at.0 < length old.machines.items) where
-    low : (st : Setting) (c : Cluster) → IsClusterOf stands st old c → at.0 < st.machines
+    low : (st : Setting) (c : Cluster) → IsSavingClusterOf stands st old c → at.0 < st.machines
     low st c of = subst (λ (n : ℕ). at.0 < n) of.many inside
 
     -- a call that waits
     module _ (waits : Bool) (is : waits ≡ has_waiting (slice_index_or old.coordinator.out.machines at.0 no_outbox)) where
-      pub call_none : waits ≡ false → (new : Parts M) → StandsForTheSame stands old new → AnswersEvent stands old (event.Passage (passage.SendCall at)) (Err NotNow) new
+      pub call_none : waits ≡ false → (new : Parts M) → StandsForSameSaving stands old new → AnswersEvent stands old (event.Passage (passage.SendCall at)) (Err NotNow) new
       call_none none new same =
           not_now_answers stands old (event.Passage (passage.SendCall at)) new
           (never stands old runs (event.Passage (passage.SendCall at)) (λ st c setting of f is_f may.
@@ -176,7 +176,7 @@ module _ {M : Type 0} (stands : Setting → ℕ → Machine → M → Type 0) (o
           (no_call (c.coordinator.out at.0) (subst (λ (ms : List MessageView). AreCalls ms (c.coordinator.out at.0)) empty (of.coordinator.out at.0 (low st c of)))) there.1))
           same
 
-      call_may : waits ≡ true → (st : Setting) (c : Cluster) (of : IsClusterOf stands st old c) → law.MayOccur st c (law.SendCall at.0)
+      call_may : waits ≡ true → (st : Setting) (c : Cluster) (of : IsSavingClusterOf stands st old c) → law.MayOccur st c (law.SendCall at.0)
       call_may some st c of =
           let has : HasMessage (slice_index_or old.coordinator.out.machines at.0 no_outbox).messages = one_waits (slice_index_or old.coordinator.out.machines at.0 no_outbox).messages (sym is ∙ some) in
           let first : FirstCall has.message has.behind (c.coordinator.out at.0) =
@@ -184,10 +184,10 @@ module _ {M : Type 0} (stands : Setting → ℕ → Machine → M → Type 0) (o
           in
           (going stands old runs st c of, (low st c of, record { message = first.call; behind = first.behind; first = first.first }))
 
-      pub call_full : waits ≡ true → (new : Parts M) → StandsForTheSame stands old new → AnswersEvent stands old (event.Passage (passage.SendCall at)) (Err NoMemory) new
+      pub call_full : waits ≡ true → (new : Parts M) → StandsForSameSaving stands old new → AnswersEvent stands old (event.Passage (passage.SendCall at)) (Err NoMemory) new
       call_full some new same = no_memory_answers stands old (event.Passage (passage.SendCall at)) new (λ st c setting of. (law.SendCall at.0, refl, call_may some st c of)) same
 
-    pub call_taken_none : (next : CoordinatorView) → HasHandedOver old.coordinator next at.0 None → (new : Parts M) → StandsForTheSame stands old new → AnswersEvent stands old (event.Passage (passage.SendCall at)) (Err NotNow) new
+    pub call_taken_none : (next : CoordinatorView) → HasHandedOver old.coordinator next at.0 None → (new : Parts M) → StandsForSameSaving stands old new → AnswersEvent stands old (event.Passage (passage.SendCall at)) (Err NotNow) new
     call_taken_none next handed new same =
         not_now_answers stands old (event.Passage (passage.SendCall at)) new
         (never stands old runs (event.Passage (passage.SendCall at)) (λ st c setting of f is_f may.
@@ -196,7 +196,7 @@ module _ {M : Type 0} (stands : Setting → ℕ → Machine → M → Type 0) (o
         same
 
     module _ (lead_no : MachineNo) (lead_is : lead_no.0 ≡ length old.machines.items) where
-      lead_here : (st : Setting) (c : Cluster) → IsClusterOf stands st old c → lead_no.0 ≡ st.machines
+      lead_here : (st : Setting) (c : Cluster) → IsSavingClusterOf stands st old c → lead_no.0 ≡ st.machines
       lead_here st c of = lead_is ∙ of.many
 
       pub call_answers : (next : CoordinatorView) (message : Message) → HasHandedOver old.coordinator next at.0 (Some message) → (links : List (List LinkView)) → ((n : ℕ) → HaveLinks old.links n → HaveLinks links n) →
@@ -217,7 +217,7 @@ module _ {M : Type 0} (stands : Setting → ℕ → Machine → M → Type 0) (o
 
       -- ---- a call comes
 
-      pub hear_none : messages_on old.links lead_no.0 at.0 ≡ [] → (new : Parts M) → StandsForTheSame stands old new → AnswersEvent stands old (event.Passage (passage.DeliverCall at)) (Err NotNow) new
+      pub hear_none : messages_on old.links lead_no.0 at.0 ≡ [] → (new : Parts M) → StandsForSameSaving stands old new → AnswersEvent stands old (event.Passage (passage.DeliverCall at)) (Err NotNow) new
       hear_none none new same =
           not_now_answers stands old (event.Passage (passage.DeliverCall at)) new
           (never stands old runs (event.Passage (passage.DeliverCall at)) (λ st c setting of f is_f may.
@@ -227,7 +227,7 @@ module _ {M : Type 0} (stands : Setting → ℕ → Machine → M → Type 0) (o
           same
 
       module _ (message : Message) (is : Some (message_view message) ≡ slice_get (messages_on old.links lead_no.0 at.0) 0) where
-        first_heard : (st : Setting) (c : Cluster) (of : IsClusterOf stands st old c) → FirstCall (message_view message) (behind_first (messages_on old.links lead_no.0 at.0)) (c.calls at.0)
+        first_heard : (st : Setting) (c : Cluster) (of : IsSavingClusterOf stands st old c) → FirstCall (message_view message) (behind_first (messages_on old.links lead_no.0 at.0)) (c.calls at.0)
         first_heard st c of =
             let line : messages_on old.links st.machines at.0 ≡ message_view message ∷ behind_first (messages_on old.links lead_no.0 at.0) =
             ap (λ (n : ℕ). messages_on old.links n at.0) (sym (lead_here st c of)) ∙ first_is (messages_on old.links lead_no.0 at.0) (message_view message) is
@@ -235,13 +235,13 @@ module _ {M : Type 0} (stands : Setting → ℕ → Machine → M → Type 0) (o
             first_call (message_view message) (behind_first (messages_on old.links lead_no.0 at.0)) (c.calls at.0)
             (subst (λ (ms : List MessageView). AreCalls ms (c.calls at.0)) line (of.calls at.0 (low st c of)))
 
-        hear_may : (st : Setting) (c : Cluster) (setting : IsSnapSetting st) (of : IsClusterOf stands st old c) → law.MayOccur st c (law.DeliverCall at.0)
+        hear_may : (st : Setting) (c : Cluster) (setting : IsSnapSetting st) (of : IsSavingClusterOf stands st old c) → law.MayOccur st c (law.DeliverCall at.0)
         hear_may st c setting of =
             let first = first_heard st c of in
             (going stands old runs st c of, (is_awake stands st setting old c of at.0 (low st c of), record { message = first.call; behind = first.behind; first = first.first }))
 
         module _ (x : M) (read : x ≡ get_or old.machines.items at.0 x) where
-          is_first : (st : Setting) (c : Cluster) (setting : IsSnapSetting st) (of : IsClusterOf stands st old c) → IsFirstCall stands x message st c at.0 (first_heard st c of).call
+          is_first : (st : Setting) (c : Cluster) (setting : IsSnapSetting st) (of : IsSavingClusterOf stands st old c) → IsFirstCall stands x message st c at.0 (first_heard st c of).call
           is_first st c setting of =
               let first = first_heard st c of in
               record {
@@ -254,10 +254,10 @@ module _ {M : Type 0} (stands : Setting → ℕ → Machine → M → Type 0) (o
                 first = first.first;
               }
 
-          pub can_hear : StandsForSome stands old → CanHear stands x message
+          pub can_hear : StandsForSaving stands old → MayHearCall stands x message
           can_hear some = (some.0, some.1, at.0, (first_heard some.0 some.1 some.3).call, is_first some.0 some.1 some.2 some.3)
 
-          pub hear_full : (new : Parts M) → StandsForTheSame stands old new → AnswersEvent stands old (event.Passage (passage.DeliverCall at)) (Err NoMemory) new
+          pub hear_full : (new : Parts M) → StandsForSameSaving stands old new → AnswersEvent stands old (event.Passage (passage.DeliverCall at)) (Err NoMemory) new
           hear_full new same = no_memory_answers stands old (event.Passage (passage.DeliverCall at)) new (λ st c setting of. (law.DeliverCall at.0, refl, hear_may st c setting of)) same
 
           pub hear_answers : (y : M) (links : List (List LinkView)) → ((n : ℕ) → HaveLinks old.links n → HaveLinks links n) → HasHeard stands x message y →
@@ -280,10 +280,10 @@ module _ {M : Type 0} (stands : Setting → ℕ → Machine → M → Type 0) (o
       -- ---- a report goes
 
       module _ (x : M) (read : x ≡ get_or old.machines.items at.0 x) where
-        teller : (st : Setting) (c : Cluster) (setting : IsSnapSetting st) (of : IsClusterOf stands st old c) → stands st at.0 (c.machine at.0) x
+        teller : (st : Setting) (c : Cluster) (setting : IsSnapSetting st) (of : IsSavingClusterOf stands st old c) → stands st at.0 (c.machine at.0) x
         teller st c setting of = machine_here stands st setting old c of at.0 (low st c of) x read
 
-        pub report_none : (new : Parts M) → OfEach stands x (λ st a m. HasNext m.out → ⊥) → StandsForTheSame stands old new → AnswersEvent stands old (event.Passage (passage.SendReport at)) (Err NotNow) new
+        pub report_none : (new : Parts M) → OfEach stands x (λ st a m. HasNext m.out → ⊥) → StandsForSameSaving stands old new → AnswersEvent stands old (event.Passage (passage.SendReport at)) (Err NotNow) new
         report_none new none same =
             not_now_answers stands old (event.Passage (passage.SendReport at)) new
             (never stands old runs (event.Passage (passage.SendReport at)) (λ st c setting of f is_f may.
@@ -291,10 +291,10 @@ module _ {M : Type 0} (stands : Setting → ℕ → Machine → M → Type 0) (o
             none st at.0 (c.machine at.0) setting (teller st c setting of) there.1))
             same
 
-        report_may : (st : Setting) (c : Cluster) (setting : IsSnapSetting st) (of : IsClusterOf stands st old c) → HasNext (c.machine at.0).out → law.MayOccur st c (law.SendReport at.0)
+        report_may : (st : Setting) (c : Cluster) (setting : IsSnapSetting st) (of : IsSavingClusterOf stands st old c) → HasNext (c.machine at.0).out → law.MayOccur st c (law.SendReport at.0)
         report_may st c setting of next = (going stands old runs st c of, (is_awake stands st setting old c of at.0 (low st c of), next))
 
-        pub report_full : (new : Parts M) → OfEach stands x (λ st a m. HasNext m.out) → StandsForTheSame stands old new → AnswersEvent stands old (event.Passage (passage.SendReport at)) (Err NoMemory) new
+        pub report_full : (new : Parts M) → OfEach stands x (λ st a m. HasNext m.out) → StandsForSameSaving stands old new → AnswersEvent stands old (event.Passage (passage.SendReport at)) (Err NoMemory) new
         report_full new some same =
             no_memory_answers stands old (event.Passage (passage.SendReport at)) new
             (λ st c setting of. (law.SendReport at.0, refl, report_may st c setting of (some st at.0 (c.machine at.0) setting (teller st c setting of)))) same
@@ -317,7 +317,7 @@ module _ {M : Type 0} (stands : Setting → ℕ → Machine → M → Type 0) (o
 
       -- ---- a report comes
 
-      pub hear_no_report : messages_on old.links at.0 lead_no.0 ≡ [] → (new : Parts M) → StandsForTheSame stands old new → AnswersEvent stands old (event.Passage (passage.DeliverReport at)) (Err NotNow) new
+      pub hear_no_report : messages_on old.links at.0 lead_no.0 ≡ [] → (new : Parts M) → StandsForSameSaving stands old new → AnswersEvent stands old (event.Passage (passage.DeliverReport at)) (Err NotNow) new
       hear_no_report none new same =
           not_now_answers stands old (event.Passage (passage.DeliverReport at)) new
           (never stands old runs (event.Passage (passage.DeliverReport at)) (λ st c setting of f is_f may.
@@ -326,14 +326,14 @@ module _ {M : Type 0} (stands : Setting → ℕ → Machine → M → Type 0) (o
           empty_next (c.reports at.0) (no_report (c.reports at.0) (subst (λ (ms : List MessageView). AreReports ms (c.reports at.0)) empty (of.reports at.0 (low st c of)))) there.1))
           same
 
-      counts_come : (st : Setting) (c : Cluster) (of : IsClusterOf stands st old c) (k : ℕ) (counted : Counted) (behind : List Report) → c.reports at.0 ≡ Count k counted ∷ behind →
+      counts_come : (st : Setting) (c : Cluster) (of : IsSavingClusterOf stands st old c) (k : ℕ) (counted : Counted) (behind : List Report) → c.reports at.0 ≡ Count k counted ∷ behind →
           MayBeCounted old.coordinator.counting at.0 k
       counts_come st c of k counted behind first =
           let watch = of.going.followed.1 in
           subst (λ (counting : Counting). MayBeCounted counting at.0 k) of.coordinator.counting
           (may_be_counted st c.coordinator.begun c watch.turn watch.begun_before watch.begun_newest of.going.followed.2 at.0 (low st c of) k counted behind first)
 
-      report_comes : (st : Setting) (c : Cluster) (of : IsClusterOf stands st old c) (m : MessageView) (report : Report) (behind : List Report) → c.reports at.0 ≡ report ∷ behind → TellsReport m report →
+      report_comes : (st : Setting) (c : Cluster) (of : IsSavingClusterOf stands st old c) (m : MessageView) (report : Report) (behind : List Report) → c.reports at.0 ≡ report ∷ behind → TellsReport m report →
           MayReport old.coordinator at.0 m
       report_comes st c of (wire.Count k counted) report behind first told = counts_come st c of k counted behind (first ∙ ap (λ (r : Report). r ∷ behind) told.0)
       report_comes st c of (wire.Section section) report behind first told = (subst (λ (n : ℕ). at.0 < n) (sym of.coordinator.machines) (low st c of), told.1)
@@ -347,7 +347,7 @@ module _ {M : Type 0} (stands : Setting → ℕ → Machine → M → Type 0) (o
       report_comes st c of (wire.Step colour) report behind first told = absurd told.0
 
       module _ (message : Message) (is : Some (message_view message) ≡ slice_get (messages_on old.links at.0 lead_no.0) 0) where
-        first_told : (st : Setting) (c : Cluster) (of : IsClusterOf stands st old c) → FirstReport (message_view message) (behind_first (messages_on old.links at.0 lead_no.0)) (c.reports at.0)
+        first_told : (st : Setting) (c : Cluster) (of : IsSavingClusterOf stands st old c) → FirstReport (message_view message) (behind_first (messages_on old.links at.0 lead_no.0)) (c.reports at.0)
         first_told st c of =
             let line : messages_on old.links at.0 st.machines ≡ message_view message ∷ behind_first (messages_on old.links at.0 lead_no.0) =
             ap (messages_on old.links at.0) (sym (lead_here st c of)) ∙ first_is (messages_on old.links at.0 lead_no.0) (message_view message) is
@@ -355,7 +355,7 @@ module _ {M : Type 0} (stands : Setting → ℕ → Machine → M → Type 0) (o
             first_report (message_view message) (behind_first (messages_on old.links at.0 lead_no.0)) (c.reports at.0)
             (subst (λ (ms : List MessageView). AreReports ms (c.reports at.0)) line (of.reports at.0 (low st c of)))
 
-        pub may_report : StandsForSome stands old → MayReport old.coordinator at.0 (message_view message)
+        pub may_report : StandsForSaving stands old → MayReport old.coordinator at.0 (message_view message)
         may_report some =
             let first = first_told some.0 some.1 some.3 in
             report_comes some.0 some.1 some.3 (message_view message) first.report first.behind first.first first.told

@@ -23,8 +23,8 @@ use Rattle.cluster_step.proofs.WorldLemmas.{has_link}
 use Rattle.coord_core.specs.Calls.{IsHandedOver, IsRecordFor, snapshot_come}
 use Rattle.coord_core.specs.Coordinators.{CoordinatorView, IsCoordinatorOf}
 use Rattle.coord_core.proofs.LeadLemmas.{calls_push}
-use Rattle.snap_clusters.specs.Clusters.{AreCalls, AreRecordsOf, AreReports, Cluster, HaveLinks, IsClusterOf, IsGoing, IsSnapSetting, Machine, Parts, Setting, messages_on, told_on}
-use Rattle.snap_clusters.specs.Promises.{Admit, Deed, Grant, IsReporting, IsSending, Mark, MayBeDone, MessageView, Section, Update, does, message_view, told_by}
+use Rattle.snap_clusters.specs.Clusters.{AreCalls, AreRecordsOf, AreReports, Cluster, HaveLinks, IsSavingClusterOf, IsGoing, IsSnapSetting, Machine, Parts, Setting, messages_on, told_on}
+use Rattle.snap_clusters.specs.Promises.{Admit, Deed, Grant, IsReporting, SendsItsFirst, Mark, MayBeDone, MessageView, Section, Update, does, message_view, told_by}
 use Rattle.snap_clusters.specs.Deeds.{marks_centre, updates_centre}
 use Rattle.snap_clusters.proofs.Goings.{going_after}
 use Rattle.snap_clusters.proofs.Lines.{ChangesLine, line_kept, reports_push, told_set, told_still}
@@ -159,7 +159,7 @@ module _ (st : Setting) (c : Cluster) (a : ℕ) (awake : law.IsAwake st c a) whe
 
 -- ---- the code
 
-module _ {M : Type 0} (stands : Setting → ℕ → Machine → M → Type 0) (st : Setting) (setting : IsSnapSetting st) (old : Parts M) (c : Cluster) (of : IsClusterOf stands st old c) where
+module _ {M : Type 0} (stands : Setting → ℕ → Machine → M → Type 0) (st : Setting) (setting : IsSnapSetting st) (old : Parts M) (c : Cluster) (of : IsSavingClusterOf stands st old c) where
   pub is_awake : (a : ℕ) → a < st.machines → law.IsAwake st c a
   is_awake a low = record { machine = low; runs = of.runs a low }
 
@@ -200,9 +200,9 @@ module _ {M : Type 0} (stands : Setting → ℕ → Machine → M → Type 0) (s
     -- it did something by itself
     pub deed_made : (event : law.Event) → law.MayOccur st c event → law.setting_after st event ≡ st → (next left n k : ℕ) → n ≡ next → k ≡ left → next + left < 2 ^ 64 →
         law.after_event st c event ≡ record (with_machine c a m) { next = n; left = k } →
-        IsClusterOf stands st (record old { machines = with_item old.machines a y; next = next; left = left }) (law.after_event st c event)
+        IsSavingClusterOf stands st (record old { machines = with_item old.machines a y; next = next; left = left }) (law.after_event st c event)
     deed_made event may same next left n k next_is left_is few does_it =
-        subst (IsClusterOf stands st (record old { machines = with_item old.machines a y; next = next; left = left })) (sym does_it) (record {
+        subst (IsSavingClusterOf stands st (record old { machines = with_item old.machines a y; next = next; left = left })) (sym does_it) (record {
           many = many_set;
           small = of.small;
           links = of.links;
@@ -223,7 +223,7 @@ module _ {M : Type 0} (stands : Setting → ℕ → Machine → M → Type 0) (s
   -- ---- nothing has happened
 
   pub same_made : (a : ℕ) (low : a < st.machines) (y : M) → stands st a (c.machine a) y → (links : List (List LinkView)) → HaveLinks links (suc st.machines) →
-      ((i j : ℕ) → messages_on links i j ≡ messages_on old.links i j) → IsClusterOf stands st (record old { machines = with_item old.machines a y; links = links }) c
+      ((i j : ℕ) → messages_on links i j ≡ messages_on old.links i j) → IsSavingClusterOf stands st (record old { machines = with_item old.machines a y; links = links }) c
   same_made a low y here links have same = record {
     many = many_set a low y (c.machine a) here (of.runs a low);
     small = of.small;
@@ -248,7 +248,7 @@ module _ {M : Type 0} (stands : Setting → ℕ → Machine → M → Type 0) (s
   }
 
   pub same_lines : (links : List (List LinkView)) → HaveLinks links (suc st.machines) → ((i j : ℕ) → messages_on links i j ≡ messages_on old.links i j) →
-      (coordinator : CoordinatorView) → IsCoordinatorOf st coordinator c.coordinator → IsClusterOf stands st (record old { links = links; coordinator = coordinator }) c
+      (coordinator : CoordinatorView) → IsCoordinatorOf st coordinator c.coordinator → IsSavingClusterOf stands st (record old { links = links; coordinator = coordinator }) c
   same_lines links have same coordinator leads = record {
     many = of.many;
     small = of.small;
@@ -270,9 +270,9 @@ module _ {M : Type 0} (stands : Setting → ℕ → Machine → M → Type 0) (s
   -- ---- the coordinator
 
   pub led_made : (event : law.Event) → law.MayOccur st c event → law.setting_after st event ≡ st → (coordinator : CoordinatorView) (leading : Coordinator) → IsCoordinatorOf st coordinator leading →
-      leading.snapshots ≡ c.coordinator.snapshots → law.after_event st c event ≡ with_coordinator c leading → IsClusterOf stands st (record old { coordinator = coordinator }) (law.after_event st c event)
+      leading.snapshots ≡ c.coordinator.snapshots → law.after_event st c event ≡ with_coordinator c leading → IsSavingClusterOf stands st (record old { coordinator = coordinator }) (law.after_event st c event)
   led_made event may same coordinator leading leads snapshots does_it =
-      subst (IsClusterOf stands st (record old { coordinator = coordinator })) (sym does_it) (record {
+      subst (IsSavingClusterOf stands st (record old { coordinator = coordinator })) (sym does_it) (record {
         many = of.many;
         small = of.small;
         links = of.links;
@@ -300,7 +300,7 @@ module _ {M : Type 0} (stands : Setting → ℕ → Machine → M → Type 0) (s
   -- the snapshot under way is acknowledged, and its record is kept
   pub record_made : law.MayOccur st c law.Record → (coordinator : CoordinatorView) → IsCoordinatorOf st coordinator (acknowledges st c.coordinator) →
       (made : Record) → IsRecordFor st (snapshot_come c.coordinator) made → (records : Vec Record Global) → records.items ≡ old.acknowledged.items ++ made ∷ [] →
-      IsClusterOf stands st (record old { coordinator = coordinator; acknowledged = records }) (law.after_event st c law.Record)
+      IsSavingClusterOf stands st (record old { coordinator = coordinator; acknowledged = records }) (law.after_event st c law.Record)
   record_made may coordinator leads made is records items = record {
     many = of.many;
     small = of.small;
@@ -320,7 +320,7 @@ module _ {M : Type 0} (stands : Setting → ℕ → Machine → M → Type 0) (s
     going = kept law.Record may refl;
   }
 
-  pub stop_made : law.MayOccur st c law.Stop → IsClusterOf stands st (record old { stopped = true }) (law.after_event st c law.Stop)
+  pub stop_made : law.MayOccur st c law.Stop → IsSavingClusterOf stands st (record old { stopped = true }) (law.after_event st c law.Stop)
   stop_made may = record {
     many = of.many;
     small = of.small;
@@ -351,9 +351,9 @@ module _ {M : Type 0} (stands : Setting → ℕ → Machine → M → Type 0) (s
         subst (λ (messages : List MessageView). AreReports messages (c.reports b)) (sym (line_kept changes b st.machines (inr (more_not q st.machines low_q)))) (of.reports b low_b)
 
     -- a message goes from machine p onto the link to machine q
-    pub send_made : law.MayOccur st c (law.Send p q) → (x : M) (message : Message) (sending : IsSending stands q message x st p (c.machine p)) →
+    pub send_made : law.MayOccur st c (law.Send p q) → (x : M) (message : Message) (sending : SendsItsFirst stands q message x st p (c.machine p)) →
         ChangesLine old.links links p q (messages_on old.links p q ++ message_view message ∷ []) →
-        IsClusterOf stands st (record old { machines = with_item old.machines p x; links = links }) (law.after_event st c (law.Send p q))
+        IsSavingClusterOf stands st (record old { machines = with_item old.machines p x; links = links }) (law.after_event st c (law.Send p q))
     send_made may x message sending changes =
         let m : Machine = hands q sending.behind (c.machine p) in
         let told : law_messages.Message = told_by message in
@@ -362,7 +362,7 @@ module _ {M : Type 0} (stands : Setting → ℕ → Machine → M → Type 0) (s
         let read : map message_read (messages_on old.links p q ++ message_view message ∷ []) ≡ c.link p q ++ told ∷ [] =
         map-append message_read (messages_on old.links p q) (message_view message ∷ []) ∙ ap (λ (ms : List law_messages.Message). ms ++ told ∷ []) (sym (of.told p q low_p low_q))
         in
-        subst (IsClusterOf stands st (record old { machines = with_item old.machines p x; links = links })) (sym does_it) (record {
+        subst (IsSavingClusterOf stands st (record old { machines = with_item old.machines p x; links = links })) (sym does_it) (record {
           many = many_set p low_p x m sending.after (of.runs p low_p);
           small = of.small;
           links = have;
@@ -383,12 +383,12 @@ module _ {M : Type 0} (stands : Setting → ℕ → Machine → M → Type 0) (s
     -- the first message on the link from machine p comes to machine q
     pub deliver_made : law.MayOccur st c (law.Deliver p q) → (x : M) (told : law_messages.Message) (behind : List law_messages.Message) → c.link p q ≡ told ∷ behind →
         stands st q (prompt st q (receives st q told (c.machine q))) x → (messages : List MessageView) → map message_read messages ≡ behind → ChangesLine old.links links p q messages →
-        IsClusterOf stands st (record old { machines = with_item old.machines q x; links = links }) (law.after_event st c (law.Deliver p q))
+        IsSavingClusterOf stands st (record old { machines = with_item old.machines q x; links = links }) (law.after_event st c (law.Deliver p q))
     deliver_made may x told behind first here messages read changes =
         let m : Machine = prompt st q (receives st q told (c.machine q)) in
         let after : Cluster = with_messages (with_machine c q m) p q behind in
         let does_it : law.after_event st c (law.Deliver p q) ≡ after = ap (law.delivers_message st c p q) first in
-        subst (IsClusterOf stands st (record old { machines = with_item old.machines q x; links = links })) (sym does_it) (record {
+        subst (IsSavingClusterOf stands st (record old { machines = with_item old.machines q x; links = links })) (sym does_it) (record {
           many = many_set q low_q x m here (of.runs q low_q);
           small = of.small;
           links = have;
@@ -448,11 +448,11 @@ module _ {M : Type 0} (stands : Setting → ℕ → Machine → M → Type 0) (s
     -- a call goes onto the link
     pub send_call_made : law.MayOccur st c (law.SendCall a) → (coordinator : CoordinatorView) (message : MessageView) → IsHandedOver st coordinator c.coordinator a message →
         ChangesLine old.links links st.machines a (messages_on old.links st.machines a ++ message ∷ []) →
-        IsClusterOf stands st (record old { links = links; coordinator = coordinator }) (law.after_event st c (law.SendCall a))
+        IsSavingClusterOf stands st (record old { links = links; coordinator = coordinator }) (law.after_event st c (law.SendCall a))
     send_call_made may coordinator message over changes =
         let after : Cluster = with_calls (with_coordinator c (hands_call a over.behind c.coordinator)) a (c.calls a ++ over.call ∷ []) in
         let does_it : law.after_event st c (law.SendCall a) ≡ after = ap (law.sends_call c a) over.first in
-        subst (IsClusterOf stands st (record old { links = links; coordinator = coordinator })) (sym does_it) (record {
+        subst (IsSavingClusterOf stands st (record old { links = links; coordinator = coordinator })) (sym does_it) (record {
           many = of.many;
           small = of.small;
           links = have;
@@ -474,12 +474,12 @@ module _ {M : Type 0} (stands : Setting → ℕ → Machine → M → Type 0) (s
     pub deliver_call_made : law.MayOccur st c (law.DeliverCall a) → (x : M) (call : Call) (behind : List Call) → c.calls a ≡ call ∷ behind →
         stands st a (prompt st a (takes_call st a call (c.machine a))) x → (messages : List MessageView) → AreCalls messages behind → ChangesLine old.links links st.machines a messages →
         (prompt st a (takes_call st a call (c.machine a))).failed ≡ false →
-        IsClusterOf stands st (record old { machines = with_item old.machines a x; links = links }) (law.after_event st c (law.DeliverCall a))
+        IsSavingClusterOf stands st (record old { machines = with_item old.machines a x; links = links }) (law.after_event st c (law.DeliverCall a))
     deliver_call_made may x call behind first here messages are changes runs =
         let m : Machine = prompt st a (takes_call st a call (c.machine a)) in
         let after : Cluster = with_calls (with_machine c a m) a behind in
         let does_it : law.after_event st c (law.DeliverCall a) ≡ after = ap (law.delivers_call st c a) first in
-        subst (IsClusterOf stands st (record old { machines = with_item old.machines a x; links = links })) (sym does_it) (record {
+        subst (IsSavingClusterOf stands st (record old { machines = with_item old.machines a x; links = links })) (sym does_it) (record {
           many = many_set a low x m here runs;
           small = of.small;
           links = have;
@@ -500,12 +500,12 @@ module _ {M : Type 0} (stands : Setting → ℕ → Machine → M → Type 0) (s
     -- a report goes onto the link
     pub send_report_made : law.MayOccur st c (law.SendReport a) → (x : M) (message : Message) (reporting : IsReporting stands message x st a (c.machine a)) →
         ChangesLine old.links links a st.machines (messages_on old.links a st.machines ++ message_view message ∷ []) →
-        IsClusterOf stands st (record old { machines = with_item old.machines a x; links = links }) (law.after_event st c (law.SendReport a))
+        IsSavingClusterOf stands st (record old { machines = with_item old.machines a x; links = links }) (law.after_event st c (law.SendReport a))
     send_report_made may x message reporting changes =
         let m : Machine = hands_report reporting.behind (c.machine a) in
         let after : Cluster = with_reports (with_machine c a m) a (c.reports a ++ reporting.report ∷ []) in
         let does_it : law.after_event st c (law.SendReport a) ≡ after = ap (law.sends_report c a) reporting.first in
-        subst (IsClusterOf stands st (record old { machines = with_item old.machines a x; links = links })) (sym does_it) (record {
+        subst (IsSavingClusterOf stands st (record old { machines = with_item old.machines a x; links = links })) (sym does_it) (record {
           many = many_set a low x m reporting.after (of.runs a low);
           small = of.small;
           links = have;
@@ -528,11 +528,11 @@ module _ {M : Type 0} (stands : Setting → ℕ → Machine → M → Type 0) (s
     pub deliver_report_made : law.MayOccur st c (law.DeliverReport a) → (coordinator : CoordinatorView) (report : Report) (behind : List Report) → c.reports a ≡ report ∷ behind →
         IsCoordinatorOf st coordinator (takes_report a report c.coordinator) → (takes_report a report c.coordinator).snapshots ≡ c.coordinator.snapshots →
         (messages : List MessageView) → AreReports messages behind → ChangesLine old.links links a st.machines messages →
-        IsClusterOf stands st (record old { links = links; coordinator = coordinator }) (law.after_event st c (law.DeliverReport a))
+        IsSavingClusterOf stands st (record old { links = links; coordinator = coordinator }) (law.after_event st c (law.DeliverReport a))
     deliver_report_made may coordinator report behind first leads snapshots messages are changes =
         let after : Cluster = with_reports (with_coordinator c (takes_report a report c.coordinator)) a behind in
         let does_it : law.after_event st c (law.DeliverReport a) ≡ after = ap (law.delivers_report c a) first in
-        subst (IsClusterOf stands st (record old { links = links; coordinator = coordinator })) (sym does_it) (record {
+        subst (IsSavingClusterOf stands st (record old { links = links; coordinator = coordinator })) (sym does_it) (record {
           many = of.many;
           small = of.small;
           links = have;

@@ -23,7 +23,7 @@ AreRecordsOf st (snapshot ∷ snapshots) [] = ⊥
 AreRecordsOf st (snapshot ∷ snapshots) (made ∷ records) = IsRecordFor st snapshot made × AreRecordsOf st snapshots records
 
 -- These parts stand for this cluster of the law; and events have led to that. The coordinator's links stand behind the machines'.
-pub record IsClusterOf {M : Type 0} (stands : Setting → ℕ → Machine → M → Type 0) (st : Setting) (p : Parts M) (c : Cluster) : Type 0 where
+pub record IsSavingClusterOf {M : Type 0} (stands : Setting → ℕ → Machine → M → Type 0) (st : Setting) (p : Parts M) (c : Cluster) : Type 0 where
   pub many : length p.machines.items ≡ st.machines
   pub small : st.machines < 65535
   pub links : HaveLinks p.links (suc st.machines)
@@ -41,22 +41,22 @@ pub record IsClusterOf {M : Type 0} (stands : Setting → ℕ → Machine → M 
   pub going : IsGoing st c
 
 -- of each cluster of the law for which they stand
-abbrev pub OfEachCluster : {M : Type 0} → (Setting → ℕ → Machine → M → Type 0) → Parts M → (Setting → Cluster → Type 0) → Type 0
-OfEachCluster stands p holds = (st : Setting) (c : Cluster) → IsSnapSetting st → IsClusterOf stands st p c → holds st c
+abbrev pub InEachCluster : {M : Type 0} → (Setting → ℕ → Machine → M → Type 0) → Parts M → (Setting → Cluster → Type 0) → Type 0
+InEachCluster stands p holds = (st : Setting) (c : Cluster) → IsSnapSetting st → IsSavingClusterOf stands st p c → holds st c
 
 -- there is one
-abbrev pub StandsForSome : {M : Type 0} → (Setting → ℕ → Machine → M → Type 0) → Parts M → Type 0
-StandsForSome stands p = (st : Setting) × (c : Cluster) × IsSnapSetting st × IsClusterOf stands st p c
+abbrev pub StandsForSaving : {M : Type 0} → (Setting → ℕ → Machine → M → Type 0) → Parts M → Type 0
+StandsForSaving stands p = (st : Setting) × (c : Cluster) × IsSnapSetting st × IsSavingClusterOf stands st p c
 
 -- they stand for the clusters for which they stood
-abbrev pub StandsForTheSame : {M : Type 0} → (Setting → ℕ → Machine → M → Type 0) → Parts M → Parts M → Type 0
-StandsForTheSame stands old new = OfEachCluster stands old (λ st c. IsClusterOf stands st new c)
+abbrev pub StandsForSameSaving : {M : Type 0} → (Setting → ℕ → Machine → M → Type 0) → Parts M → Parts M → Type 0
+StandsForSameSaving stands old new = InEachCluster stands old (λ st c. IsSavingClusterOf stands st new c)
 
 -- ---- where it begins
 
 -- The machines begin an attempt from this base, whatever was before, in a cluster of this setting; the store is that of the base and of
 -- the graph.
-pub record StartsIn {M : Type 0} (stands : Setting → ℕ → Machine → M → Type 0) (xs : List M) (store : StoreView) (next left : ℕ) (st : Setting) (base : BaseView) (before : Cluster) : Type 0 where
+pub record StartsSaving {M : Type 0} (stands : Setting → ℕ → Machine → M → Type 0) (xs : List M) (store : StoreView) (next left : ℕ) (st : Setting) (base : BaseView) (before : Cluster) : Type 0 where
   pub setting : IsSnapSetting st
   pub based : IsBase st base before.next
   pub many : length xs ≡ st.machines

@@ -16,7 +16,7 @@ number_in st none made v = or_zero (last_of_vertex (slice_index_or made.sections
 
 -- The order of the base and these updates is valid, and the record has, of each vertex, the number that its replay on the undivided graph
 -- gives.
-pub record IsCut (st : Setting) (c : Cluster) (made : Record) : Type 0 where
+pub record RecordsCut (st : Setting) (c : Cluster) (made : Record) : Type 0 where
   pub updates : List Entry
   pub valid : IsValidOrder st.graph st.program (c.base.order ++ updates)
   pub numbers : (none : SavedPart) (v : ℕ) → v < size st.graph → number_in st none made v ≡ (replay st.graph st.program (c.base.order ++ updates)).vertex v

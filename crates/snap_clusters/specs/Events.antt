@@ -3,7 +3,7 @@ use Rattle.std.specs.Prelude.{Result, IsErrOf, OnErr, OnOk, ℕ, ⊤, ◌<◌, �
 use Rattle.gl_base.specs.declared.refusals.Refused.{Refused}
 use Rattle.gl_base.specs.declared.refusals.Refused.TheVariants.{NoMemory, NotNow}
 use Rattle.cluster_model.specs.Events as law
-use Rattle.snap_clusters.specs.Clusters.{Cluster, IsClusterOf, Machine, OfEachCluster, Parts, Setting, StandsForTheSame}
+use Rattle.snap_clusters.specs.Clusters.{Cluster, IsSavingClusterOf, Machine, InEachCluster, Parts, Setting, StandsForSameSaving}
 use Rattle.snap_clusters.specs.declared.events.Event.{Event}
 use Rattle.snap_clusters.specs.declared.events.Event.TheVariants as event
 use Rattle.snap_clusters.specs.declared.events.Lead.{Lead}
@@ -35,10 +35,10 @@ IsPassageEvent (passage.DeliverCall a) e = e ≡ law.DeliverCall a.0
 IsPassageEvent (passage.SendReport a) e = e ≡ law.SendReport a.0
 IsPassageEvent (passage.DeliverReport a) e = e ≡ law.DeliverReport a.0
 
-abbrev pub IsEventOf : Event → law.Event → Type 0
-IsEventOf (event.Local what) e = IsLocalEvent what e
-IsEventOf (event.Lead what) e = IsLeadEvent what e
-IsEventOf (event.Passage what) e = IsPassageEvent what e
+abbrev pub IsNamedEvent : Event → law.Event → Type 0
+IsNamedEvent (event.Local what) e = IsLocalEvent what e
+IsNamedEvent (event.Lead what) e = IsLeadEvent what e
+IsNamedEvent (event.Passage what) e = IsPassageEvent what e
 
 -- the machines that it names are of a cluster of so many
 abbrev pub NamesLocal : ℕ → Local → Type 0
@@ -56,32 +56,32 @@ NamesPassage n (passage.DeliverCall a) = a.0 < n
 NamesPassage n (passage.SendReport a) = a.0 < n
 NamesPassage n (passage.DeliverReport a) = a.0 < n
 
-abbrev pub NamesMachinesOf : ℕ → Event → Type 0
-NamesMachinesOf n (event.Local what) = NamesLocal n what
-NamesMachinesOf n (event.Lead what) = ⊤
-NamesMachinesOf n (event.Passage what) = NamesPassage n what
+abbrev pub NamesItsMachines : ℕ → Event → Type 0
+NamesItsMachines n (event.Local what) = NamesLocal n what
+NamesItsMachines n (event.Lead what) = ⊤
+NamesItsMachines n (event.Passage what) = NamesPassage n what
 
 -- Such an event might occur in this cluster, and what has become of the code stands for what the event makes of it.
-pub record HasHappened {M : Type 0} (stands : Setting → ℕ → Machine → M → Type 0) (st : Setting) (c : Cluster) (what : Event) (new : Parts M) : Type 0 where
+pub record HasTakenPlace {M : Type 0} (stands : Setting → ℕ → Machine → M → Type 0) (st : Setting) (c : Cluster) (what : Event) (new : Parts M) : Type 0 where
   pub event : law.Event
-  pub is : IsEventOf what event
+  pub is : IsNamedEvent what event
   pub may : law.MayOccur st c event
-  pub after : IsClusterOf stands st new (law.after_event st c event)
+  pub after : IsSavingClusterOf stands st new (law.after_event st c event)
 
-abbrev pub MakesEvent : {M : Type 0} → (Setting → ℕ → Machine → M → Type 0) → Parts M → Event → Parts M → Type 0
-MakesEvent stands old what new = OfEachCluster stands old (λ st c. HasHappened stands st c what new)
+abbrev pub TakesPlace : {M : Type 0} → (Setting → ℕ → Machine → M → Type 0) → Parts M → Event → Parts M → Type 0
+TakesPlace stands old what new = InEachCluster stands old (λ st c. HasTakenPlace stands st c what new)
 
 -- such an event might occur
-abbrev pub CanHappen : {M : Type 0} → (Setting → ℕ → Machine → M → Type 0) → Parts M → Event → Type 0
-CanHappen stands old what = OfEachCluster stands old (λ st c. (event : law.Event) × IsEventOf what event × law.MayOccur st c event)
+abbrev pub CanTakePlace : {M : Type 0} → (Setting → ℕ → Machine → M → Type 0) → Parts M → Event → Type 0
+CanTakePlace stands old what = InEachCluster stands old (λ st c. (event : law.Event) × IsNamedEvent what event × law.MayOccur st c event)
 
 -- no such event might
-abbrev pub CanNotHappen : {M : Type 0} → (Setting → ℕ → Machine → M → Type 0) → Parts M → Event → Type 0
-CanNotHappen stands old what = OfEachCluster stands old (λ st c. (event : law.Event) → IsEventOf what event → law.MayOccur st c event → ⊥)
+abbrev pub CanNotTakePlace : {M : Type 0} → (Setting → ℕ → Machine → M → Type 0) → Parts M → Event → Type 0
+CanNotTakePlace stands old what = InEachCluster stands old (λ st c. (event : law.Event) → IsNamedEvent what event → law.MayOccur st c event → ⊥)
 
 -- What a call answers: the event has happened; or it might not, and nothing has changed; or memory was wanting where it might.
 pub record AnswersEvent {M : Type 0} (stands : Setting → ℕ → Machine → M → Type 0) (old : Parts M) (what : Event) (answer : Result (Unit {0}) Refused) (new : Parts M) : Type 0 where
-  pub made : OnOk answer (MakesEvent stands old what new)
-  pub not_now : IsErrOf answer NotNow → CanNotHappen stands old what
-  pub no_memory : IsErrOf answer NoMemory → CanHappen stands old what
-  pub unchanged : OnErr answer (StandsForTheSame stands old new)
+  pub made : OnOk answer (TakesPlace stands old what new)
+  pub not_now : IsErrOf answer NotNow → CanNotTakePlace stands old what
+  pub no_memory : IsErrOf answer NoMemory → CanTakePlace stands old what
+  pub unchanged : OnErr answer (StandsForSameSaving stands old new)

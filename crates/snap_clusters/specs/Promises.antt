@@ -44,8 +44,8 @@ CanAdmit stands x = OfEach stands x (λ st a m. (v : ℕ) × MayBeDone st a m (A
 abbrev pub CanNotAdmit : {M : Type 0} → (Setting → ℕ → Machine → M → Type 0) → M → Type 0
 CanNotAdmit stands x = OfEach stands x (λ st a m. (v : ℕ) → MayBeDone st a m (Admit v) → ⊥)
 
-abbrev pub HasAdmitted : {M : Type 0} → (Setting → ℕ → Machine → M → Type 0) → M → M → Type 0
-HasAdmitted stands old new = OfEach stands old (λ st a m. (v : ℕ) × MayBeDone st a m (Admit v) × stands st a (does st a (Admit v) m) new)
+abbrev pub HasAdmittedSome : {M : Type 0} → (Setting → ℕ → Machine → M → Type 0) → M → M → Type 0
+HasAdmittedSome stands old new = OfEach stands old (λ st a m. (v : ℕ) × MayBeDone st a m (Admit v) × stands st a (does st a (Admit v) m) new)
 
 -- ---- what comes
 
@@ -59,8 +59,8 @@ pub record IsFirstFrom {M : Type 0} (stands : Setting → ℕ → Machine → M 
   pub first : c.link p a ≡ told_by message ∷ behind
 
 -- there is such a cluster
-abbrev pub CanReceive : {M : Type 0} → (Setting → ℕ → Machine → M → Type 0) → M → ℕ → Message → Type 0
-CanReceive stands x p message = (st : Setting) × (c : Cluster) × (a : ℕ) × IsFirstFrom stands x p message st c a
+abbrev pub MayReceiveFirst : {M : Type 0} → (Setting → ℕ → Machine → M → Type 0) → M → ℕ → Message → Type 0
+MayReceiveFirst stands x p message = (st : Setting) × (c : Cluster) × (a : ℕ) × IsFirstFrom stands x p message st c a
 
 -- in each of them it was received
 abbrev pub HasReceived : {M : Type 0} → (Setting → ℕ → Machine → M → Type 0) → M → ℕ → Message → M → Type 0
@@ -77,8 +77,8 @@ pub record IsFirstCall {M : Type 0} (stands : Setting → ℕ → Machine → M 
   pub behind : List Call
   pub first : c.calls a ≡ call ∷ behind
 
-abbrev pub CanHear : {M : Type 0} → (Setting → ℕ → Machine → M → Type 0) → M → Message → Type 0
-CanHear stands x message = (st : Setting) × (c : Cluster) × (a : ℕ) × (call : Call) × IsFirstCall stands x message st c a call
+abbrev pub MayHearCall : {M : Type 0} → (Setting → ℕ → Machine → M → Type 0) → M → Message → Type 0
+MayHearCall stands x message = (st : Setting) × (c : Cluster) × (a : ℕ) × (call : Call) × IsFirstCall stands x message st c a call
 
 abbrev pub HasHeard : {M : Type 0} → (Setting → ℕ → Machine → M → Type 0) → M → Message → M → Type 0
 HasHeard stands old message new =
@@ -87,7 +87,7 @@ HasHeard stands old message new =
 -- ---- what is sent
 
 -- the message was the first for machine q, and has left the outbox
-pub record IsSending {M : Type 0} (stands : Setting → ℕ → Machine → M → Type 0) (q : ℕ) (message : Message) (new : M) (st : Setting) (a : ℕ) (m : Machine) : Type 0 where
+pub record SendsItsFirst {M : Type 0} (stands : Setting → ℕ → Machine → M → Type 0) (q : ℕ) (message : Message) (new : M) (st : Setting) (a : ℕ) (m : Machine) : Type 0 where
   pub behind : List law.Message
   pub first : m.part.out q ≡ told_by message ∷ behind
   pub after : stands st a (hands q behind m) new

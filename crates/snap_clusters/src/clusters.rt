@@ -6,9 +6,9 @@ ghost use Rattle.cluster_ending.specs.Ends.{HasFinishedOrder};
 ghost use Rattle.cluster_model.specs.Events.{recovers};
 ghost use Rattle.coord_core.specs.Calls.{IsDueOf};
 ghost use Rattle.coord_core.specs.Stores.{store_view};
-ghost use Rattle.snap_clusters.specs.Clusters.{AreRecordsOf, BaseView, Cluster, IsClusterOf, OfEachCluster, Setting, StandsForSome, StandsForTheSame, StartsIn};
-ghost use Rattle.snap_clusters.specs.Cuts.{IsCut};
-ghost use Rattle.snap_clusters.specs.Events.{CanHappen, CanNotHappen, MakesEvent, NamesMachinesOf};
+ghost use Rattle.snap_clusters.specs.Clusters.{AreRecordsOf, BaseView, Cluster, IsSavingClusterOf, InEachCluster, Setting, StandsForSaving, StandsForSameSaving, StartsSaving};
+ghost use Rattle.snap_clusters.specs.Cuts.{RecordsCut};
+ghost use Rattle.snap_clusters.specs.Events.{CanTakePlace, CanNotTakePlace, TakesPlace, NamesItsMachines};
 
 use crate::events::Event;
 use crate::machines::SavingMachine;
@@ -27,13 +27,13 @@ pub struct SnapCluster<M: SavingMachine> {
 }
 
 impl<M: SavingMachine> Model for SnapCluster<M> {
-    ghost use Rattle.snap_clusters.specs.Clusters.{Parts, StandsForSome};
+    ghost use Rattle.snap_clusters.specs.Clusters.{Parts, StandsForSaving};
 
     ghost Value = { Parts M };
 
     ghost view = { λ c. c.parts };
 
-    ghost invariant = { λ c. StandsForSome M.stands c.parts };
+    ghost invariant = { λ c. StandsForSaving M.stands c.parts };
 }
 
 impl<M: SavingMachine> SnapCluster<M> {
@@ -46,14 +46,14 @@ impl<M: SavingMachine> SnapCluster<M> {
         next: u64,
         left: u64,
     ) -> Result<SnapCluster<M>, NoMemory>
-        requires start { (st : Setting) × (base : BaseView) × (before : Cluster) × StartsIn M.stands machines.items (store_view store) next left st base before }
+        requires start { (st : Setting) × (base : BaseView) × (before : Cluster) × StartsSaving M.stands machines.items (store_view store) next left st base before }
         requires many { length machines.items < 65535 }
         requires few { next + left < 2 ^ 64 }
         requires newest { store.newest + 1 < 2 ^ 32 }
         requires length { store.length ≤ 1073741824 }
         // It is what the law begins with, whatever was before.
-        ensures began { IfOk result (λ c. (st : Setting) (base : BaseView) (before : Cluster) → StartsIn M.stands machines.items (store_view store) next left st base before →
-            IsClusterOf M.stands (going_on st base.numbers base.number) c (recovers st base before)) }
+        ensures began { IfOk result (λ c. (st : Setting) (base : BaseView) (before : Cluster) → StartsSaving M.stands machines.items (store_view store) next left st base before →
+            IsSavingClusterOf M.stands (going_on st base.numbers base.number) c (recovers st base before)) }
     {
         let many = machines.len();
         let links = Links::new(alloc, many + 1)?;
@@ -73,11 +73,11 @@ impl<M: SavingMachine> SnapCluster<M> {
 
     /// The event happens, where it may happen now.
     pub fn apply(&mut self, alloc: Global, event: Event) -> Result<(), Refused>
-        requires { NamesMachinesOf (length self.old.machines.items) event }
-        ensures made { OnOk result (MakesEvent M.stands self.old event self.new) }
-        ensures not_now { IsErrOf result Refused.NotNow → CanNotHappen M.stands self.old event }
-        ensures no_memory { IsErrOf result Refused.NoMemory → CanHappen M.stands self.old event }
-        ensures unchanged { OnErr result (StandsForTheSame M.stands self.old self.new) }
+        requires { NamesItsMachines (length self.old.machines.items) event }
+        ensures made { OnOk result (TakesPlace M.stands self.old event self.new) }
+        ensures not_now { IsErrOf result Refused.NotNow → CanNotTakePlace M.stands self.old event }
+        ensures no_memory { IsErrOf result Refused.NoMemory → CanTakePlace M.stands self.old event }
+        ensures unchanged { OnErr result (StandsForSameSaving M.stands self.old self.new) }
         ensures machines { length self.new.machines.items ≡ length self.old.machines.items }
     {
         self.parts.make(alloc, event)
@@ -87,10 +87,10 @@ impl<M: SavingMachine> SnapCluster<M> {
     /// order on the undivided graph.
     pub fn acknowledged(&self) -> &[Record]
         ensures all { result.now ≡ self.now.acknowledged.items }
-        ensures stored { OfEachCluster M.stands self.now (λ st c. AreRecordsOf st c.coordinator.snapshots result.now) }
-        ensures cuts { OfEachCluster M.stands self.now (λ st c. AllByRecursion (IsCut st c) result.now) }
+        ensures stored { InEachCluster M.stands self.now (λ st c. AreRecordsOf st c.coordinator.snapshots result.now) }
+        ensures cuts { InEachCluster M.stands self.now (λ st c. AllByRecursion (RecordsCut st c) result.now) }
         // Some cluster of the law is this one, so that what is said of all of them says something.
-        ensures cluster { StandsForSome M.stands self.now }
+        ensures cluster { StandsForSaving M.stands self.now }
     {
         &self.parts.acknowledged
     }
@@ -98,7 +98,7 @@ impl<M: SavingMachine> SnapCluster<M> {
     /// What is due: a record, the next snapshot, the end, or a wave. Where it is the end, the order of the updates leaves no task.
     pub fn due(&self) -> Due
         ensures due { IsDueOf self.now.coordinator result }
-        ensures ended { result ≡ Due.Ended → OfEachCluster M.stands self.now HasFinishedOrder }
+        ensures ended { result ≡ Due.Ended → InEachCluster M.stands self.now HasFinishedOrder }
     {
         self.parts.coordinator.due()
     }
@@ -114,7 +114,7 @@ impl<M: SavingMachine> SnapCluster<M> {
     pub fn machine(&self, m: MachineNo) -> &M
         requires { m.0 < length self.now.machines.items }
         ensures stands { slice_get self.now.machines.items m.0 ≡ Some result.now }
-        ensures is { OfEachCluster M.stands self.now (λ st c. M.stands st m.0 (c.machine m.0) result.now) }
+        ensures is { InEachCluster M.stands self.now (λ st c. M.stands st m.0 (c.machine m.0) result.now) }
     {
         &self.parts.machines[m.0 as usize]
     }

@@ -1,6 +1,6 @@
 //! A machine that takes snapshots, as a cluster knows it.
 ghost use Rattle.std.specs.Prelude.{◌≡◌, ◌↔◌, ℕ, [], IsTrue, OnOk, OnErr, IfErr, IfSome, IfNone, IsErrOf};
-ghost use Rattle.snap_clusters.specs.Promises.{Grant, Machine, Mark, Section, Setting, Update, CanAdmit, CanDo, CanHear, CanNotAdmit, CanNotDo, CanReceive, HasAdmitted, HasDone, HasHeard, HasFirst, HasNext, HasReceived, IsReporting, IsSending, OfEach, StandsStill};
+ghost use Rattle.snap_clusters.specs.Promises.{Grant, Machine, Mark, Section, Setting, Update, CanAdmit, CanDo, MayHearCall, CanNotAdmit, CanNotDo, MayReceiveFirst, HasAdmittedSome, HasDone, HasHeard, HasFirst, HasNext, HasReceived, IsReporting, SendsItsFirst, OfEach, StandsStill};
 
 use gl_base::{Entry, MachineNo, Refused, ScopeId, Vertex};
 use wire_msgs::{Message, Returned};
@@ -15,7 +15,7 @@ pub trait SavingMachine: Drop {
     /// A scope of a vertex that is pending, or that is a task where the window has room, sets out for its locks. Which vertex is the
     /// machine's choice.
     fn admit(&mut self) -> Result<(), Refused>
-        ensures admitted { OnOk result (HasAdmitted stands self.old self.new) }
+        ensures admitted { OnOk result (HasAdmittedSome stands self.old self.new) }
         ensures not_now { IsErrOf result Refused.NotNow → CanNotAdmit stands self.old }
         ensures no_memory { IsErrOf result Refused.NoMemory → CanAdmit stands self.old }
         ensures unchanged { OnErr result (StandsStill stands self.old self.new) };
@@ -52,7 +52,7 @@ pub trait SavingMachine: Drop {
     /// Receives a message from another machine: the first on the link in some cluster in which this one stands. For want of memory the
     /// message comes back.
     fn receive(&mut self, from: MachineNo, message: Message) -> Result<(), Returned>
-        requires { CanReceive stands self.old from.0 message }
+        requires { MayReceiveFirst stands self.old from.0 message }
         ensures received { OnOk result (HasReceived stands self.old from.0 message self.new) }
         ensures returned { IfErr result (λ back. back.message ≡ message) }
         ensures unchanged { OnErr result (StandsStill stands self.old self.new) };
@@ -60,7 +60,7 @@ pub trait SavingMachine: Drop {
     /// Receives a message from the coordinator: that a snapshot begins or is acknowledged, or a wave, which it answers at once. For want
     /// of memory the message comes back.
     fn hear(&mut self, message: Message) -> Result<(), Returned>
-        requires { CanHear stands self.old message }
+        requires { MayHearCall stands self.old message }
         ensures heard { OnOk result (HasHeard stands self.old message self.new) }
         ensures returned { IfErr result (λ back. back.message ≡ message) }
         ensures unchanged { OnErr result (StandsStill stands self.old self.new) };
@@ -71,7 +71,7 @@ pub trait SavingMachine: Drop {
 
     /// Takes the first message that waits to be sent to a machine; `None` exactly where none waits.
     fn outbox_take(&mut self, to: MachineNo) -> Option<Message>
-        ensures taken { IfSome result (λ m. OfEach stands self.old (IsSending stands to.0 m self.new)) }
+        ensures taken { IfSome result (λ m. OfEach stands self.old (SendsItsFirst stands to.0 m self.new)) }
         ensures none { IfNone result (OfEach stands self.old (λ st a m. m.part.out to.0 ≡ [])) }
         ensures unchanged { IfNone result (StandsStill stands self.old self.new) };
 

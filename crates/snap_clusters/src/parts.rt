@@ -1,8 +1,8 @@
 //! The machines of a cluster that takes snapshots, their links, the coordinator, and the tickets.
 ghost use Rattle.std.specs.Prelude.{◌≡◌, ◌+◌, ◌^◌, ◌<◌, false, length};
 ghost use Rattle.cluster_step.specs.Inner.Writing.{HasLinkBetween};
-ghost use Rattle.snap_clusters.specs.Clusters.{StandsForSome};
-ghost use Rattle.snap_clusters.specs.Events.{AnswersEvent, NamesLocal, NamesMachinesOf, NamesPassage};
+ghost use Rattle.snap_clusters.specs.Clusters.{StandsForSaving};
+ghost use Rattle.snap_clusters.specs.Events.{AnswersEvent, NamesLocal, NamesItsMachines, NamesPassage};
 
 use crate::events::{Event, Lead, Local, Passage};
 use crate::machines::SavingMachine;
@@ -28,8 +28,8 @@ pub struct Parts<M> {
 impl<M: SavingMachine> Parts<M> {
     /// The event happens, where it may happen now.
     pub(crate) fn make(&mut self, alloc: Global, event: Event) -> Result<(), Refused>
-        requires within { NamesMachinesOf (length self.old.machines.items) event }
-        requires some { StandsForSome M.stands self.old }
+        requires within { NamesItsMachines (length self.old.machines.items) event }
+        requires some { StandsForSaving M.stands self.old }
         ensures { AnswersEvent M.stands self.old event result self.new }
     {
         if self.stopped {
@@ -75,7 +75,7 @@ impl<M: SavingMachine> Parts<M> {
     fn make_passage(&mut self, passage: Passage) -> Result<(), Refused>
         requires within { NamesPassage (length self.old.machines.items) passage }
         requires runs { self.old.stopped ≡ false }
-        requires some { StandsForSome M.stands self.old }
+        requires some { StandsForSaving M.stands self.old }
         ensures { AnswersEvent M.stands self.old (Event.Passage passage) result self.new }
     {
         match passage {
@@ -169,7 +169,7 @@ impl<M: SavingMachine> Parts<M> {
     fn deliver(&mut self, from: MachineNo, to: MachineNo) -> Result<(), Refused>
         requires within { (from.0 < length self.old.machines.items) × (to.0 < length self.old.machines.items) }
         requires runs { self.old.stopped ≡ false }
-        requires some { StandsForSome M.stands self.old }
+        requires some { StandsForSaving M.stands self.old }
         requires links { HasLinkBetween self.old.links from.0 to.0 }
         ensures { AnswersEvent M.stands self.old (Event.Passage (Passage.Deliver from to)) result self.new }
     {
@@ -261,7 +261,7 @@ impl<M: SavingMachine> Parts<M> {
     fn deliver_call(&mut self, to: MachineNo) -> Result<(), Refused>
         requires within { to.0 < length self.old.machines.items }
         requires runs { self.old.stopped ≡ false }
-        requires some { StandsForSome M.stands self.old }
+        requires some { StandsForSaving M.stands self.old }
         requires many { length self.old.machines.items < 65535 }
         requires links { HasLinkBetween self.old.links (length self.old.machines.items) to.0 }
         ensures { AnswersEvent M.stands self.old (Event.Passage (Passage.DeliverCall to)) result self.new }
@@ -306,7 +306,7 @@ impl<M: SavingMachine> Parts<M> {
     fn deliver_report(&mut self, from: MachineNo) -> Result<(), Refused>
         requires within { from.0 < length self.old.machines.items }
         requires runs { self.old.stopped ≡ false }
-        requires some { StandsForSome M.stands self.old }
+        requires some { StandsForSaving M.stands self.old }
         requires many { length self.old.machines.items < 65535 }
         requires links { HasLinkBetween self.old.links from.0 (length self.old.machines.items) }
         ensures { AnswersEvent M.stands self.old (Event.Passage (Passage.DeliverReport from)) result self.new }

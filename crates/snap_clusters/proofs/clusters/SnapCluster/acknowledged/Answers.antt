@@ -2,12 +2,12 @@
 use Rattle.std.proofs.Common.{List, subst, sym}
 use Rattle.std.specs.List.{AllByRecursion}
 use Rattle.gl_base.specs.declared.snapshots.Record.{Record}
-use Rattle.snap_clusters.specs.Clusters.{IsClusterOf}
-use Rattle.snap_clusters.specs.Cuts.{IsCut}
+use Rattle.snap_clusters.specs.Clusters.{IsSavingClusterOf}
+use Rattle.snap_clusters.specs.Cuts.{RecordsCut}
 use Rattle.snap_clusters.proofs.Cutting.{cuts}
 use Rattle.snap_clusters.proofs.clusters.SnapCluster.acknowledged.Goals as goal
 
 pub returns-clause-cuts : goal.returns-clause-cuts
 returns-clause-cuts g c = λ st own setting of.
-    subst (λ (records : List Record). AllByRecursion (IsCut st own) records) (sym c.deref.ensures.value)
-    (cuts g.M.SavingMachine.stands c.self.inside.parts st own setting (subst (λ p. IsClusterOf g.M.SavingMachine.stands st p own) (sym c.self.view_is) of))
+    subst (λ (records : List Record). AllByRecursion (RecordsCut st own) records) (sym c.deref.ensures.value)
+    (cuts g.M.SavingMachine.stands c.self.inside.parts st own setting (subst (λ p. IsSavingClusterOf g.M.SavingMachine.stands st p own) (sym c.self.view_is) of))
