@@ -1,0 +1,9 @@
+//! A machine with its program, which takes part in snapshots.
+#![tactic(auto)]
+
+mod machines;
+mod scopes;
+mod snapshots;
+mod updates;
+
+pub use machines::SnapMachine;

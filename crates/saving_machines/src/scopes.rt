@@ -1,0 +1,77 @@
+//! How scopes are admitted and go on. What is kept for snapshots stays as it is.
+ghost use Rattle.std.specs.Prelude.{◌≡◌, ℕ, ◌<◌, IfOk, IfErr, IfSome, IfNone, OnOk, OnErr, IsErrOf};
+ghost use Rattle.machine_scopes.specs.Admitting.{CanAdmitPick, HasAdmittedPick, MayAdmitNone, next_id};
+ghost use Rattle.machine_scopes.specs.Asking.{AreMachinesFor, Ask, CanBecomeReady, HasOnlyMadeRoom, HasReceivedMessage, IsNewAt, Ready, come, machine_numbers};
+ghost use Rattle.machine_scopes.specs.Granting.{HasGrantedLock, MayGrantLock, MayNotGrantLock, WaitsFirst, WantedNext};
+ghost use Rattle.saving_machines.specs.Machines.{SameSettings, part_of};
+
+use crate::machines::SnapMachine;
+use gl_base::{MachineNo, Refused, ScopeId, Vertex};
+use machine_scopes::Moved;
+use update_api::Program;
+
+impl<P: Program> SnapMachine<P> {
+    /// Admits a scope of the vertex that the tasks pick: a pending one before a task, and a task where the window has room.
+    pub fn admit(&mut self) -> Result<ScopeId, Refused>
+        ensures scope { IfOk result (λ s. s ≡ next_id self.old.core.pipe) }
+        ensures admitted { IfOk result (λ s. HasAdmittedPick self.old.core self.new.core) }
+        ensures not_now { IsErrOf result Refused.NotNow → MayAdmitNone self.old.core }
+        ensures no_memory { IsErrOf result Refused.NoMemory → CanAdmitPick self.old.core }
+        ensures unchanged { OnErr result (part_of self.new.core ≡ part_of self.old.core) }
+        ensures kept { self.new.kept ≡ self.old.kept }
+        ensures program { self.new.program ≡ self.old.program }
+        ensures settings { SameSettings self.old.core self.new.core }
+    {
+        machine_scopes::admit(self.alloc, &mut self.core)
+    }
+
+    /// The first that waits for the lock of x holds it and goes on, where it goes together with each holder.
+    pub fn grant(&mut self, x: Vertex) -> Result<Moved, Refused>
+        ensures granted { IfOk result (λ moved. MayGrantLock self.old.core x.0 × HasGrantedLock self.old.core self.new.core x.0) }
+        ensures scope { IfOk result (λ moved. WaitsFirst self.old.core x.0 moved.scope) }
+        ensures next { IfOk result (λ moved. WantedNext self.old.core moved.scope moved.next) }
+        ensures not_now { IsErrOf result Refused.NotNow → MayNotGrantLock self.old.core x.0 }
+        ensures no_memory { IsErrOf result Refused.NoMemory → MayGrantLock self.old.core x.0 }
+        ensures unchanged { OnErr result (part_of self.new.core ≡ part_of self.old.core) }
+        ensures numbers { self.new.core.numbers ≡ self.old.core.numbers }
+        ensures kept { self.new.kept ≡ self.old.kept }
+        ensures program { self.new.program ≡ self.old.program }
+        ensures settings { SameSettings self.old.core self.new.core }
+    {
+        machine_scopes::grant(&mut self.core, x)
+    }
+
+    /// The scope of this centre has come, and has the machines `rest` still to come. Where there is not enough memory, or as many scopes
+    /// have come as may, `rest` comes back.
+    pub fn receive_ask(
+        &mut self,
+        scope: ScopeId,
+        centre: Vertex,
+        rest: Vec<MachineNo>,
+    ) -> Result<(), Vec<MachineNo>>
+        requires is_new { IsNewAt self.old.core scope centre }
+        requires machines { AreMachinesFor self.old.core scope rest.items }
+        ensures place { OnOk result (come self.old.core.pipe < 4096) }
+        ensures received { OnOk result (HasReceivedMessage self.old.core self.new.core (Ask scope centre.0 (machine_numbers rest.items))) }
+        ensures back { IfErr result (λ same. same ≡ rest) }
+        ensures unchanged { OnErr result (HasOnlyMadeRoom self.old.core self.new.core × (part_of self.new.core ≡ part_of self.old.core)) }
+        ensures numbers { self.new.core.numbers ≡ self.old.core.numbers }
+        ensures kept { self.new.kept ≡ self.old.kept }
+        ensures program { self.new.program ≡ self.old.program }
+        ensures settings { SameSettings self.old.core self.new.core }
+    {
+        machine_scopes::receive_ask(self.alloc, &mut self.core, scope, centre, rest)
+    }
+
+    /// Word has come that a scope of this home has all its locks: it is ready. It takes no memory.
+    pub fn receive_ready(&mut self, scope: ScopeId)
+        requires { CanBecomeReady self.old.core scope }
+        ensures received { HasReceivedMessage self.old.core self.new.core (Ready scope) }
+        ensures numbers { self.new.core.numbers ≡ self.old.core.numbers }
+        ensures kept { self.new.kept ≡ self.old.kept }
+        ensures program { self.new.program ≡ self.old.program }
+        ensures settings { SameSettings self.old.core self.new.core }
+    {
+        machine_scopes::receive_ready(&mut self.core, scope);
+    }
+}

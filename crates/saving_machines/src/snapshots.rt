@@ -1,0 +1,88 @@
+//! What the machine does of snapshots.
+ghost use Rattle.std.specs.Prelude.{◌≡◌, IfOk, OnOk, OnErr, IsErrOf};
+ghost use Rattle.snap_machines.specs.Hearing.{HasBegun, HasFewerOutside};
+ghost use Rattle.snap_machines.specs.Learning.{CanLearnNews, HasLearnedNews};
+ghost use Rattle.snap_machines.specs.Marking.{HasMarked, HasOnlyMadeRoom, HasSavedMore, MayMark};
+ghost use Rattle.snap_machines.specs.Sending.{MayNotSendSection, MaySendSection};
+ghost use Rattle.snap_update.specs.Snaps.{IsSameButRoom, own_section, section_view, with_begun, with_committed, with_section};
+ghost use Rattle.saving_machines.specs.Machines.{SameSettings, part_of};
+
+use crate::machines::SnapMachine;
+use gl_base::{Refused, ScopeId};
+use update_api::Program;
+use wire_msgs::{Done, Section};
+
+impl<P: Program> SnapMachine<P> {
+    /// A snapshot of this number has begun, by the coordinator's word. It takes no memory.
+    pub fn begin(&mut self, number: u32)
+        ensures begun { HasBegun self.old.core self.old.kept self.new.core self.new.kept number }
+        ensures kept { IsSameButRoom (with_begun number self.old.kept) self.new.kept }
+        ensures program { self.new.program ≡ self.old.program }
+        ensures settings { SameSettings self.old.core self.new.core }
+    {
+        snap_machines::begin(&mut self.core, &mut self.snaps, &mut self.seen, number);
+    }
+
+    /// This snapshot is acknowledged: the updates of its section are outside no more. It takes no memory.
+    pub fn committed(&mut self, number: u32)
+        ensures kept { self.new.kept ≡ with_committed number self.old.kept }
+        ensures fewer { HasFewerOutside self.old.core self.new.core }
+        ensures part { part_of self.new.core ≡ part_of self.old.core }
+        ensures program { self.new.program ≡ self.old.program }
+        ensures settings { SameSettings self.old.core self.new.core }
+    {
+        snap_machines::committed(&mut self.core, &mut self.snaps, number);
+    }
+
+    /// Word of an update elsewhere has come, be it a snapshot update or not. It takes no memory.
+    pub fn learn(&mut self, done: Done)
+        requires { CanLearnNews self.old.core done }
+        ensures learned { HasLearnedNews self.old.core self.old.kept self.new.core self.new.kept done }
+        ensures kept { IsSameButRoom (with_begun done.number self.old.kept) self.new.kept }
+        ensures program { self.new.program ≡ self.old.program }
+        ensures settings { SameSettings self.old.core self.new.core }
+    {
+        snap_machines::learn(
+            self.alloc,
+            &mut self.core,
+            &mut self.snaps,
+            &mut self.seen,
+            done,
+        );
+    }
+
+    /// Makes the snapshot update of a ready scope of this machine whose vertex is pending.
+    pub fn mark(&mut self, scope: ScopeId) -> Result<(), Refused>
+        ensures marked { OnOk result (HasMarked self.old.core self.old.kept self.new.core self.new.kept scope) }
+        ensures saved { HasSavedMore self.old.kept self.new.kept }
+        ensures not_now { IsErrOf result Refused.NotNow → MayMark scope (part_of self.old.core) → ⊥ }
+        ensures no_memory { IsErrOf result Refused.NoMemory → MayMark scope (part_of self.old.core) }
+        ensures unchanged { OnErr result (HasOnlyMadeRoom self.old.core self.new.core) }
+        ensures part { OnErr result (part_of self.new.core ≡ part_of self.old.core) }
+        ensures same { OnErr result (IsSameButRoom self.old.kept self.new.kept) }
+        ensures program { self.new.program ≡ self.old.program }
+        ensures settings { SameSettings self.old.core self.new.core }
+    {
+        snap_machines::mark(
+            self.alloc,
+            &mut self.core,
+            &mut self.snaps,
+            &mut self.seen,
+            scope,
+        )
+    }
+
+    /// The section of the snapshot that is known, once, where each own vertex has its mark.
+    pub fn section(&mut self) -> Result<Section, Refused>
+        ensures may { OnOk result (MaySendSection self.old.core self.old.kept) }
+        ensures told { IfOk result (λ s. section_view s ≡ own_section self.old.kept) }
+        ensures sent { OnOk result (IsSameButRoom (with_section self.old.kept) self.new.kept) }
+        ensures not_now { IsErrOf result Refused.NotNow → MayNotSendSection self.old.core self.old.kept }
+        ensures no_memory { IsErrOf result Refused.NoMemory → MaySendSection self.old.core self.old.kept }
+        ensures unchanged { OnErr result (self.new.kept ≡ self.old.kept) }
+        ensures core { self.new.core ≡ self.old.core }
+        ensures program { self.new.program ≡ self.old.program }
+    {
+        snap_machines::section(self.alloc, &self.core, &mut self.snaps, &mut self.seen)
+    }
+}

@@ -1,0 +1,97 @@
+//! Updates, which are counted beside what is kept for snapshots.
+ghost use Rattle.std.specs.Prelude.{◌≡◌, ◌&&◌, not, None, Some, IfSome, OnOk, OnErr, IsErrOf};
+ghost use Rattle.machine_turns.specs.Turns.{HasMadeUpdate, HasRunOf, MayUpdate, flight_at, pending_here, task_here};
+ghost use Rattle.snap_update.specs.Snaps.{IsSameButRoom, asked_behind, with_asking};
+ghost use Rattle.saving_machines.specs.Machines.{SameSettings, part_of};
+ghost use Rattle.saving_machines.specs.Updates.{HasLogged};
+
+use crate::machines::SnapMachine;
+use gl_base::{Entry, Refused, ScopeId, Vertex};
+use machine_numbers::Numbers;
+use machine_parts::Core;
+use update_api::Program;
+
+impl<P: Program> SnapMachine<P> {
+    /// Makes the update of a ready scope of this machine, whose vertex is a task and not pending, and tells the other machines of the
+    /// scope. It is logged under the ticket, and kept before the marks where its vertex has no mark of the snapshot that is known, else
+    /// behind them.
+    pub fn update(&mut self, scope: ScopeId, ticket: u64) -> Result<(), Refused>
+        ensures updated { OnOk result (HasMadeUpdate (P.meaning self.old.program) self.old.core self.new.core scope ticket) }
+        ensures run { OnOk result (HasRunOf self.old.core self.new.core scope) }
+        ensures logged { OnOk result (HasLogged self.old.core self.old.kept self.new.kept scope ticket) }
+        ensures not_now { IsErrOf result Refused.NotNow → MayUpdate scope (part_of self.old.core) 1 → ⊥ }
+        ensures no_memory { IsErrOf result Refused.NoMemory → MayUpdate scope (part_of self.old.core) 1 }
+        ensures unchanged { OnErr result (part_of self.new.core ≡ part_of self.old.core) }
+        ensures same { OnErr result (IsSameButRoom self.old.kept self.new.kept) }
+        ensures program { self.new.program ≡ self.old.program }
+        ensures settings { SameSettings self.old.core self.new.core }
+    {
+        let Some(centre) = centre_to_update(&self.core, scope) else {
+            return Err(Refused::NotNow);
+        };
+        if self.snaps.reserve().is_err() {
+            return Err(Refused::NoMemory);
+        }
+        let mark = self.core.numbers.datum(centre).mark;
+        match machine_turns::update(
+            self.alloc,
+            &mut self.core,
+            &mut self.spares,
+            &self.program,
+            scope,
+            ticket,
+        ) {
+            Ok(()) => {
+                let entry = Entry::Go {
+                    ticket,
+                    machine: scope.home,
+                    vertex: centre,
+                };
+                self.snaps.log(entry, mark);
+                Ok(())
+            }
+            Err(refused) => Err(refused),
+        }
+    }
+
+    /// The last acknowledged snapshot that is known, where one behind it is to be asked for: so many updates are outside, and it wasn't
+    /// asked for yet.
+    pub fn ask(&mut self, half: u64) -> Option<u32>
+        ensures behind { result ≡ asked_behind half self.old.kept }
+        ensures kept { self.new.kept ≡ with_asking half self.old.kept }
+        ensures core { self.new.core ≡ self.old.core }
+        ensures program { self.new.program ≡ self.old.program }
+    {
+        self.snaps.ask(half)
+    }
+}
+
+/// The vertex of a scope that may make its update now.
+fn centre_to_update(core: &Core, scope: ScopeId) -> Option<Vertex>
+    ensures some { IfSome result (λ v. (flight_at core.now.pipe scope ≡ Some v) × MayUpdate scope (part_of core.now) 1) }
+    ensures none { result ≡ None → MayUpdate scope (part_of core.now) 1 → ⊥ }
+{
+    if !core.pipe.is_ready(scope) {
+        return None;
+    }
+    let centre = core.pipe.centre(scope);
+    if waits(&core.numbers, centre) {
+        Some(centre)
+    } else {
+        None
+    }
+}
+
+/// Whether v is a task that is not pending.
+fn waits(numbers: &Numbers, v: Vertex) -> bool
+    ensures { result ≡ (task_here numbers.now v.0 && not (pending_here numbers.now v.0)) }
+{
+    let count = numbers.tasks.count() as usize;
+    match numbers.local.place(v) {
+        Some(place) if place < count => {
+            let own = Vertex(place as u32);
+            numbers.tasks.is_task(own) && !numbers.tasks.is_pending(own)
+        }
+        _ => false,
+    }
+}
