@@ -1,14 +1,18 @@
 -- A machine that takes part in snapshots stays one through each call.
-use Rattle.std.proofs.Common.{◌≡◌, ℕ, ◌+◌, ◌^◌, ◌<◌, ◌≤◌, ◌++◌, Bool, true, false, true≢false, if◌then◌else◌, Option, Some, None, List, [], ◌∷◌, length, refl, sym, ap, ◌∙◌, subst, arith, length-append, sum_by}
+use Rattle.std.proofs.Common.{◌≡◌, ℕ, ◌+◌, ◌^◌, ◌<◌, ◌≤◌, ◌++◌, Bool, true, false, true≢false, if◌then◌else◌, Option, Some, None, List, [], ◌∷◌, length, refl, sym, ap, ◌∙◌, subst, arith, length-append, length-set, sum_by}
 use Rattle.std.specs.Prelude.{is_some, nat_lt, slice_get, OnErr, OnOk, Result, Ok, Err}
 use Rattle.std.proofs.lemmas.List.Sums.{sum_by_push}
 use Rattle.gl_base.specs.declared.entries.Entry.{Entry}
 use Rattle.gl_base.specs.declared.numbers.Vertex.{Vertex}
 use Rattle.gl_base.specs.declared.scopes.Datum.{Datum}
+use Rattle.gl_base.specs.declared.scopes.Peer.{Peer}
+use Rattle.gl_base.specs.declared.scopes.Peer.TheVariants.{Coordinator, Machine}
 use Rattle.gl_base.specs.declared.scopes.ScopeId.{ScopeId}
 use Rattle.machine_numbers.specs.declared.keeping.Numbers.{Numbers}
 use Rattle.machine_numbers.specs.Views.{LocalView, TasksView, datum_here, ghost_datum, links_at, own_datum, own_or_ghost, place_at, sides_at}
 use Rattle.machine_parts.specs.declared.cores.Core.{Core}
+use Rattle.outboxes.specs.Outboxes.{OutboxView, OutboxesView, with_outbox}
+use Rattle.machine_parts.specs.Order.{HasComeRight, IsGraphInOrder}
 use Rattle.machine_parts.specs.Parts.{flight_at}
 use Rattle.machine_turns.specs.Turns.{HasRunOf, IsRowIn}
 use Rattle.machine_updates.proofs.CommitLemmas.{placed}
@@ -17,7 +21,7 @@ use Rattle.snap_machines.specs.Hearing.{HasFewerOutside}
 use Rattle.snap_machines.specs.Marking.{HasSavedMore}
 use Rattle.snap_machines.specs.Seeding.{HasOtherPending}
 use Rattle.snap_machines.proofs.LearnLemmas.{known_grows, most_grows}
-use Rattle.saving_machines.specs.Machines.{AreMarkedBelow, AreMarksUpTo, HasEachRow, IsFreshMachine, IsOrderly, IsSnapMachine, KnowsPlaces, SnapView, is_own, outside_of}
+use Rattle.saving_machines.specs.Machines.{AreMarkedBelow, AreMarksUpTo, HasEachRow, IsFreshMachine, IsOrderly, IsSnapMachine, KnowsPlaces, SameSettings, SnapView, is_own, outside_of}
 
 -- ---- a new machine
 
@@ -245,3 +249,36 @@ logged_stays e k w wide now room same =
       ap (λ (x : SnapView). x.sent) same ∙ both.1 ∙ ap (λ (x : SnapView). x.sent) room,
       ap outside_of same ∙ logged_outside e k wide ∙ ap (λ (x : SnapView). outside_of x + 1) room,
     )
+
+-- ---- outboxes
+
+as_many : (out : OutboxesView) (to : Peer) (box : OutboxView) → length (with_outbox out to box).machines ≡ length out.machines
+as_many out (Machine b) box = length-set out.machines b.0 box
+as_many out Coordinator box = refl
+
+ordered_out : (m : Core) (out : OutboxesView) → length out.machines ≡ length m.out.machines → IsOrderly m → IsOrderly (record m { out = out })
+ordered_out m out same is =
+    record {
+      graph = subst (IsGraphInOrder m.numbers.local) (sym same) is.graph;
+      numbers = is.numbers;
+      entered = λ s e come. subst (λ (k : ℕ). HasComeRight m.numbers.local m.pipe k false s e) (sym same) (is.entered s e come);
+      locks = is.locks;
+      flights = is.flights;
+      width = is.width;
+    }
+
+-- where a message goes out
+pub stays_out : (m : Core) (w : SnapView) (seen : ℕ) (to : Peer) (box : OutboxView) → IsSnapMachine m w seen → IsSnapMachine (record m { out = with_outbox m.out to box }) w seen
+stays_out m w seen to box is =
+    stays m (record m { out = with_outbox m.out to box }) w seen is (ordered_out m (with_outbox m.out to box) (as_many m.out to box) is.orderly) (record { vertices = is.places.vertices; flags = is.places.flags }) refl refl refl
+
+pub settings_out : (m : Core) (to : Peer) (box : OutboxView) → SameSettings m (record m { out = with_outbox m.out to box })
+settings_out m to box st is =
+    record {
+      local = is.local;
+      machines = as_many m.out to box ∙ is.machines;
+      engine = is.engine;
+      pipeline = is.pipeline;
+      base = is.base;
+      window = is.window;
+    }

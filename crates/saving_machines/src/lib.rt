@@ -2,6 +2,7 @@
 #![tactic(auto)]
 
 mod machines;
+mod reading;
 mod scopes;
 mod snapshots;
 mod updates;
