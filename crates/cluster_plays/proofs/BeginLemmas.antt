@@ -1,6 +1,8 @@
 -- The cluster on which a run begins.
-use Rattle.std.proofs.Common.{◌≡◌, ◌<◌, ℕ, ◌∙◌, false, List, length, All, sym, subst, refl, Result, Ok, Err, IfOk}
-use Rattle.std.proofs.lemmas.List.{length-map}
+use Rattle.std.proofs.Common.{◌≡◌, ◌<◌, ◌≤◌, ℕ, ◌∙◌, false, List, length, replicate, All, ap, sym, subst, refl, Result, Ok, Err, IfOk, inl, inr, arith}
+use Rattle.std.specs.Prelude.{slice_index}
+use Rattle.std.proofs.lemmas.Bool.{cases_lt}
+use Rattle.std.proofs.lemmas.List.{get_or-map, get_or-replicate, get_or_past, length-map, length-replicate}
 use Rattle.std.proofs.lemmas.List.FromFn.{length-map-range_with_len}
 use Rattle.cluster_core.specs.Settings.{Locking}
 use Rattle.cluster_step.specs.Clusters.{ClusterView}
@@ -14,9 +16,10 @@ use Rattle.machine_places.proofs.OwnerLemmas.{owner_low}
 use Rattle.placed_clusters.specs.Running.{BeginsWith, IsGrowthCut, IsPlacing, IsRunOf, ProgramMachineView, Setting, StartsIn, atom_numbers, atom_weights, machine_numbers, placed_owner}
 use Rattle.placed_clusters.specs.declared.clusters.Run.{Run}
 use Rattle.placed_graphs.specs.Weights.{atom_weight}
+use Rattle.placed_graphs.specs.declared.cutting.Placement.{Placement}
 use Rattle.seq_run.specs.States.{start_state}
 use Rattle.update_api.specs.Updates.{Update}
-use Rattle.cluster_plays.specs.Inner.Beginnings.{BeginsPlaced, IsFirstRun}
+use Rattle.cluster_plays.specs.Inner.Beginnings.{BeginsPlaced, IsFirstRun, IsPlaced}
 
 three_ok : {X E : Type 0} (r : Result X E) (P Q R S : X → Type 0) → ((x : X) → P x → Q x → R x → S x) → IfOk r P → IfOk r Q → IfOk r R → IfOk r S
 three_ok (Ok x) P Q R S then p q s = then x p q s
@@ -46,21 +49,70 @@ run_by plan first = record { machines = plan.machines; pipeline = plan.pipeline;
 on_count : (g : DataGraph) (atoms machines : ℕ) (of : List AtomNo) (on : List MachineNo) → IsPlacing (atom_weights g (atom_numbers of) atoms) machines (machine_numbers on) → length on ≡ atoms
 on_count g atoms machines of on placing = sym (length-map on (λ (m : MachineNo). m.0)) ∙ placing.each ∙ length-map-range_with_len (atom_weight g (atom_numbers of)) 0 atoms
 
-module _ (g : DataGraph) (plan : RunPlan) (of : List AtomNo) (on : List MachineNo) (cut : IsGrowthCut g plan.atoms (atom_numbers of)) (placing : IsPlacing (atom_weights g (atom_numbers of) plan.atoms) plan.machines (machine_numbers on)) (atoms : All (λ (a : AtomNo). a.0 < plan.atoms) of) (machines : All (λ (m : MachineNo). m.0 < plan.machines) on) where
-  atoms_below : All (λ (a : AtomNo). a.0 < length on) of
-  atoms_below = subst (λ (n : ℕ). All (λ (a : AtomNo). a.0 < n) of) (sym (on_count g plan.atoms plan.machines of on placing)) atoms
+-- ---- where the graph is placed
 
+-- on several machines
+pub is_cut : (g : DataGraph) (plan : RunPlan) (made : Placement) → 1 < plan.machines → length made.of.items ≡ size g → IsGrowthCut g plan.atoms (atom_numbers made.of.items)
+    → IsPlacing (atom_weights g (atom_numbers made.of.items) plan.atoms) plan.machines (machine_numbers made.owner.items) → All (λ (a : AtomNo). a.0 < plan.atoms) made.of.items → All (λ (m : MachineNo). m.0 < plan.machines) made.owner.items
+    → IsPlaced g plan made
+is_cut g plan made several each cut placing atoms machines =
+    record {
+      each = each;
+      atoms = subst (λ (n : ℕ). All (λ (a : AtomNo). a.0 < n) made.of.items) (sym (on_count g plan.atoms plan.machines made.of.items made.owner.items placing)) atoms;
+      machines = machines;
+      placement = record { one = λ one v. absurd (many one); several = λ more. record { of = made.of.items; on = made.owner.items; cut = cut; placing = placing; owns = λ v. refl } };
+    }
+  where
+    many : plan.machines ≡ 1 → ⊥
+    many one = omega (arith, several, one)
+
+all_by_first : (on : List MachineNo) (i : ℕ) → All (λ (m : MachineNo). m.0 < 1) on → slice_index (machine_numbers on) i ≡ 0
+all_by_first on i all = elim (cases_lt i (length on)) [
+  | inl low ↦
+      let d : MachineNo = record { 0 = 0 } in
+      let first = all i d low in
+      get_or-map (λ (m : MachineNo). m.0) on i d 0 low ∙ omega arith
+  | inr past ↦ get_or_past (machine_numbers on) i 0 (omega (arith, length-map on (λ (m : MachineNo). m.0)))
+]
+
+-- on one machine
+pub is_whole : (g : DataGraph) (plan : RunPlan) (made : Placement) → plan.machines ≡ 1 → made.of.items ≡ replicate (size g) (record { 0 = 0 }) → made.owner.items ≡ replicate 1 (record { 0 = 0 }) → IsPlaced g plan made
+is_whole g plan made one all owner =
+    record {
+      each = ap length all ∙ length-replicate (size g) first;
+      atoms = subst (λ (all : List AtomNo). All (λ (a : AtomNo). a.0 < length made.owner.items) all) (sym all) (λ i d low. subst (λ (a : AtomNo). a.0 < length made.owner.items) (sym (get_or-replicate (size g) i first d (omega (arith, length-replicate (size g) first)))) (omega (arith, ap length owner, length-replicate 1 home)));
+      machines = below;
+      placement =
+          record {
+            one = λ is v. all_by_first made.owner.items (slice_index (atom_numbers made.of.items) v) (subst (λ (n : ℕ). All (λ (m : MachineNo). m.0 < n) made.owner.items) one below);
+            several = λ more. absurd (few more);
+          };
+    }
+  where
+    first : AtomNo
+    first = record { 0 = 0 }
+
+    home : MachineNo
+    home = record { 0 = 0 }
+
+    few : 1 < plan.machines → ⊥
+    few more = omega (arith, more, one)
+
+    below : All (λ (m : MachineNo). m.0 < plan.machines) made.owner.items
+    below = subst (λ (ms : List MachineNo). All (λ (m : MachineNo). m.0 < plan.machines) ms) (sym owner) (λ i d low. subst (λ (m : MachineNo). m.0 < plan.machines) (sym (get_or-replicate 1 i home d (omega (arith, length-replicate 1 home)))) (omega (arith, one)))
+
+module _ (g : DataGraph) (plan : RunPlan) (made : Placement) (placed : IsPlaced g plan made) where
   -- the same of equal lists
-  pub atoms_placed : (of' : List AtomNo) (on' : List MachineNo) → of' ≡ of → on' ≡ on → All (λ (a : AtomNo). a.0 < length on') of'
+  pub atoms_placed : (of' : List AtomNo) (on' : List MachineNo) → of' ≡ made.of.items → on' ≡ made.owner.items → All (λ (a : AtomNo). a.0 < length on') of'
   atoms_placed of' on' same_of same_on =
       subst (λ (l : List AtomNo). All (λ (a : AtomNo). a.0 < length on') l) (sym same_of)
-      (subst (λ (l : List MachineNo). All (λ (a : AtomNo). a.0 < length l) of) (sym same_on) atoms_below)
+      (subst (λ (l : List MachineNo). All (λ (a : AtomNo). a.0 < length l) made.of.items) (sym same_on) placed.atoms)
 
-  each_owned : (v : ℕ) → v < size g → placed_owner of on v < plan.machines
-  each_owned = owner_low g plan.machines of on (sym (length-map of (λ (a : AtomNo). a.0)) ∙ cut.each) atoms_below machines
+  each_owned : (v : ℕ) → v < size g → placed_owner made.of.items made.owner.items v < plan.machines
+  each_owned = owner_low g plan.machines made.of.items made.owner.items placed.each placed.atoms placed.machines
 
-  run_there : (program : Update) (base : Base) (first : Vertex) → IsDataGraph g → BeginsWith (first_setting g program (placed_owner of on) plan) base →
-      IsRunOf g program (placed_owner of on) base (run_by plan first) (first_setting g program (placed_owner of on) plan)
+  run_there : (program : Update) (base : Base) (first : Vertex) → IsDataGraph g → BeginsWith (first_setting g program (placed_owner made.of.items made.owner.items) plan) base →
+      IsRunOf g program (placed_owner made.of.items made.owner.items) base (run_by plan first) (first_setting g program (placed_owner made.of.items made.owner.items) plan)
   run_there program base first graph begins =
       record {
         is = record { graph = graph; owner = each_owned };
@@ -73,32 +125,32 @@ module _ (g : DataGraph) (plan : RunPlan) (of : List AtomNo) (on : List MachineN
       }
 
   -- the same of equal lists
-  pub run_placed : (program : Update) (base : Base) (first : Vertex) (of' : List AtomNo) (on' : List MachineNo) → of' ≡ of → on' ≡ on → IsDataGraph g → BeginsWith (first_setting g program (placed_owner of on) plan) base →
-      IsRunOf g program (placed_owner of' on') base (run_by plan first) (first_setting g program (placed_owner of on) plan)
+  pub run_placed : (program : Update) (base : Base) (first : Vertex) (of' : List AtomNo) (on' : List MachineNo) → of' ≡ made.of.items → on' ≡ made.owner.items → IsDataGraph g → BeginsWith (first_setting g program (placed_owner made.of.items made.owner.items) plan) base →
+      IsRunOf g program (placed_owner of' on') base (run_by plan first) (first_setting g program (placed_owner made.of.items made.owner.items) plan)
   run_placed program base first of' on' same_of same_on graph begins =
-      subst (λ (l : List AtomNo). IsRunOf g program (placed_owner l on') base (run_by plan first) (first_setting g program (placed_owner of on) plan)) (sym same_of)
-      (subst (λ (l : List MachineNo). IsRunOf g program (placed_owner of l) base (run_by plan first) (first_setting g program (placed_owner of on) plan)) (sym same_on)
+      subst (λ (l : List AtomNo). IsRunOf g program (placed_owner l on') base (run_by plan first) (first_setting g program (placed_owner made.of.items made.owner.items) plan)) (sym same_of)
+      (subst (λ (l : List MachineNo). IsRunOf g program (placed_owner made.of.items l) base (run_by plan first) (first_setting g program (placed_owner made.of.items made.owner.items) plan)) (sym same_on)
       (run_there program base first graph begins))
 
-  first_run : (program : Update) → IsFirstRun g program plan (first_setting g program (placed_owner of on) plan)
+  first_run : (program : Update) → IsFirstRun g program plan (first_setting g program (placed_owner made.of.items made.owner.items) plan)
   first_run program =
       record {
         graph = refl;
         program = refl;
         machines = refl;
-        placed = record { of = of; on = on; cut = cut; placing = placing; owns = λ v. refl };
+        placed = placed.placement;
         start = refl;
       }
 
   -- a cluster that starts in this setting
   pub begins_placed : {P E : Type 0} (meaning : P → Update) (program : P) (r : Result (ClusterView (ProgramMachineView P)) E) →
-      IfOk r (StartsIn meaning (first_setting g (meaning program) (placed_owner of on) plan)) → IfOk r (λ k. k.start ≡ k.now) → IfOk r (λ k. (k.now.next ≡ 0) × (k.now.left ≡ plan.budget)) →
+      IfOk r (StartsIn meaning (first_setting g (meaning program) (placed_owner made.of.items made.owner.items) plan)) → IfOk r (λ k. k.start ≡ k.now) → IfOk r (λ k. (k.now.next ≡ 0) × (k.now.left ≡ plan.budget)) →
       IfOk r (BeginsPlaced g meaning program plan)
   begins_placed meaning program r starts began tickets =
-      three_ok r (StartsIn meaning (first_setting g (meaning program) (placed_owner of on) plan)) (λ k. k.start ≡ k.now) (λ k. (k.now.next ≡ 0) × (k.now.left ≡ plan.budget)) (BeginsPlaced g meaning program plan)
+      three_ok r (StartsIn meaning (first_setting g (meaning program) (placed_owner made.of.items made.owner.items) plan)) (λ k. k.start ≡ k.now) (λ k. (k.now.next ≡ 0) × (k.now.left ≡ plan.budget)) (BeginsPlaced g meaning program plan)
       (λ k start same drawn.
       record {
-        st = first_setting g (meaning program) (placed_owner of on) plan;
+        st = first_setting g (meaning program) (placed_owner made.of.items made.owner.items) plan;
         first = first_run (meaning program);
         starts = start;
         began = same;

@@ -11,7 +11,7 @@ use Rattle.cluster_step.specs.declared.parts.Parts.{Parts}
 use Rattle.gl_base.specs.declared.entries.Entry.{Entry}
 use Rattle.gl_base.specs.declared.numbers.Vertex.{Vertex}
 use Rattle.graph_core.specs.DataGraph.{DataGraph, size}
-use Rattle.job_runs.specs.Plays.{IsPlacement, IsPlay, IsSpent, RunsTo}
+use Rattle.job_runs.specs.Plays.{IsPlay, IsSpent, RunsTo}
 use Rattle.job_runs.specs.declared.runs.RunPlan.{RunPlan}
 use Rattle.machine_parts.specs.Parts.{part_of}
 use Rattle.placed_clusters.specs.Running.{IsMachineOf, ProgramMachineView, Setting}
@@ -19,7 +19,6 @@ use Rattle.seq_run.specs.Orders.{IsFinished, IsValidFrom, all_tasks, replay_from
 use Rattle.seq_run.specs.Runs.{AreNumbers}
 use Rattle.seq_run.specs.States.{GraphState, start_state}
 use Rattle.update_api.specs.Updates.{Update}
-use Rattle.cluster_plays.specs.Plans.{IsCutAndPlaced}
 use Rattle.cluster_plays.specs.Inner.Beginnings.{BeginsPlaced, IsFirstRun}
 
 -- what holds of the setting's graph, program and start holds of the run's
@@ -29,13 +28,7 @@ moved g p plan st first F holds =
     (subst (λ (u : Update). F g u st.start) first.program
     (subst (λ (h : DataGraph). F h st.program st.start) first.graph holds))
 
-placed_on : (g : DataGraph) (plan : RunPlan) (owner : ℕ → ℕ) → 1 < plan.machines → IsCutAndPlaced g plan.atoms plan.machines owner → IsPlacement g plan.atoms plan.machines owner
-placed_on g plan owner several placed = record { one = λ is v. absurd (many is); several = λ more. placed }
-  where
-    many : plan.machines ≡ 1 → ⊥
-    many is = omega (arith, several, is)
-
-module _ {P : Type 0} (meaning : P → Update) (g : DataGraph) (program : P) (plan : RunPlan) (several : 1 < plan.machines) (old new : ClusterView (ProgramMachineView P)) (begins : BeginsPlaced g meaning program plan old) (same : IsSameRun old new) (order : List Entry) (numbers : List ℕ)
+module _ {P : Type 0} (meaning : P → Update) (g : DataGraph) (program : P) (plan : RunPlan) (old new : ClusterView (ProgramMachineView P)) (begins : BeginsPlaced g meaning program plan old) (same : IsSameRun old new) (order : List Entry) (numbers : List ℕ)
     (since : InEachSetting (IsMachineOf meaning) (λ (m : ProgramMachineView P). part_of m.core) new (λ st. IsOrderSince (λ (m : ProgramMachineView P). part_of m.core) st new.start new.now order))
     (are : InEachSetting (IsMachineOf meaning) (λ (m : ProgramMachineView P). part_of m.core) new (λ st. AreNumbers (size st.graph) (replay_of st order).vertex numbers)) where
   started : StartIn (IsMachineOf meaning) (λ (m : ProgramMachineView P). part_of m.core) new.start.machines.items begins.st
@@ -57,7 +50,7 @@ module _ {P : Type 0} (meaning : P → Update) (g : DataGraph) (program : P) (pl
         valid = moved g (meaning program) plan begins.st begins.first (λ h u s. IsValidFrom h u s (all_tasks h) order) ordered.valid;
         tickets = subst (λ (n : ℕ). AreUpdatesFrom n order) next_is ordered.tickets;
         owner = begins.st.owner;
-        placement = placed_on g plan begins.st.owner several begins.first.placed;
+        placement = begins.first.placed;
         owners = ordered.owners;
         numbers_are = moved g (meaning program) plan begins.st begins.first (λ h u s. AreNumbers (size h) (replay_from h u s order).vertex numbers) (are begins.st started);
       }

@@ -1,32 +1,32 @@
-//! Runs on a cluster of several machines.
+//! Runs on a cluster.
 ghost use Rattle.std.specs.Prelude.{◌≡◌, ℕ, ◌<◌, ◌≤◌, length, slice_index, IfOk};
 ghost use Rattle.graph_core.specs.DataGraph.{IsDataGraph};
 ghost use Rattle.placed_clusters.specs.Running.{IsBaseFor};
-ghost use Rattle.cluster_plays.specs.Inner.Beginnings.{BeginsPlaced};
+ghost use Rattle.cluster_plays.specs.Inner.Beginnings.{BeginsPlaced, IsPlaced};
 ghost use Rattle.cluster_plays.specs.Plans.{CountsByMachine, IsInRange, RunsTo};
 
 use cluster_rounds::{End, drive};
 use cluster_step::Cluster;
 use gathered_runs::{GatheredRun, gather};
-use gl_base::{Base, NoMemory, Vertex};
+use gl_base::{AtomNo, Base, MachineNo, NoMemory, Vertex};
 use graph_core::Graph;
 use job_runs::{Run, RunPlan};
 use placed_clusters::placed_cluster;
-use placed_graphs::{first_base, placement_by_cut};
+use placed_graphs::{Placement, first_base, placement_by_cut};
 use program_machines::ProgramMachine;
 use std::alloc::Global;
 use std::sync::Wait;
 use update_api::Program;
 
-/// Runs a program on a cluster, on whose machines the graph is placed as the plan says, until no task is left or the budget is spent.
-pub fn play_together<R: Wait, P: Program>(
+/// Runs a program on a cluster of as many machines as the plan says, on which the graph is placed as it says, until no task is left or
+/// the budget is spent.
+pub fn run_program<R: Wait, P: Program>(
     rt: &R,
     alloc: Global,
     graph: &Graph,
     program: P,
     plan: RunPlan,
 ) -> Result<Run, NoMemory>
-    requires several { 1 < plan.machines }
     requires plan { IsInRange plan }
     ensures run { IfOk result (λ run. RunsTo graph.now (P.meaning program) plan.atoms plan.machines plan.budget run.order.items run.numbers.items run.left) }
     ensures done { IfOk result (λ run. CountsByMachine plan.machines run.order.items run.done.items) }
@@ -61,7 +61,7 @@ fn cluster_of<P: Program>(
 {
     let base = first_base(alloc, graph, &program)?;
     let first = first_of(graph, &base);
-    let placed = placement_by_cut(alloc, graph, plan.atoms, plan.machines)?;
+    let placed = placement_of(alloc, graph, plan)?;
     let run = placed_clusters::Run {
         machines: plan.machines,
         pipeline: plan.pipeline,
@@ -70,6 +70,38 @@ fn cluster_of<P: Program>(
         left: plan.budget,
     };
     placed_cluster(alloc, graph, program, &base, &placed.of, &placed.owner, run)
+}
+
+/// Where the plan places the graph. One machine has all of it, so it isn't cut.
+fn placement_of(alloc: Global, graph: &Graph, plan: RunPlan) -> Result<Placement, NoMemory>
+    requires plan { IsInRange plan }
+    ensures { IfOk result (IsPlaced graph.now plan) }
+{
+    if plan.machines == 1 {
+        whole_placement(alloc, graph, plan)
+    } else {
+        cut_placement(alloc, graph, plan)
+    }
+}
+
+/// The graph cut by its growth, and its atoms placed by what they weigh.
+fn cut_placement(alloc: Global, graph: &Graph, plan: RunPlan) -> Result<Placement, NoMemory>
+    requires plan { IsInRange plan }
+    requires several { 1 < plan.machines }
+    ensures { IfOk result (IsPlaced graph.now plan) }
+{
+    let placed = placement_by_cut(alloc, graph, plan.atoms, plan.machines)?;
+    Ok(placed)
+}
+
+/// All vertices in one atom, and that on the one machine.
+fn whole_placement(alloc: Global, graph: &Graph, plan: RunPlan) -> Result<Placement, NoMemory>
+    requires one { plan.machines ≡ 1 }
+    ensures { IfOk result (IsPlaced graph.now plan) }
+{
+    let of = Vec::from_elem(alloc, AtomNo(0), graph.n() as usize)?;
+    let owner = Vec::from_elem(alloc, MachineNo(0), 1)?;
+    Ok(Placement { of, owner })
 }
 
 /// The vertex at which the machine that owns it begins: of those that start with the least number the first.

@@ -1,7 +1,7 @@
 //! Runs of clusters, and beside them the replay of their updates on the undivided graph.
 use crate::graphs::path;
 use crate::trouble::Trouble;
-use cluster_plays::play_together;
+use cluster_plays::run_program;
 use cluster_rounds::{End, drive};
 use cluster_step::Cluster;
 use gathered_runs::{GatheredRun, gather};
@@ -44,7 +44,7 @@ pub fn path_played<R: Wait>(rt: &R, alloc: Global) -> Result<(), Trouble> {
         pipeline: 2,
         budget: 100,
     };
-    let run = play_together(rt, alloc, &graph, Components, plan)?;
+    let run = run_program(rt, alloc, &graph, Components, plan)?;
     if run.left.is_some() || run.done.len() != 2 {
         return Err(Trouble::Differs);
     }

@@ -1,19 +1,27 @@
 -- The cluster on which a run begins.
-use Rattle.std.specs.Prelude.{◌≡◌}
+use Rattle.std.specs.Prelude.{◌≡◌, ◌<◌, List, length, All}
 use Rattle.cluster_step.specs.Clusters.{ClusterView}
-use Rattle.graph_core.specs.DataGraph.{DataGraph}
+use Rattle.graph_core.specs.DataGraph.{DataGraph, size}
 use Rattle.job_runs.specs.declared.runs.RunPlan.{RunPlan}
-use Rattle.placed_clusters.specs.Running.{ProgramMachineView, Setting, StartsIn}
+use Rattle.job_runs.specs.Plays.{IsPlacement}
+use Rattle.placed_clusters.specs.Running.{ProgramMachineView, Setting, StartsIn, placed_owner}
+use Rattle.placed_graphs.specs.declared.cutting.Placement.{Placement}
 use Rattle.seq_run.specs.States.{start_state}
 use Rattle.update_api.specs.Updates.{Update}
-use Rattle.cluster_plays.specs.Plans.{IsCutAndPlaced}
+
+-- each vertex is in an atom, each atom on a machine, and the graph is placed as the plan says
+pub record IsPlaced (g : DataGraph) (plan : RunPlan) (made : Placement) : Type 0 where
+  pub each : length made.of.items ≡ size g
+  pub atoms : All (λ a. a.0 < length made.owner.items) made.of.items
+  pub machines : All (λ m. m.0 < plan.machines) made.owner.items
+  pub placement : IsPlacement g plan.atoms plan.machines (placed_owner made.of.items made.owner.items)
 
 -- the program runs on the graph from the numbers that it starts with, and the graph is placed as the plan says
 pub record IsFirstRun (g : DataGraph) (p : Update) (plan : RunPlan) (st : Setting) : Type 0 where
   pub graph : st.graph ≡ g
   pub program : st.program ≡ p
   pub machines : st.machines ≡ plan.machines
-  pub placed : IsCutAndPlaced g plan.atoms plan.machines st.owner
+  pub placed : IsPlacement g plan.atoms plan.machines st.owner
   pub start : st.start ≡ start_state g p
 
 -- The machines start in some such setting, with ticket 0 and as many tickets as the budget has.
