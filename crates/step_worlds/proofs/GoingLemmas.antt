@@ -130,9 +130,9 @@ module _ (st : Setting) (colour : ℕ → ℕ) (colours step : ℕ) (w : World) 
   heard p q (Ready s) behind none first = absurd none
   heard p q (Done s news) behind is first =
       let new : Part = received st q (Done s news) (w.part q) in
-      let now : World = taken w p q (Done s news) behind first in
-      ( λ b x. set_at-kept (λ (y : Part). y.queue x) w.part q new refl b ∙ goes.queues b x
-      , λ i j. subst (λ (ms : List Message). AllByRecursion (IsStepMessage st j) (now.link i j ++ ms)) (sym (set_at-kept (λ (y : Part). y.out j) w.part q new refl i)) (taken_words p q (Done s news) behind first i j)
+      let now : World = taken w p q (Done s news) behind first in (
+        λ b x. set_at-kept (λ (y : Part). y.queue x) w.part q new refl b ∙ goes.queues b x,
+        λ i j. subst (λ (ms : List Message). AllByRecursion (IsStepMessage st j) (now.link i j ++ ms)) (sym (set_at-kept (λ (y : Part). y.out j) w.part q new refl i)) (taken_words p q (Done s news) behind first i j),
       )
 
   delivers_on : (p q : ℕ) → MayHappen st w (law.Deliver p q) → GoesInStep st colour step (after st w (law.Deliver p q))
@@ -179,10 +179,10 @@ module _ (st : Setting) (colour : ℕ → ℕ) (colours step : ℕ) (w : World) 
 hear_front : (st : Setting) (colour : ℕ → ℕ) (colours p q : ℕ) (part : Part) (m : Message) → IsStepMessage st q m → IsToldTo st p q m → MayReceiveBy (Chromatic colour colours) st p q part m × IsExpectedBy (Chromatic colour colours) st q part m
 hear_front st colour colours p q part (Ask s v rest) none told = absurd none
 hear_front st colour colours p q part (Ready s) none told = absurd none
-hear_front st colour colours p q part (Done s news) is told =
-    ( record { owner = told.centre; copy = told.apart; part_of = is.1; edges = told.edges; wakes = λ u woken. (told.wakes u woken).1 }
-    , record { vertex = is.0; pends = is.3; number = is.2; near = λ u woken. (told.wakes u woken).0 }
-    )
+hear_front st colour colours p q part (Done s news) is told = (
+  record { owner = told.centre; copy = told.apart; part_of = is.1; edges = told.edges; wakes = λ u woken. (told.wakes u woken).1 },
+  record { vertex = is.0; pends = is.3; number = is.2; near = λ u woken. (told.wakes u woken).0 },
+)
 
 pub may_be_heard : (st : Setting) (colour : ℕ → ℕ) (colours step : ℕ) (w : World) (p q : ℕ) (m : Message) (behind : List Message) → GoesInStep st colour step w → AllByRecursion (IsToldTo st p q) (way w p q) → w.link p q ≡ m ∷ behind
     → MayReceiveBy (Chromatic colour colours) st p q (w.part q) m × IsExpectedBy (Chromatic colour colours) st q (w.part q) m

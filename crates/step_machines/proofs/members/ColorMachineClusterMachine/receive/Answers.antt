@@ -5,4 +5,3 @@ use Rattle.step_machines.proofs.members.ColorMachineClusterMachine.receive.Goals
 
 pub receive_done-requires : goal.receive_done-requires
 receive_done-requires g c = hears g.P.Program.meaning c.args.self.now c.args.self.now c.args._from.0 c.args.message refl c.requires c.in-Done.done c.in-Done.is
-
