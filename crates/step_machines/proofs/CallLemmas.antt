@@ -1,14 +1,13 @@
 -- From what the calls of a machine that goes by colours promise of its parts to what a cluster is promised of its machines.
-use Rattle.std.proofs.Common.{◌≡◌, ◌≢◌, ℕ, ◌+◌, false, true, None, Some, List, [], ◌∷◌, refl, sym, ap, ◌∙◌, subst, inl, inr}
+use Rattle.std.proofs.Common.{◌≡◌, ℕ, ◌+◌, false, true, None, Some, List, [], ◌∷◌, refl, sym, ap, ◌∙◌, subst, inr}
 use Rattle.std.specs.Prelude.{Option, Result, Ok, Err, IfNone, IfOk, IfSome, OnErr, OnOk}
 use Rattle.gl_base.specs.declared.numbers.MachineNo.{MachineNo}
-use Rattle.gl_base.specs.declared.numbers.Vertex.{Vertex}
 use Rattle.gl_base.specs.declared.refusals.Refused.{Refused}
 use Rattle.gl_base.specs.declared.scopes.Claim.{Claim}
 use Rattle.gl_base.specs.declared.scopes.ScopeId.{ScopeId}
-use Rattle.cluster_core.specs.Actions.{MayAdmit, MayGrant, MayUpdate}
+use Rattle.cluster_core.specs.Actions.{MayAdmit, MayUpdate}
 use Rattle.cluster_core.specs.Parts.{Part}
-use Rattle.cluster_core.specs.Settings.{Chromatic, Engine, Locking}
+use Rattle.cluster_core.specs.Settings.{Chromatic, Locking}
 use Rattle.update_api.specs.Updates.{Update}
 use Rattle.machine_parts.specs.Settings.{window_of}
 use Rattle.task_sched.specs.Tasks.{is_below, is_open}

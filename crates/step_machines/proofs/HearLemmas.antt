@@ -1,17 +1,14 @@
 -- Word of an update that may come in a cluster can be heard by a machine that goes by colours.
-use Rattle.std.proofs.Common.{◌≡◌, ◌≢◌, ℕ, ◌<◌, ◌==◌, ◌&&◌, Bool, true, false, true≢false, Option, Some, None, List, length, get_or, refl, sym, ap, ◌∙◌, subst}
-use Rattle.std.specs.Prelude.{is_some, nat_lt}
+use Rattle.std.proofs.Common.{◌≡◌, ◌≢◌, ℕ, ◌==◌, true, get_or, refl, sym, ap, ◌∙◌, subst}
 use Rattle.std.proofs.lemmas.Bool.{eq-eqb, false_from_ne_true}
 use Rattle.std.proofs.lemmas.List.Folds.{list_any_at}
 use Rattle.gl_base.specs.declared.numbers.Vertex.{Vertex}
-use Rattle.graph_core.specs.DataGraph.{size}
 use Rattle.cluster_core.specs.Messages as law
 use Rattle.cluster_core.specs.Parts.{Part}
 use Rattle.cluster_core.specs.Effects.{received}
-use Rattle.cluster_core.specs.Settings.{Chromatic, Engine, is_near}
+use Rattle.cluster_core.specs.Settings.{Chromatic, Engine}
 use Rattle.cluster_core.proofs.Nearness.{near_within}
 use Rattle.update_api.specs.Updates.{Update}
-use Rattle.wire_msgs.specs.Views.{message_view}
 use Rattle.wire_msgs.specs.declared.messages.Done.{Done}
 use Rattle.wire_msgs.specs.declared.messages.Message as sent
 use Rattle.wire_msgs.specs.declared.messages.Message.TheVariants as wire

@@ -1,11 +1,9 @@
 -- A machine that goes by colours stays one, and is the same.
-use Rattle.std.proofs.Common.{◌≡◌, ℕ, true, Option, Some, None, List, length, refl, sym, ap, ◌∙◌, subst}
+use Rattle.std.proofs.Common.{◌≡◌, None, refl, sym, ap, ◌∙◌, subst}
 use Rattle.std.specs.Prelude.{Result, Ok, Err, IfOk, OnErr}
 use Rattle.gl_base.specs.declared.numbers.MachineNo.{MachineNo}
 use Rattle.gl_base.specs.declared.refusals.Refused.{Refused}
 use Rattle.gl_base.specs.declared.scopes.ScopeId.{ScopeId}
-use Rattle.local_graph.specs.Locals.{LocalView}
-use Rattle.update_api.specs.declared.links.Link.{Link}
 use Rattle.wire_msgs.specs.declared.messages.Done.{Done}
 use Rattle.machine_turns.specs.Turns.{HasEachRow}
 use Rattle.color_parts.specs.declared.cores.ColorCore.{ColorCore}

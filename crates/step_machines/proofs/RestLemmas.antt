@@ -1,10 +1,9 @@
 -- A machine that goes by colours is idle exactly where it has no task.
-use Rattle.std.proofs.Common.{◌≡◌, ℕ, ◌<◌, ◌&&◌, ◌==◌, Bool, true, false, not, true≢false, Option, Some, None, is_some, [], length, refl, sym, ap, ◌∙◌}
-use Rattle.std.specs.Prelude.{MatchOption, nat_lt}
-use Rattle.std.proofs.lemmas.Bool.{and_parts, lt-ltb, ltb-true}
+use Rattle.std.proofs.Common.{◌≡◌, ℕ, Bool, true, false, not, true≢false, Option, Some, None, is_some, [], length, refl, sym, ap, ◌∙◌}
+use Rattle.std.specs.Prelude.{MatchOption}
+use Rattle.std.proofs.lemmas.Bool.{lt-ltb}
 use Rattle.gl_base.specs.declared.numbers.Vertex.{Vertex}
 use Rattle.gl_base.specs.declared.scopes.ScopeId.{ScopeId}
-use Rattle.graph_core.specs.DataGraph.{size}
 use Rattle.machine_numbers.specs.Views.{flag_there, is_flagged, task_here}
 use Rattle.machine_rest.proofs.IdleLemmas.{idle_from, not_idle}
 use Rattle.machine_scopes.proofs.HeldLemmas.{own_in}

@@ -1,5 +1,5 @@
 -- The first message that waits for a machine is taken of one that goes by colours.
-use Rattle.std.proofs.Common.{◌≡◌, ℕ, Option, Some, None, List, length, option_map, slice_get, IfSome, IfNone, refl, sym, ap, ◌∙◌, subst}
+use Rattle.std.proofs.Common.{◌≡◌, Option, Some, None, length, option_map, slice_get, IfSome, IfNone, sym, ap, ◌∙◌, subst}
 use Rattle.gl_base.specs.declared.numbers.MachineNo.{MachineNo}
 use Rattle.gl_base.specs.declared.scopes.Peer.TheVariants.{Machine}
 use Rattle.outboxes.specs.Outboxes.{OutboxesView, outbox_to, waiting_for, with_outbox, without_first}
