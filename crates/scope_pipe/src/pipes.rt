@@ -69,14 +69,27 @@ impl Model for ScopePipe {
 }
 
 impl ScopePipe {
-    /// A pipe of machine `home` with no scope, of which `width` may be in flight.
+    /// A pipe of machine `home` with no scope, of which `width` may be in flight. The first that is admitted gets the serial 0.
     pub fn new(alloc: Global, home: MachineNo, width: u16) -> Result<ScopePipe, NoMemory>
         ensures pipe { IfOk result (λ p. (p.home ≡ home) × (p.width ≡ width) × (p.serial ≡ 0)) }
         ensures empty { IfOk result IsEmpty }
     {
+        ScopePipe::from_serial(alloc, home, width, 0)
+    }
+
+    /// The same, where the first that is admitted gets this serial: so scopes of an earlier attempt are told apart from new ones.
+    pub fn from_serial(
+        alloc: Global,
+        home: MachineNo,
+        width: u16,
+        serial: u64,
+    ) -> Result<ScopePipe, NoMemory>
+        ensures pipe { IfOk result (λ p. (p.home ≡ home) × (p.width ≡ width) × (p.serial ≡ serial)) }
+        ensures empty { IfOk result IsEmpty }
+    {
         Ok(ScopePipe {
             home,
-            serial: 0,
+            serial,
             width,
             waiting: Vec::with_capacity(alloc, width as usize)?,
             ready: Vec::with_capacity(alloc, width as usize)?,
