@@ -31,7 +31,7 @@ use Rattle.wire_msgs.specs.declared.messages.Done as word
 use Rattle.wire_msgs.specs.declared.messages.Message as message
 use Rattle.wire_msgs.specs.declared.messages.Message.TheVariants as sent
 use Rattle.snap_savers.specs.Reports.{ReportsView, with_report}
-use Rattle.snap_savers.specs.Asking.{HasAnswered, HasAsked, with_want}
+use Rattle.snap_savers.specs.Asking.{HasToldCounts, HasWanted, with_wish}
 use Rattle.snap_savers.specs.Savers.{CountsView, IsPartOf, IsSaverOf, SaverView, Setting, part_of}
 use Rattle.snap_savers.proofs.StandLemmas.{reports_stand}
 use Rattle.snap_savers.proofs.ScopeLemmas.{to_now}
@@ -93,11 +93,11 @@ mark_home m s orderly may = (orderly.flights.given s (record { 0 = may.vertex })
 -- ---- what is asked for
 
 module _ {P : Type 0} (x : SaverView P) (now : SnapMachineView P) (kept : now.kept ≡ with_asking ((x.window + 1) / 2) x.machine.kept) (core : now.core ≡ x.machine.core) (program : now.program ≡ x.machine.program) where
-  pub asked_some : (k : ℕ) (reports : ReportsView) → Some k ≡ asked_behind ((x.window + 1) / 2) x.machine.kept → reports ≡ with_report (wire.Want k) x.reports → HasAsked x (record x { machine = now; reports = reports })
-  asked_some k reports some told = λ i. record x { machine = record { core = core i; kept = kept i; program = program i }; reports = (told ∙ ap (λ (o : Option ℕ). with_want o x.reports) some) i }
+  pub asked_some : (k : ℕ) (reports : ReportsView) → Some k ≡ asked_behind ((x.window + 1) / 2) x.machine.kept → reports ≡ with_report (wire.Want k) x.reports → HasWanted x (record x { machine = now; reports = reports })
+  asked_some k reports some told = λ i. record x { machine = record { core = core i; kept = kept i; program = program i }; reports = (told ∙ ap (λ (o : Option ℕ). with_wish o x.reports) some) i }
 
-  pub asked_none : None ≡ asked_behind ((x.window + 1) / 2) x.machine.kept → HasAsked x (record x { machine = now })
-  asked_none none = λ i. record x { machine = record { core = core i; kept = kept i; program = program i }; reports = ap (λ (o : Option ℕ). with_want o x.reports) none i }
+  pub asked_none : None ≡ asked_behind ((x.window + 1) / 2) x.machine.kept → HasWanted x (record x { machine = now })
+  asked_none none = λ i. record x { machine = record { core = core i; kept = kept i; program = program i }; reports = ap (λ (o : Option ℕ). with_wish o x.reports) none i }
 
 -- ---- a wave
 
@@ -120,7 +120,7 @@ module _ {P : Type 0} (x : SaverView P) (held counts : CountsView) (wave sent_co
   counts_is : counts ≡ record x.counts { held = None }
   counts_is = answers.rest ∙ ap (λ (w : CountsView). record w { held = None }) holds
 
-  pub wave_answered : (answer : WaveAnswer) (reports : ReportsView) → result ≡ Some answer → reports ≡ with_report (wire.Count answer.wave answer.counted) x.reports → HasAnswered x (record x { counts = counts; reports = reports }) wave sent_count
+  pub wave_answered : (answer : WaveAnswer) (reports : ReportsView) → result ≡ Some answer → reports ≡ with_report (wire.Count answer.wave answer.counted) x.reports → HasToldCounts x (record x { counts = counts; reports = reports }) wave sent_count
   wave_answered answer reports some told =
       let same : answer ≡ told_answer = same_some answer told_answer (sym some ∙ result_is) in
       record {

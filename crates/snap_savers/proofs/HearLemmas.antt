@@ -25,8 +25,8 @@ use Rattle.wave_counts.specs.declared.answers.WaveAnswer.{WaveAnswer}
 use Rattle.wave_counts.proofs.CountLemmas.{prompt_counts, prompt_is}
 use Rattle.wire_msgs.specs.Views as wire
 use Rattle.wire_msgs.specs.declared.messages.Message.TheVariants as sent
-use Rattle.snap_savers.specs.Reports.{AreReports, ReportsView, with_report}
-use Rattle.snap_savers.specs.Asking.{HasAnswered, HasAsked}
+use Rattle.snap_savers.specs.Reports.{AreToldReports, ReportsView, with_report}
+use Rattle.snap_savers.specs.Asking.{HasToldCounts, HasWanted}
 use Rattle.snap_savers.specs.Savers.{CountsView, IsCountOf, IsPartOf, IsSaverOf, IsSavedOnce, IsSavedRight, IsSnapPartOf, LooksAlike, Machine, SaverView, Setting, SnapView, flag_there, part_held, part_of, place_at, with_snaps}
 use Rattle.snap_savers.proofs.StandLemmas.{alike_to, closed_is, kept_from, plans_kept, still_stands}
 use Rattle.snap_savers.proofs.MarkLemmas.{seeded_right}
@@ -165,10 +165,10 @@ module _ {P : Type 0} (meaning : P → Update) (x : SaverView P) (now : SnapMach
           };
           saved = subst (IsSavedRight st a) (sym held_is) is.saved;
           once = subst IsSavedOnce (sym kept) (record { vertices = is.once.vertices; edges = is.once.edges });
-          reports = subst (λ ms. AreReports ms m.out) (sym told) is.reports;
+          reports = subst (λ ms. AreToldReports ms m.out) (sym told) is.reports;
         }
 
-    pub heard_committed : (behind : SaverView P) → HasAsked left behind → HasHeard (IsSaverOf meaning) x (sent.Committed k) behind
+    pub heard_committed : (behind : SaverView P) → HasWanted left behind → HasHeard (IsSaverOf meaning) x (sent.Committed k) behind
     heard_committed behind asked st c a (Committed j) front =
         let m : Machine = c.machine a in
         still_stands meaning st a (asks st (commits j m)) behind
@@ -180,7 +180,7 @@ module _ {P : Type 0} (meaning : P → Update) (x : SaverView P) (now : SnapMach
 
 -- ---- a wave
 
-module _ {P : Type 0} (meaning : P → Update) (x now : SaverView P) (wave sent_count waiting : ℕ) (told : ReportsView) (messages : told.messages ≡ x.reports.messages) (has_told : HasAnswered (record x { reports = told }) now wave sent_count)
+module _ {P : Type 0} (meaning : P → Update) (x now : SaverView P) (wave sent_count waiting : ℕ) (told : ReportsView) (messages : told.messages ≡ x.reports.messages) (has_told : HasToldCounts (record x { reports = told }) now wave sent_count)
     (waits : (st : Setting) → IsPartOf st x.machine.core → waiting ≡ waiting_in st (part_of x.machine.core)) (can : MayTellCounts x.counts waiting) (sum : sent_count ≡ x.counts.sent + waiting) where
   abbrev idle : Bool
   idle = has_told.idle
@@ -245,7 +245,7 @@ module _ {P : Type 0} (meaning : P → Update) (x now : SaverView P) (wave sent_
         plans = record { many = is.plans.many; planned = is.plans.planned; others = is.plans.others };
         saved = is.saved;
         once = is.once;
-        reports = subst (λ ms. AreReports (ms ++ wire.Count wave counted ∷ []) (m.out ++ Count wave counted ∷ [])) (sym messages)
+        reports = subst (λ ms. AreToldReports (ms ++ wire.Count wave counted ∷ []) (m.out ++ Count wave counted ∷ [])) (sym messages)
             (reports_push x.reports.messages m.out (wire.Count wave counted) (Count wave counted) is.reports (refl, tt));
       })
 

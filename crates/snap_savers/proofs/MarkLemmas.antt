@@ -38,7 +38,7 @@ use Rattle.task_sched.specs.Tasks.{is_flagged}
 use Rattle.wave_counts.proofs.CountLemmas.{counts_put_out}
 use Rattle.wire_msgs.specs.Views.{MessageView}
 use Rattle.wire_msgs.specs.Views as wire
-use Rattle.snap_savers.specs.Reports.{AreReports, ReportsView}
+use Rattle.snap_savers.specs.Reports.{AreToldReports, ReportsView}
 use Rattle.snap_savers.specs.Savers.{ArePlansOf, IsMarkedOwn, IsSaverOf, IsSavedOnce, IsSavedRight, LooksAlike, Machine, SaverView, Setting, SnapView, flag_there, is_end, nth_edge, part_held, part_of, place_at, size, with_snaps}
 use Rattle.snap_savers.proofs.StandLemmas.{alike_to, kept_from, still_stands}
 use Rattle.snap_savers.proofs.WorkLemmas.{ends_others, reports_push, still_flies, vertex_apart}
@@ -330,7 +330,7 @@ module _ {P : Type 0} (meaning : P → Update) (x : SaverView P) where
               plans = record { many = is.plans.many; planned = is.plans.planned; others = is.plans.others };
               saved = subst (IsSavedRight st a) (sym sent) right;
               once = subst IsSavedOnce (sym same) (record { vertices = is.once.vertices; edges = is.once.edges });
-              reports = subst (λ ms. AreReports ms new.out) (sym told)
+              reports = subst (λ ms. AreToldReports ms new.out) (sym told)
                   (reports_push x.reports.messages m.out (wire.Section (own_section x.machine.kept)) (Saved m.part.known m.part.saved m.before) is.reports
                   ((is.kept.known, is.kept.saved, is.kept.before), record { vertices = is.once.vertices; edges = is.once.edges }));
             }),

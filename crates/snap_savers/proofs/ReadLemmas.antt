@@ -24,7 +24,7 @@ use Rattle.wave_counts.proofs.CountLemmas.{counts_sent}
 use Rattle.wire_msgs.specs.Views.{MessageView, message_view}
 use Rattle.wire_msgs.specs.Views as told
 use Rattle.wire_msgs.specs.declared.messages.Message as message
-use Rattle.snap_savers.specs.Reports.{AreReports, ReportsView, has_report, left_behind}
+use Rattle.snap_savers.specs.Reports.{AreToldReports, ReportsView, has_report, reports_left}
 use Rattle.snap_savers.specs.Savers.{IsSaverOf, IsSavedRight, LooksAlike, Machine, SaverView, Setting, part_held, part_of, with_snaps}
 
 -- ---- reports
@@ -32,7 +32,7 @@ use Rattle.snap_savers.specs.Savers.{IsSaverOf, IsSavedRight, LooksAlike, Machin
 nothing_next : {X : Type 0} (x : X) (xs : List X) → [] ≡ x ∷ xs → ⊥
 nothing_next x xs is = cc
 
-pub tells_next : (ms : List MessageView) (rs : List Report) → AreReports ms rs → (nat_lt 0 (length ms) ≡ true) ↔ HasNext rs
+pub tells_next : (ms : List MessageView) (rs : List Report) → AreToldReports ms rs → (nat_lt 0 (length ms) ≡ true) ↔ HasNext rs
 tells_next [] [] are = (λ is. absurd (true≢false (sym is)), λ next. absurd (nothing_next next.message next.behind next.first))
 tells_next (m ∷ ms) [] are = absurd are
 tells_next [] (r ∷ rs) are = absurd are
@@ -41,7 +41,7 @@ tells_next (m ∷ ms) (r ∷ rs) are = (λ is. record { message = r; behind = rs
 none_some : {X : Type 0} (x : X) → None ≡ Some x → ⊥
 none_some x is = cc
 
-pub none_left : (ms : List MessageView) (rs : List Report) → None ≡ slice_get ms 0 → AreReports ms rs → rs ≡ []
+pub none_left : (ms : List MessageView) (rs : List Report) → None ≡ slice_get ms 0 → AreToldReports ms rs → rs ≡ []
 none_left [] [] none are = refl
 none_left [] (r ∷ rs) none are = absurd are
 none_left (m ∷ ms) rs none are = absurd (none_some m none)
@@ -52,9 +52,9 @@ pub record IsFirstReport (w : MessageView) (ms : List MessageView) (room : ℕ) 
   pub behind : List Report
   pub first : rs ≡ report ∷ behind
   pub told : TellsReport w report
-  pub rest : AreReports (left_behind ms room).messages behind
+  pub rest : AreToldReports (reports_left ms room).messages behind
 
-pub first_report : (w : MessageView) (ms : List MessageView) (room : ℕ) (rs : List Report) → Some w ≡ slice_get ms 0 → AreReports ms rs → IsFirstReport w ms room rs
+pub first_report : (w : MessageView) (ms : List MessageView) (room : ℕ) (rs : List Report) → Some w ≡ slice_get ms 0 → AreToldReports ms rs → IsFirstReport w ms room rs
 first_report w [] room rs first are = absurd (none_some w (sym first))
 first_report w (m ∷ ms) room [] first are = absurd are
 first_report w (m ∷ ms) room (r ∷ rs) first are =
@@ -68,7 +68,7 @@ module _ {P : Type 0} (meaning : P → Update) (x : SaverView P) where
   pub reports_none : None ≡ slice_get x.reports.messages 0 → OfEach (IsSaverOf meaning) x (λ st a m. m.out ≡ [])
   reports_none none st a m snap is = none_left x.reports.messages m.out none is.reports
 
-  pub reports_still : (left : ReportsView) → left ≡ left_behind x.reports.messages x.reports.room → None ≡ slice_get x.reports.messages 0 → StandsStill (IsSaverOf meaning) x (record x { reports = left })
+  pub reports_still : (left : ReportsView) → left ≡ reports_left x.reports.messages x.reports.room → None ≡ slice_get x.reports.messages 0 → StandsStill (IsSaverOf meaning) x (record x { reports = left })
   reports_still left is_left none st a m snap is =
       record {
         here = is.here;
@@ -82,14 +82,14 @@ module _ {P : Type 0} (meaning : P → Update) (x : SaverView P) where
         plans = is.plans;
         saved = is.saved;
         once = is.once;
-        reports = subst (λ (r : ReportsView). AreReports r.messages m.out) (sym is_left) (same x.reports.messages none is.reports);
+        reports = subst (λ (r : ReportsView). AreToldReports r.messages m.out) (sym is_left) (same x.reports.messages none is.reports);
       }
     where
-      same : (ms : List MessageView) → None ≡ slice_get ms 0 → AreReports ms m.out → AreReports (left_behind ms x.reports.room).messages m.out
+      same : (ms : List MessageView) → None ≡ slice_get ms 0 → AreToldReports ms m.out → AreToldReports (reports_left ms x.reports.room).messages m.out
       same [] none are = are
       same (w ∷ ms) none are = absurd (none_some w none)
 
-  pub report_taken : (left : ReportsView) (one : message.Message) → left ≡ left_behind x.reports.messages x.reports.room → Some (message_view one) ≡ slice_get x.reports.messages 0
+  pub report_taken : (left : ReportsView) (one : message.Message) → left ≡ reports_left x.reports.messages x.reports.room → Some (message_view one) ≡ slice_get x.reports.messages 0
       → OfEach (IsSaverOf meaning) x (IsReporting (IsSaverOf meaning) one (record x { reports = left }))
   report_taken left one is_left first st a m snap is =
       let next = first_report (message_view one) x.reports.messages x.reports.room m.out first is.reports in
@@ -119,7 +119,7 @@ module _ {P : Type 0} (meaning : P → Update) (x : SaverView P) where
           plans = record { many = is.plans.many; planned = is.plans.planned; others = is.plans.others };
           saved = is.saved;
           once = is.once;
-          reports = subst (λ (r : ReportsView). AreReports r.messages next.behind) (sym is_left) next.rest;
+          reports = subst (λ (r : ReportsView). AreToldReports r.messages next.behind) (sym is_left) next.rest;
         };
       }
 

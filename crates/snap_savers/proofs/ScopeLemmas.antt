@@ -35,7 +35,7 @@ use Rattle.snap_members.specs.Promises.{CanAdmit, CanDo, CanNotAdmit, CanNotDo, 
 use Rattle.task_sched.specs.Tasks.{is_flagged, is_open}
 use Rattle.task_sched.specs.declared.task_sets.Pick.{Pick}
 use Rattle.wave_counts.proofs.CountLemmas.{counts_put_out}
-use Rattle.snap_savers.specs.Savers.{ArePlansOf, AreReports, CountsView, IsCountOf, IsSaverOf, IsSavedRight, LooksAlike, Machine, SaverView, Setting, SnapView, flag_there, part_held, part_of, place_at, with_snaps}
+use Rattle.snap_savers.specs.Savers.{ArePlansOf, AreToldReports, CountsView, IsCountOf, IsSaverOf, IsSavedRight, LooksAlike, Machine, SaverView, Setting, SnapView, flag_there, part_held, part_of, place_at, with_snaps}
 use Rattle.snap_savers.proofs.StandLemmas.{alike_to, kept_from, plans_kept, room_is, saved_kept, saved_numbers, still_stands}
 
 -- ---- the same machine but for its parts
@@ -322,7 +322,7 @@ module _ {P : Type 0} (meaning : P → Update) (x : SaverView P) (now : Core) (n
             (λ v. ap (λ (n : Numbers). place_at n.local v) numbers) is.plans;
         saved = saved_numbers st a x.machine.kept x.machine.core now numbers is.saved;
         once = is.once;
-        reports = subst (AreReports x.reports.messages) (sym same.out) is.reports;
+        reports = subst (AreToldReports x.reports.messages) (sym same.out) is.reports;
       }
 
   pub granted_one : (v : ℕ) → MayGrantLock x.machine.core v → HasGrantedLock x.machine.core now v → HasDone (IsSaverOf meaning) x (Grant v) (moved x.counts)

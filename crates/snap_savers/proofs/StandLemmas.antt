@@ -16,7 +16,7 @@ use Rattle.snap_update.specs.Snaps.{IsSameButRoom, outside_of}
 use Rattle.snap_members.specs.Going.{IsSnapSetting}
 use Rattle.snap_members.specs.Promises.{StandsStill}
 use Rattle.task_sched.specs.Tasks.{is_below, is_open}
-use Rattle.snap_savers.specs.Savers.{ArePlansOf, AreReports, IsMarkedOwn, IsSaverOf, IsSavedOnce, IsSavedRight, IsSnapPartOf, LooksAlike, Machine, Part, ReportsView, SaverView, Setting, SnapView, flag_there, part_held, part_of, place_at, with_snaps}
+use Rattle.snap_savers.specs.Savers.{ArePlansOf, AreToldReports, IsMarkedOwn, IsSaverOf, IsSavedOnce, IsSavedRight, IsSnapPartOf, LooksAlike, Machine, Part, ReportsView, SaverView, Setting, SnapView, flag_there, part_held, part_of, place_at, with_snaps}
 
 -- ---- a machine that holds no wave
 
@@ -125,7 +125,7 @@ module _ {P : Type 0} (meaning : P → Update) (x : SaverView P) (now : SnapMach
         };
         saved = subst (IsSavedRight st a) (sym held) is.saved;
         once = subst IsSavedOnce (sym same) (record { vertices = is.once.vertices; edges = is.once.edges });
-        reports = subst (λ ms. AreReports ms m.out) (sym told) is.reports;
+        reports = subst (λ ms. AreToldReports ms m.out) (sym told) is.reports;
       }
 
 -- only room for reports was made

@@ -42,14 +42,14 @@ use Rattle.snap_update.specs.Snaps.{IsSameButRoom, has_to_ask, with_entry}
 use Rattle.wave_counts.proofs.CountLemmas.{counts_put_out}
 use Rattle.wire_msgs.specs.Views.{MessageView}
 use Rattle.wire_msgs.specs.Views as wire
-use Rattle.snap_savers.specs.Reports.{AreReports, ReportsView}
-use Rattle.snap_savers.specs.Asking.{HasAsked, with_want}
+use Rattle.snap_savers.specs.Reports.{AreToldReports, ReportsView}
+use Rattle.snap_savers.specs.Asking.{HasWanted, with_wish}
 use Rattle.snap_savers.specs.Savers.{ArePlansOf, IsSaverOf, IsSavedOnce, IsSavedRight, LooksAlike, Machine, SaverView, Setting, SnapView, flag_there, part_held, part_of, place_at, size, with_snaps}
 use Rattle.snap_savers.proofs.StandLemmas.{alike_to, kept_from, outside_is, saved_kept, still_stands}
 
 -- ---- reports
 
-pub reports_push : (ms : List MessageView) (rs : List Report) (m : MessageView) (r : Report) → AreReports ms rs → TellsReport m r → AreReports (ms ++ m ∷ []) (rs ++ r ∷ [])
+pub reports_push : (ms : List MessageView) (rs : List Report) (m : MessageView) (r : Report) → AreToldReports ms rs → TellsReport m r → AreToldReports (ms ++ m ∷ []) (rs ++ r ∷ [])
 reports_push [] [] m r are tells = (tells, tt)
 reports_push [] (one ∷ rs) m r are tells = absurd are
 reports_push (one ∷ ms) [] m r are tells = absurd are
@@ -62,10 +62,10 @@ abbrev asked_if : {P : Type 0} → Bool → SaverView P → SaverView P
 asked_if test x =
     record x {
       machine = record x.machine { kept = record x.machine.kept { wanted = x.machine.kept.wanted || test } };
-      reports = with_want (if test then Some x.machine.kept.acknowledged else None) x.reports;
+      reports = with_wish (if test then Some x.machine.kept.acknowledged else None) x.reports;
     }
 
-asked_reports : (test : Bool) (r : ReportsView) (k j : ℕ) (out : List Report) → j ≡ k → AreReports r.messages out → AreReports (with_want (if test then Some k else None) r).messages (if test then out ++ Want j ∷ [] else out)
+asked_reports : (test : Bool) (r : ReportsView) (k j : ℕ) (out : List Report) → j ≡ k → AreToldReports r.messages out → AreToldReports (with_wish (if test then Some k else None) r).messages (if test then out ++ Want j ∷ [] else out)
 asked_reports true r k j out same are = reports_push r.messages out (wire.Want k) (Want j) are (ap Want same, tt)
 asked_reports false r k j out same are = are
 
@@ -101,7 +101,7 @@ module _ {P : Type 0} (meaning : P → Update) (st : Setting) (a : ℕ) (m : Mac
       ap (λ (b : Bool). b && not m.wanted && nat_le (half_window st) (outside m)) snap.stored
       ∙ (λ i. not (is.kept.wanted i) && nat_le ((sym is.window i + 1) / 2) (outside_is meaning st a m x is i))
 
-  pub asked_standing : IsSnapSetting st → (now : SaverView P) → HasAsked x now → IsSaverOf meaning st a (asks st m) now
+  pub asked_standing : IsSnapSetting st → (now : SaverView P) → HasWanted x now → IsSaverOf meaning st a (asks st m) now
   asked_standing snap now has =
       subst (IsSaverOf meaning st a (asks st m)) (sym has)
       (subst (λ (test : Bool). IsSaverOf meaning st a (asks_if test m) (asked_if (has_to_ask ((x.window + 1) / 2) x.machine.kept) x)) (sym (test_is snap)) (asked_by (has_to_ask ((x.window + 1) / 2) x.machine.kept)))
@@ -307,11 +307,11 @@ module _ {P : Type 0} (meaning : P → Update) (x : SaverView P) (now : SnapMach
           plans = plans_are;
           saved = saved_right;
           once = other_once w now.kept rest is.once;
-          reports = subst (λ ms. AreReports ms m.out) (sym told) is.reports;
+          reports = subst (λ ms. AreToldReports ms m.out) (sym told) is.reports;
         }
 
   -- the update is the machine's part of the event, and it asks for a snapshot where it has to
-  pub updated_one : (behind : SaverView P) → HasAsked worked behind → HasDone (IsSaverOf meaning) x (UpdateDeed s ticket) behind
+  pub updated_one : (behind : SaverView P) → HasWanted worked behind → HasDone (IsSaverOf meaning) x (UpdateDeed s ticket) behind
   updated_one behind asked st a m snap is =
       let may_m : MayUpdate s m.part 1 =
       update_may st a (part_held x) m.part (alike_turned st a m.part (part_held x) is.part) s 1

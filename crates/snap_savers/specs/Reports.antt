@@ -13,21 +13,21 @@ abbrev pub with_report : MessageView → ReportsView → ReportsView
 with_report m r = record { messages = r.messages ++ m ∷ []; room = pred r.room }
 
 -- behind the first one, where one waits
-abbrev pub left_behind : List MessageView → ℕ → ReportsView
-left_behind [] room = record { messages = []; room = room }
-left_behind (m ∷ behind) room = record { messages = behind; room = room + 1 }
+abbrev pub reports_left : List MessageView → ℕ → ReportsView
+reports_left [] room = record { messages = []; room = room }
+reports_left (m ∷ behind) room = record { messages = behind; room = room + 1 }
 
 -- the first one is gone
-abbrev pub without_first : ReportsView → ReportsView
-without_first r = left_behind r.messages r.room
+abbrev pub without_report : ReportsView → ReportsView
+without_report r = reports_left r.messages r.room
 
 -- one waits
 abbrev pub has_report : ReportsView → Bool
 has_report r = nat_lt 0 (length r.messages)
 
 -- the messages are these reports, one by one
-abbrev pub AreReports : List MessageView → List Report → Type 0
-AreReports [] [] = ⊤
-AreReports [] (report ∷ reports) = ⊥
-AreReports (m ∷ messages) [] = ⊥
-AreReports (m ∷ messages) (report ∷ reports) = TellsReport m report × AreReports messages reports
+abbrev pub AreToldReports : List MessageView → List Report → Type 0
+AreToldReports [] [] = ⊤
+AreToldReports [] (report ∷ reports) = ⊥
+AreToldReports (m ∷ messages) [] = ⊥
+AreToldReports (m ∷ messages) (report ∷ reports) = TellsReport m report × AreToldReports messages reports

@@ -10,7 +10,7 @@ pub use Rattle.saving_machines.specs.Machines.{SnapMachineView, SnapView}
 pub use Rattle.seen_parts.specs.Alike.{LooksAlike}
 pub use Rattle.snap_machines.specs.Keeping.{with_snaps}
 pub use Rattle.snap_members.specs.Promises.{Machine, Setting}
-pub use Rattle.snap_savers.specs.Reports.{AreReports, ReportsView}
+pub use Rattle.snap_savers.specs.Reports.{AreToldReports, ReportsView}
 pub use Rattle.snap_update.specs.Holding.{IsSnapPartOf}
 pub use Rattle.snap_update.specs.Snaps.{IsSavedOnce}
 pub use Rattle.wave_counts.specs.Counts.{CountsView, IsCountOf}
@@ -71,4 +71,4 @@ pub record IsSaverOf {P : Type 0} (meaning : P â†’ Update) (st : Setting) (a : â
   pub plans : ArePlansOf x.machine.core.numbers m
   pub saved : IsSavedRight st a (part_held x)
   pub once : IsSavedOnce x.machine.kept
-  pub reports : AreReports x.reports.messages m.out
+  pub reports : AreToldReports x.reports.messages m.out

@@ -1,7 +1,7 @@
 //! What comes from the coordinator.
 ghost use Rattle.std.specs.Prelude.{◌≡◌, ◌<◌, length, IfErr, OnOk, OnErr};
 ghost use Rattle.snap_members.specs.Promises.{HasHeard, StandsStill};
-ghost use Rattle.snap_savers.specs.Asking.{HasAnswered};
+ghost use Rattle.snap_savers.specs.Asking.{HasToldCounts};
 ghost use Rattle.snap_savers.specs.Savers.{IsSaverOf};
 
 use crate::savers::Saver;
@@ -69,7 +69,7 @@ impl<P: Program> Saver<P> {
     /// The answer to this wave, where so many messages were put out. It takes no memory.
     fn answer(&mut self, wave: u64, sent: u64)
         requires { 0 < self.old.reports.room }
-        ensures { HasAnswered self.old self.new wave sent }
+        ensures { HasToldCounts self.old self.new wave sent }
     {
         let updates = count(&self.machine.core().numbers.log);
         let idle = self.machine.is_idle();

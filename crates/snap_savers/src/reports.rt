@@ -1,6 +1,6 @@
 //! What waits to be sent to the coordinator.
 ghost use Rattle.std.specs.Prelude.{◌≡◌, ◌<◌, [], option_map, slice_get, OnOk};
-ghost use Rattle.snap_savers.specs.Reports.{has_report, with_report, without_first};
+ghost use Rattle.snap_savers.specs.Reports.{has_report, with_report, without_report};
 ghost use Rattle.wire_msgs.specs.Views.{message_view};
 
 use gl_base::NoMemory;
@@ -55,7 +55,7 @@ impl Reports {
     /// Takes the first message.
     pub fn take(&mut self) -> Option<Message>
         ensures first { option_map message_view result ≡ slice_get self.old.messages 0 }
-        ensures behind { self.new ≡ without_first self.old }
+        ensures behind { self.new ≡ without_report self.old }
     {
         self.queue.pop_front()
     }

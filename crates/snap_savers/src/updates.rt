@@ -1,7 +1,7 @@
 //! Updates.
 ghost use Rattle.std.specs.Prelude.{◌≡◌, ◌<◌, IfNone, IfSome, OnOk, OnErr, IsErrOf};
 ghost use Rattle.snap_members.specs.Promises.{Update, CanDo, CanNotDo, CanUpdate, CanUpdateNone, HasDone, StandsStill};
-ghost use Rattle.snap_savers.specs.Asking.{HasAsked};
+ghost use Rattle.snap_savers.specs.Asking.{HasWanted};
 ghost use Rattle.snap_savers.specs.Savers.{IsSaverOf};
 
 use crate::savers::Saver;
@@ -45,7 +45,7 @@ impl<P: Program> Saver<P> {
     /// Asks for a snapshot where half of the window is outside the last one, and none was asked for behind that yet. It takes no memory.
     pub(crate) fn ask(&mut self)
         requires { 0 < self.old.reports.room }
-        ensures { HasAsked self.old self.new }
+        ensures { HasWanted self.old self.new }
     {
         let half = (self.window as u64 + 1) / 2;
         if let Some(acknowledged) = self.machine.ask(half) {
