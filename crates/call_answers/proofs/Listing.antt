@@ -1,19 +1,32 @@
--- The lists of a call of attempts.
-use Rattle.std.specs.List.{AllByRecursion}
-use Rattle.std.proofs.Common.{Bool, List, [], ap, false, filter, if◌then◌else◌, length, nat_le, refl, subst, suc, sym, true, ℕ, ◌*◌, ◌+◌, ◌∙◌, ◌∷◌, ◌≡◌, ◌≤◌, arith}
+-- The lists of a call of attempts, and of a cluster to which events led.
+use Rattle.std.proofs.Common.{Bool, List, [], ap, ap₂, false, filter, if◌then◌else◌, length, map, nat_le, refl, subst, subst₂, suc, sym, true, ℕ, ◌*◌, ◌++◌, ◌+◌, ◌/◌, ◌<◌, ◌∙◌, ◌∷◌, ◌≡◌, ◌≤◌, arith}
+use Rattle.std.specs.List.{AllByRecursion, range_with_len}
 use Rattle.gl_base.specs.Lists.{AreEach}
 use Rattle.gl_base.specs.declared.entries.Entry.{Entry}
 use Rattle.gl_base.specs.declared.jobs.FailureAt.{FailureAt}
 use Rattle.attempts.proofs.Accounting.{call_accounted}
-use Rattle.attempts.proofs.Failing.{call_followed, call_restarts, lost_within}
-use Rattle.attempts.proofs.Opening.{call_in_turn}
+use Rattle.attempts.proofs.Failing.{call_followed, call_restarts}
+use Rattle.attempts.proofs.Opening.{call_in_turn, last_begins, opening_begins}
 use Rattle.attempts.proofs.Pieces.{call_between}
-use Rattle.attempts.proofs.Storing.{call_window}
 use Rattle.attempts.specs.Accounted.{AreAccounted, AreRestarts, AreValidBetween, IsFollowedByRestart}
-use Rattle.attempts.specs.Beginnings.{KeepsWindow}
-use Rattle.attempts.specs.EngineCalls.{EngineCall, IsEngineCall, IsOrderInTurn, call_order, done_of, fired_of, first_ticket, lost_of, made_of, struck_in}
+use Rattle.attempts.specs.EngineCalls.{EngineCall, IsEngineCall, IsOrderInTurn, call_order, done_of, fired_of, first_ticket, last_beginning, lost_of, made_of, opening, struck_in}
 use Rattle.attempts.specs.Stores.{IsWithinWindow, last_order, snapshots_of}
 use Rattle.call_answers.specs.Answers.{HasRestarts, IsRunWithFailures, KeepsToWindow, RunLists, Shared, is_restart, made_by, reached_places}
+use Rattle.call_answers.specs.Courses.{IsMerge, ListsOfCourse, all_logged, machine_logs}
+use Rattle.cluster_core.specs.Recovering.{going_on}
+use Rattle.cluster_core.specs.Settings.{Setting}
+use Rattle.cluster_model.specs.Clusters.{BaseView, Cluster}
+use Rattle.cluster_model.specs.Events.{Event, recovers}
+use Rattle.cluster_model.specs.Machines.{completed}
+use Rattle.cluster_model.specs.Working.{half_window}
+use Rattle.cluster_runs.specs.Recorded.{shared_of}
+use Rattle.merged_logs.proofs.PartLemmas.{logs_merge, updates_rise}
+use Rattle.merged_logs.specs.Merges.{logs_of}
+use Rattle.whole_calls.proofs.Calling.{the_call}
+use Rattle.whole_calls.specs.Called.{IsCallOf, KeepsWindows}
+use Rattle.whole_calls.specs.Opened.{IsCourseOfCall}
+use Rattle.whole_calls.specs.Saved.{AreSnapshotsOf, recorded_in}
+use Rattle.whole_calls.specs.Telling.{TellsOfCall}
 
 -- as many places as failures
 as_many : (done : ℕ → ℕ) (place : ℕ) (failures : List FailureAt) →
@@ -59,10 +72,46 @@ module _ (shared : Shared) (call : EngineCall) (is : IsEngineCall shared call) (
         restarts = has_restarts;
       }
 
-  pub window_is : (window : ℕ) → AllByRecursion (KeepsWindow window) call.failed → KeepsWindow window call.last → KeepsToWindow window call.base (snapshots_of call) lists
-  window_is window failed last =
+  pub window_is : (st : Setting) (failures : List FailureAt) → shared_of st failures ≡ shared → KeepsWindows st failures call → KeepsToWindow st.window call.base (snapshots_of call) lists
+  window_is st failures same keeps =
       record {
-        lost = λ m. subst (λ (l : List Entry). made_by l m ≤ window * length lists.fired) (sym lost)
-            (subst (λ (n : ℕ). made_by (lost_of call) m ≤ window * n) (sym fired_many) (lost_within shared window call is failed m));
-        outside = subst (λ (o : List Entry). IsWithinWindow window (last_order call.base (snapshots_of call)) o) (sym order) (call_window shared window call is last);
+        lost = λ m. subst (λ (l : List Entry). made_by l m ≤ st.window * length lists.fired) (sym lost)
+            (subst (λ (n : ℕ). made_by (lost_of call) m ≤ st.window * n) (sym (fired_many ∙ ap (λ (s : Shared). length (fired_of s call)) (sym same))) (keeps.lost m));
+        outside = subst (λ (o : List Entry). IsWithinWindow st.window (last_order call.base (snapshots_of call)) o) (sym order) keeps.outside;
       }
+
+-- ---- of a cluster to which events led
+
+module _ (st : Setting) (failures : List FailureAt) (kept : List Entry) (resumed : Bool) (base : BaseView) (first : Cluster) (events : List Event) (c : Cluster) (lists : RunLists)
+    (course : IsCourseOfCall st failures kept resumed base first events c) (are : ListsOfCourse st failures base first events c lists) where
+  pub course_runs : (call : EngineCall)
+      × IsCallOf st failures kept resumed c call
+      × IsRunWithFailures (shared_of st failures) st.machines kept resumed call.last.struck lists
+      × (lists.order ≡ call_order call)
+      × (st.stored ≡ true → KeepsToWindow st.window kept (snapshots_of call) lists)
+      × AreSnapshotsOf st base.number kept (recorded_in (going_on st base.numbers base.number) (recovers st base first) events) (snapshots_of call)
+      × (0 < half_window st → length (snapshots_of call) ≤ first.left / half_window st + 1)
+      × TellsOfCall st first.left c call
+  course_runs =
+      let made = the_call st failures kept resumed base first events c course in
+      let call : EngineCall = made.0 in
+      let of : IsCallOf st failures kept resumed c call = made.1 in
+      let is : IsEngineCall (shared_of st failures) call = of.is in
+      let logs : machine_logs st.machines c ≡ logs_of st.machines call.last.made = ap (λ (log : ℕ → List Entry). map log (range_with_len 0 st.machines)) (λ i. λ m. of.logs m i) in
+      let merged : are.merged ≡ call.last.made = logs_merge st.machines call.last.made are.merged (updates_rise (last_beginning call).next call.last.made (last_begins (shared_of st failures) (opening call) call.failed call.last (opening_begins (shared_of st failures) call is) is.attempts).1.tickets) of.machines
+      (subst (λ (ls : List (List Entry)). IsMerge (all_logged ls) are.merged) logs are.merges) in
+      let order : lists.order ≡ call_order call = are.order ∙ ap₂ (λ (xs ys : List Entry). xs ++ ys) of.front merged in
+      let lost : lists.lost ≡ lost_of call = sym (made.6 lists.lost are.lost) in
+      let counts : (λ (m : ℕ). completed (c.machine m)) ≡ done_of call = λ i. λ m. of.done m i in
+      let fired : lists.fired ≡ reached_places (done_of call) 0 failures = are.fired ∙ ap (λ (done : ℕ → ℕ). reached_places done 0 failures) counts in
+      let done : AreEach st.machines (λ m count. count ≡ done_of call m) lists.done = subst (λ (all : ℕ → ℕ). AreEach st.machines (λ m count. count ≡ all m) lists.done) counts are.done in (
+        call,
+        of,
+        subst₂ (λ (ks : List Entry) (r : Bool). IsRunWithFailures (shared_of st failures) st.machines ks r call.last.struck lists) of.base of.was_resumed
+            (run_is (shared_of st failures) call is lists order lost fired st.machines done),
+        order,
+        λ stored. subst (λ (ks : List Entry). KeepsToWindow st.window ks (snapshots_of call) lists) of.base (window_is (shared_of st failures) call is lists order lost fired st failures refl (made.2 stored)),
+        made.3,
+        made.4,
+        made.5,
+      )

@@ -1,21 +1,42 @@
 //! Laws of the lists that a run leaves. Each is the contract of a function that does nothing.
-ghost use Rattle.std.specs.List.{AllByRecursion};
-ghost use Rattle.std.specs.Prelude.{List, [], length, ℕ, ◌≡◌, ◌++◌};
+ghost use Rattle.std.specs.Prelude.{Bool, List, length, true, ℕ, ◌+◌, ◌/◌, ◌<◌, ◌≡◌, ◌≤◌};
 ghost use Rattle.gl_base.specs.Lists.{AreEach};
-ghost use Rattle.attempts.specs.Beginnings.{KeepsWindow};
+ghost use Rattle.gl_base.specs.declared.entries.Entry.{Entry};
+ghost use Rattle.gl_base.specs.declared.jobs.FailureAt.{FailureAt};
 ghost use Rattle.attempts.specs.EngineCalls.{EngineCall, IsEngineCall, call_order, done_of, lost_of};
 ghost use Rattle.attempts.specs.Stores.{snapshots_of};
 ghost use Rattle.call_answers.specs.Answers.{IsRunWithFailures, KeepsToWindow, RunLists, Shared, reached_places};
+ghost use Rattle.call_answers.specs.Courses.{ListsOfCourse};
+ghost use Rattle.cluster_core.specs.Recovering.{going_on};
+ghost use Rattle.cluster_core.specs.Settings.{Setting};
+ghost use Rattle.cluster_model.specs.Clusters.{BaseView, Cluster};
+ghost use Rattle.cluster_model.specs.Events.{Event, recovers};
+ghost use Rattle.cluster_model.specs.Working.{half_window};
+ghost use Rattle.cluster_runs.specs.Recorded.{shared_of};
+ghost use Rattle.whole_calls.specs.Called.{IsCallOf};
+ghost use Rattle.whole_calls.specs.Opened.{IsCourseOfCall};
+ghost use Rattle.whole_calls.specs.Saved.{AreSnapshotsOf, recorded_in};
+ghost use Rattle.whole_calls.specs.Telling.{TellsOfCall};
 
-/// The lists of a call of attempts are those of a run with failures. The failures of its last attempt that were reached go unanswered. Where
-/// each attempt keeps a window, the run does.
+/// The lists of a call of attempts are those of a run with failures. The failures of its last attempt that were reached go unanswered.
 pub fn calls_are_runs()
-    ensures run { (shared : Shared) (machines : ℕ) (call : EngineCall) (lists : RunLists) → IsEngineCall shared call →
+    ensures { (shared : Shared) (machines : ℕ) (call : EngineCall) (lists : RunLists) → IsEngineCall shared call →
         lists.order ≡ call_order call → lists.lost ≡ lost_of call → AreEach machines (λ m count. count ≡ done_of call m) lists.done →
         lists.fired ≡ reached_places (done_of call) 0 shared.failures →
         IsRunWithFailures shared machines call.base call.resumed call.last.struck lists }
-    ensures window { (shared : Shared) (window : ℕ) (call : EngineCall) (lists : RunLists) → IsEngineCall shared call →
-        AllByRecursion (KeepsWindow window) call.failed → KeepsWindow window call.last →
-        lists.order ≡ call_order call → lists.lost ≡ lost_of call → lists.fired ≡ reached_places (done_of call) 0 shared.failures →
-        KeepsToWindow window call.base (snapshots_of call) lists }
+{}
+
+/// The lists of a cluster to which events led, from the opening of a call on, are those of a run with failures; and where snapshots are taken they keep to
+/// the window, for the orders of the snapshots that were acknowledged. There is a call of attempts of which all of this holds at once.
+pub fn courses_are_runs()
+    ensures { (st : Setting) (failures : List FailureAt) (kept : List Entry) (resumed : Bool) (base : BaseView) (first : Cluster) (events : List Event) (c : Cluster)
+        (lists : RunLists) → IsCourseOfCall st failures kept resumed base first events c → ListsOfCourse st failures base first events c lists →
+        (call : EngineCall)
+        × IsCallOf st failures kept resumed c call
+        × IsRunWithFailures (shared_of st failures) st.machines kept resumed call.last.struck lists
+        × (lists.order ≡ call_order call)
+        × (st.stored ≡ true → KeepsToWindow st.window kept (snapshots_of call) lists)
+        × AreSnapshotsOf st base.number kept (recorded_in (going_on st base.numbers base.number) (recovers st base first) events) (snapshots_of call)
+        × (0 < half_window st → length (snapshots_of call) ≤ first.left / half_window st + 1)
+        × TellsOfCall st first.left c call }
 {}

@@ -8,7 +8,7 @@ use Rattle.std.proofs.lemmas.List.Sums.{sum_by-cons, sum_by-append}
 use Rattle.gl_base.specs.declared.entries.Entry.{Entry}
 use Rattle.gl_base.specs.declared.entries.Entry.TheVariants.{Go, Restart}
 use Rattle.merged_logs.specs.Merges.{AreUpdatesFrom, IsByMachineBelow, IsMerge, RiseByTicket, all_logged, entries_of, logs_of, ticket_of}
-use Rattle.merged_logs.proofs.SameLemmas.{one_merge, permutation_from}
+use Rattle.merged_logs.proofs.SameLemmas.{HaveSame, one_merge, permutation_from}
 
 -- ---- updates from a ticket on rise
 
@@ -92,8 +92,12 @@ logs_have_all p machines (Go machine vertex ticket ∷ order) below =
     omega (arith, one, other, logs_have_all p machines order below.1)
 logs_have_all p machines (Restart ticket ∷ order) below = absurd below.0
 
+-- the logs have the entries of the order, each as often
+pub parts_have_all : (machines : ℕ) (order : List Entry) → AllByRecursion (IsByMachineBelow machines) order → HaveSame (all_logged (logs_of machines order)) order
+parts_have_all machines order below = λ p. count_logs p order 0 machines ∙ logs_have_all p machines order below
+
 pub logs_merge : (machines : ℕ) (order merged : List Entry) → RiseByTicket order → AllByRecursion (IsByMachineBelow machines) order →
     IsMerge (all_logged (logs_of machines order)) merged → merged ≡ order
 logs_merge machines order merged up below merge =
     one_merge (all_logged (logs_of machines order)) merged order merge
-    (permutation_from (all_logged (logs_of machines order)) order (λ p. count_logs p order 0 machines ∙ logs_have_all p machines order below)) up
+    (permutation_from (all_logged (logs_of machines order)) order (parts_have_all machines order below)) up

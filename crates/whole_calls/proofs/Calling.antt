@@ -8,7 +8,7 @@ use Rattle.gl_base.specs.declared.entries.Entry.TheVariants.{Restart}
 use Rattle.gl_base.specs.declared.jobs.FailureAt.{FailureAt}
 use Rattle.graph_core.specs.DataGraph.{size}
 use Rattle.attempts.specs.Beginnings.{held_updates, order_after, snapshot_order, unheld_updates}
-use Rattle.attempts.specs.EngineCalls.{EngineCall, IsOrderInTurn, begins_behind, call_order, made_of, ticket_above}
+use Rattle.attempts.specs.EngineCalls.{EngineCall, IsOrderInTurn, begins_behind, call_order, lost_of, made_of, ticket_above}
 use Rattle.attempts.specs.Entries.{is_restart}
 use Rattle.attempts.specs.Stores.{attempted_snapshots, last_order, snapshot_orders, snapshots_of}
 use Rattle.attempts.proofs.Prefixes.{last_order_append}
@@ -42,6 +42,7 @@ use Rattle.seq_run.specs.Orders.{tasks_after}
 use Rattle.seq_run.specs.States.{GraphState}
 use Rattle.whole_calls.specs.Called.{IsCallOf, KeepsWindows}
 use Rattle.whole_calls.specs.Following.{has_reached}
+use Rattle.whole_calls.specs.Lost.{AreLostIn}
 use Rattle.whole_calls.specs.Opened.{IsCourseOfCall}
 use Rattle.whole_calls.specs.Saved.{AreSnapshotsOf, IsSnapshotOf, recorded_at, recorded_in}
 use Rattle.whole_calls.specs.Telling.{HasSavedTheEnd, NeedsMoreStore, TellsOfCall, length_with}
@@ -263,9 +264,9 @@ module _ (st : Setting) (failures : List FailureAt) (kept : List Entry) (resumed
   abbrev last : Setting
   last = setting_behind now events
 
-  ended : EndsBehind failures (opened_at kept resumed) kept base.number (ticket_above kept + first.left) (since st last.start last.base) c (recorded_in now begun events) (0 + unasked_in now begun events)
+  ended : EndsBehind failures (opened_at kept resumed) kept base.number (ticket_above kept + first.left) (since st last.start last.base) c (recorded_in now begun events) (0 + unasked_in now begun events) [] (AreLostIn now begun events)
   ended =
-      subst (λ (s : Setting). EndsBehind failures (opened_at kept resumed) kept base.number (ticket_above kept + first.left) s c (recorded_in now begun events) (0 + unasked_in now begun events)) (behind_since events now)
+      subst (λ (s : Setting). EndsBehind failures (opened_at kept resumed) kept base.number (ticket_above kept + first.left) s c (recorded_in now begun events) (0 + unasked_in now begun events) [] (AreLostIn now begun events)) (behind_since events now)
       (courses_end failures (opened_at kept resumed) kept base.number (ticket_above kept + first.left) events now begun c [] [] [] 0 opening course.course course.follows)
 
   saved_then : (start : GraphState) (number : ℕ) → HasSavedTheEnd st c.coordinator → HasSavedTheEnd (since st start number) c.coordinator
@@ -287,6 +288,7 @@ module _ (st : Setting) (failures : List FailureAt) (kept : List Entry) (resumed
       × AreSnapshotsOf st base.number kept (recorded_in (going_on st base.numbers base.number) (recovers st base first) events) (snapshots_of one)
       × (0 < half_window st → length (snapshots_of one) ≤ first.left / half_window st + 1)
       × TellsOfCall st first.left c one
+      × ((lost : List Entry) → AreLostIn (going_on st base.numbers base.number) (recovers st base first) events lost → lost_of one ≡ lost)
   the_call =
       let last_st : Setting = since st last.start last.base in
       let logged : List Logged = ended.0 in
@@ -309,4 +311,5 @@ module _ (st : Setting) (failures : List FailureAt) (kept : List Entry) (resumed
             (by_half (half_window st) (snapshots_in_all events) (unasked_in now begun events) first.left half (attempts_few st course.is course.coloured base first events c course.course))
             (once_or last_st logged unasked e.once)),
         record { tasks = told.tasks; unharmed = told.unharmed; told = told.told; saved = λ stored is. told.saved stored (saved_then last.start last.base is); pending = λ due. told.pending (due_then last.start last.base due); full = λ due refused. told.full (due_then last.start last.base due) (room_then last.start last.base refused); spent = told.spent },
+        ended.3,
       )

@@ -6,8 +6,8 @@ use Rattle.std.proofs.lemmas.List.{length-append}
 use Rattle.gl_base.specs.declared.entries.Entry.{Entry}
 use Rattle.gl_base.specs.declared.jobs.FailureAt.{FailureAt}
 use Rattle.gl_base.specs.declared.scopes.ScopeId.{ScopeId}
-use Rattle.attempts.specs.Beginnings.{again}
-use Rattle.attempts.specs.EngineCalls.{HaveFailed, begins_behind}
+use Rattle.attempts.specs.Beginnings.{again, unheld_updates}
+use Rattle.attempts.specs.EngineCalls.{HaveFailed, begins_behind, lost_in}
 use Rattle.attempts.specs.Stores.{ResumesFrom, attempted_snapshots, last_order, snapshot_orders}
 use Rattle.attempts.proofs.Prefixes.{last_order_append}
 use Rattle.attempts.proofs.Storing.{begins_push, goes_back}
@@ -38,11 +38,13 @@ use Rattle.cluster_records.proofs.Entering.{IsNoUpdate, draws_none, own_logged, 
 use Rattle.cluster_records.proofs.Outside.{many_outside, outside_more}
 use Rattle.cluster_records.proofs.Recording.{IsNoRecord, adds_none}
 use Rattle.whole_calls.specs.Following.{FollowJob, FollowsJob, has_reached}
+use Rattle.whole_calls.specs.Lost.{AreLostIn, IsTakenBy}
 use Rattle.whole_calls.specs.Saved.{AreSnapshotsOf, recorded_at, recorded_in}
 use Rattle.whole_calls.proofs.Acknowledged.{attempted_push, good_snapshots, numbered_long, snapshots_append}
 use Rattle.whole_calls.proofs.EventKinds.{by_kind}
 use Rattle.whole_calls.proofs.Going.{IsInCall, now_made, quiet_in, reached_kept, recover_in, update_in}
 use Rattle.whole_calls.proofs.Holding.{holds_all, holds_if}
+use Rattle.whole_calls.proofs.Losing.{lost_push, taken_once, unheld_taken}
 use Rattle.whole_calls.proofs.Refusing.{again_longer}
 use Rattle.whole_calls.proofs.Waved.{IsLate, end_unreached, quiet_late, recovered_late, update_late}
 
@@ -472,6 +474,20 @@ module _ (failures : List FailureAt) (start : Beginning) (kept : List Entry) (nu
   abbrev Leaves : Event → Type 0
   Leaves event = (now : List Logged) × (more : List Attempt)
       × IsEnding failures start kept number total (setting_after st event) (after_event st c event) now more (taken ++ recorded_at c event) (unasked + unasked_at c event)
+      × ((lost : List Entry) → IsTakenBy st c event lost → lost_in more ≡ lost_in failed ++ lost)
+
+  -- nothing is lost without a recovery
+  none_lost : (event : Event) → IsNoRecovery event → (lost : List Entry) → IsTakenBy st c event lost → lost_in failed ≡ lost_in failed ++ lost
+  none_lost event other lost by = sym (append-nil (lost_in failed)) ∙ ap (λ (es : List Entry). lost_in failed ++ es) (sym (by.other other))
+
+  some_lost : (base : BaseView) → GoesBackTo st c base → (lost : List Entry) → IsTakenBy st c (Recover base) lost →
+      lost_in (failed ++ now_made failures start st c logged failed in_call ∷ []) ≡ lost_in failed ++ lost
+  some_lost base back lost by =
+      let a : Attempt = now_made failures start st c logged failed in_call in
+      lost_push failed a
+      ∙ ap (λ (es : List Entry). lost_in failed ++ es)
+      (taken_once st c base (unheld_updates a) lost
+      (unheld_taken st in_call.is c in_call.whole logged in_call.account in_call.based failures (begins_behind start failed) in_call.so.tickets base back) (by.recovery base refl))
 
   pub event_ending : (event : Event) → MayDo st c event → FollowsJob st failures c event → Leaves event
   event_ending event may follows =
@@ -481,9 +497,10 @@ module _ (failures : List FailureAt) (start : Beginning) (kept : List Entry) (nu
         failed,
         subst (λ (s : Setting). IsEnding failures start kept number total s (after_event st c x) (logged ++ []) failed (taken ++ recorded_at c x) (unasked + unasked_at c x)) (sym (setting_same st x other))
             (quiet_ending x may_x other none follows_x),
+        none_lost x other,
       ))
-      (λ s may_x follows_x. (logged ++ update_logged st c s may_x.1.vertex ∷ [], failed, update_ending s may_x follows_x))
-      (λ base may_x follows_x. ([], failed ++ now_made failures start st c logged failed in_call ∷ [], recover_ending base may_x follows_x))
+      (λ s may_x follows_x. (logged ++ update_logged st c s may_x.1.vertex ∷ [], failed, update_ending s may_x follows_x, none_lost (Update s) (λ base same. cc)))
+      (λ base may_x follows_x. ([], failed ++ now_made failures start st c logged failed in_call ∷ [], recover_ending base may_x follows_x, some_lost base may_x))
       event may follows
 
 -- ---- every list of events
@@ -494,23 +511,27 @@ plus_none n = omega arith
 plus_more : (n k m : ℕ) → (n + k) + m ≡ n + (k + m)
 plus_more n k m = omega arith
 
--- where they lead
-abbrev pub EndsBehind : List FailureAt → Beginning → List Entry → ℕ → ℕ → Setting → Cluster → List Snapshot → ℕ → Type 0
-EndsBehind failures start kept number total st c taken unasked = (now : List Logged) × (more : List Attempt) × IsEnding failures start kept number total st c now more taken unasked
+-- where they lead, where this is lost before
+abbrev pub EndsBehind : List FailureAt → Beginning → List Entry → ℕ → ℕ → Setting → Cluster → List Snapshot → ℕ → List Entry → (List Entry → Type 0) → Type 0
+EndsBehind failures start kept number total st c taken unasked before AreLost = (now : List Logged) × (more : List Attempt) × IsEnding failures start kept number total st c now more taken unasked
+    × ((lost : List Entry) → AreLost lost → lost_in more ≡ before ++ lost)
 
 pub courses_end : (failures : List FailureAt) (start : Beginning) (kept : List Entry) (number total : ℕ) (events : List Event) (st : Setting) (old last : Cluster) (logged : List Logged) (failed : List Attempt) (taken : List Snapshot) (unasked : ℕ) →
     IsEnding failures start kept number total st old logged failed taken unasked → IsCourse st old events last → FollowJob st failures old events →
-    EndsBehind failures start kept number total (setting_behind st events) last (taken ++ recorded_in st old events) (unasked + unasked_in st old events)
+    EndsBehind failures start kept number total (setting_behind st events) last (taken ++ recorded_in st old events) (unasked + unasked_in st old events) (lost_in failed) (AreLostIn st old events)
 courses_end failures start kept number total [] st old last logged failed taken unasked e course follow =
-    subst (λ (c : Cluster). EndsBehind failures start kept number total st c (taken ++ []) (unasked + 0)) (sym course)
-    (subst (λ (ss : List Snapshot). EndsBehind failures start kept number total st old ss (unasked + 0)) (sym (append-nil taken))
-    (subst (EndsBehind failures start kept number total st old taken) (plus_none unasked) (logged, failed, e)))
+    subst (λ (c : Cluster). EndsBehind failures start kept number total st c (taken ++ []) (unasked + 0) (lost_in failed) (AreLostIn st old [])) (sym course)
+    (subst (λ (ss : List Snapshot). EndsBehind failures start kept number total st old ss (unasked + 0) (lost_in failed) (AreLostIn st old [])) (sym (append-nil taken))
+    (subst (λ (n : ℕ). EndsBehind failures start kept number total st old taken n (lost_in failed) (AreLostIn st old [])) (plus_none unasked)
+    (logged, failed, e, λ lost none. sym (append-nil (lost_in failed)) ∙ ap (λ (es : List Entry). lost_in failed ++ es) (sym none))))
 courses_end failures start kept number total (event ∷ events) st old last logged failed taken unasked e course follow =
     let mid : Cluster = after_event st old event in
     let after_it : Setting = setting_after st event in
     let one = event_ending failures start kept number total st old logged failed taken unasked e event course.0.1 follow.0 in
     let rest = courses_end failures start kept number total events after_it mid last one.0 one.1 (taken ++ recorded_at old event) (unasked + unasked_at old event) one.2 course.1 follow.1 in
-    subst (λ (ss : List Snapshot). EndsBehind failures start kept number total (setting_behind after_it events) last ss (unasked + (unasked_at old event + unasked_in after_it mid events)))
+    let lost_so : (lost : List Entry) → AreLostIn st old (event ∷ events) lost → lost_in rest.1 ≡ lost_in failed ++ lost = λ lost are.
+    rest.3 are.1 are.3 ∙ ap (λ (es : List Entry). es ++ are.1) (one.3 are.0 are.2) ∙ append_assoc (lost_in failed) are.0 are.1 ∙ ap (λ (es : List Entry). lost_in failed ++ es) (sym are.4) in
+    subst (λ (ss : List Snapshot). EndsBehind failures start kept number total (setting_behind after_it events) last ss (unasked + (unasked_at old event + unasked_in after_it mid events)) (lost_in failed) (AreLostIn st old (event ∷ events)))
     (append_assoc taken (recorded_at old event) (recorded_in after_it mid events))
-    (subst (EndsBehind failures start kept number total (setting_behind after_it events) last ((taken ++ recorded_at old event) ++ recorded_in after_it mid events))
-    (plus_more unasked (unasked_at old event) (unasked_in after_it mid events)) rest)
+    (subst (λ (n : ℕ). EndsBehind failures start kept number total (setting_behind after_it events) last ((taken ++ recorded_at old event) ++ recorded_in after_it mid events) n (lost_in failed) (AreLostIn st old (event ∷ events)))
+    (plus_more unasked (unasked_at old event) (unasked_in after_it mid events)) (rest.0, rest.1, rest.2, lost_so))

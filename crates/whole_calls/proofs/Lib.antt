@@ -8,6 +8,7 @@ pub mod Waved
 pub mod Holding
 pub mod Acknowledged
 pub mod Refusing
+pub mod Losing
 pub mod Ending
 pub mod Calling
 pub mod WorkedPair

@@ -2,7 +2,7 @@
 ghost use Rattle.std.specs.Prelude.{Bool, List, length, true, ℕ, ◌+◌, ◌/◌, ◌<◌, ◌≡◌, ◌≤◌};
 ghost use Rattle.gl_base.specs.declared.entries.Entry.{Entry};
 ghost use Rattle.gl_base.specs.declared.jobs.FailureAt.{FailureAt};
-ghost use Rattle.attempts.specs.EngineCalls.{EngineCall};
+ghost use Rattle.attempts.specs.EngineCalls.{EngineCall, lost_of};
 ghost use Rattle.attempts.specs.Stores.{snapshots_of};
 ghost use Rattle.cluster_core.specs.Recovering.{going_on};
 ghost use Rattle.cluster_core.specs.Settings.{Setting};
@@ -10,6 +10,7 @@ ghost use Rattle.cluster_model.specs.Clusters.{BaseView, Cluster};
 ghost use Rattle.cluster_model.specs.Events.{Event, recovers};
 ghost use Rattle.cluster_model.specs.Working.{half_window};
 ghost use Rattle.whole_calls.specs.Called.{IsCallOf, KeepsWindows};
+ghost use Rattle.whole_calls.specs.Lost.{AreLostIn};
 ghost use Rattle.whole_calls.specs.Opened.{IsCourseOfCall};
 ghost use Rattle.whole_calls.specs.Saved.{AreSnapshotsOf, recorded_in};
 ghost use Rattle.whole_calls.specs.Telling.{TellsOfCall};
@@ -17,7 +18,7 @@ ghost use Rattle.whole_calls.specs.Telling.{TellsOfCall};
 /// Every list of events from the opening of a call on, with failures and recoveries among them, makes a call: attempts that failed, one
 /// after another, and a last one. Where snapshots are taken, each attempt keeps the window. The snapshots that were acknowledged are those
 /// of the call, each with its numbers and with what it has more than the one before; and they are at most one more than halves of the window go into the budget. What waves and tickets
-/// tell is so of the call.
+/// tell is so of the call. What the recoveries took away is what the call lost.
 pub fn courses_are_calls()
     ensures { (st : Setting) (failures : List FailureAt) (kept : List Entry) (resumed : Bool) (base : BaseView) (first : Cluster) (events : List Event) (c : Cluster) →
         IsCourseOfCall st failures kept resumed base first events c →
@@ -26,5 +27,6 @@ pub fn courses_are_calls()
         × (st.stored ≡ true → KeepsWindows st failures call)
         × AreSnapshotsOf st base.number kept (recorded_in (going_on st base.numbers base.number) (recovers st base first) events) (snapshots_of call)
         × (0 < half_window st → length (snapshots_of call) ≤ first.left / half_window st + 1)
-        × TellsOfCall st first.left c call }
+        × TellsOfCall st first.left c call
+        × ((lost : List Entry) → AreLostIn (going_on st base.numbers base.number) (recovers st base first) events lost → lost_of call ≡ lost) }
 {}
