@@ -44,10 +44,11 @@ use Rattle.whole_calls.specs.Called.{IsCallOf, KeepsWindows}
 use Rattle.whole_calls.specs.Following.{has_reached}
 use Rattle.whole_calls.specs.Lost.{AreLostIn}
 use Rattle.whole_calls.specs.Opened.{IsCourseOfCall}
-use Rattle.whole_calls.specs.Saved.{AreSnapshotsOf, IsSnapshotOf, recorded_at, recorded_in}
+use Rattle.whole_calls.specs.Saved.{AreNextOrders, AreSnapshotsOf, fronts_in, IsSnapshotOf, recorded_at, recorded_in}
 use Rattle.whole_calls.specs.Telling.{HasSavedTheEnd, NeedsMoreStore, TellsOfCall, length_with}
 use Rattle.whole_calls.proofs.Acknowledged.{good_snapshots, pending_is, snapshots_append, snapshots_long}
-use Rattle.whole_calls.proofs.Ending.{EndsBehind, HasAskedAll, IsEnding, IsPlain, courses_end, which}
+use Rattle.whole_calls.proofs.Ending.{EndsBehind, GoOnFrom, all_fronted, HasAskedAll, IsEnding, IsPlain, courses_end, which}
+use Rattle.whole_calls.proofs.Fronting.{all_in_turn, next_orders}
 use Rattle.whole_calls.proofs.Going.{IsInCall}
 use Rattle.whole_calls.proofs.Holding.{holds_only, told_many}
 use Rattle.whole_calls.proofs.Leading.{behind_since, call_of, call_then, call_with, is_call, opened_at, opened_in, since, windows_are, windows_then}
@@ -264,9 +265,9 @@ module _ (st : Setting) (failures : List FailureAt) (kept : List Entry) (resumed
   abbrev last : Setting
   last = setting_behind now events
 
-  ended : EndsBehind failures (opened_at kept resumed) kept base.number (ticket_above kept + first.left) (since st last.start last.base) c (recorded_in now begun events) (0 + unasked_in now begun events) [] (AreLostIn now begun events)
+  ended : EndsBehind failures (opened_at kept resumed) kept base.number (ticket_above kept + first.left) (since st last.start last.base) c (recorded_in now begun events) (0 + unasked_in now begun events) [] (AreLostIn now begun events) (GoOnFrom (opened_at kept resumed) now begun events [])
   ended =
-      subst (λ (s : Setting). EndsBehind failures (opened_at kept resumed) kept base.number (ticket_above kept + first.left) s c (recorded_in now begun events) (0 + unasked_in now begun events) [] (AreLostIn now begun events)) (behind_since events now)
+      subst (λ (s : Setting). EndsBehind failures (opened_at kept resumed) kept base.number (ticket_above kept + first.left) s c (recorded_in now begun events) (0 + unasked_in now begun events) [] (AreLostIn now begun events) (GoOnFrom (opened_at kept resumed) now begun events [])) (behind_since events now)
       (courses_end failures (opened_at kept resumed) kept base.number (ticket_above kept + first.left) events now begun c [] [] [] 0 opening course.course course.follows)
 
   saved_then : (start : GraphState) (number : ℕ) → HasSavedTheEnd st c.coordinator → HasSavedTheEnd (since st start number) c.coordinator
@@ -289,6 +290,8 @@ module _ (st : Setting) (failures : List FailureAt) (kept : List Entry) (resumed
       × (0 < half_window st → length (snapshots_of one) ≤ first.left / half_window st + 1)
       × TellsOfCall st first.left c one
       × ((lost : List Entry) → AreLostIn (going_on st base.numbers base.number) (recovers st base first) events lost → lost_of one ≡ lost)
+      × AreNextOrders st kept (fronts_in (going_on st base.numbers base.number) (recovers st base first) events)
+      (recorded_in (going_on st base.numbers base.number) (recovers st base first) events) (snapshots_of one)
   the_call =
       let last_st : Setting = since st last.start last.base in
       let logged : List Logged = ended.0 in
@@ -300,9 +303,10 @@ module _ (st : Setting) (failures : List FailureAt) (kept : List Entry) (resumed
       let in_turn = course.opened.in_turn in
       let begins = course.opened.begins in
       let are : AreSnapshotsOf st base.number kept taken (snapshots_of one) = orders_are failures kept resumed base.number first.left last_st c logged failed taken unasked e in_turn begins in
+      let call_so : IsCallOf st failures kept resumed c one = call_then st last.start last.base failures kept resumed c one (call_of failures kept resumed last_st c logged failed e.at in_turn begins) in
       let told : TellsOfCall last_st first.left c one = tells failures kept resumed base.number first.left last_st c logged failed taken unasked e in_turn begins in (
         one,
-        call_then st last.start last.base failures kept resumed c one (call_of failures kept resumed last_st c logged failed e.at in_turn begins),
+        call_so,
         λ stored. windows_then st last.start last.base failures one (windows_are failures kept resumed last_st c logged failed e.at in_turn begins stored),
         are,
         λ half.
@@ -312,4 +316,8 @@ module _ (st : Setting) (failures : List FailureAt) (kept : List Entry) (resumed
             (once_or last_st logged unasked e.once)),
         record { tasks = told.tasks; unharmed = told.unharmed; told = told.told; saved = λ stored is. told.saved stored (saved_then last.start last.base is); pending = λ due. told.pending (due_then last.start last.base due); full = λ due refused. told.full (due_then last.start last.base due) (room_then last.start last.base refused); spent = told.spent },
         ended.3,
+        next_orders (shared_of st failures) st base.number kept (fronts_in now begun events) taken (snapshots_of one) are
+            (all_fronted failures (opened_at kept resumed) kept base.number (ticket_above kept + first.left) last_st c logged failed taken unasked e (fronts_in now begun events)
+            (ended.4 (fronts_in now begun events) ([], ([], refl, tt), refl)))
+            (all_in_turn (shared_of st failures) one call_so.is),
       )

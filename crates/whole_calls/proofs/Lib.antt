@@ -9,6 +9,7 @@ pub mod Holding
 pub mod Acknowledged
 pub mod Refusing
 pub mod Losing
+pub mod Fronting
 pub mod Ending
 pub mod Calling
 pub mod WorkedPair

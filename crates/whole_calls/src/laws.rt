@@ -8,11 +8,12 @@ ghost use Rattle.cluster_core.specs.Recovering.{going_on};
 ghost use Rattle.cluster_core.specs.Settings.{Setting};
 ghost use Rattle.cluster_model.specs.Clusters.{BaseView, Cluster};
 ghost use Rattle.cluster_model.specs.Events.{Event, recovers};
+ghost use Rattle.cluster_model.specs.Leading.{Snapshot};
 ghost use Rattle.cluster_model.specs.Working.{half_window};
 ghost use Rattle.whole_calls.specs.Called.{IsCallOf, KeepsWindows};
 ghost use Rattle.whole_calls.specs.Lost.{AreLostIn};
 ghost use Rattle.whole_calls.specs.Opened.{IsCourseOfCall};
-ghost use Rattle.whole_calls.specs.Saved.{AreSnapshotsOf, recorded_in};
+ghost use Rattle.whole_calls.specs.Saved.{AreNextOrders, AreSnapshotsOf, fronts_in, recorded_in};
 ghost use Rattle.whole_calls.specs.Telling.{TellsOfCall};
 
 /// Every list of events from the opening of a call on, with failures and recoveries among them, makes a call: attempts that failed, one
@@ -28,5 +29,13 @@ pub fn courses_are_calls()
         × AreSnapshotsOf st base.number kept (recorded_in (going_on st base.numbers base.number) (recovers st base first) events) (snapshots_of call)
         × (0 < half_window st → length (snapshots_of call) ≤ first.left / half_window st + 1)
         × TellsOfCall st first.left c call
-        × ((lost : List Entry) → AreLostIn (going_on st base.numbers base.number) (recovers st base first) events lost → lost_of call ≡ lost) }
+        × ((lost : List Entry) → AreLostIn (going_on st base.numbers base.number) (recovers st base first) events lost → lost_of call ≡ lost)
+        × AreNextOrders st kept (fronts_in (going_on st base.numbers base.number) (recovers st base first) events)
+        (recorded_in (going_on st base.numbers base.number) (recovers st base first) events) (snapshots_of call) }
+{}
+
+/// What snapshots bring tells their orders: there is one list of them.
+pub fn orders_are_one()
+    ensures { (st : Setting) (before : List Entry) (fronts : List (List Entry)) (snapshots : List Snapshot) (orders others : List (List Entry)) →
+        AreNextOrders st before fronts snapshots orders → AreNextOrders st before fronts snapshots others → orders ≡ others }
 {}
