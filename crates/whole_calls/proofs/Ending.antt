@@ -48,6 +48,7 @@ use Rattle.whole_calls.proofs.Fronting.{HaveRestartsOf, attempt_restarts, replic
 use Rattle.whole_calls.proofs.Going.{IsInCall, now_made, quiet_in, reached_kept, recover_in, update_in}
 use Rattle.whole_calls.proofs.Holding.{holds_all, holds_if}
 use Rattle.whole_calls.proofs.Losing.{lost_push, taken_once, unheld_taken}
+use Rattle.whole_calls.proofs.Owning.{SavesOwn, begins_own, own_kept}
 use Rattle.whole_calls.proofs.Refusing.{again_longer}
 use Rattle.whole_calls.proofs.Waved.{IsLate, end_unreached, quiet_late, recovered_late, update_late}
 
@@ -152,6 +153,7 @@ pub record IsEnding (failures : List FailureAt) (start : Beginning) (kept : List
   -- who failed begins behind the last order, and a snapshot is under way for a reason
   pub behind : (failed ≡ []) ⊎ ((begins_behind start failed).front ≡ last_order kept (attempted_snapshots start failed) → ⊥)
   pub reason : c.coordinator.acknowledged < c.coordinator.begun → HasReason st c logged
+  pub own : SavesOwn st c
   pub tickets : c.next + c.left ≡ total
 
 stays_zero : (n k : ℕ) → n ≡ 0 → k ≡ 0 → n + k ≡ 0
@@ -411,6 +413,7 @@ module _ (failures : List FailureAt) (start : Beginning) (kept : List Entry) (nu
         resumes = e.resumes;
         behind = e.behind;
         reason = reason_on event may other;
+        own = own_kept st c e.own in_call.whole event may;
         tickets = ap₂ (λ (n k : ℕ). n + k) (draws_none st c event may none) (left_kept st c event may none) ∙ e.tickets;
       }
 
@@ -453,6 +456,7 @@ module _ (failures : List FailureAt) (start : Beginning) (kept : List Entry) (nu
             (λ (done : HasNoTaskLeft st (world_of c) × ((c.coordinator.snapshots ≡ []) ⊎ (entries_to c.coordinator.acknowledged logged ≡ all_entries logged → ⊥))).
             absurd (both_ways ((c.machine s.home.0).part.task may.1.vertex) (done.0.tasks s.home.0 may.0.machine may.1.vertex own.1) may.1.task))
             (e.reason (subst₂ (λ (n k : ℕ). n < k) same.1 (numbers_after st c (Update s) other (λ same. cc)).1 under));
+        own = own_kept st c e.own in_call.whole (Update s) may;
         tickets = subst (λ (flight : Option ℕ). (makes st c s flight).next + (makes st c s flight).left ≡ total) (sym may.1.flight) (one_ticket c.next c.left total e.tickets may.1.ticket);
       }
 
@@ -505,6 +509,7 @@ module _ (failures : List FailureAt) (start : Beginning) (kept : List Entry) (nu
             (sym (ap (λ (b : Beginning). b.front) (begins_push start failed a)) ∙ is ∙ ap (last_order kept) (attempted_push start failed a)
             ∙ last_order_append kept (attempted_snapshots start failed) (snapshot_orders behind a)));
         reason = λ under. absurd (not_less base.number under);
+        own = begins_own st (setting_after st (Recover base)) base c;
         tickets = e.tickets;
       }
 

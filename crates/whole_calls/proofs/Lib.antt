@@ -10,6 +10,7 @@ pub mod Acknowledged
 pub mod Refusing
 pub mod Losing
 pub mod Fronting
+pub mod Owning
 pub mod Ending
 pub mod Calling
 pub mod WorkedPair

@@ -1,7 +1,7 @@
 -- The snapshots that a list of events has acknowledged, and the orders that they stand for.
 use Rattle.std.specs.List.{AllByRecursion}
 use Rattle.std.specs.List.Sorted.{IsPermutation}
-use Rattle.std.specs.Prelude.{List, [], filter, suc, true, ℕ, ⊤, ◌++◌, ◌∷◌, ◌≡◌, ◌≤◌}
+use Rattle.std.specs.Prelude.{List, Some, [], filter, length, suc, true, ℕ, ⊤, ◌++◌, ◌<◌, ◌∷◌, ◌≡◌, ◌≤◌}
 use Rattle.gl_base.specs.declared.entries.Entry.{Entry}
 use Rattle.attempts.specs.Beginnings.{last_of, nothing, snapshot_order}
 use Rattle.attempts.specs.EngineCalls.{EngineCall, last_beginning}
@@ -70,6 +70,11 @@ AreNextOrders st before [] [] [] = ⊤
 AreNextOrders st before (front ∷ fronts) (snapshot ∷ snapshots) (order ∷ orders) = IsNextOrder st front before snapshot order × AreNextOrders st order fronts snapshots orders
 AreNextOrders st before fronts snapshots orders = ⊥
 
+-- What several sections of a snapshot say agrees: a vertex stands in the section of its owner alone, and an edge in any with one number.
+pub record SaysOnce (st : Setting) (snapshot : Snapshot) : Type 0 where
+  pub vertices : (a v x : ℕ) → a < st.machines → (snapshot.sections a).section.vertices v ≡ Some x → st.owner v ≡ a
+  pub edges : (a e x : ℕ) → a < st.machines → e < length st.graph.edges → (snapshot.sections a).section.edges e ≡ Some x → x ≡ (snapshot_numbers st snapshot).edge e
+
 -- The snapshot that is due may follow those of the call, also where it is recorded and never acknowledged: it is of a valid cut of what
 -- the last attempt made, which has what the last snapshot has.
 abbrev pub MayFollow : Setting → Coordinator → EngineCall → Type 0
@@ -78,3 +83,4 @@ MayFollow st c call =
     × ((v : ℕ) → last_of nothing call.last.kept v ≤ later v)
     × IsValidFrom st.graph st.program (replay st.graph st.program (last_beginning call).front) (all_tasks st.graph) (cut_of later call.last.made)
     × IsSnapshotOf st c.begun (last_order call.base (snapshots_of call)) (snapshot_order (last_beginning call) call.last later) (snapshot_due c)
+    × SaysOnce st (snapshot_due c)
