@@ -6,7 +6,9 @@ use Rattle.cluster_core.specs.Messages.{Ask, Done, Message, Ready, Section}
 use Rattle.cluster_core.specs.Settings.{IsSetting, Setting}
 use Rattle.cluster_core.specs.Worlds.{World}
 use Rattle.cluster_core.proofs.Basics.{set_at-cases, set_at-kept}
-use Rattle.cluster_cuts.proofs.CutsKept.{recorded_cut}
+use Rattle.cluster_core.specs.Cuts.{cut_of}
+use Rattle.cluster_core.specs.Replays.{replay_of}
+use Rattle.cluster_cuts.proofs.CutsKept.{recorded, recorded_cut}
 use Rattle.cluster_cuts.proofs.MarkEvents.{all_known, section_come}
 use Rattle.cluster_model.specs.Calls.{Begin, Call, Committed, Count, Report, Saved, Step, Want, Wave}
 use Rattle.cluster_model.specs.Clusters.{BaseView, Cluster, with_machine}
@@ -97,7 +99,14 @@ module _ (st : Setting) (is : IsSetting st) (c : Cluster) (whole : IsWhole st c)
       let may = may_record st c due in
       let saved : (a : ℕ) → a < st.machines → (come_or (c.coordinator.come a)).section ≡ (w.part a).saved = λ a low.
       come_section (c.coordinator.come a) (w.part a).saved (section_come st w whole.consistent.marks may a low).2 in
+      let held = recorded st is w whole.consistent may in
       record {
+        some_vertex = λ v within.
+            let its = held.vertices v within in
+            ((replay_of st (cut_of whole.consistent.count whole.consistent.order)).vertex v, ap (λ (s : Section). s.vertices v) (come_section (c.coordinator.come (st.owner v)) its.0 its.1) ∙ its.2);
+        some_edge = λ e within.
+            let its = held.edges e within in
+            (its.0, (replay_of st (cut_of whole.consistent.count whole.consistent.order)).edge e, its.2, ap (λ (s : Section). s.edges e) (come_section (c.coordinator.come its.0) its.1 its.3) ∙ its.4);
         vertices = λ a v x low said. own a v x (ap (λ (s : Section). s.vertices v) (sym (saved a low)) ∙ said);
         edges = λ a e x low within said.
             sym ((recorded_cut st is w whole.consistent may).edges_saved a e x low within (all_known st w whole.consistent.marks may a low) (ap (λ (s : Section). s.edges e) (sym (saved a low)) ∙ said)).0

@@ -14,6 +14,7 @@ use Rattle.cluster_model.specs.Clusters.{Cluster}
 use Rattle.cluster_model.specs.Events.{Event, Record, after_event, entries_below, setting_after, snapshot_numbers}
 use Rattle.cluster_model.specs.Leading.{Coordinator, Snapshot}
 use Rattle.cluster_records.specs.Recorded.{HaveSameNumbers, snapshot_due}
+use Rattle.graph_core.specs.DataGraph.{size}
 use Rattle.seq_run.specs.Orders.{IsValidFrom, all_tasks, replay}
 
 -- the snapshot that an event acknowledges
@@ -70,8 +71,10 @@ AreNextOrders st before [] [] [] = ⊤
 AreNextOrders st before (front ∷ fronts) (snapshot ∷ snapshots) (order ∷ orders) = IsNextOrder st front before snapshot order × AreNextOrders st order fronts snapshots orders
 AreNextOrders st before fronts snapshots orders = ⊥
 
--- What several sections of a snapshot say agrees: a vertex stands in the section of its owner alone, and an edge in any with one number.
+-- The sections of a snapshot say each number, and agree: a vertex stands in the section of its owner alone, and an edge in one or more with one number.
 pub record SaysOnce (st : Setting) (snapshot : Snapshot) : Type 0 where
+  pub some_vertex : (v : ℕ) → v < size st.graph → (x : ℕ) × ((snapshot.sections (st.owner v)).section.vertices v ≡ Some x)
+  pub some_edge : (e : ℕ) → e < length st.graph.edges → (a : ℕ) × (x : ℕ) × (a < st.machines) × ((snapshot.sections a).section.edges e ≡ Some x)
   pub vertices : (a v x : ℕ) → a < st.machines → (snapshot.sections a).section.vertices v ≡ Some x → st.owner v ≡ a
   pub edges : (a e x : ℕ) → a < st.machines → e < length st.graph.edges → (snapshot.sections a).section.edges e ≡ Some x → x ≡ (snapshot_numbers st snapshot).edge e
 
