@@ -193,7 +193,7 @@ module _ (failures : List FailureAt) (kept : List Entry) (resumed : Bool) (numbe
         saved = saved_all;
         pending = λ due.
             let may = pending_is st at.is c at.whole logged at.account at.based failures behind at.so.front at.so.tickets newest e.resumes due in
-            (may.0, may.1, may.2, subst (λ (order : List Entry). IsSnapshotOf st c.coordinator.begun order (snapshot_order behind made_call.last may.0) (snapshot_due c.coordinator)) (sym last_is) may.3, due_says st at.is c at.whole e.own due);
+            (may.0, may.1, may.2, subst (λ (order : List Entry). IsSnapshotOf st c.coordinator.begun order (snapshot_order behind made_call.last may.0) (snapshot_due c.coordinator)) (sym last_is) may.3, due_says st at.is c at.whole e.own logged at.account due);
         full = needs_more;
         spent = of_budget c.next c.left (ticket_above kept) budget (length (made_of made_call)) e.tickets its_call.next;
       }
@@ -316,7 +316,7 @@ module _ (st : Setting) (failures : List FailureAt) (kept : List Entry) (resumed
             (one_at_most (unasked_in now begun events) (snapshots_in_all events) (first.left / half_window st)
             (by_half (half_window st) (snapshots_in_all events) (unasked_in now begun events) first.left half (attempts_few st course.is course.coloured base first events c course.course))
             (once_or last_st logged unasked e.once)),
-        record { tasks = told.tasks; unharmed = told.unharmed; told = told.told; saved = λ stored is. told.saved stored (saved_then last.start last.base is); pending = λ due. let p = told.pending (due_then last.start last.base due) in (p.0, p.1, p.2, p.3, record { some_vertex = p.4.some_vertex; some_edge = p.4.some_edge; vertices = p.4.vertices; edges = p.4.edges }); full = λ due refused. told.full (due_then last.start last.base due) (room_then last.start last.base refused); spent = told.spent },
+        record { tasks = told.tasks; unharmed = told.unharmed; told = told.told; saved = λ stored is. told.saved stored (saved_then last.start last.base is); pending = λ due. let p = told.pending (due_then last.start last.base due) in (p.0, p.1, p.2, p.3, record { updates = p.4.updates; some_vertex = p.4.some_vertex; some_edge = p.4.some_edge; vertices = p.4.vertices; edges = p.4.edges }); full = λ due refused. told.full (due_then last.start last.base due) (room_then last.start last.base refused); spent = told.spent },
         ended.3,
         next_orders (shared_of st failures) st base.number kept (fronts_in now begun events) taken (snapshots_of one) are
             (all_fronted failures (opened_at kept resumed) kept base.number (ticket_above kept + first.left) last_st c logged failed taken unasked e (fronts_in now begun events)

@@ -69,7 +69,7 @@ split q p (x ∷ xs) = one (q x) (split q p xs) ∙ sym (sum_by-cons (λ (e : En
     one false rest = rest ∙ zero_more (count_by (λ x. q x && p x) xs)
 
 -- a permutation is one of the updates
-filtered : (q : Entry → Bool) (xs ys : List Entry) → IsPermutation xs ys → IsPermutation (filter q xs) (filter q ys)
+pub filtered : (q : Entry → Bool) (xs ys : List Entry) → IsPermutation xs ys → IsPermutation (filter q xs) (filter q ys)
 filtered q xs ys same = permutation_from (filter q xs) (filter q ys) (λ p. split q p xs ∙ same_from xs ys same (λ x. q x && p x) ∙ sym (split q p ys))
 
 none_updated : (missing : List Entry) → AllByRecursion (λ entry. is_restart entry ≡ true) missing → filter is_update missing ≡ []
@@ -81,7 +81,7 @@ none_updated (Go machine vertex ticket ∷ missing) all = absurd (not_so all.0)
 none_updated (Restart ticket ∷ missing) all = none_updated missing all.1
 
 -- restarts that are missing add no update
-without : (before missing brought : List Entry) → AllByRecursion (λ entry. is_restart entry ≡ true) missing → filter is_update (before ++ (missing ++ brought)) ≡ filter is_update (before ++ brought)
+pub without : (before missing brought : List Entry) → AllByRecursion (λ entry. is_restart entry ≡ true) missing → filter is_update (before ++ (missing ++ brought)) ≡ filter is_update (before ++ brought)
 without before missing brought all =
     filter-append is_update before (missing ++ brought)
     ∙ ap (λ (es : List Entry). filter is_update before ++ es) (filter-append is_update missing brought ∙ ap (λ (es : List Entry). es ++ filter is_update brought) (none_updated missing all))

@@ -1,25 +1,32 @@
 -- What machines have saved: of vertices, each its own; of edges, one number each.
-use Rattle.std.proofs.Common.{◌≡◌, ◌⊎◌, ℕ, ◌<◌, ◌∙◌, Bool, true, false, if◌then◌else◌, None, Option, Some, List, ◌∷◌, inl, inr, refl, length, nat_lt, sym, ap, subst, ⊎_elim, arith}
-use Rattle.gl_base.specs.declared.entries.Entry.TheVariants.{Go}
+use Rattle.std.proofs.Common.{◌≡◌, ℕ, zero, suc, ◌<◌, ◌≤◌, le_refl, [], ◌∙◌, Bool, true, false, if◌then◌else◌, None, Option, Some, List, ◌∷◌, refl, nat_lt, sym, ap, subst, arith}
+use Rattle.std.specs.List.{AllByRecursion}
+use Rattle.gl_base.specs.declared.entries.Entry.{Entry}
+use Rattle.gl_base.specs.declared.entries.Entry.TheVariants.{Go, Restart}
+use Rattle.graph_core.proofs.HalvesLaws.{each-append}
+use Rattle.attempts.specs.Entries.{is_update}
 use Rattle.cluster_core.specs.Effects.{nothing_saved}
 use Rattle.cluster_core.specs.Messages.{Ask, Done, Message, Ready, Section}
 use Rattle.cluster_core.specs.Settings.{IsSetting, Setting}
 use Rattle.cluster_core.specs.Worlds.{World}
-use Rattle.cluster_core.proofs.Basics.{set_at-cases, set_at-kept}
+use Rattle.cluster_core.proofs.Basics.{set_at-cases}
 use Rattle.cluster_core.specs.Cuts.{cut_of}
 use Rattle.cluster_core.specs.Replays.{replay_of}
 use Rattle.cluster_cuts.proofs.CutsKept.{recorded, recorded_cut}
 use Rattle.cluster_cuts.proofs.MarkEvents.{all_known, section_come}
-use Rattle.cluster_model.specs.Calls.{Begin, Call, Committed, Count, Report, Saved, Step, Want, Wave}
+use Rattle.cluster_model.specs.Calls.{Begin, Call, Committed, Report, Step, Wave}
 use Rattle.cluster_model.specs.Clusters.{BaseView, Cluster, with_machine}
 use Rattle.cluster_model.specs.Events as law
-use Rattle.cluster_model.specs.Events.{Event, MayDo, after_event, delivers_call, delivers_message, makes, recovers, saves, sends_call, sends_message, sends_report, delivers_report, snapshot_numbers}
+use Rattle.cluster_model.specs.Events.{Event, MayDo, after_event, delivers_call, delivers_message, makes, recovers, saves, sends_call, sends_message, sends_report, delivers_report, entries_below, snapshot_numbers}
 use Rattle.cluster_model.specs.Leading.{RecordIsDue, come_or}
 use Rattle.cluster_model.specs.Machines.{Machine}
 use Rattle.cluster_model.specs.Working.{admits, fails, grants, hands, hands_report, makes_mark, makes_update, prompt, receives, sections, takes_call}
 use Rattle.cluster_numbers.proofs.Quiet.{admitted-quiet, goes_on-quiet, granted-quiet}
-use Rattle.cluster_records.specs.Recorded.{snapshot_due}
-use Rattle.cluster_records.proofs.Recording.{come_section, due_numbers}
+use Rattle.cluster_records.specs.Listed.{entries_at, is_first_in}
+use Rattle.cluster_records.specs.Recorded.{IsAccounted, IsOwnUpdate, snapshot_due}
+use Rattle.cluster_records.proofs.Numbering.{passing_own}
+use Rattle.cluster_records.proofs.Recording.{come_section, due_numbers, due_updates}
+use Rattle.cluster_whole.specs.Logged.{Logged}
 use Rattle.cluster_whole.specs.Views.{world_of}
 use Rattle.cluster_whole.specs.Whole.{IsWhole}
 use Rattle.cluster_whole.proofs.Wholeness.{may_record}
@@ -92,7 +99,22 @@ module _ (st : Setting) (c : Cluster) (own : SavesOwn st c) where
 pub begins_own : (st now : Setting) (base : BaseView) (c : Cluster) → SavesOwn now (recovers st base c)
 begins_own st now base c a v x saved = absurd (none_saved x saved)
 
-module _ (st : Setting) (is : IsSetting st) (c : Cluster) (whole : IsWhole st c) (own : SavesOwn st c) where
+module _ (st : Setting) (is : IsSetting st) (c : Cluster) (whole : IsWhole st c) (own : SavesOwn st c) (logged : List Logged) (account : IsAccounted st c whole logged) where
+  updates_of_owners : (es : List Entry) → AllByRecursion (IsOwnUpdate st) es → AllByRecursion (λ entry. is_update entry ≡ true) es
+  updates_of_owners [] all = tt
+  updates_of_owners (Go machine vertex ticket ∷ es) all = (refl, updates_of_owners es all.1)
+  updates_of_owners (Restart ticket ∷ es) all = absurd all.0
+
+  le_down : (n m : ℕ) → suc n ≤ m → n ≤ m
+  le_down n m is = omega arith
+
+  brought : RecordIsDue st c.coordinator → (n : ℕ) → n ≤ st.machines → AllByRecursion (λ entry. is_update entry ≡ true) (entries_below n (snapshot_due c.coordinator))
+  brought due zero low = tt
+  brought due (suc a) low =
+      each-append (λ (entry : Entry). is_update entry ≡ true) (entries_below a (snapshot_due c.coordinator)) ((snapshot_due c.coordinator).sections a).entries (brought due a (le_down a st.machines low))
+      (subst (AllByRecursion (λ entry. is_update entry ≡ true)) (sym (due_updates st is c whole logged account.records account.sections due a low))
+      (updates_of_owners (entries_at a c.coordinator.begun logged) (passing_own st is (is_first_in a c.coordinator.begun) logged account.since)))
+
   pub due_says : RecordIsDue st c.coordinator → SaysOnce st (snapshot_due c.coordinator)
   due_says due =
       let w : World = world_of c in
@@ -101,6 +123,7 @@ module _ (st : Setting) (is : IsSetting st) (c : Cluster) (whole : IsWhole st c)
       come_section (c.coordinator.come a) (w.part a).saved (section_come st w whole.consistent.marks may a low).2 in
       let held = recorded st is w whole.consistent may in
       record {
+        updates = brought due st.machines (le_refl st.machines);
         some_vertex = λ v within.
             let its = held.vertices v within in
             ((replay_of st (cut_of whole.consistent.count whole.consistent.order)).vertex v, ap (λ (s : Section). s.vertices v) (come_section (c.coordinator.come (st.owner v)) its.0 its.1) ∙ its.2);

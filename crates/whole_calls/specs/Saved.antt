@@ -71,8 +71,9 @@ AreNextOrders st before [] [] [] = ⊤
 AreNextOrders st before (front ∷ fronts) (snapshot ∷ snapshots) (order ∷ orders) = IsNextOrder st front before snapshot order × AreNextOrders st order fronts snapshots orders
 AreNextOrders st before fronts snapshots orders = ⊥
 
--- The sections of a snapshot say each number, and agree: a vertex stands in the section of its owner alone, and an edge in one or more with one number.
+-- The sections of a snapshot bring updates alone; they say each number, and agree: a vertex stands in the section of its owner alone, and an edge in one or more with one number.
 pub record SaysOnce (st : Setting) (snapshot : Snapshot) : Type 0 where
+  pub updates : AllByRecursion (λ entry. is_update entry ≡ true) (entries_below st.machines snapshot)
   pub some_vertex : (v : ℕ) → v < size st.graph → (x : ℕ) × ((snapshot.sections (st.owner v)).section.vertices v ≡ Some x)
   pub some_edge : (e : ℕ) → e < length st.graph.edges → (a : ℕ) × (x : ℕ) × (a < st.machines) × ((snapshot.sections a).section.edges e ≡ Some x)
   pub vertices : (a v x : ℕ) → a < st.machines → (snapshot.sections a).section.vertices v ≡ Some x → st.owner v ≡ a
