@@ -1,6 +1,7 @@
 -- The lists of a call of attempts, and of a cluster to which events led.
-use Rattle.std.proofs.Common.{Bool, List, [], ap, ap₂, false, filter, if◌then◌else◌, length, map, nat_le, refl, subst, subst₂, suc, sym, true, ℕ, ◌*◌, ◌++◌, ◌+◌, ◌/◌, ◌<◌, ◌∙◌, ◌∷◌, ◌≡◌, ◌≤◌, arith}
+use Rattle.std.proofs.Common.{Bool, List, [], ap, ap₂, false, filter, if◌then◌else◌, length, map, nat_le, refl, slice_index, sum_by, subst, subst₂, suc, sym, true, ℕ, ◌*◌, ◌++◌, ◌+◌, ◌/◌, ◌<◌, ◌∙◌, ◌∷◌, ◌≡◌, ◌≤◌, arith}
 use Rattle.std.specs.List.{AllByRecursion, range_with_len}
+use Rattle.std.proofs.lemmas.List.Sums.{sum_by-cons}
 use Rattle.gl_base.specs.Lists.{AreEach}
 use Rattle.gl_base.specs.declared.entries.Entry.{Entry}
 use Rattle.gl_base.specs.declared.jobs.FailureAt.{FailureAt}
@@ -20,12 +21,12 @@ use Rattle.cluster_model.specs.Events.{Event, recovers}
 use Rattle.cluster_model.specs.Machines.{completed}
 use Rattle.cluster_model.specs.Working.{half_window}
 use Rattle.cluster_runs.specs.Recorded.{shared_of}
-use Rattle.merged_logs.proofs.PartLemmas.{logs_merge, updates_rise}
-use Rattle.merged_logs.specs.Merges.{logs_of}
+use Rattle.merged_logs.proofs.PartLemmas.{logs_merge, machines_sum, updates_rise}
+use Rattle.merged_logs.specs.Merges.{IsByMachineBelow, logs_of}
 use Rattle.whole_calls.proofs.Calling.{the_call}
 use Rattle.whole_calls.specs.Called.{IsCallOf, KeepsWindows}
 use Rattle.whole_calls.specs.Opened.{IsCourseOfCall}
-use Rattle.whole_calls.specs.Saved.{AreSnapshotsOf, recorded_in}
+use Rattle.whole_calls.specs.Saved.{AreNextOrders, AreSnapshotsOf, fronts_in, recorded_in}
 use Rattle.whole_calls.specs.Telling.{TellsOfCall}
 
 -- as many places as failures
@@ -40,6 +41,36 @@ as_many done place (failure ∷ failures) =
         ≡ length (if b then failure ∷ filter (λ (failure : FailureAt). nat_le failure.after (done failure.machine.0)) failures else filter (λ (failure : FailureAt). nat_le failure.after (done failure.machine.0)) failures)
     one true rest = ap suc rest
     one false rest = rest
+
+-- the counts of so many machines, added up
+listed : (machines : ℕ) (done : ℕ → ℕ) (counts : List ℕ) → AreEach machines (λ m count. count ≡ done m) counts → sum_by (λ count. count) counts ≡ sum_by done (range_with_len 0 machines)
+listed machines done counts are = ap (λ (n : ℕ). sum_by (λ count. count) counts) are.count ∙ from 0 machines counts (λ k low. are.each k (subst (λ (n : ℕ). k < n) are.count low) ∙ ap done (zero_up k)) are.count
+  where
+    shifted : (a k : ℕ) → a + suc k ≡ (a + 1) + k
+    shifted a k = omega arith
+
+    less_suc : (k n : ℕ) → k < n → suc k < suc n
+    less_suc k n is = omega arith
+
+    zero_less : (n : ℕ) → 0 < suc n
+    zero_less n = omega arith
+
+    plus_none : (a : ℕ) → a ≡ a + 0
+    plus_none a = omega arith
+
+    zero_up : (k : ℕ) → k ≡ 0 + k
+    zero_up k = omega arith
+
+    same : (a : ℕ) (xs : List ℕ) → ((k : ℕ) → k < length xs → slice_index xs k ≡ done (a + k)) → sum_by (λ count. count) xs ≡ sum_by done (range_with_len a (length xs))
+    same a [] each = refl
+    same a (x ∷ xs) each =
+        sum_by-cons (λ (count : ℕ). count) x xs
+        ∙ ap₂ (λ (n k : ℕ). n + k) (each 0 (zero_less (length xs)) ∙ ap done (sym (plus_none a)))
+        (same (a + 1) xs (λ k low. each (suc k) (less_suc k (length xs) low) ∙ ap done (shifted a k)))
+        ∙ sym (sum_by-cons done a (range_with_len (a + 1) (length xs)))
+
+    from : (a n : ℕ) (xs : List ℕ) → ((k : ℕ) → k < length xs → slice_index xs k ≡ done (a + k)) → length xs ≡ n → sum_by (λ count. count) xs ≡ sum_by done (range_with_len a n)
+    from a n xs each long = subst (λ (m : ℕ). sum_by (λ count. count) xs ≡ sum_by done (range_with_len a m)) long (same a xs each)
 
 module _ (shared : Shared) (call : EngineCall) (is : IsEngineCall shared call) (lists : RunLists) (order : lists.order ≡ call_order call) (lost : lists.lost ≡ lost_of call)
     (fired : lists.fired ≡ reached_places (done_of call) 0 shared.failures) where
@@ -58,8 +89,11 @@ module _ (shared : Shared) (call : EngineCall) (is : IsEngineCall shared call) (
       sums : (n o s l f : ℕ) → n ≡ o + s → f ≡ s + l → n + l ≡ o + f
       sums n o s l f one two = omega arith
 
-  pub run_is : (machines : ℕ) → AreEach machines (λ m count. count ≡ done_of call m) lists.done → IsRunWithFailures shared machines call.base call.resumed call.last.struck lists
-  run_is machines done =
+  pub counts_sum : (machines : ℕ) → AreEach machines (λ m count. count ≡ done_of call m) lists.done → AllByRecursion (IsByMachineBelow machines) (made_of call) → sum_by (λ count. count) lists.done ≡ length (made_of call)
+  counts_sum machines done below = listed machines (done_of call) lists.done done ∙ machines_sum machines (made_of call) below
+
+  pub run_is : (machines : ℕ) → AreEach machines (λ m count. count ≡ done_of call m) lists.done → AllByRecursion (IsByMachineBelow machines) (made_of call) → IsRunWithFailures shared machines call.base call.resumed call.last.struck lists
+  run_is machines done below =
       record {
         updates = made_of call;
         in_turn = subst (IsOrderInTurn shared) (sym order) (call_in_turn shared call is);
@@ -67,6 +101,7 @@ module _ (shared : Shared) (call : EngineCall) (is : IsEngineCall shared call) (
             (subst (λ (l : List Entry). AreAccounted shared (first_ticket call) (call_order call) l (made_of call)) (sym lost) (call_accounted shared call is));
         between = subst (λ (o : List Entry). AreValidBetween shared (first_ticket call) o (made_of call)) (sym order) (call_between shared call is);
         counts = done;
+        sum = counts_sum machines done below;
         fired = fired;
         followed = subst (λ (o : List Entry). AllByRecursion (IsFollowedByRestart o (made_of call)) shared.failures) (sym order) (call_followed shared call is);
         restarts = has_restarts;
@@ -90,7 +125,9 @@ module _ (st : Setting) (failures : List FailureAt) (kept : List Entry) (resumed
       × (lists.order ≡ call_order call)
       × (st.stored ≡ true → KeepsToWindow st.window kept (snapshots_of call) lists)
       × AreSnapshotsOf st base.number kept (recorded_in (going_on st base.numbers base.number) (recovers st base first) events) (snapshots_of call)
+      × AreNextOrders st kept (fronts_in (going_on st base.numbers base.number) (recovers st base first) events) (recorded_in (going_on st base.numbers base.number) (recovers st base first) events) (snapshots_of call)
       × (0 < half_window st → length (snapshots_of call) ≤ first.left / half_window st + 1)
+      × (sum_by (λ count. count) lists.done + c.left ≡ first.left)
       × TellsOfCall st first.left c call
   course_runs =
       let made = the_call st failures kept resumed base first events c course in
@@ -108,10 +145,12 @@ module _ (st : Setting) (failures : List FailureAt) (kept : List Entry) (resumed
         call,
         of,
         subst₂ (λ (ks : List Entry) (r : Bool). IsRunWithFailures (shared_of st failures) st.machines ks r call.last.struck lists) of.base of.was_resumed
-            (run_is (shared_of st failures) call is lists order lost fired st.machines done),
+            (run_is (shared_of st failures) call is lists order lost fired st.machines done made.8),
         order,
         λ stored. subst (λ (ks : List Entry). KeepsToWindow st.window ks (snapshots_of call) lists) of.base (window_is (shared_of st failures) call is lists order lost fired st failures refl (made.2 stored)),
         made.3,
+        made.7,
         made.4,
+        ap (λ (n : ℕ). n + c.left) (counts_sum (shared_of st failures) call is lists order lost fired st.machines done made.8) ∙ made.5.spent,
         made.5,
       )

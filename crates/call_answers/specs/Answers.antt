@@ -5,7 +5,7 @@ pub use Rattle.attempts.specs.Entries.{is_restart}
 pub use Rattle.attempts.specs.Stores.{AreGoodOrders, IsWithinWindow, last_order}
 pub use Rattle.cluster_runs.specs.Attempts.{Shared, made_by}
 use Rattle.std.specs.List.{AllByRecursion}
-use Rattle.std.specs.Prelude.{List, [], filter, if◌then◌else◌, length, nat_le, suc, Bool, ℕ, ◌*◌, ◌++◌, ◌+◌, ◌∷◌, ◌≡◌, ◌≤◌}
+use Rattle.std.specs.Prelude.{List, [], filter, if◌then◌else◌, length, nat_le, suc, sum_by, Bool, ℕ, ◌*◌, ◌++◌, ◌+◌, ◌∷◌, ◌≡◌, ◌≤◌}
 use Rattle.gl_base.specs.Lists.{AreEach}
 use Rattle.gl_base.specs.declared.entries.Entry.{Entry}
 use Rattle.gl_base.specs.declared.jobs.FailureAt.{FailureAt}
@@ -35,13 +35,14 @@ pub record HasRestarts (base : List Entry) (resumed : Bool) (fired unanswered : 
 
 -- What the lists of a run are that began with this base, resumed or not. The order is in turn. Its updates from the run's first ticket on and
 -- the lost ones are together the updates that were made, and these are valid from each restart to the next. Each machine's count is its
--- updates among these. A failure fired exactly where its machine made as many as it names, and a restart follows before the machine's next one.
+-- updates among these, and all counts together are as many as they are. A failure fired exactly where its machine made as many as it names, and a restart follows before the machine's next one.
 pub record IsRunWithFailures (shared : Shared) (machines : ℕ) (base : List Entry) (resumed : Bool) (unanswered : ℕ) (lists : RunLists) : Type 0 where
   pub updates : List Entry
   pub in_turn : IsOrderInTurn shared lists.order
   pub accounted : AreAccounted shared (ticket_above base) lists.order lists.lost updates
   pub between : AreValidBetween shared (ticket_above base) lists.order updates
   pub counts : AreEach machines (λ m count. count ≡ made_by updates m) lists.done
+  pub sum : sum_by (λ count. count) lists.done ≡ length updates
   pub fired : lists.fired ≡ reached_places (made_by updates) 0 shared.failures
   pub followed : AllByRecursion (IsFollowedByRestart lists.order updates) shared.failures
   pub restarts : HasRestarts base resumed (length lists.fired) unanswered lists.order

@@ -1,9 +1,10 @@
 //! Laws of the lists that a run leaves. Each is the contract of a function that does nothing.
-ghost use Rattle.std.specs.Prelude.{Bool, List, length, true, ℕ, ◌+◌, ◌/◌, ◌<◌, ◌≡◌, ◌≤◌};
+ghost use Rattle.std.specs.List.{AllByRecursion};
+ghost use Rattle.std.specs.Prelude.{Bool, List, length, sum_by, true, ℕ, ◌+◌, ◌/◌, ◌<◌, ◌≡◌, ◌≤◌};
 ghost use Rattle.gl_base.specs.Lists.{AreEach};
 ghost use Rattle.gl_base.specs.declared.entries.Entry.{Entry};
 ghost use Rattle.gl_base.specs.declared.jobs.FailureAt.{FailureAt};
-ghost use Rattle.attempts.specs.EngineCalls.{EngineCall, IsEngineCall, call_order, done_of, lost_of};
+ghost use Rattle.attempts.specs.EngineCalls.{EngineCall, IsEngineCall, call_order, done_of, lost_of, made_of};
 ghost use Rattle.attempts.specs.Stores.{snapshots_of};
 ghost use Rattle.call_answers.specs.Answers.{IsRunWithFailures, KeepsToWindow, RunLists, Shared, reached_places};
 ghost use Rattle.call_answers.specs.Courses.{ListsOfCourse};
@@ -13,16 +14,17 @@ ghost use Rattle.cluster_model.specs.Clusters.{BaseView, Cluster};
 ghost use Rattle.cluster_model.specs.Events.{Event, recovers};
 ghost use Rattle.cluster_model.specs.Working.{half_window};
 ghost use Rattle.cluster_runs.specs.Recorded.{shared_of};
+ghost use Rattle.merged_logs.specs.Merges.{IsByMachineBelow};
 ghost use Rattle.whole_calls.specs.Called.{IsCallOf};
 ghost use Rattle.whole_calls.specs.Opened.{IsCourseOfCall};
-ghost use Rattle.whole_calls.specs.Saved.{AreSnapshotsOf, recorded_in};
+ghost use Rattle.whole_calls.specs.Saved.{AreNextOrders, AreSnapshotsOf, fronts_in, recorded_in};
 ghost use Rattle.whole_calls.specs.Telling.{TellsOfCall};
 
 /// The lists of a call of attempts are those of a run with failures. The failures of its last attempt that were reached go unanswered.
 pub fn calls_are_runs()
     ensures { (shared : Shared) (machines : ℕ) (call : EngineCall) (lists : RunLists) → IsEngineCall shared call →
         lists.order ≡ call_order call → lists.lost ≡ lost_of call → AreEach machines (λ m count. count ≡ done_of call m) lists.done →
-        lists.fired ≡ reached_places (done_of call) 0 shared.failures →
+        lists.fired ≡ reached_places (done_of call) 0 shared.failures → AllByRecursion (IsByMachineBelow machines) (made_of call) →
         IsRunWithFailures shared machines call.base call.resumed call.last.struck lists }
 {}
 
@@ -37,6 +39,8 @@ pub fn courses_are_runs()
         × (lists.order ≡ call_order call)
         × (st.stored ≡ true → KeepsToWindow st.window kept (snapshots_of call) lists)
         × AreSnapshotsOf st base.number kept (recorded_in (going_on st base.numbers base.number) (recovers st base first) events) (snapshots_of call)
+        × AreNextOrders st kept (fronts_in (going_on st base.numbers base.number) (recovers st base first) events) (recorded_in (going_on st base.numbers base.number) (recovers st base first) events) (snapshots_of call)
         × (0 < half_window st → length (snapshots_of call) ≤ first.left / half_window st + 1)
+        × (sum_by (λ count. count) lists.done + c.left ≡ first.left)
         × TellsOfCall st first.left c call }
 {}

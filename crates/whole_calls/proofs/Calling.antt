@@ -6,9 +6,11 @@ use Rattle.std.proofs.lemmas.List.{append_cancel_left, length-append, length-map
 use Rattle.gl_base.specs.declared.entries.Entry.{Entry}
 use Rattle.gl_base.specs.declared.entries.Entry.TheVariants.{Restart}
 use Rattle.gl_base.specs.declared.jobs.FailureAt.{FailureAt}
+use Rattle.graph_core.proofs.HalvesLaws.{each-append}
 use Rattle.graph_core.specs.DataGraph.{size}
+use Rattle.merged_logs.specs.Merges.{IsByMachineBelow}
 use Rattle.attempts.specs.Beginnings.{held_updates, order_after, snapshot_order, unheld_updates}
-use Rattle.attempts.specs.EngineCalls.{EngineCall, IsOrderInTurn, begins_behind, call_order, lost_of, made_of, ticket_above}
+use Rattle.attempts.specs.EngineCalls.{EngineCall, IsOrderInTurn, begins_behind, call_order, lost_of, made_in, made_of, ticket_above}
 use Rattle.attempts.specs.Entries.{is_restart}
 use Rattle.attempts.specs.Stores.{attempted_snapshots, last_order, snapshot_orders, snapshots_of}
 use Rattle.attempts.proofs.Prefixes.{last_order_append}
@@ -226,6 +228,11 @@ one_at_most n stored share few once = ⊎_elim (λ (none : 0 + n ≡ 0). with_no
     with_one : (n stored share : ℕ) → stored ≤ share + n → 0 + n ≡ 1 → stored ≤ share + 1
     with_one n stored share few one = omega arith
 
+all_below : (machines : ℕ) (failed : List Attempt) (last : Attempt) → AllByRecursion (λ (a : Attempt). AllByRecursion (IsByMachineBelow machines) a.made) failed → AllByRecursion (IsByMachineBelow machines) last.made →
+    AllByRecursion (IsByMachineBelow machines) (made_in failed last)
+all_below machines [] last before its = its
+all_below machines (a ∷ failed) last before its = each-append (IsByMachineBelow machines) a.made (made_in failed last) before.0 (all_below machines failed last before.1 its)
+
 plus_none : (n : ℕ) → n ≡ n + 0
 plus_none n = omega arith
 
@@ -261,6 +268,7 @@ module _ (st : Setting) (failures : List FailureAt) (kept : List Entry) (resumed
         behind = inl refl;
         reason = λ under. absurd (not_less base.number under);
         own = begins_own st now base first;
+        made_below = tt;
         tickets = ap (λ (n : ℕ). n + first.left) course.opened.next;
       }
 
@@ -294,6 +302,7 @@ module _ (st : Setting) (failures : List FailureAt) (kept : List Entry) (resumed
       × ((lost : List Entry) → AreLostIn (going_on st base.numbers base.number) (recovers st base first) events lost → lost_of one ≡ lost)
       × AreNextOrders st kept (fronts_in (going_on st base.numbers base.number) (recovers st base first) events)
       (recorded_in (going_on st base.numbers base.number) (recovers st base first) events) (snapshots_of one)
+      × AllByRecursion (IsByMachineBelow st.machines) (made_of one)
   the_call =
       let last_st : Setting = since st last.start last.base in
       let logged : List Logged = ended.0 in
@@ -322,4 +331,5 @@ module _ (st : Setting) (failures : List FailureAt) (kept : List Entry) (resumed
             (all_fronted failures (opened_at kept resumed) kept base.number (ticket_above kept + first.left) last_st c logged failed taken unasked e (fronts_in now begun events)
             (ended.4 (fronts_in now begun events) ([], ([], refl, tt), refl)))
             (all_in_turn (shared_of st failures) one call_so.is),
+        all_below st.machines failed one.last e.made_below call_so.machines,
       )

@@ -37,8 +37,11 @@ use Rattle.cluster_records.specs.Few.{snapshot_at, unasked_at, unasked_in}
 use Rattle.cluster_records.specs.Recorded.{GoOnByNumber, snapshot_due}
 use Rattle.cluster_records.proofs.Based.{base_kept}
 use Rattle.cluster_records.proofs.Entering.{IsNoUpdate, draws_none, own_logged, update_logged}
+use Rattle.cluster_records.proofs.Numbering.{all_own}
 use Rattle.cluster_records.proofs.Outside.{many_outside, outside_more}
 use Rattle.cluster_records.proofs.Recording.{IsNoRecord, adds_none}
+use Rattle.graph_core.proofs.HalvesLaws.{each-append}
+use Rattle.merged_logs.specs.Merges.{IsByMachineBelow}
 use Rattle.whole_calls.specs.Following.{FollowJob, FollowsJob, has_reached}
 use Rattle.whole_calls.specs.Lost.{AreLostIn, IsTakenBy}
 use Rattle.whole_calls.specs.Saved.{AreSnapshotsOf, front_at, fronts_in, recorded_at, recorded_in}
@@ -47,7 +50,7 @@ use Rattle.whole_calls.proofs.EventKinds.{by_kind}
 use Rattle.whole_calls.proofs.Fronting.{HaveRestartsOf, attempt_restarts, replicate_push, restarts_append}
 use Rattle.whole_calls.proofs.Going.{IsInCall, now_made, quiet_in, reached_kept, recover_in, update_in}
 use Rattle.whole_calls.proofs.Holding.{holds_all, holds_if}
-use Rattle.whole_calls.proofs.Losing.{lost_push, taken_once, unheld_taken}
+use Rattle.whole_calls.proofs.Losing.{lost_push, own_by_machines, taken_once, unheld_taken}
 use Rattle.whole_calls.proofs.Owning.{SavesOwn, begins_own, own_kept}
 use Rattle.whole_calls.proofs.Refusing.{again_longer}
 use Rattle.whole_calls.proofs.Waved.{IsLate, end_unreached, quiet_late, recovered_late, update_late}
@@ -154,6 +157,7 @@ pub record IsEnding (failures : List FailureAt) (start : Beginning) (kept : List
   pub behind : (failed ≡ []) ⊎ ((begins_behind start failed).front ≡ last_order kept (attempted_snapshots start failed) → ⊥)
   pub reason : c.coordinator.acknowledged < c.coordinator.begun → HasReason st c logged
   pub own : SavesOwn st c
+  pub made_below : AllByRecursion (λ (a : Attempt). AllByRecursion (IsByMachineBelow st.machines) a.made) failed
   pub tickets : c.next + c.left ≡ total
 
 stays_zero : (n k : ℕ) → n ≡ 0 → k ≡ 0 → n + k ≡ 0
@@ -414,6 +418,7 @@ module _ (failures : List FailureAt) (start : Beginning) (kept : List Entry) (nu
         behind = e.behind;
         reason = reason_on event may other;
         own = own_kept st c e.own in_call.whole event may;
+        made_below = e.made_below;
         tickets = ap₂ (λ (n k : ℕ). n + k) (draws_none st c event may none) (left_kept st c event may none) ∙ e.tickets;
       }
 
@@ -457,6 +462,7 @@ module _ (failures : List FailureAt) (start : Beginning) (kept : List Entry) (nu
             absurd (both_ways ((c.machine s.home.0).part.task may.1.vertex) (done.0.tasks s.home.0 may.0.machine may.1.vertex own.1) may.1.task))
             (e.reason (subst₂ (λ (n k : ℕ). n < k) same.1 (numbers_after st c (Update s) other (λ same. cc)).1 under));
         own = own_kept st c e.own in_call.whole (Update s) may;
+        made_below = e.made_below;
         tickets = subst (λ (flight : Option ℕ). (makes st c s flight).next + (makes st c s flight).left ≡ total) (sym may.1.flight) (one_ticket c.next c.left total e.tickets may.1.ticket);
       }
 
@@ -510,6 +516,8 @@ module _ (failures : List FailureAt) (start : Beginning) (kept : List Entry) (nu
             ∙ last_order_append kept (attempted_snapshots start failed) (snapshot_orders behind a)));
         reason = λ under. absurd (not_less base.number under);
         own = begins_own st (setting_after st (Recover base)) base c;
+        made_below = each-append (λ (one : Attempt). AllByRecursion (IsByMachineBelow st.machines) one.made) failed (a ∷ []) e.made_below
+            (own_by_machines st in_call.is (all_entries logged) (all_own st in_call.is logged in_call.account.since), tt);
         tickets = e.tickets;
       }
 

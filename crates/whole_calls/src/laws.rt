@@ -1,8 +1,9 @@
 //! Laws of whole calls. Each is the contract of a function that does nothing.
+ghost use Rattle.std.specs.List.{AllByRecursion};
 ghost use Rattle.std.specs.Prelude.{Bool, List, length, true, ℕ, ◌+◌, ◌/◌, ◌<◌, ◌≡◌, ◌≤◌};
 ghost use Rattle.gl_base.specs.declared.entries.Entry.{Entry};
 ghost use Rattle.gl_base.specs.declared.jobs.FailureAt.{FailureAt};
-ghost use Rattle.attempts.specs.EngineCalls.{EngineCall, lost_of};
+ghost use Rattle.attempts.specs.EngineCalls.{EngineCall, lost_of, made_of};
 ghost use Rattle.attempts.specs.Stores.{snapshots_of};
 ghost use Rattle.cluster_core.specs.Recovering.{going_on};
 ghost use Rattle.cluster_core.specs.Settings.{Setting};
@@ -10,6 +11,7 @@ ghost use Rattle.cluster_model.specs.Clusters.{BaseView, Cluster};
 ghost use Rattle.cluster_model.specs.Events.{Event, recovers};
 ghost use Rattle.cluster_model.specs.Leading.{Snapshot};
 ghost use Rattle.cluster_model.specs.Working.{half_window};
+ghost use Rattle.merged_logs.specs.Merges.{IsByMachineBelow};
 ghost use Rattle.whole_calls.specs.Called.{IsCallOf, KeepsWindows};
 ghost use Rattle.whole_calls.specs.Lost.{AreLostIn};
 ghost use Rattle.whole_calls.specs.Opened.{IsCourseOfCall};
@@ -31,7 +33,8 @@ pub fn courses_are_calls()
         × TellsOfCall st first.left c call
         × ((lost : List Entry) → AreLostIn (going_on st base.numbers base.number) (recovers st base first) events lost → lost_of call ≡ lost)
         × AreNextOrders st kept (fronts_in (going_on st base.numbers base.number) (recovers st base first) events)
-        (recorded_in (going_on st base.numbers base.number) (recovers st base first) events) (snapshots_of call) }
+        (recorded_in (going_on st base.numbers base.number) (recovers st base first) events) (snapshots_of call)
+        × AllByRecursion (IsByMachineBelow st.machines) (made_of call) }
 {}
 
 /// What snapshots bring tells their orders: there is one list of them.
