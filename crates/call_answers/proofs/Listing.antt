@@ -13,21 +13,27 @@ use Rattle.attempts.specs.Accounted.{AreAccounted, AreRestarts, AreValidBetween,
 use Rattle.attempts.specs.EngineCalls.{EngineCall, IsEngineCall, IsOrderInTurn, call_order, done_of, fired_of, first_ticket, last_beginning, lost_of, made_of, opening, struck_in}
 use Rattle.attempts.specs.Stores.{IsWithinWindow, last_order, snapshots_of}
 use Rattle.call_answers.specs.Answers.{HasRestarts, IsRunWithFailures, KeepsToWindow, RunLists, Shared, is_restart, made_by, reached_places}
+use Rattle.call_answers.specs.Ends.{FinishesRun, SpendsRun}
 use Rattle.call_answers.specs.Courses.{IsMerge, ListsOfCourse, all_logged, machine_logs}
 use Rattle.cluster_core.specs.Recovering.{going_on}
+use Rattle.cluster_core.specs.Replays.{IsTask}
 use Rattle.cluster_core.specs.Settings.{Setting}
 use Rattle.cluster_model.specs.Clusters.{BaseView, Cluster}
 use Rattle.cluster_model.specs.Events.{Event, recovers}
 use Rattle.cluster_model.specs.Machines.{completed}
 use Rattle.cluster_model.specs.Working.{half_window}
 use Rattle.cluster_runs.specs.Recorded.{shared_of}
+use Rattle.cluster_whole.specs.Views.{world_of}
+use Rattle.graph_core.specs.DataGraph.{size}
+use Rattle.seq_run.specs.Orders.{tasks_after}
 use Rattle.merged_logs.proofs.PartLemmas.{logs_merge, machines_sum, updates_rise}
 use Rattle.merged_logs.specs.Merges.{IsByMachineBelow, logs_of}
 use Rattle.whole_calls.proofs.Calling.{the_call}
 use Rattle.whole_calls.specs.Called.{IsCallOf, KeepsWindows}
+use Rattle.whole_calls.specs.Following.{has_reached}
 use Rattle.whole_calls.specs.Opened.{IsCourseOfCall}
 use Rattle.whole_calls.specs.Saved.{AreNextOrders, AreSnapshotsOf, fronts_in, recorded_in}
-use Rattle.whole_calls.specs.Telling.{TellsOfCall}
+use Rattle.whole_calls.specs.Telling.{HasSavedTheEnd, TellsOfCall}
 
 -- as many places as failures
 as_many : (done : ℕ → ℕ) (place : ℕ) (failures : List FailureAt) →
@@ -119,6 +125,9 @@ module _ (shared : Shared) (call : EngineCall) (is : IsEngineCall shared call) (
 
 module _ (st : Setting) (failures : List FailureAt) (kept : List Entry) (resumed : Bool) (base : BaseView) (first : Cluster) (events : List Event) (c : Cluster) (lists : RunLists)
     (course : IsCourseOfCall st failures kept resumed base first events c) (are : ListsOfCourse st failures base first events c lists) where
+  all_spent : (n left budget : ℕ) → n + left ≡ budget → left ≡ 0 → n ≡ budget
+  all_spent n left budget all none = omega arith
+
   pub course_runs : (call : EngineCall)
       × IsCallOf st failures kept resumed c call
       × IsRunWithFailures (shared_of st failures) st.machines kept resumed call.last.struck lists
@@ -129,6 +138,9 @@ module _ (st : Setting) (failures : List FailureAt) (kept : List Entry) (resumed
       × (0 < half_window st → length (snapshots_of call) ≤ first.left / half_window st + 1)
       × (sum_by (λ count. count) lists.done + c.left ≡ first.left)
       × TellsOfCall st first.left c call
+      × (st.stored ≡ true → HasSavedTheEnd st c.coordinator → FinishesRun (shared_of st failures) kept (snapshots_of call) call.last.struck lists)
+      × ((left : ℕ) → c.left ≡ 0 → ((a : ℕ) → a < st.machines → has_reached failures c a ≡ false) → left < size st.graph → IsTask st (world_of c) left →
+      SpendsRun (shared_of st failures) first.left left call.last.struck lists)
   course_runs =
       let made = the_call st failures kept resumed base first events c course in
       let call : EngineCall = made.0 in
@@ -153,4 +165,16 @@ module _ (st : Setting) (failures : List FailureAt) (kept : List Entry) (resumed
         made.4,
         ap (λ (n : ℕ). n + c.left) (counts_sum (shared_of st failures) call is lists order lost fired st.machines done made.8) ∙ made.5.spent,
         made.5,
+        λ stored end. record {
+          finished = λ u low. ap (λ (es : List Entry). tasks_after st.graph st.program es u) order ∙ made.5.tasks end.end u low;
+          answered = made.5.unharmed end.end;
+          saved = ap (λ (ks : List Entry). last_order ks (snapshots_of call)) (sym of.base) ∙ made.5.saved stored end ∙ sym order;
+        },
+        λ left none unreached low task. record {
+          spent = all_spent (sum_by (λ count. count) lists.done) c.left first.left
+              (ap (λ (n : ℕ). n + c.left) (counts_sum (shared_of st failures) call is lists order lost fired st.machines done made.8) ∙ made.5.spent) none;
+          answered = made.9 unreached;
+          inside = low;
+          task = ap (λ (es : List Entry). tasks_after st.graph st.program es left) order ∙ (of.tasks left low).1 task;
+        },
       )

@@ -102,16 +102,19 @@ module _ (failures : List FailureAt) (kept : List Entry) (resumed : Bool) (numbe
       both_ways (vertex_woken u (way (world_of c) woken.0 (st.owner u))) (none_woken st at.is (world_of c) at.whole.consistent.copies.told left woken.0 (st.owner u) u) woken.1)
       ((its_call.tasks u low).0 task))
 
-  none_struck : HasSeenTheEnd c.coordinator → made_call.last.struck ≡ 0
-  none_struck end =
+  unreached_struck : ((a : ℕ) → a < st.machines → has_reached failures c a ≡ false) → made_call.last.struck ≡ 0
+  unreached_struck none =
       sym (struck_same st at.is c at.whole logged at.account failures behind at.so.done)
       ∙ sym (reached_many (done_before c) (done_now c) st.machines failures at.ordered.owned at.ordered.different at.stops)
       ∙ total_from-same 0 st.machines (λ a. 0) (one_at (done_before c) (done_now c) failures)
-      (λ a from to. cond-false (has_reached failures c a) 1 0 (end_unreached failures (opened_at kept resumed) st c logged failed at e.watch e.watched e.late end a (in_range a st.machines to)))
+      (λ a from to. cond-false (has_reached failures c a) 1 0 (none a (in_range a st.machines to)))
       ∙ total_from-none 0 st.machines (λ a. 0) (λ a. refl)
     where
       in_range : (a n : ℕ) → a < 0 + n → a < n
       in_range a n low = omega arith
+
+  none_struck : HasSeenTheEnd c.coordinator → made_call.last.struck ≡ 0
+  none_struck end = unreached_struck (λ a low. end_unreached failures (opened_at kept resumed) st c logged failed at e.watch e.watched e.late end a low)
 
   some_kept : st.stored ≡ true → HasSavedTheEnd st c.coordinator → (snapshots : List Snapshot) → c.coordinator.snapshots ≡ snapshots → 1 ≤ length snapshots
   some_kept stored ended [] is = absurd (ended.all (record { stored = stored; none = ended.none; wanted = inr (ended.end, inr is) }))
@@ -303,6 +306,7 @@ module _ (st : Setting) (failures : List FailureAt) (kept : List Entry) (resumed
       × AreNextOrders st kept (fronts_in (going_on st base.numbers base.number) (recovers st base first) events)
       (recorded_in (going_on st base.numbers base.number) (recovers st base first) events) (snapshots_of one)
       × AllByRecursion (IsByMachineBelow st.machines) (made_of one)
+      × (((a : ℕ) → a < st.machines → has_reached failures c a ≡ false) → one.last.struck ≡ 0)
   the_call =
       let last_st : Setting = since st last.start last.base in
       let logged : List Logged = ended.0 in
@@ -332,4 +336,5 @@ module _ (st : Setting) (failures : List FailureAt) (kept : List Entry) (resumed
             (ended.4 (fronts_in now begun events) ([], ([], refl, tt), refl)))
             (all_in_turn (shared_of st failures) one call_so.is),
         all_below st.machines failed one.last e.made_below call_so.machines,
+        unreached_struck failures kept resumed base.number first.left last_st c logged failed taken unasked e in_turn begins,
       )

@@ -1,6 +1,6 @@
 //! Laws of whole calls. Each is the contract of a function that does nothing.
 ghost use Rattle.std.specs.List.{AllByRecursion};
-ghost use Rattle.std.specs.Prelude.{Bool, List, length, true, ℕ, ◌+◌, ◌/◌, ◌<◌, ◌≡◌, ◌≤◌};
+ghost use Rattle.std.specs.Prelude.{Bool, List, false, length, true, ℕ, ◌+◌, ◌/◌, ◌<◌, ◌≡◌, ◌≤◌};
 ghost use Rattle.gl_base.specs.declared.entries.Entry.{Entry};
 ghost use Rattle.gl_base.specs.declared.jobs.FailureAt.{FailureAt};
 ghost use Rattle.attempts.specs.EngineCalls.{EngineCall, lost_of, made_of};
@@ -13,6 +13,7 @@ ghost use Rattle.cluster_model.specs.Leading.{Snapshot};
 ghost use Rattle.cluster_model.specs.Working.{half_window};
 ghost use Rattle.merged_logs.specs.Merges.{IsByMachineBelow};
 ghost use Rattle.whole_calls.specs.Called.{IsCallOf, KeepsWindows};
+ghost use Rattle.whole_calls.specs.Following.{has_reached};
 ghost use Rattle.whole_calls.specs.Lost.{AreLostIn};
 ghost use Rattle.whole_calls.specs.Opened.{IsCourseOfCall};
 ghost use Rattle.whole_calls.specs.Saved.{AreNextOrders, AreSnapshotsOf, fronts_in, recorded_in};
@@ -34,7 +35,8 @@ pub fn courses_are_calls()
         × ((lost : List Entry) → AreLostIn (going_on st base.numbers base.number) (recovers st base first) events lost → lost_of call ≡ lost)
         × AreNextOrders st kept (fronts_in (going_on st base.numbers base.number) (recovers st base first) events)
         (recorded_in (going_on st base.numbers base.number) (recovers st base first) events) (snapshots_of call)
-        × AllByRecursion (IsByMachineBelow st.machines) (made_of call) }
+        × AllByRecursion (IsByMachineBelow st.machines) (made_of call)
+        × (((a : ℕ) → a < st.machines → has_reached failures c a ≡ false) → call.last.struck ≡ 0) }
 {}
 
 /// What snapshots bring tells their orders: there is one list of them.
