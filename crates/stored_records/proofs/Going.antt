@@ -1,6 +1,7 @@
 -- A record that is due goes with a store that keeps up.
-use Rattle.std.proofs.Common.{◌≡◌, ◌<◌, ℕ, ◌+◌, ◌∙◌, Bool, true, false, List, [], ◌∷◌, ◌++◌, IsPermutation, cond, count_by, filter, length, refl, sym, ap, ap₂, subst, append_assoc, append-nil, arith}
+use Rattle.std.proofs.Common.{◌≡◌, ◌<◌, ℕ, suc, ◌+◌, ◌∙◌, Bool, true, false, List, [], ◌∷◌, ◌++◌, IsPermutation, cond, count_by, filter, length, refl, sym, ap, ap₂, subst, append_assoc, append-nil, arith}
 use Rattle.std.specs.List.{AllByRecursion}
+use Rattle.std.proofs.lemmas.List.{length-append}
 use Rattle.std.proofs.lemmas.List.Elements.{filter-append}
 use Rattle.std.proofs.lemmas.List.Sums.{sum_by-append}
 use Rattle.gl_base.specs.declared.entries.Entry.{Entry}
@@ -18,9 +19,11 @@ use Rattle.attempts.proofs.Storing.{images_good, last_in_turn, pending_good}
 use Rattle.cluster_core.specs.Recovering.{going_on}
 use Rattle.cluster_core.specs.Settings.{Setting}
 use Rattle.cluster_model.specs.Clusters.{BaseView, Cluster}
-use Rattle.cluster_model.specs.Events.{Event, entries_below, recovers}
+use Rattle.cluster_model.specs.ByTicket.{restarts}
+use Rattle.cluster_model.specs.Events.{Event, GoesBackTo, entries_below, failures_in, recovers}
 use Rattle.cluster_model.specs.Leading.{RecordIsDue, Snapshot}
-use Rattle.cluster_records.specs.Recorded.{snapshot_due}
+use Rattle.cluster_records.specs.Recorded.{HaveSameNumbers, snapshot_due}
+use Rattle.cluster_whole.specs.Whole.{setting_behind}
 use Rattle.cluster_runs.specs.Attempts.{Shared}
 use Rattle.cluster_runs.specs.Recorded.{shared_of}
 use Rattle.merged_logs.proofs.SameLemmas.{HaveSame, same_from}
@@ -35,9 +38,10 @@ use Rattle.stored_records.proofs.Saying.{edge_is, vertex_is}
 use Rattle.stored_records.proofs.Sorting.{put_is}
 use Rattle.whole_calls.specs.Opened.{IsCourseOfCall}
 use Rattle.whole_calls.specs.Saved.{IsSnapshotOf, MayFollow, SaysOnce}
-use Rattle.whole_calls.proofs.Calling.{the_call}
+use Rattle.whole_calls.proofs.Calling.{the_call, the_return}
 use Rattle.whole_calls.proofs.Fronting.{attempt_restarts, filtered, next_once, without}
 use Rattle.whole_calls.specs.Called.{IsCallOf}
+use Rattle.whole_calls.specs.Following.{has_reached}
 use Rattle.whole_calls.specs.Opened.{IsCourseOfCall}
 use Rattle.whole_calls.specs.Saved.{IsSnapshotOf, MayFollow, SaysOnce}
 use Rattle.seq_run.specs.Orders.{replay}
@@ -221,3 +225,42 @@ module _ (st : Setting) (failures : List FailureAt) (kept : List Entry) (resumed
 
     pub image_good : (image : List ℕ) → IsBeforeOrAfter header bodies (body_bytes made) image → IsGoodStore shared header (stored_in header image)
     image_good image either = records_good shared header bodies made image keeps.good small fits machines goes_with either
+
+-- ---- recoveries
+
+next_long : (st : Setting) (before : List Entry) (fronts : List (List Entry)) (taken : List Snapshot) (orders : List (List Entry)) → AreNextOrders st before fronts taken orders → length orders ≡ length taken
+next_long st before [] [] [] are = refl
+next_long st before [] [] (o ∷ os) are = absurd are
+next_long st before [] (s ∷ ss) os are = absurd are
+next_long st before (f ∷ fs) [] os are = absurd are
+next_long st before (f ∷ fs) (s ∷ ss) [] are = absurd are
+next_long st before (f ∷ fs) (s ∷ ss) (o ∷ os) are = ap suc (next_long st o fs ss os are.1)
+
+orders_long : (order : List Entry) (bodies : List (List ℕ)) → length (orders_behind order bodies) ≡ length bodies
+orders_long order [] = refl
+orders_long order (body ∷ bodies) = ap suc (orders_long (with_entries order (body_entries body)) bodies)
+
+module _ (st : Setting) (failures : List FailureAt) (kept : List Entry) (resumed : Bool) (base : BaseView) (first : Cluster) (events : List Event) (c : Cluster)
+    (course : IsCourseOfCall st failures kept resumed base first events c) (header : Header) (start bodies : List (List ℕ)) (kept_is : kept ≡ stored_order start) (number : base.number ≡ length start)
+    (keeps : KeepsUp st failures header start (fronts_in (going_on st base.numbers base.number) (recovers st base first) events) (recorded_in (going_on st base.numbers base.number) (recovers st base first) events) bodies)
+    (some : 0 < failures_in st c) (all : (a : ℕ) → a < st.machines → has_reached failures c a ≡ true → (c.machine a).failed ≡ true) where
+  pub comes_from : (missing : List Entry) → filter is_restart (stored_order bodies) ++ missing ≡ filter is_restart c.base.order ++ restarts (failures_in st c) c.next →
+      (to : BaseView) × (to.number ≡ length bodies) × (to.order ≡ stored_order bodies ++ missing)
+      × HaveSameNumbers st.graph to.numbers (replay st.graph st.program to.order)
+      × GoesBackTo (setting_behind (going_on st base.numbers base.number) events) c to
+  comes_from missing lacks =
+      let orders : List (List Entry) = orders_behind (stored_order start) keeps.added in
+      let fronts : List (List Entry) = fronts_in (going_on st base.numbers base.number) (recovers st base first) events in
+      let taken : List Snapshot = recorded_in (going_on st base.numbers base.number) (recovers st base first) events in
+      let last : last_order kept orders ≡ stored_order bodies =
+      ap (λ (os : List Entry). last_order os orders) kept_is ∙ last_behind (stored_order start) keeps.added ∙ sym (order_append [] start keeps.added) ∙ ap stored_order (sym keeps.stored) in
+      let back = the_return st failures kept resumed base first events c course some all orders missing (subst (λ (os : List Entry). AreNextOrders st os fronts taken orders) (sym kept_is) keeps.orders)
+      (ap (λ (os : List Entry). filter is_restart os ++ missing) last ∙ lacks) in (
+        back.0,
+        back.2
+            ∙ ap₂ (λ (n k : ℕ). n + k) number (sym (next_long st (stored_order start) fronts taken orders keeps.orders) ∙ orders_long (stored_order start) keeps.added)
+            ∙ sym (ap (λ (bs : List (List ℕ)). length bs) keeps.stored ∙ length-append start keeps.added),
+        back.3 ∙ ap (λ (os : List Entry). os ++ missing) last,
+        back.4,
+        back.5,
+      )

@@ -3,4 +3,4 @@
 
 mod laws;
 
-pub use laws::{records_go_with_stores, stores_keep_up};
+pub use laws::{records_go_with_stores, recoveries_come_from_stores, stores_keep_up};

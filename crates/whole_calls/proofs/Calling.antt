@@ -1,5 +1,5 @@
 -- What the events of a call make, part by part.
-use Rattle.std.proofs.Common.{◌≡◌, ◌⊎◌, ℕ, suc, ◌+◌, ◌/◌, ◌<◌, ◌≤◌, Bool, true, false, if◌then◌else◌, List, [], ◌∷◌, ◌++◌, length, map, sum_by, inl, inr, refl, sym, ◌∙◌, ap, ap₂, subst, ⊎_elim, append-nil, arith}
+use Rattle.std.proofs.Common.{◌≡◌, ◌⊎◌, ℕ, suc, ◌+◌, ◌/◌, ◌<◌, ◌≤◌, Bool, true, false, filter, if◌then◌else◌, List, [], ◌∷◌, ◌++◌, length, map, sum_by, inl, inr, refl, sym, ◌∙◌, ap, ap₂, subst, ⊎_elim, append-nil, arith}
 use Rattle.std.proofs.lemmas.Bool.{both_ways, cases_eq, cond-false, false_from_ne_true}
 use Rattle.std.specs.List.{AllByRecursion}
 use Rattle.std.proofs.lemmas.List.{append_cancel_left, length-append, length-map}
@@ -27,7 +27,8 @@ use Rattle.cluster_ending.proofs.Courses.{start_followed}
 use Rattle.cluster_ending.proofs.Finding.{no_task_left}
 use Rattle.cluster_ending.proofs.Leaving.{none_woken}
 use Rattle.cluster_model.specs.Clusters.{BaseView, Cluster}
-use Rattle.cluster_model.specs.Events.{Event, PutBegin, Record, after_event, recovers, setting_after}
+use Rattle.cluster_model.specs.ByTicket.{restarts}
+use Rattle.cluster_model.specs.Events.{Event, GoesBackTo, PutBegin, Record, after_event, failures_in, recovers, setting_after}
 use Rattle.cluster_model.specs.Leading.{HasSeenTheEnd, HasStoreRoom, HoldsAll, RecordIsDue, Snapshot, SnapshotIsDue, entries_in, updates_told}
 use Rattle.cluster_model.specs.Working.{half_window}
 use Rattle.cluster_runs.specs.Attempts.{Attempt, Beginning}
@@ -36,11 +37,11 @@ use Rattle.cluster_whole.specs.Logged.{Logged, all_entries, entries_to}
 use Rattle.cluster_whole.specs.Views.{world_of}
 use Rattle.cluster_whole.specs.Whole.{setting_behind}
 use Rattle.cluster_whole.proofs.Flows.{total_from-none, total_from-same}
-use Rattle.cluster_records.specs.Recorded.{snapshot_due}
+use Rattle.cluster_records.specs.Recorded.{HaveSameNumbers, snapshot_due}
 use Rattle.cluster_records.specs.Few.{snapshot_at, snapshots_in_all, unasked_in}
 use Rattle.cluster_records.proofs.Fewness.{attempts_few, by_half}
 use Rattle.cluster_records.proofs.Outside.{many_outside}
-use Rattle.seq_run.specs.Orders.{tasks_after}
+use Rattle.seq_run.specs.Orders.{replay, tasks_after}
 use Rattle.seq_run.specs.States.{GraphState}
 use Rattle.whole_calls.specs.Called.{IsCallOf, KeepsWindows}
 use Rattle.whole_calls.specs.Following.{has_reached}
@@ -50,12 +51,13 @@ use Rattle.whole_calls.specs.Saved.{AreNextOrders, AreSnapshotsOf, fronts_in, Is
 use Rattle.whole_calls.specs.Telling.{HasSavedTheEnd, NeedsMoreStore, TellsOfCall, length_with}
 use Rattle.whole_calls.proofs.Acknowledged.{good_snapshots, pending_is, snapshots_append, snapshots_long}
 use Rattle.whole_calls.proofs.Ending.{EndsBehind, GoOnFrom, all_fronted, HasAskedAll, IsEnding, IsPlain, courses_end, which}
-use Rattle.whole_calls.proofs.Fronting.{all_in_turn, next_orders}
+use Rattle.whole_calls.proofs.Fronting.{all_in_turn, next_once, next_orders}
 use Rattle.whole_calls.proofs.Going.{IsInCall}
 use Rattle.whole_calls.proofs.Holding.{holds_only, told_many}
 use Rattle.whole_calls.proofs.Leading.{behind_since, call_of, call_then, call_with, is_call, opened_at, opened_in, since, windows_are, windows_then}
 use Rattle.whole_calls.proofs.Owning.{begins_own, due_says}
 use Rattle.whole_calls.proofs.Reaching.{one_at, reached_many}
+use Rattle.whole_calls.proofs.Returning.{may_return}
 use Rattle.whole_calls.proofs.Refusing.{made_none, newest_is, nil_of, refused_by}
 use Rattle.whole_calls.proofs.Waved.{end_unreached, recovered_late}
 use Rattle.whole_calls.proofs.Windowed.{unheld_many}
@@ -337,4 +339,26 @@ module _ (st : Setting) (failures : List FailureAt) (kept : List Entry) (resumed
             (all_in_turn (shared_of st failures) one call_so.is),
         all_below st.machines failed one.last e.made_below call_so.machines,
         unreached_struck failures kept resumed base.number first.left last_st c logged failed taken unasked e in_turn begins,
+      )
+
+  -- where a recovery may go back to
+  pub the_return : 0 < failures_in st c → ((a : ℕ) → a < st.machines → has_reached failures c a ≡ true → (c.machine a).failed ≡ true) → (orders : List (List Entry)) (missing : List Entry) →
+      AreNextOrders st kept (fronts_in (going_on st base.numbers base.number) (recovers st base first) events) (recorded_in (going_on st base.numbers base.number) (recovers st base first) events) orders →
+      filter is_restart (last_order kept orders) ++ missing ≡ filter is_restart c.base.order ++ restarts (failures_in st c) c.next →
+      (to : BaseView) × (to.number ≡ c.coordinator.acknowledged) × (to.number ≡ base.number + length (recorded_in (going_on st base.numbers base.number) (recovers st base first) events)) × (to.order ≡ last_order kept orders ++ missing)
+      × HaveSameNumbers st.graph to.numbers (replay st.graph st.program to.order) × GoesBackTo (setting_behind now events) c to
+  unfolding the_call
+  the_return some all orders missing are lacks =
+      let last_st : Setting = since st last.start last.base in
+      let e : IsEnding failures (opened_at kept resumed) kept base.number (ticket_above kept + first.left) last_st c ended.0 ended.1 (recorded_in now begun events) (0 + unasked_in now begun events) = ended.2 in
+      let snapshots : List (List Entry) = snapshots_of (call_with failures kept resumed c ended.0 ended.1) in
+      let same : orders ≡ snapshots = next_once st kept (fronts_in now begun events) (recorded_in now begun events) orders snapshots are the_call.7 in
+      let back = may_return failures kept resumed base.number first.left last_st c ended.0 ended.1 (recorded_in now begun events) (0 + unasked_in now begun events) e some all missing
+      (ap (λ (os : List (List Entry)). filter is_restart (last_order kept os) ++ missing) (sym same) ∙ lacks) in (
+        back.0,
+        back.1,
+        back.2,
+        back.3 ∙ ap (λ (os : List (List Entry)). last_order kept os ++ missing) (sym same),
+        back.4,
+        subst (λ (s : Setting). GoesBackTo s c back.0) (sym (behind_since events now)) back.5,
       )

@@ -1,17 +1,22 @@
 //! Laws of whole calls. Each is the contract of a function that does nothing.
 ghost use Rattle.std.specs.List.{AllByRecursion};
-ghost use Rattle.std.specs.Prelude.{Bool, List, false, length, true, ℕ, ◌+◌, ◌/◌, ◌<◌, ◌≡◌, ◌≤◌};
+ghost use Rattle.std.specs.Prelude.{Bool, List, false, filter, length, true, ℕ, ◌++◌, ◌+◌, ◌/◌, ◌<◌, ◌≡◌, ◌≤◌};
 ghost use Rattle.gl_base.specs.declared.entries.Entry.{Entry};
 ghost use Rattle.gl_base.specs.declared.jobs.FailureAt.{FailureAt};
 ghost use Rattle.attempts.specs.EngineCalls.{EngineCall, lost_of, made_of};
-ghost use Rattle.attempts.specs.Stores.{snapshots_of};
+ghost use Rattle.attempts.specs.Entries.{is_restart};
+ghost use Rattle.attempts.specs.Stores.{last_order, snapshots_of};
 ghost use Rattle.cluster_core.specs.Recovering.{going_on};
 ghost use Rattle.cluster_core.specs.Settings.{Setting};
 ghost use Rattle.cluster_model.specs.Clusters.{BaseView, Cluster};
-ghost use Rattle.cluster_model.specs.Events.{Event, recovers};
+ghost use Rattle.cluster_model.specs.ByTicket.{restarts};
+ghost use Rattle.cluster_model.specs.Events.{Event, GoesBackTo, failures_in, recovers};
 ghost use Rattle.cluster_model.specs.Leading.{Snapshot};
 ghost use Rattle.cluster_model.specs.Working.{half_window};
+ghost use Rattle.cluster_records.specs.Recorded.{HaveSameNumbers};
+ghost use Rattle.cluster_whole.specs.Whole.{setting_behind};
 ghost use Rattle.merged_logs.specs.Merges.{IsByMachineBelow};
+ghost use Rattle.seq_run.specs.Orders.{replay};
 ghost use Rattle.whole_calls.specs.Called.{IsCallOf, KeepsWindows};
 ghost use Rattle.whole_calls.specs.Following.{has_reached};
 ghost use Rattle.whole_calls.specs.Lost.{AreLostIn};
@@ -43,4 +48,20 @@ pub fn courses_are_calls()
 pub fn orders_are_one()
     ensures { (st : Setting) (before : List Entry) (fronts : List (List Entry)) (snapshots : List Snapshot) (orders others : List (List Entry)) →
         AreNextOrders st before fronts snapshots orders → AreNextOrders st before fronts snapshots others → orders ≡ others }
+{}
+
+/// Where machines have failed, and each that reached the count of a failure has, all may go back: to the order of the last snapshot, with the
+/// restarts that it lacks of those that the attempt began with and one for each failure; and to the numbers that this replays to.
+pub fn recoveries_may_come()
+    ensures { (st : Setting) (failures : List FailureAt) (kept : List Entry) (resumed : Bool) (base : BaseView) (first : Cluster) (events : List Event) (c : Cluster)
+        (orders : List (List Entry)) (missing : List Entry) → IsCourseOfCall st failures kept resumed base first events c → 0 < failures_in st c →
+        ((a : ℕ) → a < st.machines → has_reached failures c a ≡ true → (c.machine a).failed ≡ true) →
+        AreNextOrders st kept (fronts_in (going_on st base.numbers base.number) (recovers st base first) events)
+        (recorded_in (going_on st base.numbers base.number) (recovers st base first) events) orders →
+        filter is_restart (last_order kept orders) ++ missing ≡ filter is_restart c.base.order ++ restarts (failures_in st c) c.next →
+        (to : BaseView) × (to.number ≡ c.coordinator.acknowledged)
+        × (to.number ≡ base.number + length (recorded_in (going_on st base.numbers base.number) (recovers st base first) events))
+        × (to.order ≡ last_order kept orders ++ missing)
+        × HaveSameNumbers st.graph to.numbers (replay st.graph st.program to.order)
+        × GoesBackTo (setting_behind (going_on st base.numbers base.number) events) c to }
 {}
