@@ -8,7 +8,7 @@ use Rattle.gl_base.specs.declared.entries.Entry.TheVariants.{Restart}
 use Rattle.gl_base.specs.declared.jobs.FailureAt.{FailureAt}
 use Rattle.graph_core.proofs.HalvesLaws.{each-append}
 use Rattle.graph_core.specs.DataGraph.{size}
-use Rattle.merged_logs.specs.Merges.{IsByMachineBelow}
+use Rattle.merged_logs.specs.Merges.{IsByMachineBelow, IsMerge}
 use Rattle.attempts.specs.Beginnings.{held_updates, order_after, snapshot_order, unheld_updates}
 use Rattle.attempts.specs.EngineCalls.{EngineCall, IsOrderInTurn, begins_behind, call_order, lost_of, made_in, made_of, ticket_above}
 use Rattle.attempts.specs.Entries.{is_restart}
@@ -45,7 +45,7 @@ use Rattle.seq_run.specs.Orders.{replay, tasks_after}
 use Rattle.seq_run.specs.States.{GraphState}
 use Rattle.whole_calls.specs.Called.{IsCallOf, KeepsWindows}
 use Rattle.whole_calls.specs.Following.{has_reached}
-use Rattle.whole_calls.specs.Lost.{AreLostIn}
+use Rattle.whole_calls.specs.Lost.{AreLostIn, TakesAway, all_logged, is_lacking, machine_logs}
 use Rattle.whole_calls.specs.Opened.{IsCourseOfCall}
 use Rattle.whole_calls.specs.Saved.{AreNextOrders, AreSnapshotsOf, fronts_in, IsSnapshotOf, recorded_at, recorded_in}
 use Rattle.whole_calls.specs.Telling.{HasSavedTheEnd, NeedsMoreStore, TellsOfCall, length_with}
@@ -57,6 +57,7 @@ use Rattle.whole_calls.proofs.Holding.{holds_only, told_many}
 use Rattle.whole_calls.proofs.Leading.{behind_since, call_of, call_then, call_with, is_call, opened_at, opened_in, since, windows_are, windows_then}
 use Rattle.whole_calls.proofs.Owning.{begins_own, due_says}
 use Rattle.whole_calls.proofs.Reaching.{one_at, reached_many}
+use Rattle.whole_calls.proofs.Lacking.{lacking_taken}
 use Rattle.whole_calls.proofs.Returning.{may_return}
 use Rattle.whole_calls.proofs.Refusing.{made_none, newest_is, nil_of, refused_by}
 use Rattle.whole_calls.proofs.Waved.{end_unreached, recovered_late}
@@ -362,3 +363,13 @@ module _ (st : Setting) (failures : List FailureAt) (kept : List Entry) (resumed
         back.4,
         subst (λ (s : Setting). GoesBackTo s c back.0) (sym (behind_since events now)) back.5,
       )
+
+  -- what a recovery takes away
+  pub the_losses : (to : BaseView) (merged : List Entry) → GoesBackTo (setting_behind now events) c to → IsMerge (all_logged (machine_logs st.machines c)) merged →
+      TakesAway (setting_behind now events) c to (filter (is_lacking to.order) merged)
+  the_losses to merged back merges =
+      let last_st : Setting = since st last.start last.base in
+      let at : IsInCall failures (opened_at kept resumed) last_st c ended.0 ended.1 = ended.2.at in
+      subst (λ (s : Setting). TakesAway s c to (filter (is_lacking to.order) merged)) (sym (behind_since events now))
+      (lacking_taken last_st at.is c at.whole ended.0 at.account at.based failures (begins_behind (opened_at kept resumed) ended.1) at.so.tickets to
+      (subst (λ (s : Setting). GoesBackTo s c to) (behind_since events now) back) merged merges)

@@ -57,7 +57,7 @@ attempt_restarts b a front same tickets many (count ∷ counts) long =
 
 -- ---- updates
 
-split : (q : Entry → Bool) (p : Entry → Bool) (xs : List Entry) → count_by p (filter q xs) ≡ count_by (λ x. q x && p x) xs
+pub split : (q : Entry → Bool) (p : Entry → Bool) (xs : List Entry) → count_by p (filter q xs) ≡ count_by (λ x. q x && p x) xs
 split q p [] = refl
 split q p (x ∷ xs) = one (q x) (split q p xs) ∙ sym (sum_by-cons (λ (e : Entry). cond (q e && p e) 1 0) x xs)
   where

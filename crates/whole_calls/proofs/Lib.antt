@@ -12,6 +12,7 @@ pub mod Losing
 pub mod Fronting
 pub mod Owning
 pub mod Ending
+pub mod Lacking
 pub mod Returning
 pub mod Calling
 pub mod WorkedPair

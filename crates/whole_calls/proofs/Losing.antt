@@ -61,7 +61,7 @@ stand_rises low (Restart ticket ∷ order) high stand none = absurd (not_so none
     not_so : true ≡ false → ⊥
     not_so is = cc
 
-rise_by_ticket : (order : List Entry) → RiseByTicket order → IsByTicket order
+pub rise_by_ticket : (order : List Entry) → RiseByTicket order → IsByTicket order
 rise_by_ticket order up = λ i j d less inside. ordered i j d less inside
   where
     ordered : (i j : ℕ) (d : Entry) → i ≤ j → j < length order → ticket_of (get_or order i d) ≤ ticket_of (get_or order j d)
@@ -106,7 +106,7 @@ module _ (st : Setting) (is : IsSetting st) (c : Cluster) (whole : IsWhole st c)
   abbrev a : Attempt
   a = attempt_of failures b c logged
 
-  logs_same : machine_logs st.machines c ≡ logs_of st.machines made
+  pub logs_same : machine_logs st.machines c ≡ logs_of st.machines made
   logs_same = ap (λ (log : ℕ → List Entry). map log (range_with_len 0 st.machines)) (λ i. λ m. logs_are st c whole logged account m i)
 
   logs_have : HaveSame (all_logged (machine_logs st.machines c)) made

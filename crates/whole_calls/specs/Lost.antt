@@ -1,9 +1,11 @@
 -- The updates that the recoveries among a list of events take away.
 pub use Rattle.merged_logs.specs.Merges.{RiseByTicket, all_logged}
-use Rattle.std.specs.List.{range_with_len}
+use Rattle.std.specs.List.{list_any, range_with_len}
 use Rattle.std.specs.List.Sorted.{IsPermutation}
-use Rattle.std.specs.Prelude.{List, [], map, ℕ, ◌++◌, ◌∷◌, ◌≡◌}
+use Rattle.std.specs.Prelude.{Bool, List, [], false, map, not, ℕ, ◌++◌, ◌==◌, ◌∷◌, ◌≡◌}
 use Rattle.gl_base.specs.declared.entries.Entry.{Entry}
+use Rattle.gl_base.specs.declared.entries.Entry.TheVariants.{Go, Restart}
+use Rattle.cluster_core.specs.Replays.{ticket_of}
 use Rattle.cluster_core.specs.Settings.{Setting}
 use Rattle.cluster_model.specs.ByTicket.{restarts}
 use Rattle.cluster_model.specs.Clusters.{BaseView, Cluster}
@@ -19,6 +21,15 @@ machine_logs machines c = map (λ a. (c.machine a).part.log) (range_with_len 0 m
 pub record TakesAway (st : Setting) (c : Cluster) (base : BaseView) (lost : List Entry) : Type 0 where
   pub rise : RiseByTicket lost
   pub together : IsPermutation (base.order ++ lost) ((c.base.order ++ all_logged (machine_logs st.machines c)) ++ restarts (failures_in st c) c.next)
+
+-- an update with ticket t
+abbrev pub is_update_at : ℕ → Entry → Bool
+is_update_at t (Go machine vertex ticket) = ticket == t
+is_update_at t (Restart ticket) = false
+
+-- no update of the order has the entry's ticket
+abbrev pub is_lacking : List Entry → Entry → Bool
+is_lacking order entry = not (list_any (is_update_at (ticket_of entry)) order)
 
 -- what an event takes away: going back may take updates away, and nothing else does
 pub record IsTakenBy (st : Setting) (c : Cluster) (event : Event) (lost : List Entry) : Type 0 where

@@ -15,11 +15,11 @@ ghost use Rattle.cluster_model.specs.Leading.{Snapshot};
 ghost use Rattle.cluster_model.specs.Working.{half_window};
 ghost use Rattle.cluster_records.specs.Recorded.{HaveSameNumbers};
 ghost use Rattle.cluster_whole.specs.Whole.{setting_behind};
-ghost use Rattle.merged_logs.specs.Merges.{IsByMachineBelow};
+ghost use Rattle.merged_logs.specs.Merges.{IsByMachineBelow, IsMerge};
 ghost use Rattle.seq_run.specs.Orders.{replay};
 ghost use Rattle.whole_calls.specs.Called.{IsCallOf, KeepsWindows};
 ghost use Rattle.whole_calls.specs.Following.{has_reached};
-ghost use Rattle.whole_calls.specs.Lost.{AreLostIn};
+ghost use Rattle.whole_calls.specs.Lost.{AreLostIn, TakesAway, all_logged, is_lacking, machine_logs};
 ghost use Rattle.whole_calls.specs.Opened.{IsCourseOfCall};
 ghost use Rattle.whole_calls.specs.Saved.{AreNextOrders, AreSnapshotsOf, fronts_in, recorded_in};
 ghost use Rattle.whole_calls.specs.Telling.{TellsOfCall};
@@ -64,4 +64,12 @@ pub fn recoveries_may_come()
         × (to.order ≡ last_order kept orders ++ missing)
         × HaveSameNumbers st.graph to.numbers (replay st.graph st.program to.order)
         × GoesBackTo (setting_behind (going_on st base.numbers base.number) events) c to }
+{}
+
+/// What a recovery takes away is what the merged logs have and the order lacks to which it goes back.
+pub fn losses_are_lacking()
+    ensures { (st : Setting) (failures : List FailureAt) (kept : List Entry) (resumed : Bool) (base : BaseView) (first : Cluster) (events : List Event) (c : Cluster)
+        (to : BaseView) (merged : List Entry) → IsCourseOfCall st failures kept resumed base first events c →
+        GoesBackTo (setting_behind (going_on st base.numbers base.number) events) c to → IsMerge (all_logged (machine_logs st.machines c)) merged →
+        TakesAway (setting_behind (going_on st base.numbers base.number) events) c to (filter (is_lacking to.order) merged) }
 {}
