@@ -4,3 +4,4 @@ pub mod Making
 pub mod Answering
 pub mod Leading
 pub mod Cutting
+pub mod Next

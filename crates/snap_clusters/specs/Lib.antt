@@ -1,6 +1,3 @@
-pub mod Deeds
-pub mod Going
-pub mod Promises
 pub mod Lines
 pub mod Clusters
 pub mod Events

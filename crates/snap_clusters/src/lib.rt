@@ -4,11 +4,10 @@
 
 mod clusters;
 mod events;
-mod machines;
 mod parts;
 
 pub use clusters::SnapCluster;
 pub use coord_core::{Coordinator, Due, Store};
 pub use events::{Event, Lead, Local, Passage};
-pub use machines::SavingMachine;
 pub use parts::Parts;
+pub use snap_members::SavingMachine;

@@ -1,8 +1,9 @@
 -- What the calls of a machine that takes snapshots promise: for each machine of the law that it is. `stands` says that it is the machine
 -- of this number of a cluster with this setting, and has this.
-pub use Rattle.snap_clusters.specs.Deeds.{Admit, Deed, Grant, Machine, Mark, MayBeDone, ScopeId, Section, Setting, Update, does}
+pub use Rattle.snap_members.specs.Deeds.{Admit, Deed, Grant, Machine, Mark, MayBeDone, ScopeId, Section, Setting, Update, does}
 pub use Rattle.cluster_core.specs.Actions.{HasFirst}
 pub use Rattle.cluster_model.specs.Events.{HasNext}
+pub use Rattle.cluster_model.specs.Working.{fails}
 pub use Rattle.cluster_machines.specs.Told.{told_by}
 pub use Rattle.wire_msgs.specs.Views.{MessageView, message_view}
 use Rattle.std.specs.Prelude.{List, ℕ, ⊤, ◌<◌, ◌∷◌, ◌≡◌}
@@ -13,7 +14,7 @@ use Rattle.cluster_model.specs.Working.{hands, hands_report, prompt, receives, t
 use Rattle.coord_core.specs.Calls.{IsReport}
 use Rattle.coord_core.specs.Coordinators.{TellsCall}
 use Rattle.coord_core.specs.Saving.{IsApart}
-use Rattle.snap_clusters.specs.Going.{IsGoing, IsSnapSetting}
+use Rattle.snap_members.specs.Going.{IsGoing, IsSnapSetting}
 use Rattle.wire_msgs.specs.Views as wire
 use Rattle.wire_msgs.specs.declared.messages.Message.{Message}
 
@@ -46,6 +47,21 @@ CanNotAdmit stands x = OfEach stands x (λ st a m. (v : ℕ) → MayBeDone st a 
 
 abbrev pub HasAdmittedSome : {M : Type 0} → (Setting → ℕ → Machine → M → Type 0) → M → M → Type 0
 HasAdmittedSome stands old new = OfEach stands old (λ st a m. (v : ℕ) × MayBeDone st a m (Admit v) × stands st a (does st a (Admit v) m) new)
+
+-- no lock may be granted
+abbrev pub CanGrantNone : {M : Type 0} → (Setting → ℕ → Machine → M → Type 0) → M → Type 0
+CanGrantNone stands x = (vertex : ℕ) → CanNotDo stands x (Grant vertex)
+
+-- the update of this scope may be made, under whatever ticket; and of no scope may one
+abbrev pub CanUpdate : {M : Type 0} → (Setting → ℕ → Machine → M → Type 0) → M → ScopeId → Type 0
+CanUpdate stands x s = (ticket : ℕ) → CanDo stands x (Update s ticket)
+
+abbrev pub CanUpdateNone : {M : Type 0} → (Setting → ℕ → Machine → M → Type 0) → M → Type 0
+CanUpdateNone stands x = (s : ScopeId) (ticket : ℕ) → CanNotDo stands x (Update s ticket)
+
+-- of no scope may a snapshot update be made
+abbrev pub CanMarkNone : {M : Type 0} → (Setting → ℕ → Machine → M → Type 0) → M → Type 0
+CanMarkNone stands x = (s : ScopeId) → CanNotDo stands x (Mark s)
 
 -- ---- what comes
 

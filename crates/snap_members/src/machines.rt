@@ -1,6 +1,6 @@
 //! A machine that takes snapshots, as a cluster knows it.
 ghost use Rattle.std.specs.Prelude.{◌≡◌, ◌↔◌, ℕ, [], IsTrue, OnOk, OnErr, IfErr, IfSome, IfNone, IsErrOf};
-ghost use Rattle.snap_clusters.specs.Promises.{Grant, Machine, Mark, Section, Setting, Update, CanAdmit, CanDo, MayHearCall, CanNotAdmit, CanNotDo, MayReceiveFirst, HasAdmittedSome, HasDone, HasHeard, HasFirst, HasNext, HasReceived, IsReporting, SendsItsFirst, OfEach, StandsStill};
+ghost use Rattle.snap_members.specs.Promises.{Grant, Machine, Mark, Section, Setting, Update, CanAdmit, CanDo, CanGrantNone, CanMarkNone, CanUpdate, CanUpdateNone, MayBeDone, MayHearCall, CanNotAdmit, CanNotDo, MayReceiveFirst, HasAdmittedSome, HasDone, HasHeard, HasFirst, HasNext, HasReceived, IsReporting, SendsItsFirst, OfEach, StandsStill, fails};
 
 use gl_base::{Entry, MachineNo, Refused, ScopeId, Vertex};
 use wire_msgs::{Message, Returned};
@@ -27,6 +27,12 @@ pub trait SavingMachine: Drop {
         ensures no_memory { IsErrOf result Refused.NoMemory → CanDo stands self.old (Grant x.0) }
         ensures unchanged { OnErr result (StandsStill stands self.old self.new) };
 
+    /// An own vertex whose lock may be granted now; `None` exactly where no lock may be.
+    fn next_grant(&mut self) -> Option<Vertex>
+        ensures some { IfSome result (λ x. CanDo stands self.old (Grant x.0)) }
+        ensures none { IfNone result (CanGrantNone stands self.old) }
+        ensures unchanged { StandsStill stands self.old self.new };
+
     /// Makes the update of a ready scope of this home, whose vertex is a task and not pending. It is logged under the ticket; and where
     /// half of the window is outside the last snapshot, the coordinator is asked for the next one.
     fn update(&mut self, scope: ScopeId, ticket: u64) -> Result<(), Refused>
@@ -42,12 +48,27 @@ pub trait SavingMachine: Drop {
         ensures no_memory { IsErrOf result Refused.NoMemory → CanDo stands self.old (Mark scope) }
         ensures unchanged { OnErr result (StandsStill stands self.old self.new) };
 
+    /// A ready scope of this home whose update may be made now; `None` exactly where there is none.
+    fn next_update(&self) -> Option<ScopeId>
+        ensures some { IfSome result (CanUpdate stands self.now) }
+        ensures none { IfNone result (CanUpdateNone stands self.now) };
+
+    /// A ready scope of this home whose snapshot update may be made now; `None` exactly where there is none.
+    fn next_mark(&self) -> Option<ScopeId>
+        ensures some { IfSome result (λ s. CanDo stands self.now (Mark s)) }
+        ensures none { IfNone result (CanMarkNone stands self.now) };
+
     /// Puts out the section of the snapshot that the machine knows, all of whose vertices have the mark.
     fn section(&mut self) -> Result<(), Refused>
         ensures sent { OnOk result (HasDone stands self.old Section self.new) }
         ensures not_now { IsErrOf result Refused.NotNow → CanNotDo stands self.old Section }
         ensures no_memory { IsErrOf result Refused.NoMemory → CanDo stands self.old Section }
         ensures unchanged { OnErr result (StandsStill stands self.old self.new) };
+
+    /// Whether the section may be put out now.
+    fn has_section(&mut self) -> bool
+        ensures section { OfEach stands self.old (λ st a m. IsTrue result ↔ MayBeDone st a m Section) }
+        ensures unchanged { StandsStill stands self.old self.new };
 
     /// Receives a message from another machine: the first on the link in some cluster in which this one stands. For want of memory the
     /// message comes back.
@@ -64,6 +85,10 @@ pub trait SavingMachine: Drop {
         ensures heard { OnOk result (HasHeard stands self.old message self.new) }
         ensures returned { IfErr result (λ back. back.message ≡ message) }
         ensures unchanged { OnErr result (StandsStill stands self.old self.new) };
+
+    /// It fails: nothing more happens at it in this attempt.
+    fn fail(&mut self)
+        ensures { OfEach stands self.old (λ st a m. stands st a (fails m) self.new) };
 
     /// Whether a message waits to be sent to a machine.
     fn waits(&self, to: MachineNo) -> bool
@@ -89,4 +114,8 @@ pub trait SavingMachine: Drop {
     /// The updates that it made in this attempt.
     fn log(&self) -> &[Entry]
         ensures { OfEach stands self.now (λ st a m. result.now ≡ m.part.log) };
+
+    /// How many scopes it has admitted, in earlier attempts too.
+    fn serial(&self) -> u64
+        ensures { OfEach stands self.now (λ st a m. result ≡ m.part.serial) };
 }
