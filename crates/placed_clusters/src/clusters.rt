@@ -1,5 +1,5 @@
 //! Clusters of new machines.
-ghost use Rattle.std.specs.Prelude.{◌≡◌, ℕ, ◌+◌, ◌^◌, ◌<◌, ◌≤◌, [], false, length, All, IfOk};
+ghost use Rattle.std.specs.Prelude.{◌≡◌, ℕ, ◌+◌, ◌^◌, ◌<◌, ◌≤◌, [], None, false, length, All, IfOk};
 ghost use Rattle.graph_core.specs.DataGraph.{IsDataGraph, size};
 ghost use Rattle.update_api.specs.Updates.{Update};
 ghost use Rattle.placed_clusters.specs.Beginning.{AreNewIn, GoesBy};
@@ -99,7 +99,7 @@ pub fn bare_machines(
 
 /// What new machines of such a cluster go by.
 fn terms_of(graph: &Graph, base: &Base, run: Run) -> NewTerms
-    ensures goes { (st : Setting) (program : Update) (owner : ℕ → ℕ) → IsRunOf graph.now program owner base.now run st → GoesBy st result }
+    ensures goes { (st : Setting) (program : Update) (owner : ℕ → ℕ) → IsRunOf graph.now program owner base.now run st → GoesBy st None result }
     ensures graph { IsDataGraph graph.now }
 {
     NewTerms {
@@ -109,5 +109,6 @@ fn terms_of(graph: &Graph, base: &Base, run: Run) -> NewTerms
         },
         machines: run.machines,
         vertices: graph.n(),
+        serial: 0,
     }
 }
