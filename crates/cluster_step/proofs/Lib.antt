@@ -10,3 +10,4 @@ pub mod GrantedLemmas
 pub mod AtOnceLemmas
 pub mod InTurnLemmas
 pub mod StepLemmas
+pub mod TurnLemmas

@@ -1,11 +1,9 @@
 -- Steps of the cluster: what a call makes of it.
-use Rattle.std.proofs.Common.{◌≡◌, ◌⊎◌, ℕ, zero, suc, ◌+◌, ◌<◌, ◌≤◌, ◌++◌, Bool, true, false, true≢false, if◌then◌else◌, List, [], ◌∷◌, length, get_or, sym, refl, ap, ap₂, ◌∙◌, subst, inl, inr, arith, add-one}
+use Rattle.std.proofs.Common.{◌≡◌, ℕ, ◌+◌, ◌<◌, ◌++◌, Bool, true, false, true≢false, if◌then◌else◌, List, [], ◌∷◌, length, get_or, sym, refl, ap, ap₂, ◌∙◌, subst, inl, inr, arith}
 use Rattle.std.specs.Prelude.{Result, Ok, Err, IsTrue, OnErr, OnOk, nat_lt, not, ◌↔◌}
-use Rattle.std.specs.Vec.{with_item}
-use Rattle.std.proofs.lemmas.Bool.{cases_Bool, cases_eq, cases_lt, lt-ltb, ltb-true}
+use Rattle.std.proofs.lemmas.Bool.{cases_eq, lt-ltb, ltb-true}
 use Rattle.std.proofs.lemmas.Option.{slice_get_read}
 use Rattle.gl_base.specs.declared.refusals.Refused.{Refused}
-use Rattle.gl_base.specs.declared.scopes.ScopeId.{ScopeId}
 use Rattle.cluster_core.specs.Actions.{HasFirst}
 use Rattle.cluster_core.specs.Messages.{Message}
 use Rattle.cluster_core.specs.Parts.{Part}
@@ -14,11 +12,12 @@ use Rattle.cluster_core.specs.Settings.{Setting}
 use Rattle.cluster_core.specs.Worlds.{World}
 use Rattle.cluster_core.proofs.Basics.{set_at-other, set_at-same}
 use Rattle.cluster_machines.specs.Steps.{CanStep, EndsNoShare, EndsShare}
+use Rattle.cluster_step.specs.Events.{HoldTheSame}
 use Rattle.cluster_step.specs.Inner.Steps.{CanGoOn, IsSameCluster}
-use Rattle.cluster_step.specs.Stepping.{CannotCloseAt, ClosesAt, IsOver, IsShareDone, IsStill, IsStillAt, RunsByColours, closes, steps_to, way, with_part, with_step}
+use Rattle.cluster_step.specs.Stepping.{CannotCloseAt, ClosesAt, IsShareDone, IsStill, RunsByColours, closes, steps_to, with_part, with_step}
 use Rattle.cluster_step.specs.Worlds.{part_of_machine, world_of_parts}
 use Rattle.cluster_step.specs.declared.parts.Parts.{Parts}
-use Rattle.cluster_step.proofs.CallLemmas.{here, here_belongs, with_one, world_one}
+use Rattle.cluster_step.proofs.CallLemmas.{here, here_belongs, same_one, with_one, world_one}
 
 -- ---- the end of a machine's share
 
@@ -34,6 +33,10 @@ module _ {M : Type 0} (belongs : Setting → ℕ → M → Type 0) (part : M →
   pub close_by : (r : Result (Unit {0}) Refused) (new : M) → OnOk r (EndsShare belongs part m) → OnOk r (part new ≡ closes (part m)) → OnOk r (ClosesAt (CanGoOn belongs part old) part old a (with_one old a new))
   close_by (Ok done) new share closed = close_made new share closed
   close_by (Err e) new share closed = tt
+
+  pub close_same : (r : Result (Unit {0}) Refused) (new : M) → OnErr r (part new ≡ part m) → OnErr r (HoldTheSame part old (with_one old a new))
+  close_same (Ok done) new same = tt
+  close_same (Err e) new same = same_one belongs part earlier old a m low is new same
 
   pub close_cannot : EndsNoShare belongs part m → CannotCloseAt (CanGoOn belongs part old) part old a
   close_cannot none st go done = none st a (here_belongs belongs part earlier old a m low is st go) (subst (IsShareDone st a) (here belongs part earlier old a m low is st) done)
