@@ -61,7 +61,7 @@ begins_going st is w at start unmarked =
     record { by_engine = goes_first st.engine st w start at; plain = plain; kept = kept; none = refl; gone = goes_not st w kept }
 
 -- scopes exclude one another
-excludes : (e : Engine) (st : Setting) → IsSetting st → (w : World) → GoesBy e st w → IsExclusive st w
+pub excludes : (e : Engine) (st : Setting) → IsSetting st → (w : World) → GoesBy e st w → IsExclusive st w
 excludes Locking st is w goes = exclusive st is w goes.0 goes.1
 excludes (Chromatic colour colours) st is w goes = step_excludes st colour goes.1.0 goes.0 w goes.1.1.in_step
 

@@ -1,5 +1,5 @@
 -- Locks that a machine grants in turn, as the cluster has them.
-use Rattle.std.proofs.Common.{◌≡◌, ℕ, ◌<◌, List, ◌∷◌, get_or, length, map, refl, sym, subst}
+use Rattle.std.proofs.Common.{◌≡◌, ℕ, ◌<◌, ◌∷◌, get_or, length, map, refl, sym, subst}
 use Rattle.std.specs.Prelude.{Result, Ok, Err, OnErr, OnOk}
 use Rattle.gl_base.specs.declared.refusals.Refused.{Refused}
 use Rattle.cluster_core.specs.Actions.{Grant}
