@@ -2,8 +2,9 @@
 use Rattle.std.proofs.Common.{◌≡◌, ◌<◌, ℕ, ◌∙◌, Bool, true, false, if◌then◌else◌, Option, Some, None, is_some, List, length, get_or, All, ap, sym, subst, refl, slice_index, true≢false}
 use Rattle.std.specs.Prelude.{slice_get}
 use Rattle.std.proofs.lemmas.Option.{get_or_from_slice_get, slice_get_within}
-use Rattle.cluster_core.specs.Settings.{Locking}
+use Rattle.cluster_core.specs.Settings.{Engine, Locking}
 use Rattle.cluster_step.specs.Clusters.{ClusterView}
+use Rattle.cluster_step.specs.Starts.{StartsBy}
 use Rattle.cluster_step.specs.declared.parts.Parts.{Parts}
 use Rattle.gl_base.specs.declared.numbers.AtomNo.{AtomNo}
 use Rattle.gl_base.specs.declared.numbers.MachineNo.{MachineNo}
@@ -90,7 +91,7 @@ module _ {P : Type 0} (meaning : P → Update) (program : P) (st : Setting) (mac
   start_in =
       record {
         setting = runs.is;
-        locks = runs.engine;
+        engine = subst (λ (e : Engine). StartsBy e st (λ (m : ProgramMachineView P). part_of m.core) all) (sym runs.engine) tt;
         many = have.many ∙ runs.new.count;
         here = λ a m at.
             let one = new_at a m at in
