@@ -1,5 +1,5 @@
 -- The call that a course makes, and what is so of it.
-use Rattle.std.specs.Prelude.{List, false, length, ℕ, ◌+◌, ◌/◌, ◌<◌, ◌≡◌, ◌≤◌}
+use Rattle.std.specs.Prelude.{List, false, length, true, ℕ, ◌+◌, ◌/◌, ◌<◌, ◌≡◌, ◌≤◌}
 use Rattle.gl_base.specs.declared.jobs.FailureAt.{FailureAt}
 use Rattle.attempts.specs.EngineCalls.{EngineCall, call_order}
 use Rattle.attempts.specs.Stores.{last_order, snapshots_of}
@@ -30,7 +30,11 @@ abbrev pub HasCall : {M : Type 0} → (Setting → ℕ → Machine → M → Typ
 HasCall stands v = InEachCourse stands v (λ st o events c. (call : EngineCall) × MakesCall st v.failures o events c call)
 
 -- No task is left after the call's order, no failure was reached in its last attempt, and the last snapshot has the whole order.
-pub record HasEnded (st : Setting) (call : EngineCall) : Type 0 where
+pub record HasEndedCall (st : Setting) (call : EngineCall) : Type 0 where
   pub tasks : (u : ℕ) → u < size st.graph → tasks_after st.graph st.program (call_order call) u ≡ false
   pub unharmed : call.last.struck ≡ 0
   pub saved : last_order call.base (snapshots_of call) ≡ call_order call
+
+-- a task is left after the call's order
+abbrev pub HasTaskLeft : Setting → EngineCall → Type 0
+HasTaskLeft st call = (v : ℕ) × (v < size st.graph) × (tasks_after st.graph st.program (call_order call) v ≡ true)

@@ -6,12 +6,13 @@ pub use Rattle.coord_core.specs.Coordinators.{StoreView}
 pub use Rattle.snap_clusters.specs.Clusters.{IsSavingClusterOf, IsSnapSetting, StartsSaving}
 pub use Rattle.snap_clusters.specs.declared.parts.Parts.{Parts}
 use Rattle.std.specs.List.{AllByRecursion}
-use Rattle.std.specs.Prelude.{Bool, List, length, slice_index_or, ℕ, ◌++◌, ◌<◌, ◌≡◌, ◌≢◌}
+use Rattle.std.specs.Prelude.{Bool, List, [], length, slice_index_or, ℕ, ◌++◌, ◌<◌, ◌∷◌, ◌≡◌, ◌≢◌}
 use Rattle.gl_base.specs.declared.entries.Entry.{Entry}
 use Rattle.gl_base.specs.declared.jobs.FailureAt.{FailureAt}
 use Rattle.cluster_core.specs.Recovering.{going_on}
 use Rattle.cluster_model.specs.Events as law
-use Rattle.cluster_whole.specs.Whole.{setting_behind}
+use Rattle.cluster_whole.specs.Whole.{IsNoRecovery, setting_behind}
+use Rattle.whole_calls.specs.Following.{FollowsJob}
 use Rattle.whole_calls.specs.Opened.{IsCourseOfCall, IsOpened}
 
 -- How a call opened: the order of the store's last snapshot, and whether the call resumes it; what the first attempt goes back to; and
@@ -60,13 +61,16 @@ pub record IsCourseNow {M : Type 0} (stands : Setting → ℕ → Machine → M 
 abbrev pub InEachCourse : {M : Type 0} → (Setting → ℕ → Machine → M → Type 0) → CourseView M → (Setting → CallOpening → List law.Event → Cluster → Type 0) → Type 0
 InEachCourse stands v holds = (st : Setting) (o : CallOpening) (events : List law.Event) (c : Cluster) → IsCourseNow stands v st o events c → holds st o events c
 
--- none of these events acknowledges a snapshot
-abbrev pub RecordsNothing : List law.Event → Type 0
-RecordsNothing events = AllByRecursion (λ event. event ≢ law.Record) events
+-- the event acknowledges no snapshot and begins no attempt
+abbrev pub IsPassing : law.Event → Type 0
+IsPassing event = (event ≢ law.Record) × IsNoRecovery event
 
--- The newer cluster has come of the older one, and no snapshot was acknowledged between.
-abbrev pub GoesOn : {M : Type 0} → (Setting → ℕ → Machine → M → Type 0) → CourseView M → CourseView M → Type 0
-GoesOn stands old new = InEachCourse stands old (λ st o events c. (more : List law.Event) × (later : Cluster) × RecordsNothing more × IsCourseNow stands new st o (events ++ more) later)
+abbrev pub ArePassing : List law.Event → Type 0
+ArePassing events = AllByRecursion IsPassing events
+
+-- The newer cluster has come of the older one, in the same attempt, and no snapshot was acknowledged between.
+abbrev pub CourseGoesOn : {M : Type 0} → (Setting → ℕ → Machine → M → Type 0) → CourseView M → CourseView M → Type 0
+CourseGoesOn stands old new = InEachCourse stands old (λ st o events c. (more : List law.Event) × (later : Cluster) × ArePassing more × IsCourseNow stands new st o (events ++ more) later)
 
 -- as it was at that time
 abbrev pub as_since : {M : Type 0} → CourseView M → CourseView M
@@ -79,7 +83,7 @@ pub record HasCourse {M : Type 0} (stands : Setting → ℕ → Machine → M �
   pub opens : OpensCall stands v.start v.failures setting opening
   pub each : (st : Setting) (o : CallOpening) → OpensCall stands v.start v.failures st o → (events : List law.Event) × (c : Cluster) × IsCourseNow stands v st o events c
   pub many : length v.done ≡ length v.now.machines.items
-  pub goes_on : GoesOn stands (as_since v) v
+  pub goes_on : CourseGoesOn stands (as_since v) v
 
 -- it is the same call and the same attempt, remembered at the same time, with as many machines
 pub record IsSameAttempt {M : Type 0} (old new : CourseView M) : Type 0 where
@@ -88,6 +92,26 @@ pub record IsSameAttempt {M : Type 0} (old new : CourseView M) : Type 0 where
   pub done : new.done ≡ old.done
   pub since : new.since ≡ old.since
   pub many : length new.now.machines.items ≡ length old.now.machines.items
+
+-- ---- where it goes back
+
+-- Recover may occur in this course and follows the job, and the machines begin again from its base, with this store.
+pub record GoesBackWith {M : Type 0} (stands : Setting → ℕ → Machine → M → Type 0) (old : CourseView M) (xs : List M) (store : StoreView) (st : Setting) (o : CallOpening) (events : List law.Event) (c : Cluster) (base : BaseView) : Type 0 where
+  pub is : IsCourseNow stands old st o events c
+  pub may : law.MayOccur (newest_setting st o events) c (law.Recover base)
+  pub follows : FollowsJob (newest_setting st o events) old.failures c (law.Recover base)
+  pub starts : StartsSaving stands xs store old.now.next old.now.left (newest_setting st o events) base c
+
+-- from each opening a course goes back so
+abbrev pub CanGoBack : {M : Type 0} → (Setting → ℕ → Machine → M → Type 0) → CourseView M → List M → StoreView → Type 0
+CanGoBack stands old xs store =
+    (st : Setting) (o : CallOpening) → OpensCall stands old.start old.failures st o → (events : List law.Event) × (c : Cluster) × (base : BaseView) × GoesBackWith stands old xs store st o events c base
+
+-- each that may has gone back
+abbrev pub HasGoneBack : {M : Type 0} → (Setting → ℕ → Machine → M → Type 0) → CourseView M → List M → StoreView → CourseView M → Type 0
+HasGoneBack stands old xs store new =
+    (st : Setting) (o : CallOpening) (events : List law.Event) (c : Cluster) (base : BaseView) → GoesBackWith stands old xs store st o events c base →
+    IsCourseNow stands new st o (events ++ law.Recover base ∷ []) (law.recovers (newest_setting st o events) base c)
 
 -- ---- where it begins
 

@@ -13,37 +13,39 @@ use Rattle.snap_clusters.specs.declared.events.Passage.TheVariants as passage
 use Rattle.whole_calls.specs.Following.{FollowsJob}
 
 -- such an event might occur, and follows the job
-pub record MayHappen (st : Setting) (failures : List FailureAt) (c : Cluster) (what : Event) (event : law.Event) : Type 0 where
+pub record MayHappenInCall (st : Setting) (failures : List FailureAt) (c : Cluster) (what : Event) (event : law.Event) : Type 0 where
   pub is : IsNamedEvent what event
   pub may : law.MayOccur st c event
   pub follows : FollowsJob st failures c event
 
 -- It has happened: the course goes on by it.
-pub record HasHappened {M : Type 0} (stands : Setting → ℕ → Machine → M → Type 0) (old : CourseView M) (what : Event) (new : CourseView M) (st : Setting) (o : CallOpening) (events : List law.Event) (c : Cluster) : Type 0 where
+pub record HasHappenedInCall {M : Type 0} (stands : Setting → ℕ → Machine → M → Type 0) (old : CourseView M) (what : Event) (new : CourseView M) (st : Setting) (o : CallOpening) (events : List law.Event) (c : Cluster) : Type 0 where
   pub event : law.Event
-  pub may : MayHappen (newest_setting st o events) old.failures c what event
+  pub may : MayHappenInCall (newest_setting st o events) old.failures c what event
   pub now : IsCourseNow stands new st o (events ++ event ∷ []) (law.after_event (newest_setting st o events) c event)
 
-abbrev pub Happens : {M : Type 0} → (Setting → ℕ → Machine → M → Type 0) → CourseView M → Event → CourseView M → Type 0
-Happens stands old what new = InEachCourse stands old (HasHappened stands old what new)
+abbrev pub HappensInCall : {M : Type 0} → (Setting → ℕ → Machine → M → Type 0) → CourseView M → Event → CourseView M → Type 0
+HappensInCall stands old what new = InEachCourse stands old (HasHappenedInCall stands old what new)
 
 -- it may happen; it may not; and the cluster is where it was
-abbrev pub CanHappen : {M : Type 0} → (Setting → ℕ → Machine → M → Type 0) → CourseView M → Event → Type 0
-CanHappen stands old what = InEachCourse stands old (λ st o events c. (event : law.Event) × MayHappen (newest_setting st o events) old.failures c what event)
+abbrev pub CanHappenInCall : {M : Type 0} → (Setting → ℕ → Machine → M → Type 0) → CourseView M → Event → Type 0
+CanHappenInCall stands old what = InEachCourse stands old (λ st o events c. (event : law.Event) × MayHappenInCall (newest_setting st o events) old.failures c what event)
 
-abbrev pub CanNotHappen : {M : Type 0} → (Setting → ℕ → Machine → M → Type 0) → CourseView M → Event → Type 0
-CanNotHappen stands old what = InEachCourse stands old (λ st o events c. (event : law.Event) → MayHappen (newest_setting st o events) old.failures c what event → ⊥)
+abbrev pub CanNotHappenInCall : {M : Type 0} → (Setting → ℕ → Machine → M → Type 0) → CourseView M → Event → Type 0
+CanNotHappenInCall stands old what = InEachCourse stands old (λ st o events c. (event : law.Event) → MayHappenInCall (newest_setting st o events) old.failures c what event → ⊥)
 
 abbrev pub StaysThere : {M : Type 0} → (Setting → ℕ → Machine → M → Type 0) → CourseView M → CourseView M → Type 0
 StaysThere stands old new = InEachCourse stands old (IsCourseNow stands new)
 
 -- ---- what is held back
 
--- the machine that makes such an event, where it is one that a machine makes no more once it has reached the count of a failure
-abbrev pub held_machine : Event → Option MachineNo
-held_machine (event.Local (local.Update s)) = Some s.home
-held_machine (event.Passage (passage.DeliverCall m)) = Some m
-held_machine _ = None
+-- the machine that makes such an event, where it is one that a machine makes only before it has reached the count of a failure, or only
+-- once it has
+abbrev pub watched : Event → Option (MachineNo × Bool)
+watched (event.Local (local.Update s)) = Some (s.home, false)
+watched (event.Local (local.Fail m)) = Some (m, true)
+watched (event.Passage (passage.DeliverCall m)) = Some (m, false)
+watched _ = None
 
 -- Such events are held back exactly where they would not follow the job.
 pub record IsHeldBack (failures : List FailureAt) (what : Event) (answer : Bool) (st : Setting) (o : CallOpening) (events : List law.Event) (c : Cluster) : Type 0 where

@@ -1,27 +1,29 @@
 //! The course of a call.
-ghost use Rattle.std.specs.Prelude.{◌≡◌, ◌+◌, ◌^◌, ◌<◌, ◌≤◌, ℕ, length, slice_get, IfOk, IsErrOf, OnErr, OnOk, Some};
+ghost use Rattle.std.specs.Prelude.{◌≡◌, ◌+◌, ◌^◌, ◌<◌, ◌≤◌, ℕ, length, slice_index_or, IfOk, IfSome, IsErrOf, OnErr, OnOk};
 ghost use Rattle.attempts.specs.EngineCalls.{done_of, first_ticket, made_of};
-ghost use Rattle.call_courses.specs.Calls.{HasCall, HasEnded, OfTheCall};
-ghost use Rattle.call_courses.specs.Courses.{CallOpening, GoesOn, HasCourse, InEachCourse, IsSameAttempt, OpensCall, Setting, StartsCall, as_since};
-ghost use Rattle.call_courses.specs.Events.{CanHappen, CanNotHappen, Happens, IsHeldBack, IsNoRecord, StaysThere};
+ghost use Rattle.call_courses.specs.Calls.{HasCall, HasEndedCall, HasTaskLeft, OfTheCall};
+ghost use Rattle.call_courses.specs.Courses.{CallOpening, CanGoBack, CourseGoesOn, HasCourse, HasGoneBack, InEachCourse, IsSameAttempt, OpensCall, Setting, StartsCall, as_since, newest_setting};
+ghost use Rattle.call_courses.specs.Events.{CanHappenInCall, CanNotHappenInCall, HappensInCall, IsHeldBack, IsNoRecord, StaysThere};
 ghost use Rattle.cluster_core.specs.Replays.{entries_of};
-ghost use Rattle.coord_core.specs.Calls.{IsDueOf};
+ghost use Rattle.cluster_model.specs.Machines.{completed};
+ghost use Rattle.coord_core.specs.Calls.{IsDueOf, IsRecordFor};
 ghost use Rattle.coord_core.specs.Stores.{store_view};
+ghost use Rattle.snap_clusters.specs.Cuts.{snapshot_due};
 ghost use Rattle.snap_clusters.specs.Events.{NamesItsMachines};
 ghost use Rattle.whole_calls.specs.Following.{has_reached};
 ghost use Rattle.whole_calls.specs.Saved.{MayFollow};
 
-use crate::failing::{held_machine, is_count_reached};
-use gl_base::{Entry, FailureAt, MachineNo, NoMemory, Refused};
-use snap_clusters::{Due, Event, Lead, SavingMachine, SnapCluster, Store};
+use crate::failing::{is_count_reached, watched};
+use gl_base::{Entry, FailureAt, MachineNo, NoMemory, Record, Refused, ScopeId, Vertex};
+use snap_clusters::{Coordinator, Due, Event, Lead, SavingMachine, SnapCluster, Store};
 use std::alloc::Global;
 use std::marker::Model;
 use std::snapshot::Snapshot;
 
 /// A cluster in the course of a call that runs a job. Contracts see how it began, the failures that the job orders, how many updates
-/// each machine had completed as the newest attempt began, and the cluster now. Whatever happens in it follows the job: a machine that
-/// has reached the count of a failure makes no update and hears nothing of the coordinator until it fails. So what has happened makes
-/// a call, of which all laws of calls hold.
+/// each machine had completed as the newest attempt began, and the cluster as it was remembered and as it is now. Whatever happens in it
+/// follows the job: a machine that has reached the count of a failure makes no update and hears nothing of the coordinator until it
+/// fails, and no other machine fails. So what has happened makes a call, of which all laws of calls hold.
 #[derive(Drop)]
 pub struct Course<M: SavingMachine> {
     cluster: SnapCluster<M>,
@@ -76,33 +78,50 @@ impl<M: SavingMachine> Course<M> {
     }
 
     /// The event happens, where it may happen now and follows the job. It acknowledges no snapshot: that is done by `acknowledge`.
-    pub fn apply(&mut self, alloc: Global, event: Event) -> Result<(), Refused>
+    pub fn apply(&mut self, event: Event) -> Result<(), Refused>
         requires names { NamesItsMachines (length self.old.now.machines.items) event }
         requires none { IsNoRecord event }
-        ensures made { OnOk result (Happens M.stands self.old event self.new) }
-        ensures not_now { IsErrOf result Refused.NotNow → CanNotHappen M.stands self.old event }
-        ensures no_memory { IsErrOf result Refused.NoMemory → CanHappen M.stands self.old event }
+        ensures made { OnOk result (HappensInCall M.stands self.old event self.new) }
+        ensures not_now { IsErrOf result Refused.NotNow → CanNotHappenInCall M.stands self.old event }
+        ensures no_memory { IsErrOf result Refused.NoMemory → CanHappenInCall M.stands self.old event }
         ensures unchanged { OnErr result (StaysThere M.stands self.old self.new) }
         ensures same { IsSameAttempt self.old self.new }
     {
         if self.is_held_back(event) {
             return Err(Refused::NotNow);
         }
-        self.cluster.apply(alloc, event)
+        self.cluster.apply(event)
     }
 
     /// The snapshot under way is acknowledged.
-    pub fn acknowledge(&mut self, alloc: Global) -> Result<(), Refused>
-        ensures made { OnOk result (Happens M.stands self.old (Event.Lead Lead.Record) self.new) }
-        ensures not_now { IsErrOf result Refused.NotNow → CanNotHappen M.stands self.old (Event.Lead Lead.Record) }
-        ensures no_memory { IsErrOf result Refused.NoMemory → CanHappen M.stands self.old (Event.Lead Lead.Record) }
+    pub fn acknowledge(&mut self) -> Result<(), Refused>
+        ensures made { OnOk result (HappensInCall M.stands self.old (Event.Lead Lead.Record) self.new) }
+        ensures not_now { IsErrOf result Refused.NotNow → CanNotHappenInCall M.stands self.old (Event.Lead Lead.Record) }
+        ensures no_memory { IsErrOf result Refused.NoMemory → CanHappenInCall M.stands self.old (Event.Lead Lead.Record) }
         ensures unchanged { OnErr result (StaysThere M.stands self.old self.new) }
         ensures since { self.new.since ≡ self.new.now }
         ensures same { IsSameAttempt (record self.old { since = self.new.now }) self.new }
     {
-        let made = self.cluster.apply(alloc, Event::Lead(Lead::Record));
+        let made = self.cluster.apply(Event::Lead(Lead::Record));
         self.since = Snapshot::of(&self.cluster);
         made
+    }
+
+    /// All machines go back to a base: the call goes on with these machines, which begin its next attempt from it.
+    pub fn recover(&mut self, alloc: Global, machines: Vec<M>, store: Store) -> Result<(), NoMemory>
+        requires again { CanGoBack M.stands self.old machines.items (store_view store) }
+        requires newest { store.newest + 1 < 2 ^ 32 }
+        requires length { store.length ≤ 1073741824 }
+        ensures recovered { OnOk result (HasGoneBack M.stands self.old machines.items (store_view store) self.new) }
+        ensures since { OnOk result (self.new.since ≡ self.new.now) }
+        ensures unchanged { OnErr result (self.new ≡ self.old) }
+        ensures same { (self.new.start ≡ self.old.start) × (self.new.failures ≡ self.old.failures) × (length self.new.now.machines.items ≡ length self.old.now.machines.items) }
+    {
+        let done = self.all_completed(alloc)?;
+        self.cluster.recover(alloc, machines, store)?;
+        self.done = done;
+        self.since = Snapshot::of(&self.cluster);
+        Ok(())
     }
 
     /// Remembers where the cluster is, for what is said of what happens from now on.
@@ -112,13 +131,13 @@ impl<M: SavingMachine> Course<M> {
         self.since = Snapshot::of(&self.cluster);
     }
 
-    /// Whether the event is one that a machine makes no more once it has reached the count of a failure, and it has.
+    /// Whether the event would not follow the job.
     fn is_held_back(&self, event: Event) -> bool
         requires { NamesItsMachines (length self.now.now.machines.items) event }
         ensures { InEachCourse M.stands self.now (IsHeldBack self.now.failures event result) }
     {
-        match held_machine(event) {
-            Some(m) => self.has_reached(m),
+        match watched(event) {
+            Some((m, wanted)) => self.has_reached(m) != wanted,
             None => false,
         }
     }
@@ -142,13 +161,36 @@ impl<M: SavingMachine> Course<M> {
         self.cluster.machine(m).log()
     }
 
+    /// How many updates a machine has completed in this call.
+    pub fn completed(&self, m: MachineNo) -> u64
+        requires { m.0 < length self.now.now.machines.items }
+        ensures count { InEachCourse M.stands self.now (λ st o events c. result ≡ completed (c.machine m.0)) }
+        ensures made { OfTheCall M.stands self.now (λ st o c call. result ≡ done_of call m.0) }
+    {
+        self.done[m.0 as usize] + self.log(m).len() as u64
+    }
+
+    /// How many updates each machine has completed in this call.
+    pub fn all_completed(&self, alloc: Global) -> Result<Vec<u64>, NoMemory>
+        ensures many { IfOk result (λ counts. length counts.items ≡ length self.now.now.machines.items) }
+        ensures each { IfOk result (λ counts. (a : ℕ) → a < length self.now.now.machines.items → InEachCourse M.stands self.now (λ st o events c. slice_index_or counts.items a 0 ≡ completed (c.machine a))) }
+    {
+        let many = self.cluster.machines();
+        let mut counts = Vec::with_capacity(alloc, many)?;
+        for m in 0..many {
+            counts.push_reserved(self.completed(MachineNo(m as u16)));
+        }
+        Ok(counts)
+    }
+
     /// How many machines there are. In some setting the call opened, and each course from an opening makes a call.
     pub fn machines(&self) -> usize
         ensures count { result ≡ length self.now.now.machines.items }
+        ensures small { result < 65535 }
         ensures began { HasCourse M.stands self.now }
         ensures call { HasCall M.stands self.now }
-        // No snapshot was acknowledged since the cluster was remembered.
-        ensures since { GoesOn M.stands (as_since self.now) self.now }
+        // No snapshot was acknowledged since the cluster was remembered, and the attempt is the same.
+        ensures since { CourseGoesOn M.stands (as_since self.now) self.now }
     {
         self.cluster.machines()
     }
@@ -157,9 +199,77 @@ impl<M: SavingMachine> Course<M> {
     /// that is due may follow those of the call.
     pub fn due(&self) -> Due
         ensures due { IsDueOf self.now.now.coordinator result }
-        ensures ended { result ≡ Due.Ended → OfTheCall M.stands self.now (λ st o c call. HasEnded st call) }
+        ensures ended { result ≡ Due.Ended → OfTheCall M.stands self.now (λ st o c call. HasEndedCall st call) }
         ensures pending { (k : ℕ) → result ≡ Due.Record k → OfTheCall M.stands self.now (λ st o c call. MayFollow st c.coordinator call) }
     {
         self.cluster.due()
+    }
+
+    /// How many tickets are left: the budget is these and the updates that were made.
+    pub fn left(&self) -> u64
+        ensures { OfTheCall M.stands self.now (λ st o c call. length (made_of call) + result ≡ o.first.left) }
+    {
+        self.cluster.left()
+    }
+
+    /// The record of the snapshot under way. It acknowledges nothing. `NotNow` comes exactly where `acknowledge` answers it.
+    pub fn record(&mut self, alloc: Global) -> Result<Record, Refused>
+        ensures is { IfOk result (λ made. InEachCourse M.stands self.old (λ st o events c. IsRecordFor st (snapshot_due c.coordinator) made)) }
+        ensures due { OnOk result (CanHappenInCall M.stands self.old (Event.Lead Lead.Record)) }
+        ensures not_now { IsErrOf result Refused.NotNow → CanNotHappenInCall M.stands self.old (Event.Lead Lead.Record) }
+        ensures no_memory { IsErrOf result Refused.NoMemory → CanHappenInCall M.stands self.old (Event.Lead Lead.Record) }
+        ensures stays { StaysThere M.stands self.old self.new }
+        ensures same { IsSameAttempt self.old self.new }
+    {
+        self.cluster.record(alloc)
+    }
+
+    /// A lock that may be granted at the machine; `None` exactly where none may be.
+    pub fn next_grant(&mut self, at: MachineNo) -> Option<Vertex>
+        requires { at.0 < length self.old.now.machines.items }
+        ensures stays { StaysThere M.stands self.old self.new }
+        ensures same { IsSameAttempt self.old self.new }
+    {
+        self.cluster.next_grant(at)
+    }
+
+    /// A scope of the machine whose update may be made, but for a ticket that it may lack: its vertex is a task, also after the call's order.
+    pub fn next_update(&self, at: MachineNo) -> Option<ScopeId>
+        requires { at.0 < length self.now.now.machines.items }
+        ensures home { IfSome result (λ s. s.home ≡ at) }
+        ensures task { IfSome result (λ s. OfTheCall M.stands self.now (λ st o c call. HasTaskLeft st call)) }
+    {
+        self.cluster.machine(at).next_update()
+    }
+
+    /// A scope of the machine whose snapshot update may be made.
+    pub fn next_mark(&self, at: MachineNo) -> Option<ScopeId>
+        requires { at.0 < length self.now.now.machines.items }
+        ensures { IfSome result (λ s. s.home ≡ at) }
+    {
+        self.cluster.next_mark(at)
+    }
+
+    /// Whether the machine has failed in this attempt.
+    pub fn has_failed(&self, m: MachineNo) -> bool
+        requires { m.0 < length self.now.now.machines.items }
+        ensures { InEachCourse M.stands self.now (λ st o events c. result ≡ (c.machine m.0).failed) }
+    {
+        self.cluster.has_failed(m)
+    }
+
+    /// A machine, to be read.
+    pub fn machine(&self, m: MachineNo) -> &M
+        requires { m.0 < length self.now.now.machines.items }
+        ensures { InEachCourse M.stands self.now (λ st o events c. M.stands (newest_setting st o events) m.0 (c.machine m.0) result.now) }
+    {
+        self.cluster.machine(m)
+    }
+
+    /// The coordinator, to be read.
+    pub fn coordinator(&self) -> &Coordinator
+        ensures { result.now ≡ self.now.now.coordinator }
+    {
+        self.cluster.coordinator()
     }
 }

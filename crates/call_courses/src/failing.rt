@@ -1,4 +1,4 @@
-//! Whether a machine has reached the count of a failure.
+//! What a machine makes only before it has reached the count of a failure, or only once it has.
 ghost use Rattle.std.specs.Prelude.{◌≡◌, ◌+◌, ◌&&◌, ◌==◌, nat_le, nat_lt};
 ghost use Rattle.call_courses.specs.Events as events;
 ghost use Rattle.whole_calls.specs.Following.{reaches};
@@ -6,14 +6,15 @@ ghost use Rattle.whole_calls.specs.Following.{reaches};
 use gl_base::{FailureAt, MachineNo};
 use snap_clusters::{Event, Local, Passage};
 
-/// The machine that makes the event, where it is one that a machine makes no more once it has reached the count of a failure: an update,
-/// or what it hears of the coordinator.
-pub(crate) fn held_machine(event: Event) -> Option<MachineNo>
-    ensures { result ≡ events.held_machine event }
+/// The machine of the event, where it is one that a machine makes only before it has reached the count of a failure, as an update and what
+/// it hears of the coordinator, or only once it has, as failing.
+pub(crate) fn watched(event: Event) -> Option<(MachineNo, bool)>
+    ensures { result ≡ events.watched event }
 {
     match event {
-        Event::Local(Local::Update(scope)) => Some(scope.home),
-        Event::Passage(Passage::DeliverCall(m)) => Some(m),
+        Event::Local(Local::Update(scope)) => Some((scope.home, false)),
+        Event::Local(Local::Fail(m)) => Some((m, true)),
+        Event::Passage(Passage::DeliverCall(m)) => Some((m, false)),
         _ => None,
     }
 }
