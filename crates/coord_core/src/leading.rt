@@ -135,6 +135,23 @@ impl Coordinator {
         Ok(())
     }
 
+    /// Makes room for the word to each machine that the snapshot under way is acknowledged, and gives its number. `NotNow` comes exactly
+    /// where a section is missing, or the store takes no record more, or not this one.
+    pub fn make_ready(&mut self) -> Result<u32, Refused>
+        ensures due { OnOk result (MayLeadRecord self.old) }
+        ensures ready { IfOk result (λ number. IsReadyToRecord self.new number) }
+        ensures not_now { IsErrOf result Refused.NotNow → MayNotRecord self.old }
+        ensures no_memory { IsErrOf result Refused.NoMemory → MayLeadRecord self.old }
+        ensures same { StaysCoordinator self.old self.new }
+        ensures saving { self.new.saving ≡ self.old.saving }
+    {
+        if !self.saving.is_record_due() || !self.saving.has_room() {
+            return Err(Refused::NotNow);
+        }
+        reserve_each(&mut self.out, self.machines)?;
+        Ok(self.saving.begun())
+    }
+
     /// The record of the snapshot under way, of which nothing is told yet; and room for the word of it to each machine. `NotNow` comes
     /// exactly where a section is missing, or the store takes no record more, or not this one. It goes over each number once.
     pub fn record(&mut self, alloc: Global) -> Result<Record, Refused>
@@ -145,10 +162,7 @@ impl Coordinator {
         ensures no_memory { IsErrOf result Refused.NoMemory → MayLeadRecord self.old }
         ensures same { StaysCoordinator self.old self.new }
     {
-        if !self.saving.is_record_due() || !self.saving.has_room() {
-            return Err(Refused::NotNow);
-        }
-        reserve_each(&mut self.out, self.machines)?;
+        self.make_ready()?;
         Ok(self.saving.record(alloc)?)
     }
 

@@ -1,7 +1,9 @@
 -- What each call answers, from what the machines, the links and the coordinator answer.
-use Rattle.std.proofs.Common.{◌≡◌, ℕ, suc, pred, ◌+◌, ◌-◌, ◌<◌, ◌^◌, ◌++◌, true, false, Option, None, Some, List, [], ◌∷◌, get_or, length, map, refl, sym, ap, arith, add-one, subst, ◌∙◌}
-use Rattle.std.specs.Prelude.{Err, IfNone, Ok, OnErr, OnOk, Result, option_map, slice_get}
+use Rattle.std.proofs.Common.{◌≡◌, ℕ, suc, pred, ◌+◌, ◌-◌, ◌<◌, ◌^◌, ◌++◌, Bool, true, false, Option, None, Some, List, [], ◌∷◌, get_or, length, map, set, refl, sym, ap, arith, add-one, subst, ◌∙◌}
+use Rattle.std.specs.Prelude.{Err, IfNone, Ok, OnErr, OnOk, Result, option_map, slice_get, slice_index_or}
 use Rattle.std.specs.Vec.{with_item}
+use Rattle.std.specs.declared.alloc.Global.{Global}
+use Rattle.std.specs.declared.vec.Vec.{Vec}
 use Rattle.gl_base.specs.declared.numbers.MachineNo.{MachineNo}
 use Rattle.gl_base.specs.declared.refusals.Refused.{Refused}
 use Rattle.gl_base.specs.declared.refusals.Refused.TheVariants.{NoMemory, NotNow}
@@ -13,14 +15,16 @@ use Rattle.cluster_step.specs.Inner.Writing.{HasLinkBetween, behind_first, with_
 use Rattle.cluster_step.specs.Links.{LinkView, link_between, message_read}
 use Rattle.cluster_step.proofs.WorldLemmas.{has_stays, links_stay}
 use Rattle.snap_clusters.specs.Clusters.{Cluster, HaveLinks, IsSavingClusterOf, IsSnapSetting, Machine, Parts, Setting, StandsForSaving, StandsForSameSaving, messages_on}
-use Rattle.snap_clusters.specs.Events.{AnswersEvent, CanTakePlace, CanNotTakePlace, IsNamedEvent, TakesPlace}
-use Rattle.snap_clusters.specs.Promises.{Admit, CanAdmit, CanDo, CanNotAdmit, CanNotDo, MayReceiveFirst, Deed, HasAdmittedSome, HasDone, HasReceived, IsFirstFrom, SendsItsFirst, MayBeDone, MessageView, OfEach, StandsStill, Update, does, message_view, told_by}
+use Rattle.snap_clusters.specs.Events.{AnswersEvent, CanTakePlace, CanNotTakePlace, IsLocalEvent, IsNamedEvent, IsPassageEvent, TakesPlace, acting, is_resting}
+use Rattle.snap_members.specs.Promises.{Admit, CanAdmit, CanDo, CanNotAdmit, CanNotDo, MayReceiveFirst, Deed, HasAdmittedSome, HasDone, HasReceived, IsFirstFrom, SendsItsFirst, MayBeDone, MessageView, OfEach, StandsStill, Update, does, fails, message_view, told_by}
 use Rattle.snap_clusters.specs.declared.events.Event.{Event}
 use Rattle.snap_clusters.specs.declared.events.Event.TheVariants as event
+use Rattle.snap_clusters.specs.declared.events.Local.{Local}
 use Rattle.snap_clusters.specs.declared.events.Local.TheVariants as local
+use Rattle.snap_clusters.specs.declared.events.Passage.{Passage}
 use Rattle.snap_clusters.specs.declared.events.Passage.TheVariants as passage
 use Rattle.snap_clusters.proofs.Lines.{ChangesLine, first_is, line_changes, line_same, none_is, then_changes}
-use Rattle.snap_clusters.proofs.Making.{IsHomeOf, IsInTurn, deed_made, deliver_made, does_so, event_of, is_awake, law_may, left_behind, link_is, machine_here, next_behind, own_may, same_lines, same_made, send_made, stays, still_runs}
+use Rattle.snap_clusters.proofs.Making.{IsHomeOf, IsInTurn, deed_made, deliver_made, does_so, event_of, fail_made, is_awake, law_may, left_behind, link_is, machine_here, next_behind, own_may, same_lines, same_made, send_made, stays, still_runs}
 use Rattle.wire_msgs.specs.declared.messages.Message.{Message}
 
 -- what is said where none is there
@@ -65,7 +69,7 @@ module _ {M : Type 0} (stands : Setting → ℕ → Machine → M → Type 0) (o
 
     -- ---- machine a
 
-    module _ (a : ℕ) (inside : a < length old.machines.items) (x : M) (read : x ≡ get_or old.machines.items a x) where
+    module _ (a : ℕ) (inside : a < length old.machines.items) (awake : slice_index_or old.failed.items a false ≡ false) (x : M) (read : x ≡ get_or old.machines.items a x) where
       low : (st : Setting) (c : Cluster) → IsSavingClusterOf stands st old c → a < st.machines
       low st c of = subst (λ (n : ℕ). a < n) of.many inside
 
@@ -85,19 +89,19 @@ module _ {M : Type 0} (stands : Setting → ℕ → Machine → M → Type 0) (o
       module _ (what : Event) (d : Deed) (is : IsNamedEvent what (event_of a d)) (one : (e : law.Event) → IsNamedEvent what e → e ≡ event_of a d) (home : IsHomeOf a d)
           (turn : (c : Cluster) → IsInTurn c d) (none : (c : Cluster) → (next_behind d c.next ≡ c.next) × (left_behind d c.left ≡ c.left)) where
         deed_may : (st : Setting) (c : Cluster) (setting : IsSnapSetting st) (of : IsSavingClusterOf stands st old c) → MayBeDone st a (c.machine a) d → law.MayOccur st c (event_of a d)
-        deed_may st c setting of may = (going st c of, law_may st c a (is_awake stands st setting old c of a (low st c of)) d (turn c) may)
+        deed_may st c setting of may = (going st c of, law_may st c a (is_awake stands st setting old c of a (low st c of) awake) d (turn c) may)
 
         pub deed_happens : (y : M) → HasDone stands x d y → TakesPlace stands old what (record old { machines = with_item old.machines a y })
         deed_happens y has st c setting of =
             let done = has st a (c.machine a) setting (here st c setting of) in
-            let awake = is_awake stands st setting old c of a (low st c of) in
+            let runs_now = is_awake stands st setting old c of a (low st c of) awake in
             record {
               event = event_of a d;
               is = is;
               may = deed_may st c setting of done.0;
-              after = deed_made stands st setting old c of a (low st c of) y (does st a d (c.machine a)) done.1 (still_runs st a d (c.machine a) ∙ of.runs a (low st c of))
-                  (event_of a d) (deed_may st c setting of done.0) (stays st a d) old.next old.left (next_behind d c.next) (left_behind d c.left)
-                  ((none c).0 ∙ of.next) ((none c).1 ∙ of.left) of.few (does_so st c a awake d (turn c) done.0);
+              after = deed_made stands st setting old c of a (low st c of) y (does st a d (c.machine a)) done.1 (still_runs st a d (c.machine a))
+                  (event_of a d) (deed_may st c setting of done.0) (stays a d) old.next old.left (next_behind d c.next) (left_behind d c.left)
+                  ((none c).0 ∙ of.next) ((none c).1 ∙ of.left) of.few (does_so st c a runs_now d (turn c) done.0);
             }
 
         pub deed_can : CanDo stands x d → CanTakePlace stands old what
@@ -106,7 +110,7 @@ module _ {M : Type 0} (stands : Setting → ℕ → Machine → M → Type 0) (o
         pub deed_cannot : CanNotDo stands x d → CanNotTakePlace stands old what
         deed_cannot cannot =
             never what (λ st c setting of e is_e may. cannot st a (c.machine a) setting (here st c setting of)
-            (own_may st c a (is_awake stands st setting old c of a (low st c of)) d home (subst (law.MayDo st c) (one e is_e) may)))
+            (own_may st c a (is_awake stands st setting old c of a (low st c of) awake) d home (subst (law.MayDo st c) (one e is_e) may)))
 
         pub deed_answers : (r : Result (Unit {0}) Refused) (y : M) → OnOk r (HasDone stands x d y) → (r ≡ Err NotNow → CanNotDo stands x d) → (r ≡ Err NoMemory → CanDo stands x d) →
             OnErr r (StandsStill stands x y) → AnswersEvent stands old what r (record old { machines = with_item old.machines a y })
@@ -121,14 +125,14 @@ module _ {M : Type 0} (stands : Setting → ℕ → Machine → M → Type 0) (o
           ok_answers (event.Local (local.Admit at)) (record old { machines = with_item old.machines a y })
           (λ st c setting of.
           let done = has st a (c.machine a) setting (here st c setting of) in
-          let awake = is_awake stands st setting old c of a (low st c of) in
-          let may : law.MayOccur st c (law.Admit a done.0) = (going st c of, (awake, done.1)) in
+          let runs_now = is_awake stands st setting old c of a (low st c of) awake in
+          let may : law.MayOccur st c (law.Admit a done.0) = (going st c of, (runs_now, done.1)) in
           record {
             event = law.Admit a done.0;
             is = (done.0, ap (λ (k : ℕ). law.Admit k done.0) (sym at_is));
             may = may;
-            after = deed_made stands st setting old c of a (low st c of) y (does st a (Admit done.0) (c.machine a)) done.2 (of.runs a (low st c of))
-                (law.Admit a done.0) may refl old.next old.left c.next c.left of.next of.left of.few refl;
+            after = deed_made stands st setting old c of a (low st c of) y (does st a (Admit done.0) (c.machine a)) done.2 refl
+                (law.Admit a done.0) may (λ base is. cc) old.next old.left c.next c.left of.next of.left of.few refl;
           })
       admit_answers at at_is (Err NotNow) y has cannot can still =
           not_now_answers (event.Local (local.Admit at)) (record old { machines = with_item old.machines a y })
@@ -140,15 +144,30 @@ module _ {M : Type 0} (stands : Setting → ℕ → Machine → M → Type 0) (o
           no_memory_answers (event.Local (local.Admit at)) (record old { machines = with_item old.machines a y })
           (λ st c setting of.
           let some = can refl st a (c.machine a) setting (here st c setting of) in
-          (law.Admit a some.0, (some.0, ap (λ (k : ℕ). law.Admit k some.0) (sym at_is)), (going st c of, (is_awake stands st setting old c of a (low st c of), some.1))))
+          (law.Admit a some.0, (some.0, ap (λ (k : ℕ). law.Admit k some.0) (sym at_is)), (going st c of, (is_awake stands st setting old c of a (low st c of) awake, some.1))))
           (still_alone y still)
+
+      -- ---- a failure
+
+      pub fail_answers : (at : MachineNo) → at.0 ≡ a → (y : M) → OfEach stands x (λ st b m. stands st b (fails m) y) → (flags : Vec Bool Global) → flags.items ≡ set old.failed.items a true →
+          AnswersEvent stands old (event.Local (local.Fail at)) (Ok tt) (record old { machines = with_item old.machines a y; failed = flags })
+      fail_answers at at_is y has flags are =
+          ok_answers (event.Local (local.Fail at)) (record old { machines = with_item old.machines a y; failed = flags })
+          (λ st c setting of.
+          let may : law.MayOccur st c (law.Fail a) = (going st c of, is_awake stands st setting old c of a (low st c of) awake) in
+          record {
+            event = law.Fail a;
+            is = ap law.Fail (sym at_is);
+            may = may;
+            after = fail_made stands st setting old c of a (low st c of) may y (has st a (c.machine a) setting (here st c setting of)) flags are;
+          })
 
       -- ---- an update, which draws the next ticket
 
       module _ (s : ScopeId) (at_home : s.home.0 ≡ a) where
         update_may : (st : Setting) (c : Cluster) (setting : IsSnapSetting st) (of : IsSavingClusterOf stands st old c) → 0 < old.left → MayBeDone st a (c.machine a) (Update s old.next) → law.MayOccur st c (law.Update s)
         update_may st c setting of some may =
-            (going st c of, law_may st c a (is_awake stands st setting old c of a (low st c of)) (Update s old.next) (subst (λ (n : ℕ). 0 < n) (sym of.left) some, sym of.next) may)
+            (going st c of, law_may st c a (is_awake stands st setting old c of a (low st c of) awake) (Update s old.next) (subst (λ (n : ℕ). 0 < n) (sym of.left) some, sym of.next) may)
 
         next_ticket : (n : ℕ) → suc n ≡ n + 1
         next_ticket n = sym (add-one n)
@@ -165,17 +184,17 @@ module _ {M : Type 0} (stands : Setting → ℕ → Machine → M → Type 0) (o
             ok_answers (event.Local (local.Update s)) (record old { machines = with_item old.machines a y; next = old.next + 1; left = old.left - 1 })
             (λ st c setting of.
             let done = has st a (c.machine a) setting (here st c setting of) in
-            let awake = is_awake stands st setting old c of a (low st c of) in
+            let runs_now = is_awake stands st setting old c of a (low st c of) awake in
             let may : law.MayOccur st c (law.Update s) = update_may st c setting of some done.0 in
             let d : Deed = Update s old.next in
             record {
               event = law.Update s;
               is = refl;
               may = may;
-              after = deed_made stands st setting old c of a (low st c of) y (does st a d (c.machine a)) done.1 (still_runs st a d (c.machine a) ∙ of.runs a (low st c of))
-                  (law.Update s) may refl (old.next + 1) (old.left - 1) (suc c.next) (pred c.left)
+              after = deed_made stands st setting old c of a (low st c of) y (does st a d (c.machine a)) done.1 (still_runs st a d (c.machine a))
+                  (law.Update s) may (λ base is. cc) (old.next + 1) (old.left - 1) (suc c.next) (pred c.left)
                   (ap suc of.next ∙ next_ticket old.next) (ap pred of.left ∙ one_less old.left) (still_few old.next old.left some of.few)
-                  (does_so st c a awake d (subst (λ (n : ℕ). 0 < n) (sym of.left) some, sym of.next) done.0);
+                  (does_so st c a runs_now d (subst (λ (n : ℕ). 0 < n) (sym of.left) some, sym of.next) done.0);
             })
 
         pub update_refused : (e : Refused) (y : M) → 0 < old.left → (e ≡ NotNow → CanNotDo stands x (Update s old.next)) → (e ≡ NoMemory → CanDo stands x (Update s old.next)) → StandsStill stands x y →
@@ -185,7 +204,7 @@ module _ {M : Type 0} (stands : Setting → ℕ → Machine → M → Type 0) (o
             (never (event.Local (local.Update s)) (λ st c setting of e is_e may.
             let there : law.MayDo st c (law.Update s) = subst (law.MayDo st c) is_e may in
             cannot refl st a (c.machine a) setting (here st c setting of)
-            (own_may st c a (is_awake stands st setting old c of a (low st c of)) (Update s old.next) at_home there)))
+            (own_may st c a (is_awake stands st setting old c of a (low st c of) awake) (Update s old.next) at_home there)))
             (still_alone y still)
         update_refused NoMemory y some cannot can still =
             no_memory_answers (event.Local (local.Update s)) (record old { machines = with_item old.machines a y })
@@ -247,7 +266,7 @@ module _ {M : Type 0} (stands : Setting → ℕ → Machine → M → Type 0) (o
       low_q : (st : Setting) (c : Cluster) → IsSavingClusterOf stands st old c → q.0 < st.machines
       low_q st c of = subst (λ (n : ℕ). q.0 < n) of.many in_q
 
-      module _ (x : M) (read : x ≡ get_or old.machines.items p.0 x) where
+      module _ (awake : slice_index_or old.failed.items p.0 false ≡ false) (x : M) (read : x ≡ get_or old.machines.items p.0 x) where
         sender : (st : Setting) (c : Cluster) (setting : IsSnapSetting st) (of : IsSavingClusterOf stands st old c) → stands st p.0 (c.machine p.0) x
         sender st c setting of = machine_here stands st setting old c of p.0 (low_p st c of) x read
 
@@ -261,7 +280,7 @@ module _ {M : Type 0} (stands : Setting → ℕ → Machine → M → Type 0) (o
             same
 
         send_may : (st : Setting) (c : Cluster) (setting : IsSnapSetting st) (of : IsSavingClusterOf stands st old c) → HasFirst ((c.machine p.0).part.out q.0) → law.MayOccur st c (law.Send p.0 q.0)
-        send_may st c setting of first = (going st c of, (is_awake stands st setting old c of p.0 (low_p st c of), low_q st c of, first))
+        send_may st c setting of first = (going st c of, (is_awake stands st setting old c of p.0 (low_p st c of) awake, low_q st c of, first))
 
         pub send_full : (new : Parts M) → OfEach stands x (λ st a m. HasFirst (m.part.out q.0)) → StandsForSameSaving stands old new → AnswersEvent stands old (event.Passage (passage.Send p q)) (Err NoMemory) new
         send_full new some same =
@@ -294,7 +313,7 @@ module _ {M : Type 0} (stands : Setting → ℕ → Machine → M → Type 0) (o
           absurd (cc (empty, first))))
           same
 
-      module _ (message : Message) (is : Some (message_view message) ≡ slice_get (messages_on old.links p.0 q.0) 0) where
+      module _ (message : Message) (is : Some (message_view message) ≡ slice_get (messages_on old.links p.0 q.0) 0) (awake : slice_index_or old.failed.items q.0 false ≡ false) where
         abbrev told_behind : List law_messages.Message
         told_behind = map message_read (behind_first (messages_on old.links p.0 q.0))
 
@@ -303,7 +322,7 @@ module _ {M : Type 0} (stands : Setting → ℕ → Machine → M → Type 0) (o
 
         deliver_may : (st : Setting) (c : Cluster) (setting : IsSnapSetting st) (of : IsSavingClusterOf stands st old c) → law.MayOccur st c (law.Deliver p.0 q.0)
         deliver_may st c setting of =
-            (going st c of, (is_awake stands st setting old c of q.0 (low_q st c of), low_p st c of, record { message = told_by message; behind = told_behind; first = link_first st c of }))
+            (going st c of, (is_awake stands st setting old c of q.0 (low_q st c of) awake, low_p st c of, record { message = told_by message; behind = told_behind; first = link_first st c of }))
 
         module _ (x : M) (read : x ≡ get_or old.machines.items q.0 x) where
           first_from : (st : Setting) (c : Cluster) (setting : IsSnapSetting st) (of : IsSavingClusterOf stands st old c) → IsFirstFrom stands x p.0 message st c q.0
@@ -335,18 +354,65 @@ module _ {M : Type 0} (stands : Setting → ℕ → Machine → M → Type 0) (o
                     (link_first st c of) (has st c q.0 (first_from st c setting of)) (behind_first (messages_on old.links p.0 q.0)) refl changes;
               })
 
+  -- the machine that acts has failed
+  rests_here : (a : ℕ) → slice_index_or old.failed.items a false ≡ true → (st : Setting) (c : Cluster) → IsSavingClusterOf stands st old c → law.IsAwake st c a → ⊥
+  rests_here a rests st c of awake = let both : true ≡ false = sym rests ∙ sym (of.runs a awake.machine) ∙ awake.runs in absurd (cc)
+
+  rests_local : (what : Local) → is_resting old.failed.items (acting (event.Local what)) ≡ true →
+      (st : Setting) (c : Cluster) → IsSavingClusterOf stands st old c → (e : law.Event) → IsLocalEvent what e → law.MayDo st c e → ⊥
+  rests_local (local.Admit a) rests st c of e is may =
+      let there : law.MayDo st c (law.Admit a.0 is.0) = subst (law.MayDo st c) is.1 may in rests_here a.0 rests st c of there.0
+  rests_local (local.Grant a x) rests st c of e is may =
+      let there : law.MayDo st c (law.Grant a.0 x.0) = subst (law.MayDo st c) is may in rests_here a.0 rests st c of there.0
+  rests_local (local.Update s) rests st c of e is may =
+      let there : law.MayDo st c (law.Update s) = subst (law.MayDo st c) is may in rests_here s.home.0 rests st c of there.0
+  rests_local (local.Mark s) rests st c of e is may =
+      let there : law.MayDo st c (law.Mark s) = subst (law.MayDo st c) is may in rests_here s.home.0 rests st c of there.0
+  rests_local (local.Section a) rests st c of e is may =
+      let there : law.MayDo st c (law.Section a.0) = subst (law.MayDo st c) is may in rests_here a.0 rests st c of there.0
+  rests_local (local.Fail a) rests st c of e is may =
+      let there : law.MayDo st c (law.Fail a.0) = subst (law.MayDo st c) is may in rests_here a.0 rests st c of there
+
+  rests_passage : (what : Passage) → is_resting old.failed.items (acting (event.Passage what)) ≡ true →
+      (st : Setting) (c : Cluster) → IsSavingClusterOf stands st old c → (e : law.Event) → IsPassageEvent what e → law.MayDo st c e → ⊥
+  rests_passage (passage.Send p q) rests st c of e is may =
+      let there : law.MayDo st c (law.Send p.0 q.0) = subst (law.MayDo st c) is may in rests_here p.0 rests st c of there.0
+  rests_passage (passage.Deliver p q) rests st c of e is may =
+      let there : law.MayDo st c (law.Deliver p.0 q.0) = subst (law.MayDo st c) is may in rests_here q.0 rests st c of there.0
+  rests_passage (passage.SendCall a) rests st c of e is may = absurd (cc)
+  rests_passage (passage.DeliverCall a) rests st c of e is may =
+      let there : law.MayDo st c (law.DeliverCall a.0) = subst (law.MayDo st c) is may in rests_here a.0 rests st c of there.0
+  rests_passage (passage.SendReport a) rests st c of e is may =
+      let there : law.MayDo st c (law.SendReport a.0) = subst (law.MayDo st c) is may in rests_here a.0 rests st c of there.0
+  rests_passage (passage.DeliverReport a) rests st c of e is may = absurd (cc)
+
+  rests_so : (what : Event) → is_resting old.failed.items (acting what) ≡ true →
+      (st : Setting) (c : Cluster) → IsSavingClusterOf stands st old c → (e : law.Event) → IsNamedEvent what e → law.MayDo st c e → ⊥
+  rests_so (event.Local what) rests st c of e is may = rests_local what rests st c of e is may
+  rests_so (event.Lead what) rests st c of e is may = absurd (cc)
+  rests_so (event.Passage what) rests st c of e is may = rests_passage what rests st c of e is may
+
+  pub rest_cannot : (what : Event) → is_resting old.failed.items (acting what) ≡ true → CanNotTakePlace stands old what
+  rest_cannot what rests st c setting of e is may = rests_so what rests st c of e is may.1
+
+  pub rest_answers : (what : Event) → is_resting old.failed.items (acting what) ≡ true → AnswersEvent stands old what (Err NotNow) old
+  rest_answers what rests = not_now_answers what old (rest_cannot what rests) same_here
+
   -- after the end
+  pub stopped_cannot : (what : Event) → old.stopped ≡ true → CanNotTakePlace stands old what
+  stopped_cannot what stopped st c setting of e is may = let both : false ≡ true = sym may.0 ∙ of.stopped ∙ stopped in absurd (cc)
+
   pub stopped_answers : (what : Event) → old.stopped ≡ true → AnswersEvent stands old what (Err NotNow) old
-  stopped_answers what stopped =
-      not_now_answers what old
-      (λ st c setting of e is may. let both : false ≡ true = sym may.0 ∙ of.stopped ∙ stopped in absurd (cc))
-      same_here
+  stopped_answers what stopped = not_now_answers what old (stopped_cannot what stopped) same_here
 
   -- ---- where the links are
 
   module _ (some : StandsForSaving stands old) where
     pub few_here : old.next + old.left < 2 ^ 64
     few_here = some.3.few
+
+    pub flags_here : length old.failed.items ≡ length old.machines.items
+    flags_here = some.3.flags ∙ sym some.3.many
 
     pub small_here : length old.machines.items < 65535
     small_here = subst (λ (n : ℕ). n < 65535) (sym some.3.many) some.3.small

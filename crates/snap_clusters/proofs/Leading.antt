@@ -2,37 +2,35 @@
 use Rattle.std.proofs.Common.{◌≡◌, ℕ, suc, ◌<◌, ◌++◌, true, false, Bool, None, Some, List, [], ◌∷◌, get_or, length, refl, sym, ap, arith, subst, ◌∙◌}
 use Rattle.std.specs.Prelude.{Err, Ok, OnErr, OnOk, Result, nat_lt, slice_get, slice_index_or}
 use Rattle.std.specs.Vec.{with_item}
-use Rattle.std.specs.declared.alloc.Global.{Global}
-use Rattle.std.specs.declared.vec.Vec.{Vec}
 use Rattle.std.proofs.lemmas.Bool.{lt-ltb}
 use Rattle.gl_base.specs.declared.numbers.MachineNo.{MachineNo}
 use Rattle.gl_base.specs.declared.refusals.Refused.{Refused}
 use Rattle.gl_base.specs.declared.refusals.Refused.TheVariants.{NoMemory, NotNow}
 use Rattle.gl_base.specs.declared.scopes.Counted.{Counted}
-use Rattle.gl_base.specs.declared.snapshots.Record.{Record}
 use Rattle.cluster_ending.proofs.Coming.{may_be_counted}
-use Rattle.cluster_model.specs.Calls.{Begin, Call, Committed, Count, Report, Saved, Step, Want, Wave}
+use Rattle.cluster_model.specs.Calls.{Begin, Call, Committed, Count, Report, Step, Wave}
 use Rattle.cluster_model.specs.Clusters.{with_coordinator}
 use Rattle.cluster_model.specs.Counting.{Counting, MayBeCounted}
 use Rattle.cluster_model.specs.Events as law
-use Rattle.cluster_model.specs.Leading.{Coordinator, takes_report}
+use Rattle.cluster_model.specs.Leading.{Coordinator}
 use Rattle.cluster_model.specs.Working.{prompt, takes_call}
 use Rattle.cluster_step.specs.Inner.Writing.{behind_first}
 use Rattle.cluster_step.specs.Links.{LinkView}
-use Rattle.coord_core.specs.Calls.{HasHandedOver, HasRecorded, HasTakenReport, IsHandedOver, IsRecordDueOf, MayLead, MayNotLead, MayReport, StaysCoordinator}
+use Rattle.cluster_whole.specs.Whole.{IsNoRecovery}
+use Rattle.coord_core.specs.Calls.{HasHandedOver, HasTakenReport, IsHandedOver, MayLead, MayNotLead, MayReport, StaysCoordinator}
 use Rattle.coord_core.specs.Coordinators.{CoordinatorView, no_outbox}
 use Rattle.coord_core.proofs.LeadLemmas.{FirstCall, first_call}
 use Rattle.outboxes.specs.Outboxes.{has_waiting}
-use Rattle.snap_clusters.specs.Clusters.{AreCalls, AreRecordsOf, AreReports, Cluster, HaveLinks, IsSavingClusterOf, IsCoordinatorOf, IsSnapSetting, Machine, Parts, Setting, StandsForSaving, StandsForSameSaving, messages_on}
+use Rattle.snap_clusters.specs.Clusters.{AreCalls, AreReports, Cluster, HaveLinks, IsSavingClusterOf, IsCoordinatorOf, IsSnapSetting, Machine, Parts, Setting, StandsForSaving, StandsForSameSaving, messages_on}
 use Rattle.snap_clusters.specs.Events.{AnswersEvent, IsNamedEvent}
-use Rattle.snap_clusters.specs.Promises.{MayHearCall, HasHeard, HasNext, IsFirstCall, IsReporting, MessageView, OfEach, TellsReport, message_view}
+use Rattle.snap_members.specs.Promises.{MayHearCall, HasHeard, HasNext, IsFirstCall, IsReporting, MessageView, OfEach, TellsReport, message_view}
 use Rattle.snap_clusters.specs.declared.events.Event.{Event}
 use Rattle.snap_clusters.specs.declared.events.Event.TheVariants as event
 use Rattle.snap_clusters.specs.declared.events.Lead.TheVariants as lead
 use Rattle.snap_clusters.specs.declared.events.Passage.TheVariants as passage
 use Rattle.snap_clusters.proofs.Answering.{going, never, no_memory_answers, not_now_answers, ok_answers}
 use Rattle.snap_clusters.proofs.Lines.{ChangesLine, FirstReport, first_is, first_report, no_call, no_report}
-use Rattle.snap_clusters.proofs.Making.{deliver_call_made, deliver_report_made, is_awake, led_made, machine_here, record_made, same_lines, send_call_made, send_report_made, stop_made}
+use Rattle.snap_clusters.proofs.Making.{deliver_call_made, deliver_report_made, is_awake, led_made, machine_here, same_lines, send_call_made, send_report_made, stop_made}
 use Rattle.wire_msgs.specs.Views as wire
 use Rattle.wire_msgs.specs.declared.messages.Message.{Message}
 
@@ -41,11 +39,6 @@ heard_runs st a (Begin k) m = refl
 heard_runs st a (Committed k) m = refl
 heard_runs st a (Wave k) m = refl
 heard_runs st a (Step colour) m = refl
-
-same_snapshots : (a : ℕ) (report : Report) (c : Coordinator) → (takes_report a report c).snapshots ≡ c.snapshots
-same_snapshots a (Saved k section entries) c = refl
-same_snapshots a (Count k counts) c = refl
-same_snapshots a (Want k) c = refl
 
 none_waits : (messages : List MessageView) → nat_lt 0 (length messages) ≡ false → messages ≡ []
 none_waits [] is = refl
@@ -75,10 +68,10 @@ module _ {M : Type 0} (stands : Setting → ℕ → Machine → M → Type 0) (o
   still_led_lines next is links have same st c setting of =
       same_lines stands st setting old c of links (have (suc st.machines) of.links) same next (subst (λ (view : CoordinatorView). IsCoordinatorOf st view c.coordinator) (sym is) of.coordinator)
 
-  module _ (what : Event) (e : law.Event) (is : IsNamedEvent what e) (one : (f : law.Event) → IsNamedEvent what f → f ≡ e) (same : (st : Setting) → law.setting_after st e ≡ st)
-      (leads : Coordinator → Coordinator) (effect : (st : Setting) (c : Cluster) → law.after_event st c e ≡ with_coordinator c (leads c.coordinator)) (snapshots : (k : Coordinator) → (leads k).snapshots ≡ k.snapshots) where
+  module _ (what : Event) (e : law.Event) (is : IsNamedEvent what e) (one : (f : law.Event) → IsNamedEvent what f → f ≡ e) (other : IsNoRecovery e)
+      (leads : Setting → Coordinator → Coordinator) (effect : (st : Setting) (c : Cluster) → law.after_event st c e ≡ with_coordinator c (leads st c.coordinator)) where
     pub led_answers : (r : Result (Unit {0}) Refused) (next : CoordinatorView) →
-        OnOk r (MayLead e old.coordinator × ((st : Setting) (k : Coordinator) → IsCoordinatorOf st old.coordinator k → IsCoordinatorOf st next (leads k))) →
+        OnOk r (MayLead e old.coordinator × ((st : Setting) (k : Coordinator) → IsCoordinatorOf st old.coordinator k → IsCoordinatorOf st next (leads st k))) →
         (r ≡ Err NotNow → MayNotLead e old.coordinator) → (r ≡ Err NoMemory → MayLead e old.coordinator) → OnErr r (StaysCoordinator old.coordinator next) →
         AnswersEvent stands old what r (record old { coordinator = next })
     led_answers (Ok u) next has cannot can stays =
@@ -89,7 +82,7 @@ module _ {M : Type 0} (stands : Setting → ℕ → Machine → M → Type 0) (o
           event = e;
           is = is;
           may = may;
-          after = led_made stands st setting old c of e may (same st) next (leads c.coordinator) (has.1 st c.coordinator of.coordinator) (snapshots c.coordinator) (effect st c);
+          after = led_made stands st setting old c of e may other next (leads st c.coordinator) (has.1 st c.coordinator of.coordinator) (effect st c);
         })
     led_answers (Err NotNow) next has cannot can stays =
         not_now_answers stands old what (record old { coordinator = next })
@@ -100,56 +93,12 @@ module _ {M : Type 0} (stands : Setting → ℕ → Machine → M → Type 0) (o
         (λ st c setting of. (e, is, (going stands old runs st c of, can refl st c of.coordinator)))
         (stays_led next stays)
 
-  -- ---- a record
+    pub led_refused : (refused : Refused) (next : CoordinatorView) → (refused ≡ NotNow → MayNotLead e old.coordinator) → (refused ≡ NoMemory → MayLead e old.coordinator) → StaysCoordinator old.coordinator next →
+        AnswersEvent stands old what (Err refused) (record old { coordinator = next })
+    led_refused NotNow next cannot can stays = led_answers (Err NotNow) next tt (λ is. cannot refl) (λ is. absurd (cc)) stays
+    led_refused NoMemory next cannot can stays = led_answers (Err NoMemory) next tt (λ is. absurd (cc)) (λ is. can refl) stays
 
-  pub record_refused : (e : Refused) (next : CoordinatorView) → (e ≡ NotNow → MayNotLead law.Record old.coordinator) → (e ≡ NoMemory → MayLead law.Record old.coordinator) → StaysCoordinator old.coordinator next →
-      AnswersEvent stands old (event.Lead lead.Record) (Err e) (record old { coordinator = next })
-  record_refused NotNow next cannot can stays =
-      not_now_answers stands old (event.Lead lead.Record) (record old { coordinator = next })
-      (never stands old runs (event.Lead lead.Record) (λ st c setting of f is_f may. cannot refl st c of.coordinator (subst (law.MayDo st c) is_f may)))
-      (stays_led next stays)
-  record_refused NoMemory next cannot can stays =
-      no_memory_answers stands old (event.Lead lead.Record) (record old { coordinator = next })
-      (λ st c setting of. (law.Record, refl, (going stands old runs st c of, can refl st c of.coordinator)))
-      (stays_led next stays)
-
-  pub record_full : (next : CoordinatorView) (records : Vec Record Global) → records.items ≡ old.acknowledged.items → MayLead law.Record old.coordinator → StaysCoordinator old.coordinator next →
-      AnswersEvent stands old (event.Lead lead.Record) (Err NoMemory) (record old { coordinator = next; acknowledged = records })
-  record_full next records items can stays =
-      no_memory_answers stands old (event.Lead lead.Record) (record old { coordinator = next; acknowledged = records })
-      (λ st c setting of. (law.Record, refl, (going stands old runs st c of, can st c of.coordinator)))
-      (λ st c setting of.
-      let led = stays_led next stays st c setting of in
-      record {
-        many = led.many;
-        small = led.small;
-        links = led.links;
-        machines = led.machines;
-        runs = led.runs;
-        told = led.told;
-        calls = led.calls;
-        reports = led.reports;
-        coordinator = led.coordinator;
-        acknowledged = subst (λ (all : List Record). AreRecordsOf st c.coordinator.snapshots all) (sym items) led.acknowledged;
-        next = led.next;
-        left = led.left;
-        few = led.few;
-        stopped = led.stopped;
-        going = led.going;
-      })
-
-  pub record_answers : (mid next : CoordinatorView) (made : Record) (records : Vec Record Global) → MayLead law.Record old.coordinator → IsRecordDueOf old.coordinator made → StaysCoordinator old.coordinator mid →
-      HasRecorded mid next → records.items ≡ old.acknowledged.items ++ made ∷ [] → AnswersEvent stands old (event.Lead lead.Record) (Ok tt) (record old { coordinator = next; acknowledged = records })
-  record_answers mid next made records can due stays has items =
-      ok_answers stands old (event.Lead lead.Record) (record old { coordinator = next; acknowledged = records })
-      (λ st c setting of.
-      let may : law.MayOccur st c law.Record = (going stands old runs st c of, can st c of.coordinator) in
-      record {
-        event = law.Record;
-        is = refl;
-        may = may;
-        after = record_made stands st setting old c of may next (has st c.coordinator (stays st c.coordinator of.coordinator)) made (due st c.coordinator of.coordinator) records items;
-      })
+  -- ---- the end
 
   pub stop_answers : AnswersEvent stands old (event.Lead lead.Stop) (Ok tt) (record old { stopped = true })
   stop_answers =
@@ -226,7 +175,7 @@ module _ {M : Type 0} (stands : Setting → ℕ → Machine → M → Type 0) (o
           empty_next (c.calls at.0) (no_call (c.calls at.0) (subst (λ (ms : List MessageView). AreCalls ms (c.calls at.0)) empty (of.calls at.0 (low st c of)))) there.1))
           same
 
-      module _ (message : Message) (is : Some (message_view message) ≡ slice_get (messages_on old.links lead_no.0 at.0) 0) where
+      module _ (message : Message) (is : Some (message_view message) ≡ slice_get (messages_on old.links lead_no.0 at.0) 0) (awake : slice_index_or old.failed.items at.0 false ≡ false) where
         first_heard : (st : Setting) (c : Cluster) (of : IsSavingClusterOf stands st old c) → FirstCall (message_view message) (behind_first (messages_on old.links lead_no.0 at.0)) (c.calls at.0)
         first_heard st c of =
             let line : messages_on old.links st.machines at.0 ≡ message_view message ∷ behind_first (messages_on old.links lead_no.0 at.0) =
@@ -238,7 +187,7 @@ module _ {M : Type 0} (stands : Setting → ℕ → Machine → M → Type 0) (o
         hear_may : (st : Setting) (c : Cluster) (setting : IsSnapSetting st) (of : IsSavingClusterOf stands st old c) → law.MayOccur st c (law.DeliverCall at.0)
         hear_may st c setting of =
             let first = first_heard st c of in
-            (going stands old runs st c of, (is_awake stands st setting old c of at.0 (low st c of), record { message = first.call; behind = first.behind; first = first.first }))
+            (going stands old runs st c of, (is_awake stands st setting old c of at.0 (low st c of) awake, record { message = first.call; behind = first.behind; first = first.first }))
 
         module _ (x : M) (read : x ≡ get_or old.machines.items at.0 x) where
           is_first : (st : Setting) (c : Cluster) (setting : IsSnapSetting st) (of : IsSavingClusterOf stands st old c) → IsFirstCall stands x message st c at.0 (first_heard st c of).call
@@ -274,12 +223,12 @@ module _ {M : Type 0} (stands : Setting → ℕ → Machine → M → Type 0) (o
                 after = deliver_call_made stands st setting old c of at.0 (low st c of) links (have (suc st.machines) of.links) (hear_may st c setting of) y first.call first.behind first.first
                     (has st c at.0 first.call (is_first st c setting of)) (behind_first (messages_on old.links lead_no.0 at.0)) first.rest
                     (subst (λ (n : ℕ). ChangesLine old.links links n at.0 (behind_first (messages_on old.links lead_no.0 at.0))) (lead_here st c of) changes)
-                    (heard_runs st at.0 first.call (c.machine at.0) ∙ of.runs at.0 (low st c of));
+                    (heard_runs st at.0 first.call (c.machine at.0));
               })
 
       -- ---- a report goes
 
-      module _ (x : M) (read : x ≡ get_or old.machines.items at.0 x) where
+      module _ (awake : slice_index_or old.failed.items at.0 false ≡ false) (x : M) (read : x ≡ get_or old.machines.items at.0 x) where
         teller : (st : Setting) (c : Cluster) (setting : IsSnapSetting st) (of : IsSavingClusterOf stands st old c) → stands st at.0 (c.machine at.0) x
         teller st c setting of = machine_here stands st setting old c of at.0 (low st c of) x read
 
@@ -292,7 +241,7 @@ module _ {M : Type 0} (stands : Setting → ℕ → Machine → M → Type 0) (o
             same
 
         report_may : (st : Setting) (c : Cluster) (setting : IsSnapSetting st) (of : IsSavingClusterOf stands st old c) → HasNext (c.machine at.0).out → law.MayOccur st c (law.SendReport at.0)
-        report_may st c setting of next = (going stands old runs st c of, (is_awake stands st setting old c of at.0 (low st c of), next))
+        report_may st c setting of next = (going stands old runs st c of, (is_awake stands st setting old c of at.0 (low st c of) awake, next))
 
         pub report_full : (new : Parts M) → OfEach stands x (λ st a m. HasNext m.out) → StandsForSameSaving stands old new → AnswersEvent stands old (event.Passage (passage.SendReport at)) (Err NoMemory) new
         report_full new some same =
@@ -373,6 +322,6 @@ module _ {M : Type 0} (stands : Setting → ℕ → Machine → M → Type 0) (o
               is = refl;
               may = may;
               after = deliver_report_made stands st setting old c of at.0 (low st c of) links (have (suc st.machines) of.links) may next first.report first.behind first.first
-                  (taken st c.coordinator first.report first.told.0 of.coordinator) (same_snapshots at.0 first.report c.coordinator) (behind_first (messages_on old.links at.0 lead_no.0)) first.rest
+                  (taken st c.coordinator first.report first.told.0 of.coordinator) (behind_first (messages_on old.links at.0 lead_no.0)) first.rest
                   (subst (λ (n : ℕ). ChangesLine old.links links at.0 n (behind_first (messages_on old.links at.0 lead_no.0))) (lead_here st c of) changes);
             })

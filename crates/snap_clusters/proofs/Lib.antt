@@ -4,3 +4,5 @@ pub mod Making
 pub mod Answering
 pub mod Leading
 pub mod Cutting
+pub mod Next
+pub mod Ordering

@@ -10,7 +10,7 @@ use Rattle.cluster_step.specs.Inner.Writing.{HasLinkBetween, behind_first, with_
 use Rattle.cluster_step.specs.Links.{LinkView, empty_link, link_between, message_read, told_on}
 use Rattle.coord_core.specs.Coordinators.{AreCalls}
 use Rattle.snap_clusters.specs.Lines.{AreReports, messages_on}
-use Rattle.snap_clusters.specs.Promises.{MessageView, TellsReport}
+use Rattle.snap_members.specs.Promises.{MessageView, TellsReport}
 
 -- the messages on the link from p to q are these now, and those on the others are what they were
 pub record ChangesLine (old new : List (List LinkView)) (p q : ℕ) (messages : List MessageView) : Type 0 where

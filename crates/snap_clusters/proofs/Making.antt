@@ -1,12 +1,11 @@
 -- What an event makes of the code stands for what it makes of the cluster of the law.
-use Rattle.std.proofs.Common.{◌≡◌, ◌≢◌, ℕ, suc, pred, ◌+◌, ◌<◌, ◌^◌, ◌++◌, true, false, inl, inr, Option, None, Some, List, [], ◌∷◌, get_or, length, map, set, refl, sym, ap, arith, subst, ◌∙◌, get_or-set_other, get_or-set_same, length-set}
+use Rattle.std.proofs.Common.{◌≡◌, ◌≢◌, ℕ, suc, pred, ◌+◌, ◌<◌, ◌^◌, ◌++◌, Bool, true, false, inl, inr, Option, None, Some, List, [], ◌∷◌, get_or, length, map, set, refl, sym, ap, arith, subst, ◌∙◌, get_or-set_other, get_or-set_same, length-set}
 use Rattle.std.specs.Prelude.{slice_index_or}
 use Rattle.std.specs.Vec.{with_item}
 use Rattle.std.specs.declared.alloc.Global.{Global}
 use Rattle.std.specs.declared.vec.Vec.{Vec}
 use Rattle.std.proofs.lemmas.Bool.{cases_eq}
 use Rattle.std.proofs.lemmas.List.{map-append}
-use Rattle.gl_base.specs.declared.snapshots.Record.{Record}
 use Rattle.gl_base.specs.declared.scopes.ScopeId.{ScopeId}
 use Rattle.cluster_core.specs.Actions.{MayMark, MayUpdate}
 use Rattle.cluster_core.specs.Messages as law_messages
@@ -15,17 +14,18 @@ use Rattle.cluster_core.proofs.Basics.{set_at-other, set_at-same}
 use Rattle.cluster_model.specs.Calls.{Call, Report}
 use Rattle.cluster_model.specs.Clusters.{with_calls, with_coordinator, with_machine, with_messages, with_reports}
 use Rattle.cluster_model.specs.Events as law
-use Rattle.cluster_model.specs.Leading.{Coordinator, Snapshot, acknowledges, hands_call, takes_report}
-use Rattle.cluster_model.specs.Working.{hands, hands_report, prompt, receives, takes_call}
+use Rattle.cluster_model.specs.Leading.{Coordinator, hands_call, takes_report}
+use Rattle.cluster_model.specs.Working.{fails, hands, hands_report, prompt, receives, takes_call}
 use Rattle.cluster_step.specs.Inner.Writing.{HasLinkBetween}
 use Rattle.cluster_step.specs.Links.{LinkView, message_read}
 use Rattle.cluster_step.proofs.WorldLemmas.{has_link}
-use Rattle.coord_core.specs.Calls.{IsHandedOver, IsRecordFor, snapshot_come}
+use Rattle.cluster_whole.specs.Whole.{IsNoRecovery}
+use Rattle.coord_core.specs.Calls.{IsHandedOver}
 use Rattle.coord_core.specs.Coordinators.{CoordinatorView, IsCoordinatorOf}
 use Rattle.coord_core.proofs.LeadLemmas.{calls_push}
-use Rattle.snap_clusters.specs.Clusters.{AreCalls, AreRecordsOf, AreReports, Cluster, HaveLinks, IsSavingClusterOf, IsGoing, IsSnapSetting, Machine, Parts, Setting, messages_on, told_on}
-use Rattle.snap_clusters.specs.Promises.{Admit, Deed, Grant, IsReporting, SendsItsFirst, Mark, MayBeDone, MessageView, Section, Update, does, message_view, told_by}
-use Rattle.snap_clusters.specs.Deeds.{marks_centre, updates_centre}
+use Rattle.snap_clusters.specs.Clusters.{AreCalls, AreReports, Cluster, HaveLinks, IsSavingClusterOf, IsGoing, IsSnapSetting, Machine, Parts, Setting, messages_on, told_on}
+use Rattle.snap_members.specs.Promises.{Admit, Deed, Grant, IsReporting, SendsItsFirst, Mark, MayBeDone, MessageView, Section, Update, does, message_view, told_by}
+use Rattle.snap_members.specs.Deeds.{marks_centre, updates_centre}
 use Rattle.snap_clusters.proofs.Goings.{going_after}
 use Rattle.snap_clusters.proofs.Lines.{ChangesLine, line_kept, reports_push, told_set, told_still}
 use Rattle.wire_msgs.specs.declared.messages.Message.{Message}
@@ -52,12 +52,12 @@ event_of a (Update s ticket) = law.Update s
 event_of a (Mark s) = law.Mark s
 event_of a Section = law.Section a
 
-pub stays : (st : Setting) (a : ℕ) (d : Deed) → law.setting_after st (event_of a d) ≡ st
-stays st a (Admit v) = refl
-stays st a (Grant x) = refl
-stays st a (Update s ticket) = refl
-stays st a (Mark s) = refl
-stays st a Section = refl
+pub stays : (a : ℕ) (d : Deed) → IsNoRecovery (event_of a d)
+stays a (Admit v) = λ base is. cc
+stays a (Grant x) = λ base is. cc
+stays a (Update s ticket) = λ base is. cc
+stays a (Mark s) = λ base is. cc
+stays a Section = λ base is. cc
 
 marks_run : (st : Setting) (a : ℕ) (s : ScopeId) (o : Option ℕ) (m : Machine) → (prompt st a (marks_centre st a s o m)).failed ≡ m.failed
 marks_run st a s None m = refl
@@ -160,8 +160,8 @@ module _ (st : Setting) (c : Cluster) (a : ℕ) (awake : law.IsAwake st c a) whe
 -- ---- the code
 
 module _ {M : Type 0} (stands : Setting → ℕ → Machine → M → Type 0) (st : Setting) (setting : IsSnapSetting st) (old : Parts M) (c : Cluster) (of : IsSavingClusterOf stands st old c) where
-  pub is_awake : (a : ℕ) → a < st.machines → law.IsAwake st c a
-  is_awake a low = record { machine = low; runs = of.runs a low }
+  pub is_awake : (a : ℕ) → a < st.machines → slice_index_or old.failed.items a false ≡ false → law.IsAwake st c a
+  is_awake a low awake = record { machine = low; runs = of.runs a low ∙ awake }
 
   pub machine_here : (a : ℕ) → a < st.machines → (x : M) → x ≡ get_or old.machines.items a x → stands st a (c.machine a) x
   machine_here a low x is = subst (stands st a (c.machine a)) (sym is) (of.machines a x low)
@@ -172,11 +172,11 @@ module _ {M : Type 0} (stands : Setting → ℕ → Machine → M → Type 0) (s
   pub link_is : (p q : ℕ) → p < suc st.machines → q < suc st.machines → HasLinkBetween old.links p q
   link_is p q low_p low_q = has_link old.links (suc st.machines) p q of.links low_p low_q
 
-  kept : (event : law.Event) → law.MayOccur st c event → law.setting_after st event ≡ st → IsGoing st (law.after_event st c event)
-  kept event may same = going_after st setting c of.going event may same
+  kept : (event : law.Event) → law.MayOccur st c event → IsNoRecovery event → IsGoing st (law.after_event st c event)
+  kept event may other = going_after st setting c of.going event may other
 
   -- machine a is another, and stands for another
-  module _ (a : ℕ) (low : a < st.machines) (y : M) (m : Machine) (here : stands st a m y) (runs : m.failed ≡ false) where
+  module _ (a : ℕ) (low : a < st.machines) (y : M) (m : Machine) (here : stands st a m y) (runs : m.failed ≡ (c.machine a).failed) where
     pub many_set : length (with_item old.machines a y).items ≡ st.machines
     many_set = length-set old.machines.items a y ∙ of.many
 
@@ -191,33 +191,35 @@ module _ {M : Type 0} (stands : Setting → ℕ → Machine → M → Type 0) (s
           (subst (λ (n : Machine). stands st b n (slice_index_or old.machines.items b d)) (sym (set_at-other c.machine a m b other)) (of.machines b d low_b))
     ]
 
-    pub runs_set : (b : ℕ) → b < st.machines → (set_at c.machine a m b).failed ≡ false
+    pub runs_set : (b : ℕ) → b < st.machines → (set_at c.machine a m b).failed ≡ slice_index_or old.failed.items b false
     runs_set b low_b = elim (cases_eq b a) [
-      | inl same ↦ ap (λ (k : ℕ). (set_at c.machine a m k).failed) same ∙ ap (λ (n : Machine). n.failed) (set_at-same c.machine a m) ∙ runs
+      | inl same ↦
+          subst (λ (k : ℕ). (set_at c.machine a m k).failed ≡ slice_index_or old.failed.items k false) (sym same)
+          (ap (λ (n : Machine). n.failed) (set_at-same c.machine a m) ∙ runs ∙ of.runs a low)
       | inr other ↦ ap (λ (n : Machine). n.failed) (set_at-other c.machine a m b other) ∙ of.runs b low_b
     ]
 
     -- it did something by itself
-    pub deed_made : (event : law.Event) → law.MayOccur st c event → law.setting_after st event ≡ st → (next left n k : ℕ) → n ≡ next → k ≡ left → next + left < 2 ^ 64 →
+    pub deed_made : (event : law.Event) → law.MayOccur st c event → IsNoRecovery event → (next left n k : ℕ) → n ≡ next → k ≡ left → next + left < 2 ^ 64 →
         law.after_event st c event ≡ record (with_machine c a m) { next = n; left = k } →
         IsSavingClusterOf stands st (record old { machines = with_item old.machines a y; next = next; left = left }) (law.after_event st c event)
-    deed_made event may same next left n k next_is left_is few does_it =
+    deed_made event may other next left n k next_is left_is few does_it =
         subst (IsSavingClusterOf stands st (record old { machines = with_item old.machines a y; next = next; left = left })) (sym does_it) (record {
           many = many_set;
           small = of.small;
           links = of.links;
           machines = machines_set;
+          flags = of.flags;
           runs = runs_set;
           told = of.told;
           calls = of.calls;
           reports = of.reports;
           coordinator = of.coordinator;
-          acknowledged = of.acknowledged;
           next = next_is;
           left = left_is;
           few = few;
           stopped = of.stopped;
-          going = subst (IsGoing st) does_it (kept event may same);
+          going = subst (IsGoing st) does_it (kept event may other);
         })
 
   -- ---- nothing has happened
@@ -225,7 +227,7 @@ module _ {M : Type 0} (stands : Setting → ℕ → Machine → M → Type 0) (s
   pub same_made : (a : ℕ) (low : a < st.machines) (y : M) → stands st a (c.machine a) y → (links : List (List LinkView)) → HaveLinks links (suc st.machines) →
       ((i j : ℕ) → messages_on links i j ≡ messages_on old.links i j) → IsSavingClusterOf stands st (record old { machines = with_item old.machines a y; links = links }) c
   same_made a low y here links have same = record {
-    many = many_set a low y (c.machine a) here (of.runs a low);
+    many = many_set a low y (c.machine a) here refl;
     small = of.small;
     links = have;
     machines = λ b d low_b. elim (cases_eq b a) [
@@ -234,12 +236,12 @@ module _ {M : Type 0} (stands : Setting → ℕ → Machine → M → Type 0) (s
           (subst (stands st a (c.machine a)) (sym (get_or-set_same old.machines.items a y d (inside a low))) here)
       | inr other ↦ subst (stands st b (c.machine b)) (sym (get_or-set_other old.machines.items a b y d other)) (of.machines b d low_b)
     ];
+    flags = of.flags;
     runs = of.runs;
     told = λ i j low_i low_j. of.told i j low_i low_j ∙ ap (map message_read) (sym (same i j));
     calls = λ b low_b. subst (λ (messages : List MessageView). AreCalls messages (c.calls b)) (sym (same st.machines b)) (of.calls b low_b);
     reports = λ b low_b. subst (λ (messages : List MessageView). AreReports messages (c.reports b)) (sym (same b st.machines)) (of.reports b low_b);
     coordinator = of.coordinator;
-    acknowledged = of.acknowledged;
     next = of.next;
     left = of.left;
     few = of.few;
@@ -254,12 +256,12 @@ module _ {M : Type 0} (stands : Setting → ℕ → Machine → M → Type 0) (s
     small = of.small;
     links = have;
     machines = of.machines;
+    flags = of.flags;
     runs = of.runs;
     told = λ i j low_i low_j. of.told i j low_i low_j ∙ ap (map message_read) (sym (same i j));
     calls = λ b low_b. subst (λ (messages : List MessageView). AreCalls messages (c.calls b)) (sym (same st.machines b)) (of.calls b low_b);
     reports = λ b low_b. subst (λ (messages : List MessageView). AreReports messages (c.reports b)) (sym (same b st.machines)) (of.reports b low_b);
     coordinator = leads;
-    acknowledged = of.acknowledged;
     next = of.next;
     left = of.left;
     few = of.few;
@@ -269,55 +271,62 @@ module _ {M : Type 0} (stands : Setting → ℕ → Machine → M → Type 0) (s
 
   -- ---- the coordinator
 
-  pub led_made : (event : law.Event) → law.MayOccur st c event → law.setting_after st event ≡ st → (coordinator : CoordinatorView) (leading : Coordinator) → IsCoordinatorOf st coordinator leading →
-      leading.snapshots ≡ c.coordinator.snapshots → law.after_event st c event ≡ with_coordinator c leading → IsSavingClusterOf stands st (record old { coordinator = coordinator }) (law.after_event st c event)
-  led_made event may same coordinator leading leads snapshots does_it =
+  pub led_made : (event : law.Event) → law.MayOccur st c event → IsNoRecovery event → (coordinator : CoordinatorView) (leading : Coordinator) → IsCoordinatorOf st coordinator leading →
+      law.after_event st c event ≡ with_coordinator c leading → IsSavingClusterOf stands st (record old { coordinator = coordinator }) (law.after_event st c event)
+  led_made event may other coordinator leading leads does_it =
       subst (IsSavingClusterOf stands st (record old { coordinator = coordinator })) (sym does_it) (record {
         many = of.many;
         small = of.small;
         links = of.links;
         machines = of.machines;
+        flags = of.flags;
         runs = of.runs;
         told = of.told;
         calls = of.calls;
         reports = of.reports;
         coordinator = leads;
-        acknowledged = subst (λ (all : List Snapshot). AreRecordsOf st all old.acknowledged.items) (sym snapshots) of.acknowledged;
         next = of.next;
         left = of.left;
         few = of.few;
         stopped = of.stopped;
-        going = subst (IsGoing st) does_it (kept event may same);
+        going = subst (IsGoing st) does_it (kept event may other);
       })
 
-  records_push : (snapshots : List Snapshot) (records : List Record) (snapshot : Snapshot) (made : Record) → AreRecordsOf st snapshots records → IsRecordFor st snapshot made →
-      AreRecordsOf st (snapshots ++ snapshot ∷ []) (records ++ made ∷ [])
-  records_push [] [] snapshot made are is = (is, tt)
-  records_push [] (one ∷ records) snapshot made are is = absurd are
-  records_push (one ∷ snapshots) [] snapshot made are is = absurd are
-  records_push (one ∷ snapshots) (first ∷ records) snapshot made are is = (are.0, records_push snapshots records snapshot made are.1 is)
-
-  -- the snapshot under way is acknowledged, and its record is kept
-  pub record_made : law.MayOccur st c law.Record → (coordinator : CoordinatorView) → IsCoordinatorOf st coordinator (acknowledges st c.coordinator) →
-      (made : Record) → IsRecordFor st (snapshot_come c.coordinator) made → (records : Vec Record Global) → records.items ≡ old.acknowledged.items ++ made ∷ [] →
-      IsSavingClusterOf stands st (record old { coordinator = coordinator; acknowledged = records }) (law.after_event st c law.Record)
-  record_made may coordinator leads made is records items = record {
-    many = of.many;
+  -- a machine fails
+  pub fail_made : (a : ℕ) (low : a < st.machines) → law.MayOccur st c (law.Fail a) → (y : M) → stands st a (fails (c.machine a)) y → (flags : Vec Bool Global) → flags.items ≡ set old.failed.items a true →
+      IsSavingClusterOf stands st (record old { machines = with_item old.machines a y; failed = flags }) (law.after_event st c (law.Fail a))
+  fail_made a low may y here flags are = record {
+    many = length-set old.machines.items a y ∙ of.many;
     small = of.small;
     links = of.links;
-    machines = of.machines;
-    runs = of.runs;
+    machines = λ b d low_b. elim (cases_eq b a) [
+      | inl same ↦
+          subst (λ (k : ℕ). stands st k (set_at c.machine a (fails (c.machine a)) k) (slice_index_or (set old.machines.items a y) k d)) (sym same)
+          (subst (stands st a (set_at c.machine a (fails (c.machine a)) a)) (sym (get_or-set_same old.machines.items a y d (inside a low)))
+          (subst (λ (n : Machine). stands st a n y) (sym (set_at-same c.machine a (fails (c.machine a)))) here))
+      | inr other ↦
+          subst (stands st b (set_at c.machine a (fails (c.machine a)) b)) (sym (get_or-set_other old.machines.items a b y d other))
+          (subst (λ (n : Machine). stands st b n (slice_index_or old.machines.items b d)) (sym (set_at-other c.machine a (fails (c.machine a)) b other)) (of.machines b d low_b))
+    ];
+    flags = ap length are ∙ length-set old.failed.items a true ∙ of.flags;
+    runs = λ b low_b. elim (cases_eq b a) [
+      | inl same ↦
+          subst (λ (k : ℕ). (set_at c.machine a (fails (c.machine a)) k).failed ≡ slice_index_or flags.items k false) (sym same)
+          (ap (λ (n : Machine). n.failed) (set_at-same c.machine a (fails (c.machine a)))
+          ∙ sym (ap (λ (f : List Bool). get_or f a false) are ∙ get_or-set_same old.failed.items a true false (subst (λ (n : ℕ). a < n) (sym of.flags) low)))
+      | inr other ↦
+          ap (λ (n : Machine). n.failed) (set_at-other c.machine a (fails (c.machine a)) b other) ∙ of.runs b low_b
+          ∙ sym (ap (λ (f : List Bool). get_or f b false) are ∙ get_or-set_other old.failed.items a b true false other)
+    ];
     told = of.told;
     calls = of.calls;
     reports = of.reports;
-    coordinator = leads;
-    acknowledged = subst (AreRecordsOf st (c.coordinator.snapshots ++ snapshot_come c.coordinator ∷ [])) (sym items)
-        (records_push c.coordinator.snapshots old.acknowledged.items (snapshot_come c.coordinator) made of.acknowledged is);
+    coordinator = of.coordinator;
     next = of.next;
     left = of.left;
     few = of.few;
     stopped = of.stopped;
-    going = kept law.Record may refl;
+    going = kept (law.Fail a) may (λ base is. cc);
   }
 
   pub stop_made : law.MayOccur st c law.Stop → IsSavingClusterOf stands st (record old { stopped = true }) (law.after_event st c law.Stop)
@@ -326,17 +335,17 @@ module _ {M : Type 0} (stands : Setting → ℕ → Machine → M → Type 0) (s
     small = of.small;
     links = of.links;
     machines = of.machines;
+    flags = of.flags;
     runs = of.runs;
     told = of.told;
     calls = of.calls;
     reports = of.reports;
     coordinator = of.coordinator;
-    acknowledged = of.acknowledged;
     next = of.next;
     left = of.left;
     few = of.few;
     stopped = refl;
-    going = kept law.Stop may refl;
+    going = kept law.Stop may (λ base is. cc);
   }
 
   -- ---- between machines
@@ -363,21 +372,21 @@ module _ {M : Type 0} (stands : Setting → ℕ → Machine → M → Type 0) (s
         map-append message_read (messages_on old.links p q) (message_view message ∷ []) ∙ ap (λ (ms : List law_messages.Message). ms ++ told ∷ []) (sym (of.told p q low_p low_q))
         in
         subst (IsSavingClusterOf stands st (record old { machines = with_item old.machines p x; links = links })) (sym does_it) (record {
-          many = many_set p low_p x m sending.after (of.runs p low_p);
+          many = many_set p low_p x m sending.after refl;
           small = of.small;
           links = have;
-          machines = machines_set p low_p x m sending.after (of.runs p low_p);
-          runs = runs_set p low_p x m sending.after (of.runs p low_p);
+          machines = machines_set p low_p x m sending.after refl;
+          flags = of.flags;
+          runs = runs_set p low_p x m sending.after refl;
           told = told_set changes c.link (c.link p q ++ told ∷ []) st.machines read of.told;
           calls = other_calls changes;
           reports = other_reports changes;
           coordinator = of.coordinator;
-          acknowledged = of.acknowledged;
           next = of.next;
           left = of.left;
           few = of.few;
           stopped = of.stopped;
-          going = subst (IsGoing st) does_it (kept (law.Send p q) may refl);
+          going = subst (IsGoing st) does_it (kept (law.Send p q) may (λ base is. cc));
         })
 
     -- the first message on the link from machine p comes to machine q
@@ -389,21 +398,21 @@ module _ {M : Type 0} (stands : Setting → ℕ → Machine → M → Type 0) (s
         let after : Cluster = with_messages (with_machine c q m) p q behind in
         let does_it : law.after_event st c (law.Deliver p q) ≡ after = ap (law.delivers_message st c p q) first in
         subst (IsSavingClusterOf stands st (record old { machines = with_item old.machines q x; links = links })) (sym does_it) (record {
-          many = many_set q low_q x m here (of.runs q low_q);
+          many = many_set q low_q x m here refl;
           small = of.small;
           links = have;
-          machines = machines_set q low_q x m here (of.runs q low_q);
-          runs = runs_set q low_q x m here (of.runs q low_q);
+          machines = machines_set q low_q x m here refl;
+          flags = of.flags;
+          runs = runs_set q low_q x m here refl;
           told = told_set changes c.link behind st.machines read of.told;
           calls = other_calls changes;
           reports = other_reports changes;
           coordinator = of.coordinator;
-          acknowledged = of.acknowledged;
           next = of.next;
           left = of.left;
           few = of.few;
           stopped = of.stopped;
-          going = subst (IsGoing st) does_it (kept (law.Deliver p q) may refl);
+          going = subst (IsGoing st) does_it (kept (law.Deliver p q) may (λ base is. cc));
         })
 
   -- ---- between the coordinator and machine a
@@ -457,23 +466,23 @@ module _ {M : Type 0} (stands : Setting → ℕ → Machine → M → Type 0) (s
           small = of.small;
           links = have;
           machines = of.machines;
+          flags = of.flags;
           runs = of.runs;
           told = call_told changes;
           calls = call_calls changes (c.calls a ++ over.call ∷ []) (calls_push (messages_on old.links st.machines a) (c.calls a) message over.call (of.calls a low) over.told);
           reports = call_reports changes;
           coordinator = over.rest;
-          acknowledged = of.acknowledged;
           next = of.next;
           left = of.left;
           few = of.few;
           stopped = of.stopped;
-          going = subst (IsGoing st) does_it (kept (law.SendCall a) may refl);
+          going = subst (IsGoing st) does_it (kept (law.SendCall a) may (λ base is. cc));
         })
 
     -- a call comes
     pub deliver_call_made : law.MayOccur st c (law.DeliverCall a) → (x : M) (call : Call) (behind : List Call) → c.calls a ≡ call ∷ behind →
         stands st a (prompt st a (takes_call st a call (c.machine a))) x → (messages : List MessageView) → AreCalls messages behind → ChangesLine old.links links st.machines a messages →
-        (prompt st a (takes_call st a call (c.machine a))).failed ≡ false →
+        (prompt st a (takes_call st a call (c.machine a))).failed ≡ (c.machine a).failed →
         IsSavingClusterOf stands st (record old { machines = with_item old.machines a x; links = links }) (law.after_event st c (law.DeliverCall a))
     deliver_call_made may x call behind first here messages are changes runs =
         let m : Machine = prompt st a (takes_call st a call (c.machine a)) in
@@ -484,17 +493,17 @@ module _ {M : Type 0} (stands : Setting → ℕ → Machine → M → Type 0) (s
           small = of.small;
           links = have;
           machines = machines_set a low x m here runs;
+          flags = of.flags;
           runs = runs_set a low x m here runs;
           told = call_told changes;
           calls = call_calls changes behind are;
           reports = call_reports changes;
           coordinator = of.coordinator;
-          acknowledged = of.acknowledged;
           next = of.next;
           left = of.left;
           few = of.few;
           stopped = of.stopped;
-          going = subst (IsGoing st) does_it (kept (law.DeliverCall a) may refl);
+          going = subst (IsGoing st) does_it (kept (law.DeliverCall a) may (λ base is. cc));
         })
 
     -- a report goes onto the link
@@ -506,30 +515,30 @@ module _ {M : Type 0} (stands : Setting → ℕ → Machine → M → Type 0) (s
         let after : Cluster = with_reports (with_machine c a m) a (c.reports a ++ reporting.report ∷ []) in
         let does_it : law.after_event st c (law.SendReport a) ≡ after = ap (law.sends_report c a) reporting.first in
         subst (IsSavingClusterOf stands st (record old { machines = with_item old.machines a x; links = links })) (sym does_it) (record {
-          many = many_set a low x m reporting.after (of.runs a low);
+          many = many_set a low x m reporting.after refl;
           small = of.small;
           links = have;
-          machines = machines_set a low x m reporting.after (of.runs a low);
-          runs = runs_set a low x m reporting.after (of.runs a low);
+          machines = machines_set a low x m reporting.after refl;
+          flags = of.flags;
+          runs = runs_set a low x m reporting.after refl;
           told = report_told changes;
           calls = report_calls changes;
           reports = report_reports changes (c.reports a ++ reporting.report ∷ [])
               (reports_push (messages_on old.links a st.machines) (c.reports a) (message_view message) reporting.report (of.reports a low) reporting.told);
           coordinator = of.coordinator;
-          acknowledged = of.acknowledged;
           next = of.next;
           left = of.left;
           few = of.few;
           stopped = of.stopped;
-          going = subst (IsGoing st) does_it (kept (law.SendReport a) may refl);
+          going = subst (IsGoing st) does_it (kept (law.SendReport a) may (λ base is. cc));
         })
 
     -- a report comes
     pub deliver_report_made : law.MayOccur st c (law.DeliverReport a) → (coordinator : CoordinatorView) (report : Report) (behind : List Report) → c.reports a ≡ report ∷ behind →
-        IsCoordinatorOf st coordinator (takes_report a report c.coordinator) → (takes_report a report c.coordinator).snapshots ≡ c.coordinator.snapshots →
+        IsCoordinatorOf st coordinator (takes_report a report c.coordinator) →
         (messages : List MessageView) → AreReports messages behind → ChangesLine old.links links a st.machines messages →
         IsSavingClusterOf stands st (record old { links = links; coordinator = coordinator }) (law.after_event st c (law.DeliverReport a))
-    deliver_report_made may coordinator report behind first leads snapshots messages are changes =
+    deliver_report_made may coordinator report behind first leads messages are changes =
         let after : Cluster = with_reports (with_coordinator c (takes_report a report c.coordinator)) a behind in
         let does_it : law.after_event st c (law.DeliverReport a) ≡ after = ap (law.delivers_report c a) first in
         subst (IsSavingClusterOf stands st (record old { links = links; coordinator = coordinator })) (sym does_it) (record {
@@ -537,15 +546,15 @@ module _ {M : Type 0} (stands : Setting → ℕ → Machine → M → Type 0) (s
           small = of.small;
           links = have;
           machines = of.machines;
+          flags = of.flags;
           runs = of.runs;
           told = report_told changes;
           calls = report_calls changes;
           reports = report_reports changes behind are;
           coordinator = leads;
-          acknowledged = subst (λ (all : List Snapshot). AreRecordsOf st all old.acknowledged.items) (sym snapshots) of.acknowledged;
           next = of.next;
           left = of.left;
           few = of.few;
           stopped = of.stopped;
-          going = subst (IsGoing st) does_it (kept (law.DeliverReport a) may refl);
+          going = subst (IsGoing st) does_it (kept (law.DeliverReport a) may (λ base is. cc));
         })

@@ -2,25 +2,14 @@
 pub use Rattle.cluster_model.specs.Clusters.{BaseView, Cluster}
 pub use Rattle.cluster_step.specs.Inner.Writing.{HaveLinks}
 pub use Rattle.coord_core.specs.Coordinators.{AreCalls, IsCoordinatorOf, StoreView}
-pub use Rattle.snap_clusters.specs.Going.{IsGoing, IsSnapSetting}
+pub use Rattle.snap_members.specs.Going.{IsGoing, IsSnapSetting}
 pub use Rattle.snap_clusters.specs.Lines.{AreReports, messages_on, told_on}
-pub use Rattle.snap_clusters.specs.Promises.{Machine, Setting}
+pub use Rattle.snap_members.specs.Promises.{Machine, Setting}
 pub use Rattle.snap_clusters.specs.declared.parts.Parts.{Parts}
-use Rattle.std.specs.Prelude.{List, [], false, length, slice_index_or, suc, ⊤, ℕ, ◌+◌, ◌<◌, ◌^◌, ◌∷◌, ◌≡◌}
-use Rattle.gl_base.specs.declared.snapshots.Record.{Record}
+use Rattle.std.specs.Prelude.{List, false, length, slice_index_or, suc, ℕ, ◌+◌, ◌<◌, ◌^◌, ◌≡◌}
 use Rattle.cluster_core.specs.Recovering.{going_on}
-use Rattle.cluster_model.specs.Events.{recovers}
-use Rattle.cluster_model.specs.Leading.{Snapshot}
-use Rattle.cluster_records.specs.Bases.{IsBase}
-use Rattle.coord_core.specs.Calls.{IsRecordFor}
+use Rattle.cluster_model.specs.Events.{MayOccur, Recover, recovers}
 use Rattle.graph_core.specs.DataGraph.{size}
-
--- the records are those of these snapshots, one by one
-abbrev pub AreRecordsOf : Setting → List Snapshot → List Record → Type 0
-AreRecordsOf st [] [] = ⊤
-AreRecordsOf st [] (made ∷ records) = ⊥
-AreRecordsOf st (snapshot ∷ snapshots) [] = ⊥
-AreRecordsOf st (snapshot ∷ snapshots) (made ∷ records) = IsRecordFor st snapshot made × AreRecordsOf st snapshots records
 
 -- These parts stand for this cluster of the law; and events have led to that. The coordinator's links stand behind the machines'.
 pub record IsSavingClusterOf {M : Type 0} (stands : Setting → ℕ → Machine → M → Type 0) (st : Setting) (p : Parts M) (c : Cluster) : Type 0 where
@@ -28,12 +17,12 @@ pub record IsSavingClusterOf {M : Type 0} (stands : Setting → ℕ → Machine 
   pub small : st.machines < 65535
   pub links : HaveLinks p.links (suc st.machines)
   pub machines : (a : ℕ) (d : M) → a < st.machines → stands st a (c.machine a) (slice_index_or p.machines.items a d)
-  pub runs : (a : ℕ) → a < st.machines → (c.machine a).failed ≡ false
+  pub flags : length p.failed.items ≡ st.machines
+  pub runs : (a : ℕ) → a < st.machines → (c.machine a).failed ≡ slice_index_or p.failed.items a false
   pub told : (a b : ℕ) → a < st.machines → b < st.machines → c.link a b ≡ told_on p.links a b
   pub calls : (a : ℕ) → a < st.machines → AreCalls (messages_on p.links st.machines a) (c.calls a)
   pub reports : (a : ℕ) → a < st.machines → AreReports (messages_on p.links a st.machines) (c.reports a)
   pub coordinator : IsCoordinatorOf st p.coordinator c.coordinator
-  pub acknowledged : AreRecordsOf st c.coordinator.snapshots p.acknowledged.items
   pub next : c.next ≡ p.next
   pub left : c.left ≡ p.left
   pub few : p.next + p.left < 2 ^ 64
@@ -55,15 +44,20 @@ StandsForSameSaving stands old new = InEachCluster stands old (λ st c. IsSaving
 -- ---- where it begins
 
 -- The machines begin an attempt from this base, whatever was before, in a cluster of this setting; the store is that of the base and of
--- the graph.
+-- the graph. Of the base's order nothing is asked, nor that its numbers are the replay of that.
 pub record StartsSaving {M : Type 0} (stands : Setting → ℕ → Machine → M → Type 0) (xs : List M) (store : StoreView) (next left : ℕ) (st : Setting) (base : BaseView) (before : Cluster) : Type 0 where
   pub setting : IsSnapSetting st
-  pub based : IsBase st base before.next
   pub many : length xs ≡ st.machines
   pub each : (a : ℕ) (d : M) → a < st.machines → stands (going_on st base.numbers base.number) a ((recovers st base before).machine a) (slice_index_or xs a d)
   pub vertices : size st.graph ≡ store.vertices
   pub edges : length st.graph.edges ≡ store.edges
   pub newest : base.number ≡ store.newest
-  pub store_end : before.coordinator.store_end ≡ store.store_end
+  pub store_end : (recovers st base before).coordinator.store_end ≡ store.store_end
   pub first : before.next ≡ next
   pub tickets : before.left ≡ left
+
+-- Recover may occur in this cluster, for which the parts stand, and the machines begin again from its base.
+pub record GoesOnWith {M : Type 0} (stands : Setting → ℕ → Machine → M → Type 0) (old : Parts M) (xs : List M) (store : StoreView) (st : Setting) (c : Cluster) (base : BaseView) : Type 0 where
+  pub stood : IsSavingClusterOf stands st old c
+  pub may : MayOccur st c (Recover base)
+  pub starts : StartsSaving stands xs store old.next old.left st base c

@@ -1,22 +1,64 @@
--- An acknowledged snapshot is a cut.
-use Rattle.std.specs.Prelude.{List, slice_index_or, ℕ, ◌++◌, ◌<◌, ◌≡◌}
+-- A snapshot is a cut.
+pub use Rattle.cluster_records.specs.Recorded.{snapshot_due}
+use Rattle.std.specs.List.Sorted.{IsPermutation}
+use Rattle.std.specs.Prelude.{List, is_some, slice_index_or, ℕ, ◌++◌}
 use Rattle.gl_base.specs.declared.entries.Entry.{Entry}
 use Rattle.gl_base.specs.declared.snapshots.Record.{Record}
 use Rattle.gl_base.specs.declared.snapshots.SavedPart.{SavedPart}
+use Rattle.cluster_core.specs.Ranges.{first_passing}
+use Rattle.cluster_core.specs.Replays.{replay_of}
 use Rattle.cluster_core.specs.Settings.{Setting}
 use Rattle.cluster_model.specs.Clusters.{Cluster}
+use Rattle.cluster_model.specs.Events.{entries_in_all, snapshot_numbers}
+use Rattle.cluster_model.specs.Leading.{Snapshot}
 use Rattle.cluster_model.specs.Working.{or_zero}
-use Rattle.graph_core.specs.DataGraph.{size}
-use Rattle.seq_run.specs.Orders.{IsValidOrder, replay}
-use Rattle.snap_update.specs.Holding.{last_of_vertex}
+use Rattle.cluster_records.specs.Bases.{IsOpening}
+use Rattle.cluster_records.specs.Recorded.{HaveSameNumbers}
+use Rattle.coord_core.specs.Calls.{IsRecordFor}
+use Rattle.seq_run.specs.Orders.{IsValidFrom, IsValidOrder, all_tasks, replay}
+use Rattle.seq_run.specs.States.{GraphState}
+use Rattle.snap_update.specs.Holding.{last_of_edge, last_of_vertex}
 
--- the number of a vertex in a record: that of its owner's part
-abbrev pub number_in : Setting → SavedPart → Record → ℕ → ℕ
-number_in st none made v = or_zero (last_of_vertex (slice_index_or made.sections.items (st.owner v) none).vertices.items v)
+-- ---- the numbers of a record
 
--- The order of the base and these updates is valid, and the record has, of each vertex, the number that its replay on the undivided graph
--- gives.
+-- the part of machine a
+abbrev pub part_in : SavedPart → Record → ℕ → SavedPart
+part_in none made a = slice_index_or made.sections.items a none
+
+-- the first machine whose part has edge e
+abbrev pub saver_of : Setting → SavedPart → Record → ℕ → ℕ
+saver_of st none made e = or_zero (first_passing (λ a. is_some (last_of_edge (part_in none made a).edges.items e)) 0 st.machines)
+
+-- of a vertex that of its owner's part, and of an edge that of the first part that has it
+abbrev pub numbers_in : Setting → SavedPart → Record → GraphState
+numbers_in st none made =
+    record {
+      vertex = λ v. or_zero (last_of_vertex (part_in none made (st.owner v)).vertices.items v);
+      edge = λ e. or_zero (last_of_edge (part_in none made (saver_of st none made e)).edges.items e);
+    }
+
+-- ---- cuts
+
+-- The attempt went on from a good base: the base's order is valid from the start state of the program on and leaves every vertex a task, and
+-- the attempt's first numbers are its replay.
+pub record HasGoodBase (st : Setting) (c : Cluster) : Type 0 where
+  pub front : IsOpening st c.base.order
+  pub numbers : HaveSameNumbers st.graph st.start (replay st.graph st.program c.base.order)
+
+-- These updates are a valid order from the attempt's first numbers on, and these numbers, of each vertex and each edge, are its replay on the
+-- undivided graph. Where the base is good the same holds of the base's order and the updates together, from the program's start state on.
+pub record IsCutWith (st : Setting) (c : Cluster) (updates : List Entry) (numbers : GraphState) : Type 0 where
+  pub valid : IsValidFrom st.graph st.program st.start (all_tasks st.graph) updates
+  pub replayed : HaveSameNumbers st.graph numbers (replay_of st updates)
+  pub whole : HasGoodBase st c → IsValidOrder st.graph st.program (c.base.order ++ updates) × HaveSameNumbers st.graph numbers (replay st.graph st.program (c.base.order ++ updates))
+
+-- the snapshot is a cut
+abbrev pub IsSnapshotCut : Setting → Cluster → Snapshot → Type 0
+IsSnapshotCut st c snapshot = (updates : List Entry) × IsCutWith st c updates (snapshot_numbers st snapshot)
+
+-- The record is that of the snapshot under way, and a cut: that of the updates which the snapshots before it bring, and its entries.
 pub record RecordsCut (st : Setting) (c : Cluster) (made : Record) : Type 0 where
+  pub is : IsRecordFor st (snapshot_due c.coordinator) made
   pub updates : List Entry
-  pub valid : IsValidOrder st.graph st.program (c.base.order ++ updates)
-  pub numbers : (none : SavedPart) (v : ℕ) → v < size st.graph → number_in st none made v ≡ (replay st.graph st.program (c.base.order ++ updates)).vertex v
+  pub brings : IsPermutation (entries_in_all st c.coordinator.snapshots ++ made.entries.items) updates
+  pub cut : (none : SavedPart) → IsCutWith st c updates (numbers_in st none made)

@@ -1,5 +1,5 @@
 -- What may happen in a cluster that takes snapshots, as events of the law.
-use Rattle.std.specs.Prelude.{Result, IsErrOf, OnErr, OnOk, ℕ, ⊤, ◌<◌, ◌≡◌}
+use Rattle.std.specs.Prelude.{Bool, IsErrOf, List, None, OnErr, OnOk, Option, Result, Some, false, slice_index_or, ℕ, ⊤, ◌<◌, ◌≡◌}
 use Rattle.gl_base.specs.declared.refusals.Refused.{Refused}
 use Rattle.gl_base.specs.declared.refusals.Refused.TheVariants.{NoMemory, NotNow}
 use Rattle.cluster_model.specs.Events as law
@@ -20,6 +20,7 @@ IsLocalEvent (local.Grant a x) e = e ≡ law.Grant a.0 x.0
 IsLocalEvent (local.Update s) e = e ≡ law.Update s
 IsLocalEvent (local.Mark s) e = e ≡ law.Mark s
 IsLocalEvent (local.Section a) e = e ≡ law.Section a.0
+IsLocalEvent (local.Fail a) e = e ≡ law.Fail a.0
 
 abbrev pub IsLeadEvent : Lead → law.Event → Type 0
 IsLeadEvent lead.Record e = e ≡ law.Record
@@ -47,6 +48,7 @@ NamesLocal n (local.Grant a x) = a.0 < n
 NamesLocal n (local.Update s) = s.home.0 < n
 NamesLocal n (local.Mark s) = s.home.0 < n
 NamesLocal n (local.Section a) = a.0 < n
+NamesLocal n (local.Fail a) = a.0 < n
 
 abbrev pub NamesPassage : ℕ → Passage → Type 0
 NamesPassage n (passage.Send p q) = (p.0 < n) × (q.0 < n)
@@ -60,6 +62,34 @@ abbrev pub NamesItsMachines : ℕ → Event → Type 0
 NamesItsMachines n (event.Local what) = NamesLocal n what
 NamesItsMachines n (event.Lead what) = ⊤
 NamesItsMachines n (event.Passage what) = NamesPassage n what
+
+-- the machine that acts in it
+abbrev pub acting_local : Local → ℕ
+acting_local (local.Admit a) = a.0
+acting_local (local.Grant a x) = a.0
+acting_local (local.Update s) = s.home.0
+acting_local (local.Mark s) = s.home.0
+acting_local (local.Section a) = a.0
+acting_local (local.Fail a) = a.0
+
+-- and none where the coordinator does, or takes what comes
+abbrev pub acting_passage : Passage → Option ℕ
+acting_passage (passage.Send p q) = Some p.0
+acting_passage (passage.Deliver p q) = Some q.0
+acting_passage (passage.SendCall a) = None
+acting_passage (passage.DeliverCall a) = Some a.0
+acting_passage (passage.SendReport a) = Some a.0
+acting_passage (passage.DeliverReport a) = None
+
+abbrev pub acting : Event → Option ℕ
+acting (event.Local what) = Some (acting_local what)
+acting (event.Lead what) = None
+acting (event.Passage what) = acting_passage what
+
+-- that machine has failed
+abbrev pub is_resting : List Bool → Option ℕ → Bool
+is_resting failed None = false
+is_resting failed (Some a) = slice_index_or failed a false
 
 -- Such an event might occur in this cluster, and what has become of the code stands for what the event makes of it.
 pub record HasTakenPlace {M : Type 0} (stands : Setting → ℕ → Machine → M → Type 0) (st : Setting) (c : Cluster) (what : Event) (new : Parts M) : Type 0 where

@@ -2,7 +2,7 @@
 pub use Rattle.cluster_step.specs.Links.{LinkView, link_between, told_on}
 use Rattle.std.specs.Prelude.{List, [], ⊤, ℕ, ◌∷◌}
 use Rattle.cluster_model.specs.Calls.{Report}
-use Rattle.snap_clusters.specs.Promises.{MessageView, TellsReport}
+use Rattle.snap_members.specs.Promises.{MessageView, TellsReport}
 
 -- the messages on the link from p to q
 abbrev pub messages_on : List (List LinkView) → ℕ → ℕ → List MessageView

@@ -1,26 +1,27 @@
 //! A cluster that takes snapshots.
-ghost use Rattle.std.specs.Prelude.{◌≡◌, ◌+◌, ◌^◌, ◌<◌, ◌≤◌, length, slice_get, IfOk, IsErrOf, OnOk, OnErr, Some};
+ghost use Rattle.std.specs.Prelude.{◌≡◌, ◌+◌, ◌^◌, ◌<◌, ◌≤◌, ◌↔◌, false, length, slice_get, slice_index_or, IfOk, IfSome, IfNone, IsErrOf, IsTrue, OnOk, OnErr, Some};
 ghost use Rattle.std.specs.List.{AllByRecursion};
 ghost use Rattle.cluster_core.specs.Recovering.{going_on};
 ghost use Rattle.cluster_ending.specs.Ends.{HasFinishedOrder};
-ghost use Rattle.cluster_model.specs.Events.{recovers};
+ghost use Rattle.cluster_model.specs.Events.{HasNext, recovers};
 ghost use Rattle.coord_core.specs.Calls.{IsDueOf};
 ghost use Rattle.coord_core.specs.Stores.{store_view};
-ghost use Rattle.snap_clusters.specs.Clusters.{AreRecordsOf, BaseView, Cluster, IsSavingClusterOf, InEachCluster, Setting, StandsForSaving, StandsForSameSaving, StartsSaving};
-ghost use Rattle.snap_clusters.specs.Cuts.{RecordsCut};
+ghost use Rattle.snap_clusters.specs.Clusters.{BaseView, Cluster, GoesOnWith, IsSavingClusterOf, InEachCluster, Setting, StandsForSaving, StandsForSameSaving, StartsSaving};
+ghost use Rattle.snap_clusters.specs.Cuts.{IsSnapshotCut, RecordsCut};
 ghost use Rattle.snap_clusters.specs.Events.{CanTakePlace, CanNotTakePlace, TakesPlace, NamesItsMachines};
+ghost use Rattle.snap_clusters.specs.Ordered.{HasOneOrder};
+ghost use Rattle.snap_members.specs.Promises.{HasFirst};
 
-use crate::events::Event;
-use crate::machines::SavingMachine;
-use crate::parts::Parts;
-use cluster_step::Links;
+use crate::events::{Event, Lead, Local};
+use crate::parts::{Parts, first_parts};
 use coord_core::{Coordinator, Due, Store};
-use gl_base::{MachineNo, NoMemory, Record, Refused};
+use gl_base::{Entry, MachineNo, NoMemory, Record, Refused, ScopeId, Vertex};
+use snap_members::SavingMachine;
 use std::alloc::Global;
 use std::marker::Model;
 
 /// A cluster of machines that take locks and snapshots, and its coordinator. Contracts see its parts. Whatever happens in it, each
-/// acknowledged snapshot is a consistent cut.
+/// acknowledged snapshot is a consistent cut, machines fail and all go back among it.
 #[derive(Drop)]
 pub struct SnapCluster<M: SavingMachine> {
     parts: Parts<M>,
@@ -38,7 +39,7 @@ impl<M: SavingMachine> Model for SnapCluster<M> {
 
 impl<M: SavingMachine> SnapCluster<M> {
     /// A cluster of machines that begin an attempt, each at its place, with this store. The first update gets the ticket `next`, and there
-    /// are `left` of them.
+    /// are `left` of them. Of the base only what the machines have of it is asked: it may be one that another hand made.
     pub fn new(
         alloc: Global,
         machines: Vec<M>,
@@ -55,24 +56,12 @@ impl<M: SavingMachine> SnapCluster<M> {
         ensures began { IfOk result (λ c. (st : Setting) (base : BaseView) (before : Cluster) → StartsSaving M.stands machines.items (store_view store) next left st base before →
             IsSavingClusterOf M.stands (going_on st base.numbers base.number) c (recovers st base before)) }
     {
-        let many = machines.len();
-        let links = Links::new(alloc, many + 1)?;
-        let coordinator = Coordinator::with_store(alloc, many as u16, store)?;
-        Ok(SnapCluster {
-            parts: Parts {
-                machines,
-                links,
-                coordinator,
-                acknowledged: Vec::new(alloc),
-                next,
-                left,
-                stopped: false,
-            },
-        })
+        let parts = first_parts(alloc, machines, store, next, left)?;
+        Ok(SnapCluster { parts })
     }
 
     /// The event happens, where it may happen now.
-    pub fn apply(&mut self, alloc: Global, event: Event) -> Result<(), Refused>
+    pub fn apply(&mut self, event: Event) -> Result<(), Refused>
         requires { NamesItsMachines (length self.old.machines.items) event }
         ensures made { OnOk result (TakesPlace M.stands self.old event self.new) }
         ensures not_now { IsErrOf result Refused.NotNow → CanNotTakePlace M.stands self.old event }
@@ -80,19 +69,47 @@ impl<M: SavingMachine> SnapCluster<M> {
         ensures unchanged { OnErr result (StandsForSameSaving M.stands self.old self.new) }
         ensures machines { length self.new.machines.items ≡ length self.old.machines.items }
     {
-        self.parts.make(alloc, event)
+        self.parts.make(event)
     }
 
-    /// The snapshots that were acknowledged since the cluster was made. Each is a consistent cut: its numbers are the replay of a valid
-    /// order on the undivided graph.
-    pub fn acknowledged(&self) -> &[Record]
-        ensures all { result.now ≡ self.now.acknowledged.items }
-        ensures stored { InEachCluster M.stands self.now (λ st c. AreRecordsOf st c.coordinator.snapshots result.now) }
-        ensures cuts { InEachCluster M.stands self.now (λ st c. AllByRecursion (RecordsCut st c) result.now) }
+    /// All machines go back to a base: the cluster goes on with these machines, which begin an attempt from it, and with nothing on its way.
+    /// Tickets go on. It may be called where the law's Recover may occur, and these machines are what that makes of the machines.
+    pub fn recover(&mut self, alloc: Global, machines: Vec<M>, store: Store) -> Result<(), NoMemory>
+        requires again { (st : Setting) × (c : Cluster) × (base : BaseView) × GoesOnWith M.stands self.old machines.items (store_view store) st c base }
+        requires newest { store.newest + 1 < 2 ^ 32 }
+        requires length { store.length ≤ 1073741824 }
+        ensures recovered { OnOk result ((st : Setting) (c : Cluster) (base : BaseView) → GoesOnWith M.stands self.old machines.items (store_view store) st c base →
+            IsSavingClusterOf M.stands (going_on st base.numbers base.number) self.new (recovers st base c)) }
+        ensures unchanged { OnErr result (self.new ≡ self.old) }
+        ensures machines { length self.new.machines.items ≡ length self.old.machines.items }
+    {
+        let parts = first_parts(alloc, machines, store, self.parts.next, self.parts.left)?;
+        self.parts = parts;
+        Ok(())
+    }
+
+    /// The record of the snapshot under way, for a store. It acknowledges nothing: the event of `Lead::Record` does. `NotNow` comes exactly
+    /// where that event may not happen. What the record has is a consistent cut.
+    pub fn record(&mut self, alloc: Global) -> Result<Record, Refused>
+        ensures cut { IfOk result (λ made. InEachCluster M.stands self.old (λ st c. RecordsCut st c made)) }
+        ensures due { OnOk result (CanTakePlace M.stands self.old (Event.Lead Lead.Record)) }
+        ensures not_now { IsErrOf result Refused.NotNow → CanNotTakePlace M.stands self.old (Event.Lead Lead.Record) }
+        ensures no_memory { IsErrOf result Refused.NoMemory → CanTakePlace M.stands self.old (Event.Lead Lead.Record) }
+        ensures same { StandsForSameSaving M.stands self.old self.new }
+        ensures machines { length self.new.machines.items ≡ length self.old.machines.items }
+    {
+        self.parts.record(alloc)
+    }
+
+    /// How many snapshots are stored: the number of the newest acknowledged one. Each that was acknowledged in this attempt is a
+    /// consistent cut: its numbers are the replay of a valid order on the undivided graph.
+    pub fn stored(&self) -> u32
+        ensures number { InEachCluster M.stands self.now (λ st c. result ≡ c.coordinator.acknowledged) }
+        ensures cuts { InEachCluster M.stands self.now (λ st c. AllByRecursion (IsSnapshotCut st c) c.coordinator.snapshots) }
         // Some cluster of the law is this one, so that what is said of all of them says something.
         ensures cluster { StandsForSaving M.stands self.now }
     {
-        &self.parts.acknowledged
+        self.parts.coordinator.stored()
     }
 
     /// What is due: a record, the next snapshot, the end, or a wave. Where it is the end, the order of the updates leaves no task.
@@ -101,6 +118,20 @@ impl<M: SavingMachine> SnapCluster<M> {
         ensures ended { result ≡ Due.Ended → InEachCluster M.stands self.now HasFinishedOrder }
     {
         self.parts.coordinator.due()
+    }
+
+    /// The ticket of the next update.
+    pub fn next(&self) -> u64
+        ensures { InEachCluster M.stands self.now (λ st c. result ≡ c.next) }
+    {
+        self.parts.next
+    }
+
+    /// How many tickets are left.
+    pub fn left(&self) -> u64
+        ensures { InEachCluster M.stands self.now (λ st c. result ≡ c.left) }
+    {
+        self.parts.left
     }
 
     /// How many machines there are.
@@ -119,10 +150,103 @@ impl<M: SavingMachine> SnapCluster<M> {
         &self.parts.machines[m.0 as usize]
     }
 
+    /// The updates that a machine made in this attempt. All machines' are one order, whose replay on the undivided graph gives the numbers
+    /// that the owners of the vertices have.
+    pub fn log(&self, m: MachineNo) -> &[Entry]
+        requires { m.0 < length self.now.machines.items }
+        ensures log { InEachCluster M.stands self.now (λ st c. result.now ≡ (c.machine m.0).part.log) }
+        ensures order { InEachCluster M.stands self.now HasOneOrder }
+    {
+        self.parts.machines[m.0 as usize].log()
+    }
+
+    /// Whether the machine has failed in this attempt.
+    pub fn has_failed(&self, m: MachineNo) -> bool
+        requires { m.0 < length self.now.machines.items }
+        ensures { InEachCluster M.stands self.now (λ st c. result ≡ (c.machine m.0).failed) }
+    {
+        self.parts.has_failed(m)
+    }
+
     /// The coordinator, to be read.
     pub fn coordinator(&self) -> &Coordinator
         ensures { result.now ≡ self.now.coordinator }
     {
         &self.parts.coordinator
+    }
+
+    /// A lock that may be granted at the machine; `None` exactly where none may be.
+    pub fn next_grant(&mut self, at: MachineNo) -> Option<Vertex>
+        requires { at.0 < length self.old.machines.items }
+        ensures some { IfSome result (λ x. CanTakePlace M.stands self.old (Event.Local (Local.Grant at x))) }
+        ensures none { IfNone result ((x : Vertex) → CanNotTakePlace M.stands self.old (Event.Local (Local.Grant at x))) }
+        ensures same { StandsForSameSaving M.stands self.old self.new }
+        ensures machines { length self.new.machines.items ≡ length self.old.machines.items }
+    {
+        self.parts.next_grant(at)
+    }
+
+    /// A scope of the machine whose update may be made; `None` exactly where there is none.
+    pub fn next_update(&self, at: MachineNo) -> Option<ScopeId>
+        requires { at.0 < length self.now.machines.items }
+        ensures home { IfSome result (λ s. s.home ≡ at) }
+        ensures some { IfSome result (λ s. CanTakePlace M.stands self.now (Event.Local (Local.Update s))) }
+        ensures none { IfNone result ((s : ScopeId) → s.home ≡ at → CanNotTakePlace M.stands self.now (Event.Local (Local.Update s))) }
+    {
+        self.parts.next_update(at)
+    }
+
+    /// A scope of the machine whose snapshot update may be made; `None` exactly where there is none.
+    pub fn next_mark(&self, at: MachineNo) -> Option<ScopeId>
+        requires { at.0 < length self.now.machines.items }
+        ensures home { IfSome result (λ s. s.home ≡ at) }
+        ensures some { IfSome result (λ s. CanTakePlace M.stands self.now (Event.Local (Local.Mark s))) }
+        ensures none { IfNone result ((s : ScopeId) → s.home ≡ at → CanNotTakePlace M.stands self.now (Event.Local (Local.Mark s))) }
+    {
+        self.parts.next_mark(at)
+    }
+
+    /// Whether the machine may put its section out now.
+    pub fn has_section(&mut self, at: MachineNo) -> bool
+        requires { at.0 < length self.old.machines.items }
+        ensures yes { IsTrue result → CanTakePlace M.stands self.old (Event.Local (Local.Section at)) }
+        ensures no { result ≡ false → CanNotTakePlace M.stands self.old (Event.Local (Local.Section at)) }
+        ensures same { StandsForSameSaving M.stands self.old self.new }
+        ensures machines { length self.new.machines.items ≡ length self.old.machines.items }
+    {
+        self.parts.has_section(at)
+    }
+
+    /// Whether a message is on the link from the one machine to the other.
+    pub fn has_message(&self, from: MachineNo, to: MachineNo) -> bool
+        requires from { from.0 < length self.now.machines.items }
+        requires to { to.0 < length self.now.machines.items }
+        ensures { InEachCluster M.stands self.now (λ st c. IsTrue result ↔ HasFirst (c.link from.0 to.0)) }
+    {
+        self.parts.links.has_message(from, to)
+    }
+
+    /// Whether word of the coordinator is on the link to the machine.
+    pub fn has_call(&self, to: MachineNo) -> bool
+        requires { to.0 < length self.now.machines.items }
+        ensures { InEachCluster M.stands self.now (λ st c. IsTrue result ↔ HasNext (c.calls to.0)) }
+    {
+        self.parts.links.has_message(self.parts.lead(), to)
+    }
+
+    /// Whether word of the machine is on the link to the coordinator.
+    pub fn has_report(&self, from: MachineNo) -> bool
+        requires { from.0 < length self.now.machines.items }
+        ensures { InEachCluster M.stands self.now (λ st c. IsTrue result ↔ HasNext (c.reports from.0)) }
+    {
+        self.parts.links.has_message(from, self.parts.lead())
+    }
+
+    /// Whether word waits at the coordinator for the machine.
+    pub fn call_waits(&self, to: MachineNo) -> bool
+        requires { to.0 < length self.now.machines.items }
+        ensures { InEachCluster M.stands self.now (λ st c. IsTrue result ↔ HasNext (c.coordinator.out to.0)) }
+    {
+        self.parts.coordinator.waits(to)
     }
 }

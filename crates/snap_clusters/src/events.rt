@@ -1,4 +1,7 @@
 //! What may happen in a cluster that takes snapshots.
+ghost use Rattle.std.specs.Prelude.{◌≡◌, option_map};
+ghost use Rattle.snap_clusters.specs.Events.{acting, acting_local, acting_passage};
+
 use gl_base::{MachineNo, ScopeId, Vertex};
 
 /// What a machine does by itself.
@@ -13,6 +16,8 @@ pub enum Local {
     Mark(ScopeId),
     /// It puts its section out.
     Section(MachineNo),
+    /// It fails: it does nothing more in this attempt.
+    Fail(MachineNo),
 }
 
 /// What the coordinator does by itself.
@@ -48,4 +53,42 @@ pub enum Event {
     Local(Local),
     Lead(Lead),
     Passage(Passage),
+}
+
+impl Event {
+    /// The machine that acts in it; none where the coordinator does, or takes what comes.
+    pub(crate) fn acting(self) -> Option<MachineNo>
+        ensures { option_map (λ m. m.0) result ≡ acting self }
+    {
+        match self {
+            Event::Local(local) => Some(local.acting()),
+            Event::Lead(_) => None,
+            Event::Passage(passage) => passage.acting(),
+        }
+    }
+}
+
+impl Local {
+    /// The machine that does it.
+    fn acting(self) -> MachineNo
+        ensures { result.0 ≡ acting_local self }
+    {
+        match self {
+            Local::Admit(at) | Local::Grant(at, _) | Local::Section(at) | Local::Fail(at) => at,
+            Local::Update(scope) | Local::Mark(scope) => scope.home,
+        }
+    }
+}
+
+impl Passage {
+    /// The machine that sends it, or to which it comes.
+    fn acting(self) -> Option<MachineNo>
+        ensures { option_map (λ m. m.0) result ≡ acting_passage self }
+    {
+        match self {
+            Passage::Send { from: at, .. } | Passage::SendReport(at) => Some(at),
+            Passage::Deliver { to: at, .. } | Passage::DeliverCall(at) => Some(at),
+            Passage::SendCall(_) | Passage::DeliverReport(_) => None,
+        }
+    }
 }

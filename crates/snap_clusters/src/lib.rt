@@ -4,11 +4,12 @@
 
 mod clusters;
 mod events;
-mod machines;
+mod laws;
 mod parts;
 
 pub use clusters::SnapCluster;
 pub use coord_core::{Coordinator, Due, Store};
 pub use events::{Event, Lead, Local, Passage};
-pub use machines::SavingMachine;
+pub use laws::bases_stay_good;
 pub use parts::Parts;
+pub use snap_members::SavingMachine;

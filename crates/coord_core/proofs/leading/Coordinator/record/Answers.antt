@@ -1,42 +1,17 @@
 -- The record is that of the law.
-use Rattle.std.proofs.Common.{inl, inr, rules, subst}
-use Rattle.coord_core.specs.Calls.{IsRecordDueOf, MayNotRecord, MayLeadRecord}
+use Rattle.std.proofs.Common.{subst, sym}
+use Rattle.coord_core.specs.Calls.{IsReadyToRecord, IsRecordDueOf}
 use Rattle.coord_core.specs.Coordinators.{CoordinatorView}
-use Rattle.coord_core.specs.Saving.{IsRecordDue}
-use Rattle.coord_core.proofs.DueLemmas.{may_not_record, may_record_it}
 use Rattle.coord_core.proofs.RecordLemmas.{record_for}
 use Rattle.coord_core.proofs.SavingLemmas.{stored_where_due}
 use Rattle.coord_core.proofs.leading.Coordinator.record.Goals as goal
-use Rattle.coord_core.proofs.leading.Coordinator.record.Goals.{then-not-is_record_due-via-then-not-is_record_due, then-not-is_record_due-via-else-not-is_record_due+then-not-has_room}
-
-pub returns-then-not-is_record_due-clause-not_now : goal.returns-then-not-is_record_due-clause-not_now
-returns-then-not-is_record_due-clause-not_now c =
-    let old : CoordinatorView = record { counting = record { put_out = c.self.inside.put_out; waiting = c.self.inside.waiting; waves = c.self.inside.waves }; saving = c.self.inside.saving; out = c.self.inside.out } in
-    λ _. subst MayNotRecord c.self.view_is
-    (may_not_record old c.self.invariant.2
-    (elim c.then-not-is_record_due.branch [
-      | then-not-is_record_due-via-then-not-is_record_due w ↦ inl (λ due. let is = c.is_record_due.ensures.1 due in absurd (search rules))
-      | then-not-is_record_due-via-else-not-is_record_due+then-not-has_room w ↦ inr (λ room. let has = w.has_room.ensures.1 room in absurd (search rules))
-    ]))
-
-pub returns-in_err-reserve_each-clause-no_memory : goal.returns-in_err-reserve_each-clause-no_memory
-returns-in_err-reserve_each-clause-no_memory c =
-    let old : CoordinatorView = record { counting = record { put_out = c.self.inside.put_out; waiting = c.self.inside.waiting; waves = c.self.inside.waves }; saving = c.self.inside.saving; out = c.self.inside.out } in
-    λ _. subst MayLeadRecord c.self.view_is (may_record_it old c.self.invariant.2 (c.is_record_due.ensures.0 (search rules)) (c.has_room.ensures.0 (search rules)))
-
-pub returns-in_err-record-clause-no_memory : goal.returns-in_err-record-clause-no_memory
-returns-in_err-record-clause-no_memory c =
-    let old : CoordinatorView = record { counting = record { put_out = c.self.inside.put_out; waiting = c.self.inside.waiting; waves = c.self.inside.waves }; saving = c.self.inside.saving; out = c.self.inside.out } in
-    λ _. subst MayLeadRecord c.self.view_is (may_record_it old c.self.invariant.2 (c.is_record_due.ensures.0 (search rules)) (c.has_room.ensures.0 (search rules)))
-
-pub returns-clause-due : goal.returns-clause-due
-returns-clause-due c =
-    let old : CoordinatorView = record { counting = record { put_out = c.self.inside.put_out; waiting = c.self.inside.waiting; waves = c.self.inside.waves }; saving = c.self.inside.saving; out = c.self.inside.out } in
-    subst MayLeadRecord c.self.view_is (may_record_it old c.self.invariant.2 (c.is_record_due.ensures.0 (search rules)) (c.has_room.ensures.0 (search rules)))
 
 pub returns-clause-made : goal.returns-clause-made
 returns-clause-made c =
-    let old : CoordinatorView = record { counting = record { put_out = c.self.inside.put_out; waiting = c.self.inside.waiting; waves = c.self.inside.waves }; saving = c.self.inside.saving; out = c.self.inside.out } in
-    let due : IsRecordDue c.self.inside.saving = c.is_record_due.ensures.0 (search rules) in
+    let mid : CoordinatorView = record { counting = record { put_out = c.self.inside.put_out; waiting = c.self.inside.waiting; waves = c.self.inside.waves }; saving = c.self.inside.saving; out = c.self.inside.out } in
+    let ready : IsReadyToRecord mid c.in_ok-make_ready.field-0 = subst (λ (view : CoordinatorView). IsReadyToRecord view c.in_ok-make_ready.field-0) (sym c.self.view_is) c.in_ok-make_ready.ensures.ready in
+    let is : IsRecordDueOf c.make_ready.new.self c.in_ok-record.field-0 =
     subst (λ (view : CoordinatorView). IsRecordDueOf view c.in_ok-record.field-0) c.self.view_is
-    (λ st own of. record_for st c.self.inside.saving own (of.saving (stored_where_due old c.self.invariant.2 st own of due)) c.in_ok-record.field-0 c.self.invariant.2 due c.in_ok-record.ensures)
+    (λ st own of. record_for st c.self.inside.saving own (of.saving (stored_where_due mid c.self.invariant.2 st own of ready.due)) c.in_ok-record.field-0 c.self.invariant.2 ready.due c.in_ok-record.ensures)
+    in
+    λ st own of. is st own (c.in_ok-make_ready.ensures.same st own of)

@@ -19,20 +19,20 @@ returns-in_default g c =
 
 pub hear-requires : goal.hear-requires
 hear-requires g c =
-    can_hear g.M.SavingMachine.stands c.args.self.now c.requires.runs c.args.to c.requires.within c.lead-lead.result c.lead-lead.ensures c.in-Some.message c.in-Some.ensures.first c.index_mut.result.now c.index_mut.ensures.value c.requires.some
+    can_hear g.M.SavingMachine.stands c.args.self.now c.requires.runs c.args.to c.requires.within c.lead-lead.result c.lead-lead.ensures c.in-Some.message c.in-Some.ensures.first c.requires.awake c.index_mut.result.now c.index_mut.ensures.value c.requires.some
 
 pub returns-in-Ok : goal.returns-in-Ok
 returns-in-Ok g c =
     let has = (subst (λ n. HasLinkBetween c.args.self.now.links n c.args.to.0) (sym c.lead-lead.ensures) c.requires.links) in
-    hear_answers g.M.SavingMachine.stands c.args.self.now c.requires.runs c.args.to c.requires.within c.lead-lead.result c.lead-lead.ensures c.in-Some.message c.in-Some.ensures.first c.index_mut.result.now c.index_mut.ensures.value c.hear.new.self c.take.new.self
+    hear_answers g.M.SavingMachine.stands c.args.self.now c.requires.runs c.args.to c.requires.within c.lead-lead.result c.lead-lead.ensures c.in-Some.message c.in-Some.ensures.first c.requires.awake c.index_mut.result.now c.index_mut.ensures.value c.hear.new.self c.take.new.self
     (links_stay c.args.self.now.links c.lead-lead.result.0 c.args.to.0 has c.take.new.self c.in-Some.ensures.rest) c.in-Ok.ensures.heard
     (taken_line g.M.SavingMachine.stands c.args.self.now c.requires.runs c.lead-lead.result.0 c.args.to.0 has c.take.new.self c.in-Some.ensures.behind c.in-Some.ensures.rest)
 
 pub returns-in-Err : goal.returns-in-Err
 returns-in-Err g c =
     let has = (subst (λ n. HasLinkBetween c.args.self.now.links n c.args.to.0) (sym c.lead-lead.ensures) c.requires.links) in
-    hear_full g.M.SavingMachine.stands c.args.self.now c.requires.runs c.args.to c.requires.within c.lead-lead.result c.lead-lead.ensures c.in-Some.message c.in-Some.ensures.first c.index_mut.result.now c.index_mut.ensures.value _
-    (still_here g.M.SavingMachine.stands c.args.self.now c.requires.runs c.args.to.0 c.requires.within c.index_mut.result.now c.index_mut.ensures.value c.hear.new.self c.in-Err.ensures.unchanged c.put_back.new.self
+    hear_full g.M.SavingMachine.stands c.args.self.now c.requires.runs c.args.to c.requires.within c.lead-lead.result c.lead-lead.ensures c.in-Some.message c.in-Some.ensures.first c.requires.awake c.index_mut.result.now c.index_mut.ensures.value _
+    (still_here g.M.SavingMachine.stands c.args.self.now c.requires.runs c.args.to.0 c.requires.within c.requires.awake c.index_mut.result.now c.index_mut.ensures.value c.hear.new.self c.in-Err.ensures.unchanged c.put_back.new.self
     (links_after g.M.SavingMachine.stands c.args.self.now c.requires.runs c.lead-lead.result.0 c.args.to.0 has c.take.new.self c.put_back.new.self c.in-Some.ensures.rest c.put_back.ensures.rest)
     (back_line g.M.SavingMachine.stands c.args.self.now c.requires.runs c.lead-lead.result.0 c.args.to.0 has (message_view c.in-Some.message) (first_is (messages_on c.args.self.now.links c.lead-lead.result.0 c.args.to.0) (message_view c.in-Some.message) c.in-Some.ensures.first)
     c.take.new.self c.in-Some.ensures.behind c.in-Some.ensures.rest c.put_back.new.self

@@ -1,6 +1,6 @@
 -- The call of the machine is the event of the cluster.
 use Rattle.std.proofs.Common.{refl}
-use Rattle.snap_clusters.specs.Deeds as deed
+use Rattle.snap_members.specs.Deeds as deed
 use Rattle.snap_clusters.specs.declared.events.Event.TheVariants as event
 use Rattle.snap_clusters.specs.declared.events.Local.TheVariants as local
 use Rattle.snap_clusters.proofs.Answering.{deed_answers}
@@ -8,6 +8,6 @@ use Rattle.snap_clusters.proofs.parts.Parts.section.Goals as goal
 
 pub returns : goal.returns
 returns g c =
-    deed_answers g.M.SavingMachine.stands c.args.self.now c.requires.runs c.args.at.0 c.requires.within c.index_mut.result.now c.index_mut.ensures.value
+    deed_answers g.M.SavingMachine.stands c.args.self.now c.requires.runs c.args.at.0 c.requires.within c.requires.awake c.index_mut.result.now c.index_mut.ensures.value
     (event.Local (local.Section c.args.at)) deed.Section refl (λ e is. is) tt (λ k. tt) (λ k. (refl, refl))
     c.section.result c.section.new.self c.section.ensures.sent c.section.ensures.not_now c.section.ensures.no_memory c.section.ensures.unchanged

@@ -1,0 +1,12 @@
+use Rattle.std.proofs.Common.{◌≡◌, ℕ, ◌<◌, length}
+use Rattle.std.specs.Prelude.{slice_index_or}
+use Rattle.cluster_model.specs.Machines.{completed}
+use Rattle.call_courses.specs.Courses.{InEachCourse}
+use Rattle.call_courses.proofs.courses.Course.all_completed.Given as goal
+
+abbrev pub invariant-loop-m : goal.invariant-loop-m
+invariant-loop-m g l =
+    record {
+      many : length l.counts.items ≡ l.m;
+      each : (a : ℕ) → a < l.m → InEachCourse g.M.SavingMachine.stands l.self (λ st o events c. slice_index_or l.counts.items a 0 ≡ completed (c.machine a));
+    }

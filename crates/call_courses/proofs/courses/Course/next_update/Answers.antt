@@ -1,0 +1,11 @@
+-- A scope whose update may be made has a task, also after the call's order.
+use Rattle.std.proofs.Common.{refl}
+use Rattle.call_courses.proofs.Calling.{home_of, task_of}
+use Rattle.call_courses.proofs.courses.Course.next_update.Goals as goal
+
+pub returns-clause-home : goal.returns-clause-home
+returns-clause-home g c =
+    home_of g.M.SavingMachine.stands _ c.args.self.now c.self.view_is c.args.at.0 c.machine.result.now c.machine.ensures.is c.next_update.result c.args.at refl c.self.invariant c.next_update.ensures.some
+
+pub returns-clause-task : goal.returns-clause-task
+returns-clause-task g c = task_of g.M.SavingMachine.stands _ c.args.self.now c.self.view_is c.args.at.0 c.machine.result.now c.machine.ensures.is c.next_update.result c.next_update.ensures.some

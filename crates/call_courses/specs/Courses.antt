@@ -1,0 +1,121 @@
+-- The course of a call on a cluster that takes snapshots: how the call opened, and what has happened since.
+pub use Rattle.cluster_model.specs.Clusters.{BaseView, Cluster}
+pub use Rattle.cluster_model.specs.Machines.{Machine}
+pub use Rattle.cluster_core.specs.Settings.{Setting}
+pub use Rattle.coord_core.specs.Coordinators.{StoreView}
+pub use Rattle.snap_clusters.specs.Clusters.{IsSavingClusterOf, IsSnapSetting, StartsSaving}
+pub use Rattle.snap_clusters.specs.declared.parts.Parts.{Parts}
+use Rattle.std.specs.List.{AllByRecursion}
+use Rattle.std.specs.Prelude.{Bool, List, [], length, slice_index_or, ℕ, ◌++◌, ◌<◌, ◌∷◌, ◌≡◌, ◌≢◌}
+use Rattle.gl_base.specs.declared.entries.Entry.{Entry}
+use Rattle.gl_base.specs.declared.jobs.FailureAt.{FailureAt}
+use Rattle.cluster_core.specs.Recovering.{going_on}
+use Rattle.cluster_model.specs.Events as law
+use Rattle.cluster_whole.specs.Whole.{IsNoRecovery, setting_behind}
+use Rattle.whole_calls.specs.Following.{FollowsJob}
+use Rattle.whole_calls.specs.Opened.{IsCourseOfCall, IsOpened}
+
+-- How a call opened: the order of the store's last snapshot, and whether the call resumes it; what the first attempt goes back to; and
+-- the cluster before that.
+pub record CallOpening : Type 0 where
+  pub kept : List Entry
+  pub resumed : Bool
+  pub base : BaseView
+  pub first : Cluster
+
+-- What the course of a call holds: the cluster as the call opened, the failures that the job orders, how many updates each machine had
+-- completed as the newest attempt began, the cluster as it was at some time since then, behind which no snapshot was acknowledged, and
+-- the cluster now.
+pub record CourseView (M : Type 0) : Type 0 where
+  pub start : Parts M
+  pub failures : List FailureAt
+  pub done : List ℕ
+  pub since : Parts M
+  pub now : Parts M
+
+-- the setting of the first attempt, and its cluster as it began
+abbrev pub first_setting : Setting → CallOpening → Setting
+first_setting st o = going_on st o.base.numbers o.base.number
+
+abbrev pub first_cluster : Setting → CallOpening → Cluster
+first_cluster st o = law.recovers st o.base o.first
+
+-- the setting of the newest attempt, behind these events
+abbrev pub newest_setting : Setting → CallOpening → List law.Event → Setting
+newest_setting st o events = setting_behind (first_setting st o) events
+
+-- In this setting the call opened so.
+pub record OpensCall {M : Type 0} (stands : Setting → ℕ → Machine → M → Type 0) (start : Parts M) (failures : List FailureAt) (st : Setting) (o : CallOpening) : Type 0 where
+  pub setting : IsSnapSetting st
+  pub opened : IsOpened st failures o.kept o.resumed o.base o.first
+  pub code : IsSavingClusterOf stands (first_setting st o) start (first_cluster st o)
+
+-- The call opened so, these events have led to this cluster of the law, and for that the cluster stands.
+pub record IsCourseNow {M : Type 0} (stands : Setting → ℕ → Machine → M → Type 0) (v : CourseView M) (st : Setting) (o : CallOpening) (events : List law.Event) (c : Cluster) : Type 0 where
+  pub setting : IsSnapSetting st
+  pub course : IsCourseOfCall st v.failures o.kept o.resumed o.base o.first events c
+  pub code : IsSavingClusterOf stands (newest_setting st o events) v.now c
+  pub done : (a : ℕ) → a < st.machines → (c.machine a).done ≡ slice_index_or v.done a 0
+
+-- in each course to where the cluster is
+abbrev pub InEachCourse : {M : Type 0} → (Setting → ℕ → Machine → M → Type 0) → CourseView M → (Setting → CallOpening → List law.Event → Cluster → Type 0) → Type 0
+InEachCourse stands v holds = (st : Setting) (o : CallOpening) (events : List law.Event) (c : Cluster) → IsCourseNow stands v st o events c → holds st o events c
+
+-- the event acknowledges no snapshot and begins no attempt
+abbrev pub IsPassing : law.Event → Type 0
+IsPassing event = (event ≢ law.Record) × IsNoRecovery event
+
+abbrev pub ArePassing : List law.Event → Type 0
+ArePassing events = AllByRecursion IsPassing events
+
+-- The newer cluster has come of the older one, in the same attempt, and no snapshot was acknowledged between.
+abbrev pub CourseGoesOn : {M : Type 0} → (Setting → ℕ → Machine → M → Type 0) → CourseView M → CourseView M → Type 0
+CourseGoesOn stands old new = InEachCourse stands old (λ st o events c. (more : List law.Event) × (later : Cluster) × ArePassing more × IsCourseNow stands new st o (events ++ more) later)
+
+-- as it was at that time
+abbrev pub as_since : {M : Type 0} → CourseView M → CourseView M
+as_since v = record v { now = v.since }
+
+-- From each opening events have led to where the cluster is, there is one, and the cluster has come of what it was at that time.
+pub record HasCourse {M : Type 0} (stands : Setting → ℕ → Machine → M → Type 0) (v : CourseView M) : Type 0 where
+  pub setting : Setting
+  pub opening : CallOpening
+  pub opens : OpensCall stands v.start v.failures setting opening
+  pub each : (st : Setting) (o : CallOpening) → OpensCall stands v.start v.failures st o → (events : List law.Event) × (c : Cluster) × IsCourseNow stands v st o events c
+  pub many : length v.done ≡ length v.now.machines.items
+  pub goes_on : CourseGoesOn stands (as_since v) v
+
+-- it is the same call and the same attempt, remembered at the same time, with as many machines
+pub record IsSameAttempt {M : Type 0} (old new : CourseView M) : Type 0 where
+  pub start : new.start ≡ old.start
+  pub failures : new.failures ≡ old.failures
+  pub done : new.done ≡ old.done
+  pub since : new.since ≡ old.since
+  pub many : length new.now.machines.items ≡ length old.now.machines.items
+
+-- ---- where it goes back
+
+-- Recover may occur in this course and follows the job, and the machines begin again from its base, with this store.
+pub record GoesBackWith {M : Type 0} (stands : Setting → ℕ → Machine → M → Type 0) (old : CourseView M) (xs : List M) (store : StoreView) (st : Setting) (o : CallOpening) (events : List law.Event) (c : Cluster) (base : BaseView) : Type 0 where
+  pub is : IsCourseNow stands old st o events c
+  pub may : law.MayOccur (newest_setting st o events) c (law.Recover base)
+  pub follows : FollowsJob (newest_setting st o events) old.failures c (law.Recover base)
+  pub starts : StartsSaving stands xs store old.now.next old.now.left (newest_setting st o events) base c
+
+-- from each opening a course goes back so
+abbrev pub CanGoBack : {M : Type 0} → (Setting → ℕ → Machine → M → Type 0) → CourseView M → List M → StoreView → Type 0
+CanGoBack stands old xs store =
+    (st : Setting) (o : CallOpening) → OpensCall stands old.start old.failures st o → (events : List law.Event) × (c : Cluster) × (base : BaseView) × GoesBackWith stands old xs store st o events c base
+
+-- each that may has gone back
+abbrev pub HasGoneBack : {M : Type 0} → (Setting → ℕ → Machine → M → Type 0) → CourseView M → List M → StoreView → CourseView M → Type 0
+HasGoneBack stands old xs store new =
+    (st : Setting) (o : CallOpening) (events : List law.Event) (c : Cluster) (base : BaseView) → GoesBackWith stands old xs store st o events c base →
+    IsCourseNow stands new st o (events ++ law.Recover base ∷ []) (law.recovers (newest_setting st o events) base c)
+
+-- ---- where it begins
+
+-- The machines begin the call's first attempt, with this store, in this setting.
+pub record StartsCall {M : Type 0} (stands : Setting → ℕ → Machine → M → Type 0) (xs : List M) (store : StoreView) (next left : ℕ) (failures : List FailureAt) (st : Setting) (o : CallOpening) : Type 0 where
+  pub starts : StartsSaving stands xs store next left st o.base o.first
+  pub opened : IsOpened st failures o.kept o.resumed o.base o.first
