@@ -2,5 +2,7 @@
 #![tactic(auto)]
 
 mod machines;
+mod steps;
 
 pub use machines::ClusterMachine;
+pub use steps::StepMachine;

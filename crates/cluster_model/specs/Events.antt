@@ -1,6 +1,6 @@
 -- The events of a cluster: when each may happen, and what it does.
 use Rattle.std.specs.List.Sorted.{IsPermutation}
-use Rattle.std.specs.Prelude.{List, None, Option, Some, [], false, if◌then◌else◌, is_some, pred, suc, true, zero, ℕ, ⊤, ◌++◌, ◌<◌, ◌∷◌, ◌≡◌, ◌⊎◌}
+use Rattle.std.specs.Prelude.{List, None, Option, Some, [], false, if◌then◌else◌, is_some, pred, suc, true, zero, ℕ, ⊤, ◌*◌, ◌++◌, ◌+◌, ◌<◌, ◌∷◌, ◌≡◌, ◌⊎◌}
 use Rattle.gl_base.specs.declared.entries.Entry.{Entry}
 use Rattle.gl_base.specs.declared.entries.Entry.TheVariants.{Go}
 use Rattle.gl_base.specs.declared.scopes.ScopeId.{ScopeId}
@@ -180,7 +180,8 @@ abbrev pub saves : Setting → Cluster → ScopeId → Option ℕ → Cluster
 saves st c s None = c
 saves st c s (Some v) = with_machine c s.home.0 (prompt st s.home.0 (makes_mark st s.home.0 s v (c.machine s.home.0)))
 
--- all machines go back to the base, the links are empty, and tickets go on
+-- All machines go back to the base, the links are empty, and tickets go on. The next record brings a restart for each failure, so place for these
+-- is kept in the store.
 abbrev pub recovers : Setting → BaseView → Cluster → Cluster
 recovers st base c =
     record {
@@ -188,7 +189,7 @@ recovers st base c =
       link = λ p q. [];
       calls = λ a. [];
       reports = λ a. [];
-      coordinator = first_coordinator st base.number c.coordinator.store_end;
+      coordinator = first_coordinator st base.number (c.coordinator.store_end + 16 * failures_in st c);
       next = c.next;
       left = c.left;
       base = base;

@@ -35,7 +35,7 @@ pub record Coordinator : Type 0 where
   pub wanted : Bool
   -- the snapshots that were acknowledged in this attempt, the first first
   pub snapshots : List Snapshot
-  -- where the store's file ends
+  -- where the store's file ends, with place for the restarts that it doesn't have yet
   pub store_end : ℕ
   -- what waits to be sent to each machine
   pub out : ℕ → List Call

@@ -139,7 +139,7 @@ newest_valid st logged low high (snapshot ∷ snapshots) numbered good valid =
 
 -- ---- what a record has
 
-come_section : (come : Option Come) (section : core.Section) → section_of come ≡ Some section → (come_or come).section ≡ section
+pub come_section : (come : Option Come) (section : core.Section) → section_of come ≡ Some section → (come_or come).section ≡ section
 come_section None section is = absurd (none_is section is)
   where
     none_is : (section : core.Section) → None ≡ Some section → ⊥

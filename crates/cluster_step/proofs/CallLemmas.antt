@@ -13,11 +13,10 @@ use Rattle.cluster_core.specs.Effects.{admitted, granted, received, updated}
 use Rattle.cluster_core.specs.Messages.{Message}
 use Rattle.cluster_core.specs.Parts.{Part}
 use Rattle.cluster_core.specs.Ranges.{set_at}
-use Rattle.cluster_core.specs.Receiving.{MayReceive}
-use Rattle.cluster_core.specs.Settings.{Engine, Locking, Setting}
+use Rattle.cluster_core.specs.Settings.{Setting}
 use Rattle.cluster_core.specs.Worlds.{World, with_part, with_link}
 use Rattle.cluster_numbers.proofs.Keeping.{updates_is}
-use Rattle.cluster_machines.specs.Promises.{AdmitsNone, AdmitsSome, GrantsIt, GrantsNone, GrantsNot, IsAdmission, IsGrant, IsSameMachine, IsUpdate, MakesAdmission, MakesGrant, MakesUpdate, IsAsExpected, IsExpectedBy, IsExpectedIn, MayReceiveBy, MayReceiveIn, UpdatesIt, UpdatesNone}
+use Rattle.cluster_machines.specs.Promises.{AdmitsNone, AdmitsSome, GrantsIt, GrantsNone, GrantsNot, IsAdmission, IsGrant, IsSameMachine, IsUpdate, MakesAdmission, MakesGrant, MakesUpdate, MayReceiveIn, UpdatesIt, UpdatesNone}
 use Rattle.cluster_step.specs.Links.{LinkView, told_on}
 use Rattle.cluster_step.specs.Worlds.{part_of_machine, world_of_parts}
 use Rattle.cluster_step.specs.Inner.Writing.{HaveLinks}
@@ -49,13 +48,6 @@ for_some None P Q by holds = tt
 pub for_none : {X : Type 0} (o : Option X) (P Q : Type 0) → (P → Q) → IfNone o P → IfNone o Q
 for_none (Some x) P Q by holds = tt
 for_none None P Q by holds = by holds
-
--- where scopes take locks it is the law's condition
-pub comes_in : (st : Setting) (p a : ℕ) (x : Part) (message : Message) → st.engine ≡ Locking → MayReceive st p a x message → MayReceiveIn st p a x message
-comes_in st p a x message locks may = subst (λ (e : Engine). MayReceiveBy e st p a x message) (sym locks) may
-
-pub expected_in : (st : Setting) (a : ℕ) (x : Part) (message : Message) → st.engine ≡ Locking → IsAsExpected st a x message → IsExpectedIn st a x message
-expected_in st a x message locks is = subst (λ (e : Engine). IsExpectedBy e st a x message) (sym locks) is
 
 -- one machine and the links are others
 abbrev pub with_both : {M : Type 0} → Parts M → ℕ → M → List (List LinkView) → Parts M
@@ -333,10 +325,10 @@ module _ {M : Type 0} (belongs : Setting → ℕ → M → Type 0) (part : M →
   deliver_made p q named message behind new links first made changes st go =
       let w : World = world_of_parts part st old in
       let at_q : part_of_machine part st old.machines.items q.0 ≡ part m = ap (part_of_machine part st old.machines.items) named ∙ here st in
-      let comes : MayReceive st p.0 a (part m) message =
-      subst (λ (x : Part). MayReceive st p.0 a x message) at_q
-      (subst (λ (k : ℕ). MayReceive st p.0 k (w.part q.0) message) named (go.fronts p.0 q.0 message behind first)) in
-      let after_is : part new ≡ received st a message (part m) = made st (here_belongs st go) (comes_in st p.0 a (part m) message go.locks comes) in
+      let comes : MayReceiveIn st p.0 a (part m) message =
+      subst (λ (x : Part). MayReceiveIn st p.0 a x message) at_q
+      (subst (λ (k : ℕ). MayReceiveIn st p.0 k (w.part q.0) message) named (go.fronts p.0 q.0 message behind first)) in
+      let after_is : part new ≡ received st a message (part m) = made st (here_belongs st go) comes in
       let done : world_of_parts part st (with_both old a new links) ≡ delivers st w p.0 q.0 (message ∷ behind) =
       world_both st new links (received st a message (part m)) p.0 q.0 behind after_is changes
       ∙ ap (λ (k : ℕ). with_link (with_part w k (received st k message (part m))) p.0 q.0 behind) (sym named)

@@ -79,7 +79,7 @@ fresh_alike st numbers one other v same fresh =
 
 -- ---- lock after lock
 
-module _ (st : Setting) (is : IsSetting st) (locks : st.engine ≡ Locking) (from : World) (a v : ℕ) where
+module _ (st : Setting) (is : IsSetting st) (from : World) (a v : ℕ) where
   abbrev machine : MachineNo
   machine = record { 0 = a }
 
@@ -87,13 +87,13 @@ module _ (st : Setting) (is : IsSetting st) (locks : st.engine ≡ Locking) (fro
   with_lock now k = after st now (law.Grant a k)
 
   admit_goes : (now : World) → IsGoingOn st from now → law.MayHappen st now (law.Admit a v) → IsGoingOn st from (after st now (law.Admit a v))
-  admit_goes now going may = goes_on_by st is locks from now going (Admit machine) (law.Admit a v) (after st now (law.Admit a v)) (v, refl) (may, refl)
+  admit_goes now going may = goes_on_by st is from now going (Admit machine) (law.Admit a v) (after st now (law.Admit a v)) (v, refl) (may, refl)
 
   grant_goes : (now : World) (k : ℕ) → IsGoingOn st from now → law.MayHappen st now (law.Grant a k) → IsGoingOn st from (with_lock now k)
-  grant_goes now k going may = goes_on_by st is locks from now going (Grant machine (record { 0 = k })) (law.Grant a k) (with_lock now k) refl (may, refl)
+  grant_goes now k going may = goes_on_by st is from now going (Grant machine (record { 0 = k })) (law.Grant a k) (with_lock now k) refl (may, refl)
 
   grants_go : (s : ScopeId) (locks_left : List ℕ) (now new : World) → IsGoingOn st from now → IsActionRun st now (map (law.Grant a) locks_left ++ law.Update s ∷ []) new → IsGoingOn st from new
-  grants_go s [] now new going run = goes_on_by st is locks from now going (Update s) (law.Update s) new refl (run.0, run.1)
+  grants_go s [] now new going run = goes_on_by st is from now going (Update s) (law.Update s) new refl (run.0, run.1)
   grants_go s (k ∷ locks_left) now new going run = grants_go s locks_left (with_lock now k) new (grant_goes now k going run.0) run.1
 
   pub grants_alone_go : (locks_left : List ℕ) (now new : World) → IsGoingOn st from now → IsActionRun st now (map (law.Grant a) locks_left) new → IsGoingOn st from new
@@ -111,7 +111,7 @@ module _ (st : Setting) (is : IsSetting st) (locks : st.engine ≡ Locking) (fro
         let here : now.part s.home.0 ≡ now.part a = ap (λ (m : MachineNo). now.part m.0) home in
         let centre : run.0.vertex ≡ v = same_Some run.0.vertex v (sym run.0.flight ∙ ap (λ (p : Part). p.flight s) here ∙ flies) in
         fresh_alike st (replay_of st order) (now.part s.home.0) part v (ap lent here ∙ same)
-        (subst (IsFresh st (replay_of st order) (now.part s.home.0)) centre (fresh_now st is locks from now going order replay s run.0))
+        (subst (IsFresh st (replay_of st order) (now.part s.home.0)) centre (fresh_now st is from now going order replay s run.0))
     grants_fresh (k ∷ locks_left) now new going replay flies same run =
         let quiet = granted-quiet st a k (now.part a) in
         let there : (with_lock now k).part a ≡ granted st a k (now.part a) = set_at-same now.part a (granted st a k (now.part a)) in
@@ -122,9 +122,9 @@ module _ (st : Setting) (is : IsSetting st) (locks : st.engine ≡ Locking) (fro
         (ap lent there ∙ same_lent (now.part a) (granted st a k (now.part a)) quiet ∙ same)
         run.1
 
-  pub at_once_fresh : (order : List Entry) (locks_left : List ℕ) (now new : World) → IsGoingOn st from now → IsReplay st now order →
+  pub at_once_fresh : st.engine ≡ Locking → (order : List Entry) (locks_left : List ℕ) (now new : World) → IsGoingOn st from now → IsReplay st now order →
       IsActionRun st now (law.Admit a v ∷ map (law.Grant a) locks_left ++ law.Update (next_scope a (now.part a)) ∷ []) new → IsFresh st (replay_of st order) (now.part a) v
-  at_once_fresh order locks_left now new going replay run =
+  at_once_fresh locks order locks_left now new going replay run =
       let part = now.part a in
       let came : Part = admitted st a v part in
       let quiet = admitted-quiet st a v part in

@@ -1,5 +1,5 @@
 -- Locks that a machine grants in turn, as the cluster has them.
-use Rattle.std.proofs.Common.{◌≡◌, ℕ, ◌<◌, List, ◌∷◌, get_or, length, map, refl, sym, subst}
+use Rattle.std.proofs.Common.{◌≡◌, ℕ, ◌<◌, ◌∷◌, get_or, length, map, refl, sym, subst}
 use Rattle.std.specs.Prelude.{Result, Ok, Err, OnErr, OnOk}
 use Rattle.gl_base.specs.declared.refusals.Refused.{Refused}
 use Rattle.cluster_core.specs.Actions.{Grant}
@@ -40,7 +40,7 @@ module _ {M : Type 0} (belongs : Setting → ℕ → M → Type 0) (part : M →
       OnErr r (HoldTheSame part old new) → IsSameCluster belongs earlier old new → IsKept belongs part earlier start new
   kept_in_turn start old kept a x (Ok done) new made same_world same =
       next_kept belongs part earlier start old kept new same (λ st begin.
-      grants_alone_go st begin.setting begin.locks (world_of_parts part st start) a x (x ∷ made.0) (world_of_parts part st old) (world_of_parts part st new) (kept.going st begin)
+      grants_alone_go st begin.setting (world_of_parts part st start) a x (x ∷ made.0) (world_of_parts part st old) (world_of_parts part st new) (kept.going st begin)
       (made.1 st (can_go belongs part earlier start old kept st begin)))
   kept_in_turn start old kept a x (Err refused) new made same_world same = kept_same belongs part earlier start old kept new same_world same
 

@@ -28,7 +28,7 @@ use Rattle.cluster_step.specs.declared.events.Event.{Event}
 use Rattle.cluster_step.specs.declared.parts.Parts.{Parts}
 use Rattle.cluster_step.proofs.CallLemmas.{for_none, for_some}
 use Rattle.cluster_step.proofs.GoingLemmas.{begins_going, fresh_now, front_comes, front_expected, goes_on_by}
-use Rattle.cluster_step.proofs.StartLemmas.{world_starts, world_unmarked}
+use Rattle.cluster_step.proofs.StartLemmas.{world_starts, world_starts_by, world_unmarked}
 
 module _ {M : Type 0} (belongs : Setting → ℕ → M → Type 0) (part : M → Part) (earlier : M → ℕ) where
   pub kept_new : (p : Parts M) → (st : Setting) × StartIn belongs part p.machines.items st → ((a b : ℕ) → told_on p.links a b ≡ []) → HaveLinks p.links (length p.machines.items) →
@@ -37,7 +37,7 @@ module _ {M : Type 0} (belongs : Setting → ℕ → M → Type 0) (part : M →
       record {
         setting = some.0;
         began = some.1;
-        going = λ st begin. begins_going st begin.setting (world_of_parts part st p) (world_starts belongs part p st begin none) (world_unmarked belongs part p st begin none);
+        going = λ st begin. begins_going st begin.setting (world_of_parts part st p) (world_starts_by belongs part p st begin none) (world_starts belongs part p st begin none) (world_unmarked belongs part p st begin none);
         machines = λ st begin. begin.here;
         many = refl;
         before = λ a. refl;
@@ -51,10 +51,9 @@ module _ {M : Type 0} (belongs : Setting → ℕ → M → Type 0) (part : M →
     can_go st begin =
         record {
           is = begin.setting;
-          locks = begin.locks;
           machines = kept.machines st begin;
-          fronts = front_comes st begin.setting begin.locks (world_of_parts part st start) (world_of_parts part st old) (kept.going st begin);
-          expected = front_expected st begin.setting begin.locks (world_of_parts part st start) (world_of_parts part st old) (kept.going st begin);
+          fronts = front_comes st begin.setting (world_of_parts part st start) (world_of_parts part st old) (kept.going st begin);
+          expected = front_expected st begin.setting (world_of_parts part st start) (world_of_parts part st old) (kept.going st begin);
         }
 
     pub makes_from : (event : Event) (new : Parts M) → MakesEvent (CanGoOn belongs part old) part old event new → MakesEvent (StartIn belongs part start.machines.items) part old event new
@@ -91,7 +90,7 @@ module _ {M : Type 0} (belongs : Setting → ℕ → M → Type 0) (part : M →
     kept_after event (Ok done) new made same_world same =
         next_kept new same (λ st begin.
         let one : Happens st (world_of_parts part st old) event (world_of_parts part st new) = made st (can_go st begin) in
-        goes_on_by st begin.setting begin.locks (world_of_parts part st start) (world_of_parts part st old) (kept.going st begin) event one.action (world_of_parts part st new) one.is one.step)
+        goes_on_by st begin.setting (world_of_parts part st start) (world_of_parts part st old) (kept.going st begin) event one.action (world_of_parts part st new) one.is one.step)
     kept_after event (Err refused) new made same_world same = kept_same new same_world same
 
     -- each update was fresh
@@ -123,7 +122,7 @@ module _ {M : Type 0} (belongs : Setting → ℕ → M → Type 0) (part : M →
         let w : World = world_of_parts part st old in
         let one : Happens st w (Update s) (world_of_parts part st new) = made st (can_go st begin) in
         let may : MayHappen st w (law.Update s) = subst (MayHappen st w) one.is one.step.0 in
-        (may.vertex, may.flight, fresh_now st begin.setting begin.locks (world_of_parts part st start) w (kept.going st begin) order (replay_from_since st order since) s may)
+        (may.vertex, may.flight, fresh_now st begin.setting (world_of_parts part st start) w (kept.going st begin) order (replay_from_since st order since) s may)
     fresh_after event (Err refused) new made = tt
 
   -- ---- the same, as the cluster is seen

@@ -9,3 +9,5 @@ pub mod ReadLemmas
 pub mod GrantedLemmas
 pub mod AtOnceLemmas
 pub mod InTurnLemmas
+pub mod StepLemmas
+pub mod TurnLemmas

@@ -70,7 +70,7 @@ module _ {M : Type 0} (belongs : Setting → ℕ → M → Type 0) (part : M →
       let w : World = world_of_parts part st now in
       let going : IsGoingOn st from w = kept.going st begin in
       let rest : List Entry = going.gone.rest in
-      let replay : IsReplay st w rest = replay_is st begin.setting begin.locks from w going in
+      let replay : IsReplay st w rest = replay_is st begin.setting from w going in
       let drawn : now.next ≡ start.next + length rest = going.gone.drawn in
       let tickets = kept.tickets in (
         rest,

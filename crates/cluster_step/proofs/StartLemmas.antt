@@ -1,18 +1,19 @@
 -- Machines that start make a world that starts.
-use Rattle.std.proofs.Common.{◌≡◌, ◌⊎◌, ℕ, zero, suc, ◌<◌, ◌≤◌, List, [], ◌∷◌, length, map, get_or, Some, slice_get, sym, refl, subst, ⊎_elim, arith}
+use Rattle.std.proofs.Common.{◌≡◌, ◌⊎◌, ◌∙◌, ℕ, zero, suc, ◌<◌, ◌≤◌, true, List, [], ◌∷◌, length, map, get_or, Some, slice_get, ap, sym, refl, subst, ⊎_elim, arith}
 use Rattle.std.proofs.lemmas.Bool.{cases_lt}
 use Rattle.std.proofs.lemmas.List.{get_or_past, length-map}
 use Rattle.graph_core.specs.DataGraph.{IsEdge, size}
 use Rattle.cluster_core.specs.Copies.{from_owner, to_owner}
 use Rattle.cluster_core.specs.Parts.{Part}
 use Rattle.cluster_core.specs.Runs.{IsStart}
-use Rattle.cluster_core.specs.Settings.{Setting, IsSetting, nth_edge}
+use Rattle.cluster_core.specs.Settings.{Chromatic, Engine, Locking, Setting, IsSetting, nth_edge}
 use Rattle.cluster_core.specs.Snapshots.{IsUnmarked}
 use Rattle.cluster_core.proofs.Nearness.{part_low}
 use Rattle.cluster_step.specs.Links.{told_on}
 use Rattle.cluster_step.specs.Worlds.{part_of_machine, no_part, world_of_parts}
-use Rattle.cluster_step.specs.Starts.{StartIn, IsStartPart}
+use Rattle.cluster_step.specs.Starts.{StartIn, StartsBy, IsStartPart}
 use Rattle.cluster_step.specs.declared.parts.Parts.{Parts}
+use Rattle.cluster_step.proofs.GoingLemmas.{StartsAt}
 
 -- what stands at a place of a list
 record HasItem {X Y : Type 0} (read : X → Y) (xs : List X) (a : ℕ) (d : Y) : Type 0 where
@@ -97,3 +98,21 @@ module _ {M : Type 0} (belongs : Setting → ℕ → M → Type 0) (part : M →
         reports = λ a. refl;
         collected = λ a. refl;
       }
+
+  -- where vertices run by colours each part is closed
+  closed_at : ((a : ℕ) (m : M) → slice_get p.machines.items a ≡ Some m → (part m).closed ≡ true) → (a : ℕ) → (part_of_machine part st p.machines.items a).closed ≡ true
+  closed_at closed a =
+      ⊎_elim
+      (λ (low : a < length p.machines.items).
+      let has : HasItem part p.machines.items a (no_part st) = has_item part p.machines.items a (no_part st) low in
+      ap (λ (x : Part). x.closed) has.reads ∙ closed a has.item has.stands)
+      (λ (high : length p.machines.items ≤ a).
+      ap (λ (x : Part). x.closed) (get_or_past (map part p.machines.items) a (no_part st) (subst (λ n. n ≤ a) (sym (length-map p.machines.items part)) high)))
+      (cases_lt a (length p.machines.items))
+
+  starts_by : (e : Engine) → StartsBy e st part p.machines.items → StartsAt e st (world_of_parts part st p)
+  starts_by Locking start = tt
+  starts_by (Chromatic colour colours) start = (start.0, closed_at start.1)
+
+  pub world_starts_by : StartsAt st.engine st (world_of_parts part st p)
+  world_starts_by = starts_by st.engine begin.engine

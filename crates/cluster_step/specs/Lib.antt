@@ -3,6 +3,7 @@ pub mod Worlds
 pub mod Events
 pub mod AtOnce
 pub mod InTurn
+pub mod Stepping
 pub mod Starts
 pub mod Clusters
 pub mod Inner

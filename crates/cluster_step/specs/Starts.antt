@@ -11,9 +11,10 @@ pub use Rattle.cluster_core.specs.Replays.{IsFresh, IsTask, entries_of, replay_o
 pub use Rattle.cluster_core.specs.Runs.{IsStart}
 pub use Rattle.graph_core.specs.DataGraph.{size}
 use Rattle.cluster_core.specs.Scopes.{takes_part}
-use Rattle.cluster_core.specs.Settings.{Locking, nth_edge}
+use Rattle.cluster_core.specs.Settings.{Chromatic, Engine, Locking, nth_edge}
 use Rattle.cluster_core.specs.Worlds.{way}
 use Rattle.cluster_cuts.specs.Goings.{AreUpdatesFrom, IsByOwner, IsOfVertexBelow}
+use Rattle.cluster_places.specs.Steps.{AreApart}
 use Rattle.seq_run.specs.Orders.{IsValidFrom, all_tasks}
 use Rattle.cluster_step.specs.declared.events.Event.{Event}
 use Rattle.cluster_step.specs.declared.events.Event.TheVariants.{Admit, Deliver, Grant, Send, Update}
@@ -39,11 +40,16 @@ pub record IsStartPart (st : Setting) (a : ℕ) (part : Part) : Type 0 where
   pub sent : part.sent ≡ st.base
   pub pending : (u : ℕ) → part.pending u ≡ false
 
--- In a cluster of this setting these machines start: there are as many as it has, scopes take locks, and each is the machine of its
--- place and holds what it starts with.
+-- With locks nothing more is asked. With colours neighbours have different ones, and no machine is in a step.
+abbrev pub StartsBy : {M : Type 0} → Engine → Setting → (M → Part) → List M → Type 0
+StartsBy Locking st part machines = ⊤
+StartsBy {M} (Chromatic colour colours) st part machines = AreApart st colour × ((a : ℕ) (m : M) → slice_get machines a ≡ Some m → (part m).closed ≡ true)
+
+-- In a cluster of this setting these machines start: there are as many as it has, each is the machine of its place and holds what it
+-- starts with, and they start as its engine has them.
 pub record StartIn {M : Type 0} (belongs : Setting → ℕ → M → Type 0) (part : M → Part) (machines : List M) (st : Setting) : Type 0 where
   pub setting : IsSetting st
-  pub locks : st.engine ≡ Locking
+  pub engine : StartsBy st.engine st part machines
   pub many : length machines ≡ st.machines
   pub here : (a : ℕ) (m : M) → slice_get machines a ≡ Some m → belongs st a m
   pub start : (a : ℕ) (m : M) → slice_get machines a ≡ Some m → IsStartPart st a (part m)

@@ -7,6 +7,7 @@ ghost use Rattle.cluster_step.specs.Links.{told_on};
 ghost use Rattle.cluster_step.specs.Worlds.{Setting, earlier_at};
 ghost use Rattle.cluster_step.specs.AtOnce.{CanMoveAtOnce, CanNotMoveAtOnce, IsActionRun, MovesAtOnce, actions_at_once};
 ghost use Rattle.cluster_step.specs.InTurn.{GrantsInTurn};
+ghost use Rattle.cluster_step.specs.Stepping.{BeginsStep, CannotCloseAt, ClosesAt, IsInAStep, RunsByColours};
 ghost use Rattle.cluster_step.specs.Events.{NamesMachinesOf, MakesEvent, CanMakeEvent, CanNotMakeEvent, HasFirst, HoldTheSame};
 ghost use Rattle.cluster_step.specs.Starts.{StartIn, IsFresh, IsOrderSince, IsStart, IsEndOf, WasFresh, AllHaveHeard, replay_of, tasks_of, size};
 ghost use Rattle.cluster_step.specs.Clusters.{InEachSetting, OfTheOrder, part_now, world_now};
@@ -16,7 +17,7 @@ ghost use Rattle.std.specs.List.{All};
 use crate::events::Event;
 use crate::links::Links;
 use crate::parts::Parts;
-use cluster_machines::ClusterMachine;
+use cluster_machines::{ClusterMachine, StepMachine};
 use gl_base::{EdgeNo, Entry, MachineNo, NoMemory, Refused, ScopeId, Vertex};
 use std::alloc::Global;
 use std::marker::Model;
@@ -236,6 +237,36 @@ impl<M: ClusterMachine> Cluster<M> {
             AllHaveHeard st (world_now M.part st self.now) → (u : ℕ) → u < size st.graph → tasks_of st order u ≡ false)) }
     {
         first_task(&self.parts.machines)
+    }
+}
+
+impl<M: StepMachine> Cluster<M> {
+    /// The machine's share of the step is done, and it admits nothing more in it.
+    pub fn close(&mut self, at: MachineNo) -> Result<(), Refused>
+        requires { at.0 < length self.old.now.machines.items }
+        ensures closed { OnOk result (ClosesAt (StartIn M.belongs M.part self.old.start.machines.items) M.part self.old.now at.0 self.new.now) }
+        ensures not_now { IsErrOf result Refused.NotNow → CannotCloseAt (StartIn M.belongs M.part self.old.start.machines.items) M.part self.old.now at.0 }
+        ensures no_memory { IsErrOf result Refused.NoMemory → ⊥ }
+        ensures unchanged { OnErr result (HoldTheSame M.part self.old.now self.new.now) }
+        ensures start { self.new.start ≡ self.old.start }
+        ensures machines { length self.new.now.machines.items ≡ length self.old.now.machines.items }
+    {
+        self.parts.close(at)
+    }
+
+    /// The step of this colour begins at each machine, where the step before is over: each machine has closed, no scope is in flight,
+    /// and nothing is on its way. It takes no memory.
+    pub fn step(&mut self, colour: u32) -> Result<(), Refused>
+        requires few { length self.old.now.machines.items < 65536 }
+        requires colours { (st : Setting) × StartIn M.belongs M.part self.old.start.machines.items st × RunsByColours st }
+        ensures begun { OnOk result (BeginsStep M.part self.old.now colour self.new.now) }
+        ensures not_now { IsErrOf result Refused.NotNow → IsInAStep M.part self.old.now }
+        ensures no_memory { IsErrOf result Refused.NoMemory → ⊥ }
+        ensures unchanged { OnErr result (HoldTheSame M.part self.old.now self.new.now) }
+        ensures start { self.new.start ≡ self.old.start }
+        ensures machines { length self.new.now.machines.items ≡ length self.old.now.machines.items }
+    {
+        self.parts.step(colour)
     }
 }
 

@@ -7,8 +7,9 @@ mod events;
 mod link;
 mod links;
 mod parts;
+mod steps;
 
-pub use cluster_machines::ClusterMachine;
+pub use cluster_machines::{ClusterMachine, StepMachine};
 pub use clusters::Cluster;
 pub use events::Event;
 pub use links::Links;

@@ -17,6 +17,7 @@ pub fn close(core: &mut ColorCore) -> Result<(), Refused>
     ensures done { OnOk result (HasDoneItsShare core.old) }
     ensures closed { OnOk result (part_in_steps core.new ≡ closes (part_in_steps core.old)) }
     ensures not_now { IsErrOf result Refused.NotNow → GoesOnHere core.old }
+    ensures open { IsErrOf result Refused.NotNow → core.old.closed ≡ false }
     ensures memory { IsErrOf result Refused.NoMemory → ⊥ }
     ensures unchanged { OnErr result (core.new ≡ core.old) }
     ensures rest { core.new ≡ record core.old { closed = core.new.closed } }
@@ -33,6 +34,7 @@ fn is_done(core: &ColorCore) -> bool
     requires { IsInStepOrder core.now }
     ensures done { result ≡ true → HasDoneItsShare core.now }
     ensures goes_on { result ≡ false → GoesOnHere core.now }
+    ensures open { result ≡ false → core.now.closed ≡ false }
 {
     if core.closed {
         return true;

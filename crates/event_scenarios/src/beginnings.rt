@@ -1,5 +1,6 @@
 //! Clusters that begin.
 ghost use Rattle.std.specs.Prelude.{◌≡◌, ◌<◌, All, IfOk, IsTrue, false, length};
+ghost use Rattle.cluster_core.specs.Settings.{Locking};
 ghost use Rattle.graph_core.specs.DataGraph.{size};
 ghost use Rattle.placed_clusters.specs.Running.{AreStartIn, IsBaseFor, Setting};
 
@@ -123,7 +124,7 @@ pub fn machines_of<P: Program>(
     alloc: Global,
     beginning: &Beginning<'_, P>,
 ) -> Result<Vec<ProgramMachine<P>>, Trouble>
-    ensures plain { IfOk result (λ machines. (st : Setting) × AreStartIn P.meaning machines.items st × (st.stored ≡ false)) }
+    ensures plain { IfOk result (λ machines. (st : Setting) × AreStartIn P.meaning machines.items st × (st.stored ≡ false) × (st.engine ≡ Locking)) }
 {
     let (graph, base, run) = (beginning.graph, beginning.base, beginning.run);
     let of = beginning.places.of.as_slice();

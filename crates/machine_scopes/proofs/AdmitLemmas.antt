@@ -1,5 +1,5 @@
 -- An admission as a whole, and one for which there is no memory.
-use Rattle.std.proofs.Common.{◌≡◌, ℕ, ◌<◌, Bool, true, false, if◌then◌else◌, Option, None, Some, List, length, get_or, slice_get, slice_set, refl, sym, ap, ◌∙◌, subst, inl, inr}
+use Rattle.std.proofs.Common.{◌≡◌, ℕ, zero, suc, ◌+◌, ◌<◌, Bool, true, false, if◌then◌else◌, Option, None, Some, List, [], ◌∷◌, length, add-zero, arith, get_or, slice_get, slice_set, refl, sym, ap, ◌∙◌, subst, inl, inr}
 use Rattle.std.proofs.lemmas.Bool.{cases_eq, eq-eqb, ne_eqb}
 use Rattle.std.proofs.lemmas.List.{get_or-set_other, length-set}
 use Rattle.std.proofs.lemmas.Option.{slice_get_read}
@@ -20,13 +20,13 @@ use Rattle.machine_parts.specs.Order.{IsOrderly, KnowsPlaces, nobody}
 use Rattle.machine_parts.specs.Rooms.{HasOnlyMadeRoom}
 use Rattle.machine_parts.specs.Settings.{IsPartOf}
 use Rattle.machine_parts.proofs.RoomLemmas.{part_room, orderly_room}
-use Rattle.machine_scopes.specs.Admitting.{CanAdmitPick, HasAdmittedPick, with_pick}
+use Rattle.machine_scopes.specs.Admitting.{AreFreeUnplanned, CanAdmitPick, HasAdmittedPick, HaveSamePlans, with_pick}
 use Rattle.machine_scopes.specs.Asking.{IsNewAt}
-use Rattle.machine_scopes.specs.Inner.Picking.{CanTake, IsPutBack}
+use Rattle.machine_scopes.specs.Inner.Picking.{CanTake, IsPutBack, IsUnplanned}
 use Rattle.machine_scopes.specs.Inner.Setting.{HasSetOut}
 use Rattle.machine_scopes.proofs.ComeLemmas.{new_room}
 use Rattle.machine_scopes.proofs.FlownLemmas.{admitted_is, numbers_picked, orderly_flown, outside_stays, part_flown, pending_stays, scope_is_new, task_stays, window_stays}
-use Rattle.machine_scopes.proofs.PickLemmas.{may_pick, pick_own, pick_room}
+use Rattle.machine_scopes.proofs.PickLemmas.{may_pick, pick_kind, pick_own, pick_room}
 
 -- ---- what stays of places
 
@@ -83,7 +83,7 @@ module _ (m : Core) (pick : Pick) (v : Vertex) (tasks : TasksView) (now : Core) 
   pub admit_done : (new : Core) (s : ScopeId) → s ≡ next_id m.pipe → IsNextPick m.numbers.tasks (Some pick) → flight_count m.pipe < m.terms.pipeline → now.numbers ≡ record m.numbers { tasks = tasks } → new.numbers ≡ now.numbers
       → HasSetOut flown new s v → HasAdmittedPick m new
   admit_done new s same next few now_numbers new_numbers out = record {
-    can = record { pick = pick; next = next; vertex = v; place = at; may = may_pick m pick v is knows can at few; room = pick_room m pick v is knows can at };
+    can = record { pick = pick; next = next; vertex = v; place = at; may = may_pick m pick v is knows can at few; kind = pick_kind m pick v is knows can at; room = pick_room m pick v is knows can at };
     numbers = new_numbers ∙ now_numbers ∙ ap (λ (ts : TasksView). record m.numbers { tasks = ts }) picked;
     admitted = λ st part.
         let a = m.numbers.local.me.0 in
@@ -133,6 +133,38 @@ flags_back t tasks new pick can picked back =
       outside = back.outside ∙ ap (λ (ts : TasksView). ts.outside) picked ∙ outside_stays t pick;
     }
 
+cleared : (flags : List Bool) (k : ℕ) → is_flagged (slice_set flags k false) k ≡ false
+cleared [] k = refl
+cleared (f ∷ flags) zero = refl
+cleared (f ∷ flags) (suc k) = cleared flags k
+
+planned_of : (t : TasksView) (v : Vertex) (b : Bool) (u : ℕ) → (u ≡ v.0 → ⊥) → is_flagged (with_pick t (record { vertex = v; snapshot = b })).planned u ≡ is_flagged t.planned u
+planned_of t v true u other = refl
+planned_of t v false u other = get_or-set_other t.planned v.0 u true false other
+
+plans_of : (t new : TasksView) (v : Vertex) (b : Bool) → is_flagged t.planned v.0 ≡ false
+    → new.plans + (if b then (if is_flagged (with_pick t (record { vertex = v; snapshot = b })).planned v.0 then 1 else 0) else 1) ≡ (with_pick t (record { vertex = v; snapshot = b })).plans → new.plans ≡ t.plans
+plans_of t new v true clear back = sym (ap (λ (f : Bool). new.plans + (if f then 1 else 0)) clear ∙ add-zero new.plans) ∙ back
+plans_of t new v false clear back = omega (arith, back)
+
+pub plans_back : (t tasks new : TasksView) (pick : Pick) → CanTake t pick → tasks ≡ with_pick t pick → IsPutBack tasks new pick.vertex.0 → IsUnplanned tasks new pick → AreFreeUnplanned t → HaveSamePlans t new
+plans_back t tasks new pick can picked back plans free =
+    let k = pick.vertex.0 in
+    let clear : is_flagged t.planned k ≡ false = free k can.free in
+    let whole : IsUnplanned (with_pick t pick) new pick = subst (λ (ts : TasksView). IsUnplanned ts new pick) picked plans in
+    record {
+      admitted = (flags_back t tasks new pick can picked back).admitted;
+      planned = λ u. elim (cases_eq u k) [
+        | inl same ↦
+            ap (is_flagged new.planned) same ∙ ap (λ (fs : List Bool). is_flagged fs k) whole.planned ∙ cleared (with_pick t pick).planned k
+            ∙ sym (ap (is_flagged t.planned) same ∙ clear)
+        | inr other ↦
+            ap (λ (fs : List Bool). is_flagged fs u) whole.planned ∙ get_or-set_other (with_pick t pick).planned k u false false other
+            ∙ planned_of t pick.vertex pick.snapshot u other
+      ];
+      plans = plans_of t new pick.vertex pick.snapshot clear whole.plans;
+    }
+
 there_same : (one other : List Bool) → ((u : ℕ) → is_flagged one u ≡ is_flagged other u) → (o : Option ℕ) → flag_there one o ≡ flag_there other o
 there_same one other same None = refl
 there_same one other same (Some k) = same k
@@ -178,7 +210,7 @@ module _ (m : Core) (tasks new : TasksView) (now : Core) (is : IsOrderly m) (roo
       })
 
 pub can_admit : (m : Core) (pick : Pick) (v : Vertex) → IsOrderly m → KnowsPlaces m → CanTake m.numbers.tasks pick → slice_get m.by_place.items pick.vertex.0 ≡ Some v → IsNextPick m.numbers.tasks (Some pick) → flight_count m.pipe < m.terms.pipeline → CanAdmitPick m
-can_admit m pick v is knows can at next few = record { pick = pick; next = next; vertex = v; place = at; may = may_pick m pick v is knows can at few; room = pick_room m pick v is knows can at }
+can_admit m pick v is knows can at next few = record { pick = pick; next = next; vertex = v; place = at; may = may_pick m pick v is knows can at few; kind = pick_kind m pick v is knows can at; room = pick_room m pick v is knows can at }
 
 -- the vertex that was read at the place of the pick
 pub picked_at : (m : Core) (pick : Pick) (v : Vertex) → KnowsPlaces m → CanTake m.numbers.tasks pick → v ≡ get_or m.by_place.items pick.vertex.0 v → slice_get m.by_place.items pick.vertex.0 ≡ Some v

@@ -145,6 +145,9 @@ module _ (m : Core) (pick : Pick) (v : Vertex) (is : IsOrderly m) (knows : Knows
         turn = subst (λ (engine : Engine). IsItsTurn engine st.pipeline v.0 (part_of m)) (sym part.engine) (subst (λ (k : ℕ). flight_count m.pipe < k) part.pipeline few);
       }
 
+  pub pick_kind : pending_here m.numbers v.0 ≡ pick.snapshot
+  pick_kind = ap (flag_there m.numbers.tasks.pending) pick_place ∙ can.kind
+
   pub pick_room : (pending_here m.numbers v.0 ≡ true) ⊎ (is_open m.numbers.tasks ≡ true)
   pick_room = ⊎_elim
       (λ (set : is_flagged m.numbers.tasks.pending pick.vertex.0 ≡ true). inl (ap (flag_there m.numbers.tasks.pending) pick_place ∙ set))

@@ -1,6 +1,6 @@
 //! Admitting scopes.
 ghost use Rattle.std.specs.Prelude.{◌≡◌, IfOk, OnErr, IsErrOf};
-ghost use Rattle.machine_scopes.specs.Admitting.{IsOrderly, KnowsPlaces, SameSettings, CanAdmitPick, MayAdmitNone, HasAdmittedPick, next_id, part_of};
+ghost use Rattle.machine_scopes.specs.Admitting.{IsOrderly, KnowsPlaces, SameSettings, CanAdmitPick, MayAdmitNone, HasAdmittedPick, KeepsPlans, next_id, part_of};
 
 use crate::picking::{put_back, take_pick};
 use crate::starting::{prepare, set_out};
@@ -22,6 +22,7 @@ pub fn admit(alloc: Global, core: &mut Core) -> Result<ScopeId, Refused>
     ensures not_now { IsErrOf result Refused.NotNow → MayAdmitNone core.old }
     ensures no_memory { IsErrOf result Refused.NoMemory → CanAdmitPick core.old }
     ensures unchanged { OnErr result (part_of core.new ≡ part_of core.old) }
+    ensures plans { OnErr result (KeepsPlans core.old core.new) }
     ensures local { core.new.numbers.local ≡ core.old.numbers.local }
     ensures outside { core.new.numbers.tasks.outside ≡ core.old.numbers.tasks.outside }
     ensures terms { core.new.terms ≡ core.old.terms }

@@ -1,7 +1,7 @@
 //! What the tasks pick.
 ghost use Rattle.std.specs.Prelude.{◌≡◌, ◌⊎◌, ◌<◌, true, None, length, IfSome};
 ghost use Rattle.machine_scopes.specs.Admitting.{with_pick};
-ghost use Rattle.machine_scopes.specs.Inner.Picking.{IsNextPick, CanTake, StandInLine, IsPutBack, is_flagged};
+ghost use Rattle.machine_scopes.specs.Inner.Picking.{IsNextPick, CanTake, StandInLine, IsPutBack, IsUnplanned, is_flagged};
 
 use task_sched::{Pick, TaskSet};
 
@@ -24,7 +24,8 @@ pub fn put_back(tasks: &mut TaskSet, pick: Pick)
     requires kind { is_flagged tasks.old.pending pick.vertex.0 ≡ pick.snapshot }
     requires due { (is_flagged tasks.old.pending pick.vertex.0 ≡ true) ⊎ (is_flagged tasks.old.task pick.vertex.0 ≡ true) }
     requires outside { tasks.old.outside < 18446744073709551615 }
-    ensures { IsPutBack tasks.old tasks.new pick.vertex.0 }
+    ensures back { IsPutBack tasks.old tasks.new pick.vertex.0 }
+    ensures plans { IsUnplanned tasks.old tasks.new pick }
 {
     if pick.snapshot {
         tasks.marked(pick.vertex);

@@ -1,5 +1,5 @@
 -- The parts of an order that machines have as their logs.
-use Rattle.std.proofs.Common.{◌≡◌, ◌<◌, ◌≤◌, ℕ, suc, zero, ◌+◌, ◌∷◌, ◌∙◌, ◌==◌, if◌then◌else◌, Bool, true, false, List, [], cond, count_by, sum_by, All, map, ap, sym, subst, refl, inl, inr, add-zero, zero-add, arith}
+use Rattle.std.proofs.Common.{◌≡◌, ◌<◌, ◌≤◌, ℕ, suc, zero, ◌+◌, ◌∷◌, ◌∙◌, ◌==◌, if◌then◌else◌, Bool, true, false, List, [], cond, count_by, length, sum_by, All, map, ap, sym, subst, refl, inl, inr, add-zero, zero-add, arith}
 use Rattle.std.specs.List.{AllByRecursion, range_with_len}
 use Rattle.std.proofs.lemmas.Bool.{cases_eq, eq-eqb, ne_eqb}
 use Rattle.std.proofs.lemmas.List.Elements.{All-cons, All-nil}
@@ -7,8 +7,9 @@ use Rattle.std.proofs.lemmas.List.Kept.{AllPairs-cons}
 use Rattle.std.proofs.lemmas.List.Sums.{sum_by-cons, sum_by-append}
 use Rattle.gl_base.specs.declared.entries.Entry.{Entry}
 use Rattle.gl_base.specs.declared.entries.Entry.TheVariants.{Go, Restart}
-use Rattle.merged_logs.specs.Merges.{AreUpdatesFrom, IsByMachineBelow, IsMerge, RiseByTicket, all_logged, entries_of, logs_of, ticket_of}
-use Rattle.merged_logs.proofs.SameLemmas.{one_merge, permutation_from}
+use Rattle.std.proofs.lemmas.List.Sums.{length-filter}
+use Rattle.merged_logs.specs.Merges.{AreUpdatesFrom, IsByMachineBelow, IsMerge, RiseByTicket, all_logged, entries_of, is_of, logs_of, ticket_of}
+use Rattle.merged_logs.proofs.SameLemmas.{HaveSame, count_all, one_merge, permutation_from}
 
 -- ---- updates from a ticket on rise
 
@@ -92,8 +93,19 @@ logs_have_all p machines (Go machine vertex ticket ∷ order) below =
     omega (arith, one, other, logs_have_all p machines order below.1)
 logs_have_all p machines (Restart ticket ∷ order) below = absurd below.0
 
+-- the logs have the entries of the order, each as often
+pub parts_have_all : (machines : ℕ) (order : List Entry) → AllByRecursion (IsByMachineBelow machines) order → HaveSame (all_logged (logs_of machines order)) order
+parts_have_all machines order below = λ p. count_logs p order 0 machines ∙ logs_have_all p machines order below
+
+-- so each machine's updates, counted and added up, are all of them
+pub machines_sum : (machines : ℕ) (order : List Entry) → AllByRecursion (IsByMachineBelow machines) order → sum_by (λ m. count_by (is_of m) order) (range_with_len 0 machines) ≡ length order
+machines_sum machines order below = one_by_one 0 machines ∙ logs_have_all (λ e. true) machines order below ∙ count_all order
+  where
+    one_by_one : (a n : ℕ) → sum_by (λ m. count_by (is_of m) order) (range_with_len a n) ≡ in_logs (λ e. true) a n order
+    one_by_one a n = ap (λ (f : ℕ → ℕ). sum_by f (range_with_len a n)) (λ i. λ m. (sym (length-filter (is_of m) order) ∙ sym (count_all (entries_of m order))) i)
+
 pub logs_merge : (machines : ℕ) (order merged : List Entry) → RiseByTicket order → AllByRecursion (IsByMachineBelow machines) order →
     IsMerge (all_logged (logs_of machines order)) merged → merged ≡ order
 logs_merge machines order merged up below merge =
     one_merge (all_logged (logs_of machines order)) merged order merge
-    (permutation_from (all_logged (logs_of machines order)) order (λ p. count_logs p order 0 machines ∙ logs_have_all p machines order below)) up
+    (permutation_from (all_logged (logs_of machines order)) order (parts_have_all machines order below)) up

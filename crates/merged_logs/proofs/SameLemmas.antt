@@ -34,20 +34,20 @@ none_from_length (y ∷ ys) e = absurd (omega arith)
 
 -- ---- entries are told apart
 
-same_entry : Entry → Entry → Bool
+pub same_entry : Entry → Entry → Bool
 same_entry (Go machine vertex ticket) (Go other_machine other_vertex other) = machine.0 == other_machine.0 && (vertex.0 == other_vertex.0 && ticket == other)
 same_entry (Go machine vertex ticket) (Restart other) = false
 same_entry (Restart ticket) (Go other_machine other_vertex other) = false
 same_entry (Restart ticket) (Restart other) = ticket == other
 
-same_itself : (x : Entry) → same_entry x x ≡ true
+pub same_itself : (x : Entry) → same_entry x x ≡ true
 unfolding same_entry
 same_itself (Go machine vertex ticket) =
     and_from (machine.0 == machine.0) (vertex.0 == vertex.0 && ticket == ticket) (eq-eqb machine.0 machine.0 refl)
     (and_from (vertex.0 == vertex.0) (ticket == ticket) (eq-eqb vertex.0 vertex.0 refl) (eq-eqb ticket ticket refl))
 same_itself (Restart ticket) = eq-eqb ticket ticket refl
 
-same_is : (x y : Entry) → same_entry x y ≡ true → x ≡ y
+pub same_is : (x y : Entry) → same_entry x y ≡ true → x ≡ y
 unfolding same_entry
 same_is (Go machine vertex ticket) (Go other_machine other_vertex other) h =
     let one = and_parts (machine.0 == other_machine.0) (vertex.0 == other_vertex.0 && ticket == other) h in

@@ -1,5 +1,5 @@
 -- New machines, one after another.
-use Rattle.std.proofs.Common.{◌≡◌, ◌<◌, ℕ, ◌∷◌, ◌++◌, ◌∙◌, List, [], length, get_or, sym, subst, inl, inr, arith}
+use Rattle.std.proofs.Common.{◌≡◌, ◌<◌, ℕ, ◌∷◌, ◌++◌, ◌∙◌, List, None, [], length, get_or, sym, subst, inl, inr, arith}
 use Rattle.std.proofs.lemmas.Bool.{cases_lt}
 use Rattle.std.proofs.lemmas.List.{get_or_push, length-append}
 use Rattle.std.proofs.Math.ListN.{get_or-append}
@@ -11,7 +11,7 @@ use Rattle.placed_clusters.specs.declared.cores.NewTerms.{NewTerms}
 -- each of the first machines is new
 abbrev pub AreNewSoFar : List LocalView → Base → NewTerms → List Core → Type 0
 AreNewSoFar parts base terms machines =
-    (st : Setting) → GoesBy st terms → BeginsWith st base → AreUnsetParts st parts → (a : ℕ) (d : Core) → a < length machines → IsNewIn st a (get_or machines a d)
+    (st : Setting) → GoesBy st None terms → BeginsWith st base → AreUnsetParts st parts → (a : ℕ) (d : Core) → a < length machines → IsNewIn st a (get_or machines a d)
 
 -- a part by its place
 unset_at : (st : Setting) (parts : List LocalView) (k : ℕ) (l : LocalView) → AreUnsetParts st parts → k < length parts → l ≡ get_or parts k l → IsUnsetPart st k l
@@ -34,7 +34,7 @@ can_start parts base terms k l can low at =
 -- one machine more
 pub new_more : (parts : List LocalView) (base : Base) (terms : NewTerms) (machines : List Core) (k : ℕ) (l : LocalView) (m : Core) →
     length machines ≡ k → k < length parts → l ≡ get_or parts k l →
-    ((st : Setting) → GoesBy st terms → BeginsWith st base → IsUnsetPart st l.me.0 l → IsNewIn st l.me.0 m) →
+    ((st : Setting) → GoesBy st None terms → BeginsWith st base → IsUnsetPart st l.me.0 l → IsNewIn st l.me.0 m) →
     AreNewSoFar parts base terms machines → AreNewSoFar parts base terms (machines ++ m ∷ [])
 new_more parts base terms machines k l m count low at new so_far = λ st goes begins are a d below.
     elim (cases_lt a k) [
@@ -50,7 +50,7 @@ new_more parts base terms machines k l m count low at new so_far = λ st goes be
     ]
 
 pub all_new : (parts : List LocalView) (base : Base) (terms : NewTerms) (machines : List Core) → length machines ≡ length parts → AreNewSoFar parts base terms machines →
-    (st : Setting) → GoesBy st terms → BeginsWith st base → AreUnsetParts st parts → AreNewIn st machines
+    (st : Setting) → GoesBy st None terms → BeginsWith st base → AreUnsetParts st parts → AreNewIn st machines
 all_new parts base terms machines many so_far st goes begins are =
     record {
       count = many ∙ are.count;

@@ -1,5 +1,5 @@
 -- The parts of a new machine are in order, and begin as the run does.
-use Rattle.std.proofs.Common.{◌≡◌, ◌<◌, ◌≤◌, ◌==◌, All, ℕ, ◌∙◌, Bool, true, false, nat_lt, if◌then◌else◌, Option, Some, None, List, length, map, ap, sym, subst, refl}
+use Rattle.std.proofs.Common.{◌≡◌, ◌<◌, ◌≤◌, ◌==◌, All, ℕ, ◌∙◌, Bool, true, false, nat_lt, Option, Some, None, List, length, map, ap, sym, subst, refl}
 use Rattle.std.specs.List.{list_any}
 use Rattle.std.proofs.lemmas.Bool.{and_from, eq-eqb, lt-ltb}
 use Rattle.gl_base.specs.declared.numbers.Vertex.{Vertex}
@@ -22,7 +22,7 @@ use Rattle.machine_core.specs.Machines.{IsNewMachine, IsOrderly, KnowsPlaces}
 use Rattle.placed_graphs.specs.Beginnings.{AreFirstNumbers, AreFreshTasks, BeginsAt, IsReadyPart}
 use Rattle.placed_graphs.proofs.BeginLemmas.{owned_few, owned_low}
 use Rattle.placed_clusters.specs.Beginning.{GoesBy, IsNewIn, IsPartOf, IsStartPart, Setting, part_of}
-use Rattle.placed_clusters.specs.Inner.Making.{IsMadeWith}
+use Rattle.placed_clusters.specs.Making.{IsMadeWith}
 use Rattle.machine_numbers.specs.declared.keeping.Numbers.{Numbers}
 use Rattle.placed_clusters.specs.declared.cores.NewTerms.{NewTerms}
 
@@ -30,7 +30,7 @@ never : (flags : List Bool) → ((u : ℕ) → is_flagged flags u ≡ false) →
 never flags clear None = refl
 never flags clear (Some k) = clear k
 
-module _ (st : Setting) (terms : NewTerms) (m : Core) (goes : GoesBy st terms) (begins : BeginsAt st m.numbers.local.me.0 None m.numbers) (made : IsMadeWith terms m.numbers m) where
+module _ (st : Setting) (window : Option ℕ) (terms : NewTerms) (m : Core) (goes : GoesBy st window terms) (begins : BeginsAt st m.numbers.local.me.0 window m.numbers) (made : IsMadeWith terms m.numbers m) where
   base_is : m.terms.base ≡ st.base
   base_is = ap (λ (t : Terms). t.base) made.terms_are ∙ sym goes.base
 
@@ -53,7 +53,7 @@ module _ (st : Setting) (terms : NewTerms) (m : Core) (goes : GoesBy st terms) (
         engine = goes.engine;
         pipeline = ap (λ (t : Terms). t.pipeline) made.terms_are ∙ sym goes.pipeline;
         base = base_is;
-        window = begins.fresh.bound ∙ ap (λ (b : Bool). if b then Some st.window else None) (sym goes.stored);
+        window = begins.fresh.bound ∙ sym goes.window_is;
       }
 
   pub is_new : IsNewMachine m
@@ -105,37 +105,37 @@ module _ (st : Setting) (terms : NewTerms) (m : Core) (goes : GoesBy st terms) (
 
 -- ---- with the numbers with which the run begins
 
-begins_at : (st : Setting) (a : ℕ) (n : Numbers) → AreFirstNumbers st a n → IsReadyPart st a n → AreFreshTasks None n.tasks → BeginsAt st n.local.me.0 None n
-begins_at st a n first ready fresh =
-    subst (λ (b : ℕ). BeginsAt st b None n) (sym ready.machine) (record { numbers = first; part = ready; fresh = fresh })
+begins_at : (st : Setting) (a : ℕ) (window : Option ℕ) (n : Numbers) → AreFirstNumbers st a n → IsReadyPart st a n → AreFreshTasks window n.tasks → BeginsAt st n.local.me.0 window n
+begins_at st a window n first ready fresh =
+    subst (λ (b : ℕ). BeginsAt st b window n) (sym ready.machine) (record { numbers = first; part = ready; fresh = fresh })
 
 -- the machine has just these numbers
-made_itself : (terms : NewTerms) (n : Numbers) (m : Core) → IsMadeWith terms n m → IsMadeWith terms m.numbers m
+pub made_itself : (terms : NewTerms) (n : Numbers) (m : Core) → IsMadeWith terms n m → IsMadeWith terms m.numbers m
 made_itself terms n m made = subst (λ (k : Numbers). IsMadeWith terms k m) (sym made.numbers_are) made
 
-module _ (st : Setting) (terms : NewTerms) (a : ℕ) (n : Numbers) (m : Core) (goes : GoesBy st terms) (first : AreFirstNumbers st a n) (ready : IsReadyPart st a n) (fresh : AreFreshTasks None n.tasks) (made : IsMadeWith terms n m) where
-  begins_here : BeginsAt st m.numbers.local.me.0 None m.numbers
-  begins_here = subst (λ (k : Numbers). BeginsAt st k.local.me.0 None k) (sym made.numbers_are) (begins_at st a n first ready fresh)
+module _ (st : Setting) (window : Option ℕ) (terms : NewTerms) (a : ℕ) (n : Numbers) (m : Core) (goes : GoesBy st window terms) (first : AreFirstNumbers st a n) (ready : IsReadyPart st a n) (fresh : AreFreshTasks window n.tasks) (made : IsMadeWith terms n m) where
+  pub begins_here : BeginsAt st m.numbers.local.me.0 window m.numbers
+  begins_here = subst (λ (k : Numbers). BeginsAt st k.local.me.0 window k) (sym made.numbers_are) (begins_at st a window n first ready fresh)
 
   pub orderly_here : IsOrderly m
-  orderly_here = in_order st terms m goes begins_here (made_itself terms n m made)
+  orderly_here = in_order st window terms m goes begins_here (made_itself terms n m made)
 
   pub places_here : KnowsPlaces m
-  places_here = knows st terms m goes begins_here (made_itself terms n m made)
+  places_here = knows st window terms m goes begins_here (made_itself terms n m made)
 
   pub new_in : IsNewIn st a m
   new_in =
       let number : m.numbers.local.me.0 ≡ a = ap (λ (k : Numbers). k.local.me.0) made.numbers_are ∙ ready.machine in
       record {
         number = number;
-        part = part_is st terms m goes begins_here (made_itself terms n m made);
+        part = part_is st window terms m goes begins_here (made_itself terms n m made);
         rows = begins_here.part.rows;
-        start = subst (λ (b : ℕ). IsStartPart st b (part_of m)) number (starts st terms m goes begins_here (made_itself terms n m made));
+        start = subst (λ (b : ℕ). IsStartPart st b (part_of m)) number (starts st window terms m goes begins_here (made_itself terms n m made));
       }
 
 -- own vertices are of the graph, and no more than it has
-pub low_here : (st : Setting) (terms : NewTerms) (a : ℕ) (n : Numbers) → GoesBy st terms → IsReadyPart st a n → All (λ (v : Vertex). v.0 < terms.vertices) n.local.owned
-low_here st terms a n goes ready = subst (λ (k : ℕ). All (λ (v : Vertex). v.0 < k) n.local.owned) goes.vertices (owned_low st n.local ready.local)
+pub low_here : (st : Setting) (window : Option ℕ) (terms : NewTerms) (a : ℕ) (n : Numbers) → GoesBy st window terms → IsReadyPart st a n → All (λ (v : Vertex). v.0 < terms.vertices) n.local.owned
+low_here st window terms a n goes ready = subst (λ (k : ℕ). All (λ (v : Vertex). v.0 < k) n.local.owned) goes.vertices (owned_low st n.local ready.local)
 
-pub few_here : (st : Setting) (terms : NewTerms) (a : ℕ) (n : Numbers) → GoesBy st terms → IsReadyPart st a n → length n.local.owned ≤ terms.vertices
-few_here st terms a n goes ready = subst (λ (k : ℕ). length n.local.owned ≤ k) goes.vertices (owned_few st n.local ready.local)
+pub few_here : (st : Setting) (window : Option ℕ) (terms : NewTerms) (a : ℕ) (n : Numbers) → GoesBy st window terms → IsReadyPart st a n → length n.local.owned ≤ terms.vertices
+few_here st window terms a n goes ready = subst (λ (k : ℕ). length n.local.owned ≤ k) goes.vertices (owned_few st n.local ready.local)

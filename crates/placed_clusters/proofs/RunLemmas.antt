@@ -1,10 +1,10 @@
 -- The settings in which a cluster begins.
-use Rattle.std.proofs.Common.{◌≡◌, ◌<◌, ℕ, ◌∙◌, true, false, Option, Some, None, is_some, List, length, get_or, All, ap, sym, subst, refl, slice_index, true≢false}
+use Rattle.std.proofs.Common.{◌≡◌, ◌<◌, ℕ, ◌∙◌, Bool, true, false, if◌then◌else◌, Option, Some, None, is_some, List, length, get_or, All, ap, sym, subst, refl, slice_index, true≢false}
 use Rattle.std.specs.Prelude.{slice_get}
-use Rattle.std.proofs.lemmas.List.{get_or-map}
 use Rattle.std.proofs.lemmas.Option.{get_or_from_slice_get, slice_get_within}
-use Rattle.cluster_core.specs.Settings.{Locking}
+use Rattle.cluster_core.specs.Settings.{Engine, Locking}
 use Rattle.cluster_step.specs.Clusters.{ClusterView}
+use Rattle.cluster_step.specs.Starts.{StartsBy}
 use Rattle.cluster_step.specs.declared.parts.Parts.{Parts}
 use Rattle.gl_base.specs.declared.numbers.AtomNo.{AtomNo}
 use Rattle.gl_base.specs.declared.numbers.MachineNo.{MachineNo}
@@ -19,7 +19,7 @@ use Rattle.machine_turns.specs.Turns.{HasEachRow, IsRowIn}
 use Rattle.update_api.specs.declared.links.Link.{Link}
 use Rattle.update_api.specs.Updates.{Update}
 use Rattle.placed_clusters.specs.Beginning.{AreNewIn, GoesBy, IsNewIn}
-use Rattle.placed_clusters.specs.Running.{AreStartIn, IsBaseFor, IsMachineOf, IsRunOf, ProgramMachineView, Setting, StartIn, StartsIn, atom_numbers, placed_owner}
+use Rattle.placed_clusters.specs.Running.{AreStartIn, IsBaseFor, IsMachineOf, IsRunOf, ProgramMachineView, Setting, StartIn, StartsIn, placed_owner}
 use Rattle.placed_clusters.specs.Inner.Programs.{HaveProgram, RunsOn}
 use Rattle.placed_clusters.specs.declared.clusters.Run.{Run}
 
@@ -64,7 +64,7 @@ some_run g program of owner base run graph each atoms below for =
     (run_setting g program (placed_owner of owner) base run, is_run g program (placed_owner of owner) base run graph (owner_low g run.machines of owner each atoms below) for)
 
 pub goes_by : (g : DataGraph) (program : Update) (owner : ℕ → ℕ) (base : Base) (run : Run) (st : Setting) (n : ℕ) → n ≡ size g → IsRunOf g program owner base run st →
-    GoesBy st (record { terms = record { pipeline = run.pipeline; base = base.number }; machines = run.machines; vertices = n })
+    GoesBy st None (record { terms = record { pipeline = run.pipeline; base = base.number }; machines = run.machines; vertices = n; serial = 0 })
 goes_by g program owner base run st n many is =
     record {
       is = is.is;
@@ -72,7 +72,7 @@ goes_by g program owner base run st n many is =
       vertices = ap size is.placed.graph ∙ sym many;
       engine = is.engine;
       pipeline = is.pipeline;
-      stored = is.stored;
+      window_is = ap (λ (b : Bool). if b then Some st.window else None) is.stored;
       base = is.begins.number;
     }
 
@@ -91,7 +91,7 @@ module _ {P : Type 0} (meaning : P → Update) (program : P) (st : Setting) (mac
   start_in =
       record {
         setting = runs.is;
-        locks = runs.engine;
+        engine = subst (λ (e : Engine). StartsBy e st (λ (m : ProgramMachineView P). part_of m.core) all) (sym runs.engine) tt;
         many = have.many ∙ runs.new.count;
         here = λ a m at.
             let one = new_at a m at in

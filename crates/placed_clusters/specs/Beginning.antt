@@ -3,22 +3,23 @@ pub use Rattle.cluster_step.specs.Starts.{IsSetting, IsStartPart, Setting}
 pub use Rattle.machine_core.specs.Machines.{IsPartOf, part_of}
 pub use Rattle.placed_graphs.specs.Beginnings.{BeginsWith}
 pub use Rattle.placed_graphs.specs.Placed.{AreIn, AreUnsetParts, IsUnsetPart, LocalView}
-use Rattle.std.specs.Prelude.{◌≡◌, ℕ, ◌<◌, false, List, length, slice_index_or}
+use Rattle.std.specs.Prelude.{◌≡◌, ℕ, ◌<◌, List, None, Option, length, slice_index_or}
 use Rattle.cluster_core.specs.Settings.{Locking}
 use Rattle.gl_base.specs.declared.snapshots.Base.{Base}
 use Rattle.graph_core.specs.DataGraph.{size}
 use Rattle.machine_parts.specs.declared.cores.Core.{Core}
+use Rattle.machine_parts.specs.Settings.{window_of}
 use Rattle.placed_clusters.specs.declared.cores.NewTerms.{NewTerms}
 
--- The cluster has so many machines and vertices; scopes take locks, and so many of one machine may be in flight; no snapshots are
--- taken, and the run begins with this one.
-pub record GoesBy (st : Setting) (terms : NewTerms) : Type 0 where
+-- The cluster has so many machines and vertices; scopes take locks, and so many of one machine may be in flight; snapshots are taken where
+-- there is a window, and the run begins with this one.
+pub record GoesBy (st : Setting) (window : Option ℕ) (terms : NewTerms) : Type 0 where
   pub is : IsSetting st
   pub machines : st.machines ≡ terms.machines
   pub vertices : size st.graph ≡ terms.vertices
   pub engine : st.engine ≡ Locking
   pub pipeline : st.pipeline ≡ terms.terms.pipeline
-  pub stored : st.stored ≡ false
+  pub window_is : window_of st ≡ window
   pub base : st.base ≡ terms.terms.base
 
 -- ---- a machine
@@ -33,7 +34,7 @@ pub record IsNewIn (st : Setting) (a : ℕ) (m : Core) : Type 0 where
 -- this is a part of the graph of some cluster with these terms that begins from the base
 pub record CanStart (l : LocalView) (base : Base) (terms : NewTerms) : Type 0 where
   pub st : Setting
-  pub goes : GoesBy st terms
+  pub goes : GoesBy st None terms
   pub begins : BeginsWith st base
   pub unset : IsUnsetPart st l.me.0 l
 
@@ -47,6 +48,6 @@ pub record AreNewIn (st : Setting) (machines : List Core) : Type 0 where
 -- these are the parts of the graph of such a cluster
 pub record CanAllStart (parts : List LocalView) (base : Base) (terms : NewTerms) : Type 0 where
   pub st : Setting
-  pub goes : GoesBy st terms
+  pub goes : GoesBy st None terms
   pub begins : BeginsWith st base
   pub unset : AreUnsetParts st parts

@@ -1,3 +1,4 @@
 pub mod Beginning
+pub mod Making
 pub mod Inner
 pub mod Running

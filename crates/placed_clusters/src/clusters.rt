@@ -1,5 +1,6 @@
 //! Clusters of new machines.
-ghost use Rattle.std.specs.Prelude.{◌≡◌, ℕ, ◌+◌, ◌^◌, ◌<◌, ◌≤◌, [], false, length, All, IfOk};
+ghost use Rattle.std.specs.Prelude.{◌≡◌, ℕ, ◌+◌, ◌^◌, ◌<◌, ◌≤◌, [], None, false, length, All, IfOk};
+ghost use Rattle.cluster_core.specs.Settings.{Locking};
 ghost use Rattle.graph_core.specs.DataGraph.{IsDataGraph, size};
 ghost use Rattle.update_api.specs.Updates.{Update};
 ghost use Rattle.placed_clusters.specs.Beginning.{AreNewIn, GoesBy};
@@ -54,7 +55,7 @@ pub fn placed_cluster<P: Program>(
     Cluster::new(alloc, machines, run.next, run.left)
 }
 
-/// The machines of such a cluster as they start, each at its place. In some setting without snapshots they do.
+/// The machines of such a cluster as they start, each at its place. In some setting without snapshots, whose scopes take locks, they do.
 pub fn placed_machines<P: Program>(
     alloc: Global,
     graph: &Graph,
@@ -69,7 +70,7 @@ pub fn placed_machines<P: Program>(
     requires machines { All (λ m. m.0 < run.machines) owner.now }
     requires base { IsBaseFor graph.now base.now }
     ensures start { (st : Setting) → IsRunOf graph.now (P.meaning program) (placed_owner of.now owner.now) base.now run st → IfOk result (λ machines. AreStartIn P.meaning machines.items st) }
-    ensures plain { IfOk result (λ machines. (st : Setting) × AreStartIn P.meaning machines.items st × (st.stored ≡ false)) }
+    ensures plain { IfOk result (λ machines. (st : Setting) × AreStartIn P.meaning machines.items st × (st.stored ≡ false) × (st.engine ≡ Locking)) }
     ensures many { IfOk result (λ machines. length machines.items ≡ run.machines) }
 {
     let machines = bare_machines(alloc, graph, base, of, owner, run)?;
@@ -99,7 +100,7 @@ pub fn bare_machines(
 
 /// What new machines of such a cluster go by.
 fn terms_of(graph: &Graph, base: &Base, run: Run) -> NewTerms
-    ensures goes { (st : Setting) (program : Update) (owner : ℕ → ℕ) → IsRunOf graph.now program owner base.now run st → GoesBy st result }
+    ensures goes { (st : Setting) (program : Update) (owner : ℕ → ℕ) → IsRunOf graph.now program owner base.now run st → GoesBy st None result }
     ensures graph { IsDataGraph graph.now }
 {
     NewTerms {
@@ -109,5 +110,6 @@ fn terms_of(graph: &Graph, base: &Base, run: Run) -> NewTerms
         },
         machines: run.machines,
         vertices: graph.n(),
+        serial: 0,
     }
 }

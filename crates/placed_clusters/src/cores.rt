@@ -1,7 +1,8 @@
 //! The parts of a new machine.
 ghost use Rattle.std.specs.Prelude.{◌<◌, ◌≤◌, length, All, IfOk};
 ghost use Rattle.machine_places.specs.Places.{HaveFirstPlaces};
-ghost use Rattle.placed_clusters.specs.Inner.Making.{AreEmptyWays, AreOwnLists, IsMadeWith};
+ghost use Rattle.placed_clusters.specs.Inner.Making.{AreEmptyWays, AreOwnLists};
+ghost use Rattle.placed_clusters.specs.Making.{IsMadeWith};
 
 use gl_base::{MachineNo, NoMemory, Vertex};
 use local_graph::LocalGraph;
@@ -16,12 +17,13 @@ use vertex_locks::LockTable;
 /// As many lists that scopes leave behind are kept for the next ones.
 const SPARE_LISTS: usize = 4096;
 
-/// What a new machine goes by, and how many machines and vertices there are.
+/// What a new machine goes by, how many machines and vertices there are, and the serial of the first scope that it admits.
 #[derive(Clone, Copy, Debug, PartialEq, Eq)]
 pub struct NewTerms {
     pub terms: Terms,
     pub machines: u16,
     pub vertices: u32,
+    pub serial: u64,
 }
 
 /// The parts of a machine with these numbers: nothing is in flight, nobody claims a lock, and nothing waits to be sent.
@@ -95,7 +97,7 @@ fn own_lists(alloc: Global, local: &LocalGraph, vertices: u32) -> Result<OwnList
 fn empty_ways(alloc: Global, me: MachineNo, terms: NewTerms) -> Result<Ways, NoMemory>
     ensures { IfOk result (AreEmptyWays me terms) }
 {
-    let pipe = ScopePipe::new(alloc, me, terms.terms.pipeline)?;
+    let pipe = ScopePipe::from_serial(alloc, me, terms.terms.pipeline, terms.serial)?;
     let out = Outboxes::new(alloc, terms.machines)?;
     Ok(Ways { pipe, out })
 }

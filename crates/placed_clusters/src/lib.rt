@@ -7,5 +7,5 @@ mod machines;
 mod programs;
 
 pub use clusters::{Run, bare_machines, placed_cluster, placed_machines};
-pub use cores::NewTerms;
+pub use cores::{NewTerms, new_core};
 pub use machines::{new_machine, new_machines};

@@ -1,5 +1,5 @@
 //! New machines.
-ghost use Rattle.std.specs.Prelude.{IfOk};
+ghost use Rattle.std.specs.Prelude.{IfOk, None};
 ghost use Rattle.placed_clusters.specs.Beginning.{AreNewIn, AreUnsetParts, BeginsWith, CanAllStart, CanStart, GoesBy, IsNewIn, IsUnsetPart, Setting};
 
 use crate::cores::{NewTerms, new_core};
@@ -17,7 +17,7 @@ pub fn new_machine(
     terms: NewTerms,
 ) -> Result<Machine, NoMemory>
     requires { CanStart local base.now terms }
-    ensures { (st : Setting) → GoesBy st terms → BeginsWith st base.now → IsUnsetPart st local.me.0 local → IfOk result (IsNewIn st local.me.0) }
+    ensures { (st : Setting) → GoesBy st None terms → BeginsWith st base.now → IsUnsetPart st local.me.0 local → IfOk result (IsNewIn st local.me.0) }
 {
     let numbers = first_numbers(alloc, local, base, None)?;
     let core = new_core(alloc, numbers, terms)?;
@@ -32,7 +32,7 @@ pub fn new_machines(
     terms: NewTerms,
 ) -> Result<Vec<Machine>, NoMemory>
     requires { CanAllStart parts.items base.now terms }
-    ensures { (st : Setting) → GoesBy st terms → BeginsWith st base.now → AreUnsetParts st parts.items → IfOk result (λ machines. AreNewIn st machines.items) }
+    ensures { (st : Setting) → GoesBy st None terms → BeginsWith st base.now → AreUnsetParts st parts.items → IfOk result (λ machines. AreNewIn st machines.items) }
 {
     let mut machines = Vec::with_capacity(alloc, parts.len())?;
     for local in parts {

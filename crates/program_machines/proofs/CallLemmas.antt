@@ -133,11 +133,11 @@ module _ {P : Type 0} (meaning : P → Update) where
       → IfOk r (λ v. MakesUpdateAtOnce belongs_to holds old v.0 ticket new)
   at_once_where old new ticket (Ok v) has = λ st a here.
       subst (λ (k : ℕ). IsUpdateAtOnce st k (part_of old.core) v.0 ticket (part_of new.core)) here.number
-      (record { may = has.may st here.setting here.part; after = has.after st here.setting here.part here.program })
+      (record { locks = here.part.engine; may = has.may st here.setting here.part; after = has.after st here.setting here.part here.program })
   at_once_where old new ticket (Err e) has = tt
 
   pub at_once_some : (m : ProgramMachineView P) → CanUpdatePick m.core → (v : ℕ) × UpdatesAtOnce belongs_to holds m v
-  at_once_some m can = (can.vertex.0, λ st a here. subst (λ (k : ℕ). MayUpdateAtOnce st k can.vertex.0 (part_of m.core) 1) here.number (can.may st here.setting here.part))
+  at_once_some m can = (can.vertex.0, λ st a here. (here.part.engine, subst (λ (k : ℕ). MayUpdateAtOnce st k can.vertex.0 (part_of m.core) 1) here.number (can.may st here.setting here.part)))
 
   pub at_once_none : (m : ProgramMachineView P) → HasNoneAtOnce m.core → UpdatesNoneAtOnce belongs_to holds m
   at_once_none m (inl none) = inl (admits_none m none)

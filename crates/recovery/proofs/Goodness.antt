@@ -23,7 +23,7 @@ use Rattle.recovery.specs.GoodStores.{orders_behind, stored_orders, IsReplayed, 
 use Rattle.recovery.specs.Recovered.{IsStartBase, IsRecovered, IsHeaderOf}
 
 -- the order of a snapshot is the last of those up to it
-last_behind : (order : List Entry) (bodies : List (List ℕ)) → last_order order (orders_behind order bodies) ≡ order_behind order bodies
+pub last_behind : (order : List Entry) (bodies : List (List ℕ)) → last_order order (orders_behind order bodies) ≡ order_behind order bodies
 last_behind order [] = refl
 last_behind order (body ∷ bodies) = last_behind (with_entries order (body_entries body)) bodies
 
@@ -42,7 +42,7 @@ pub none_good : (shared : Shared) (header : Header) → IsGoodStore shared heade
 none_good shared header = record { orders = record { in_turn = tt; earlier_first = tt }; numbers = tt }
 
 -- one more record
-orders_more : (order : List Entry) (bodies : List (List ℕ)) (body : List ℕ) → orders_behind order (bodies ++ body ∷ []) ≡ orders_behind order bodies ++ with_entries (order_behind order bodies) (body_entries body) ∷ []
+pub orders_more : (order : List Entry) (bodies : List (List ℕ)) (body : List ℕ) → orders_behind order (bodies ++ body ∷ []) ≡ orders_behind order bodies ++ with_entries (order_behind order bodies) (body_entries body) ∷ []
 orders_more order [] body = refl
 orders_more order (first ∷ bodies) body = ap (λ (l : List (List Entry)). with_entries order (body_entries first) ∷ l) (orders_more (with_entries order (body_entries first)) bodies body)
 
@@ -50,7 +50,7 @@ replayed_more : (shared : Shared) (header : Header) (order : List Entry) (bodies
 replayed_more shared header order [] body are one = (one, tt)
 replayed_more shared header order (first ∷ bodies) body are one = (are.0, replayed_more shared header (with_entries order (body_entries first)) bodies body are.1 one)
 
-good_more : (shared : Shared) (header : Header) (bodies : List (List ℕ)) (body : List ℕ) → IsGoodStore shared header bodies → GoesBehind shared header bodies body → IsGoodStore shared header (bodies ++ body ∷ [])
+pub good_more : (shared : Shared) (header : Header) (bodies : List (List ℕ)) (body : List ℕ) → IsGoodStore shared header bodies → GoesBehind shared header bodies body → IsGoodStore shared header (bodies ++ body ∷ [])
 good_more shared header bodies body good behind = record {
   orders = subst (AreGoodOrders shared) (sym (orders_more [] bodies body)) behind.orders;
   numbers = replayed_more shared header [] bodies body good.numbers behind.numbers;
@@ -61,7 +61,7 @@ images_good shared header bodies body image good behind (inl stands) = subst (Is
 images_good shared header bodies body image good behind (inr stands) = subst (IsGoodStore shared header) (sym (stored_are header image (bodies ++ body ∷ []) stands)) (good_more shared header bodies body good behind)
 
 -- a record that goes with a store, by its body
-behind_record : (shared : Shared) (header : Header) (bodies : List (List ℕ)) (next : Record) → RecordFits next → NumbersFit next → length next.sections.items ≡ header.machines → GoesWith shared bodies next → GoesBehind shared header bodies (body_bytes next)
+pub behind_record : (shared : Shared) (header : Header) (bodies : List (List ℕ)) (next : Record) → RecordFits next → NumbersFit next → length next.sections.items ≡ header.machines → GoesWith shared bodies next → GoesBehind shared header bodies (body_bytes next)
 behind_record shared header bodies next small fits machines goes =
     let own : next.entries.items ≡ body_entries (body_bytes next) = sym (entries_of_record next small fits) in
     record {

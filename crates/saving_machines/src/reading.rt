@@ -1,7 +1,8 @@
 //! What is read of the machine, and what leaves its outboxes.
-ghost use Rattle.std.specs.Prelude.{◌≡◌, option_map, slice_get};
+ghost use Rattle.std.specs.Prelude.{◌≡◌, length, option_map, slice_get};
+ghost use Rattle.machine_rest.specs.Rest.{IsPartOf, Setting, is_idle, part_of, total};
 ghost use Rattle.outboxes.specs.Outboxes.{message_view, outbox_to, waiting_for, with_outbox, without_first};
-ghost use Rattle.saving_machines.specs.Machines.{SameSettings};
+ghost use Rattle.saving_machines.specs.Machines.{IsOrderly, KnowsPlaces, SameSettings, outside_of};
 
 use crate::machines::SnapMachine;
 use gl_base::Peer;
@@ -11,9 +12,12 @@ use update_api::Program;
 use wire_msgs::Message;
 
 impl<P: Program> SnapMachine<P> {
-    /// Its parts.
+    /// Its parts, which are in order; and the tasks count the updates outside.
     pub fn core(&self) -> &Core
-        ensures { result.now ≡ self.now.core }
+        ensures parts { result.now ≡ self.now.core }
+        ensures orderly { IsOrderly self.now.core }
+        ensures places { KnowsPlaces self.now.core }
+        ensures outside { self.now.core.numbers.tasks.outside ≡ outside_of self.now.kept }
     {
         &self.core
     }
@@ -23,6 +27,20 @@ impl<P: Program> SnapMachine<P> {
         ensures { result.now ≡ self.now.kept }
     {
         &self.snaps
+    }
+
+    /// Whether no vertex is a task or pending, no scope of this machine is in flight, and nobody waits for one of its locks.
+    pub fn is_idle(&self) -> bool
+        ensures { (st : Setting) → IsPartOf st self.now.core → result ≡ is_idle st (part_of self.now.core) }
+    {
+        machine_rest::is_idle(&self.core)
+    }
+
+    /// How many messages wait to be sent to machines.
+    pub fn waiting(&self) -> u128
+        ensures { (st : Setting) → IsPartOf st self.now.core → result ≡ total st.machines (λ q. length ((part_of self.now.core).out q)) }
+    {
+        machine_rest::waiting(&self.core)
     }
 
     /// Takes the first message that waits for a machine or for the coordinator; `None` exactly where none waits.

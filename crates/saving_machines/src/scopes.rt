@@ -1,6 +1,6 @@
 //! How scopes are admitted and go on. What is kept for snapshots stays as it is.
 ghost use Rattle.std.specs.Prelude.{◌≡◌, ℕ, ◌<◌, IfOk, IfErr, IfSome, IfNone, OnOk, OnErr, IsErrOf};
-ghost use Rattle.machine_scopes.specs.Admitting.{CanAdmitPick, HasAdmittedPick, MayAdmitNone, next_id};
+ghost use Rattle.machine_scopes.specs.Admitting.{CanAdmitPick, HasAdmittedPick, KeepsPlans, MayAdmitNone, next_id};
 ghost use Rattle.machine_scopes.specs.Asking.{AreMachinesFor, Ask, CanBecomeReady, HasOnlyMadeRoom, HasReceivedMessage, IsNewAt, Ready, come, machine_numbers};
 ghost use Rattle.machine_scopes.specs.Granting.{HasGrantedLock, MayGrantLock, MayNotGrantLock, WaitsFirst, WantedNext};
 ghost use Rattle.saving_machines.specs.Machines.{SameSettings, part_of};
@@ -18,6 +18,8 @@ impl<P: Program> SnapMachine<P> {
         ensures not_now { IsErrOf result Refused.NotNow → MayAdmitNone self.old.core }
         ensures no_memory { IsErrOf result Refused.NoMemory → CanAdmitPick self.old.core }
         ensures unchanged { OnErr result (part_of self.new.core ≡ part_of self.old.core) }
+        ensures plans { OnErr result (KeepsPlans self.old.core self.new.core) }
+        ensures local { self.new.core.numbers.local ≡ self.old.core.numbers.local }
         ensures kept { self.new.kept ≡ self.old.kept }
         ensures program { self.new.program ≡ self.old.program }
         ensures settings { SameSettings self.old.core self.new.core }
@@ -39,6 +41,15 @@ impl<P: Program> SnapMachine<P> {
         ensures settings { SameSettings self.old.core self.new.core }
     {
         machine_scopes::grant(&mut self.core, x)
+    }
+
+    /// A vertex whose lock may be granted, and `None` exactly where there is none. It takes no memory, and nothing changes.
+    pub fn next_grant(&mut self) -> Option<Vertex>
+        ensures some { IfSome result (λ x. MayGrantLock self.old.core x.0) }
+        ensures none { IfNone result ((x : ℕ) → MayNotGrantLock self.old.core x) }
+        ensures same { self.new ≡ self.old }
+    {
+        machine_scopes::next_grant(&mut self.core)
     }
 
     /// The scope of this centre has come, and has the machines `rest` still to come. Where there is not enough memory, or as many scopes

@@ -1,8 +1,10 @@
 //! What the machine does of snapshots.
-ghost use Rattle.std.specs.Prelude.{◌≡◌, IfOk, OnOk, OnErr, IsErrOf};
+ghost use Rattle.std.specs.Prelude.{◌≡◌, true, false, IfNone, IfOk, IfSome, OnOk, OnErr, IsErrOf};
+ghost use Rattle.gl_base.specs.declared.scopes.ScopeId.{ScopeId};
 ghost use Rattle.snap_machines.specs.Hearing.{HasBegun, HasFewerOutside};
 ghost use Rattle.snap_machines.specs.Learning.{CanLearnNews, HasLearnedNews};
-ghost use Rattle.snap_machines.specs.Marking.{HasMarked, HasOnlyMadeRoom, HasSavedMore, MayMark};
+ghost use Rattle.snap_machines.specs.Marking.{HasEndedPlan, HasMarked, HasOnlyMadeRoom, HasSavedMore, HasSavedOnce, MayMark};
+ghost use Rattle.snap_machines.specs.Seeding.{HasOtherPending};
 ghost use Rattle.snap_machines.specs.Sending.{MayNotSendSection, MaySendSection};
 ghost use Rattle.snap_update.specs.Snaps.{IsSameButRoom, own_section, section_view, with_begun, with_committed, with_section};
 ghost use Rattle.saving_machines.specs.Machines.{SameSettings, part_of};
@@ -17,6 +19,7 @@ impl<P: Program> SnapMachine<P> {
     pub fn begin(&mut self, number: u32)
         ensures begun { HasBegun self.old.core self.old.kept self.new.core self.new.kept number }
         ensures kept { IsSameButRoom (with_begun number self.old.kept) self.new.kept }
+        ensures rest { HasOtherPending self.old.core self.new.core }
         ensures program { self.new.program ≡ self.old.program }
         ensures settings { SameSettings self.old.core self.new.core }
     {
@@ -39,6 +42,8 @@ impl<P: Program> SnapMachine<P> {
         requires { CanLearnNews self.old.core done }
         ensures learned { HasLearnedNews self.old.core self.old.kept self.new.core self.new.kept done }
         ensures kept { IsSameButRoom (with_begun done.number self.old.kept) self.new.kept }
+        ensures tasks { let now = self.new.core.numbers.tasks in now ≡ record self.old.core.numbers.tasks { task = now.task; pending = now.pending; asked = now.asked } }
+        ensures local { self.new.core.numbers.local ≡ record self.old.core.numbers.local { numbers = self.new.core.numbers.local.numbers } }
         ensures program { self.new.program ≡ self.old.program }
         ensures settings { SameSettings self.old.core self.new.core }
     {
@@ -55,11 +60,14 @@ impl<P: Program> SnapMachine<P> {
     pub fn mark(&mut self, scope: ScopeId) -> Result<(), Refused>
         ensures marked { OnOk result (HasMarked self.old.core self.old.kept self.new.core self.new.kept scope) }
         ensures saved { HasSavedMore self.old.kept self.new.kept }
+        ensures once { OnOk result (HasSavedOnce self.old.core self.old.kept self.new.kept scope) }
+        ensures plans { OnOk result (HasEndedPlan self.old.core self.new.core scope) }
         ensures not_now { IsErrOf result Refused.NotNow → MayMark scope (part_of self.old.core) → ⊥ }
         ensures no_memory { IsErrOf result Refused.NoMemory → MayMark scope (part_of self.old.core) }
         ensures unchanged { OnErr result (HasOnlyMadeRoom self.old.core self.new.core) }
         ensures part { OnErr result (part_of self.new.core ≡ part_of self.old.core) }
         ensures same { OnErr result (IsSameButRoom self.old.kept self.new.kept) }
+        ensures local { self.new.core.numbers.local ≡ record self.old.core.numbers.local { kept = self.new.core.numbers.local.kept } }
         ensures program { self.new.program ≡ self.old.program }
         ensures settings { SameSettings self.old.core self.new.core }
     {
@@ -70,6 +78,24 @@ impl<P: Program> SnapMachine<P> {
             &mut self.seen,
             scope,
         )
+    }
+
+    /// A scope of this home that may make its snapshot update now; `None` exactly where none may. It looks at the ready scopes alone.
+    pub fn next_mark(&self) -> Option<ScopeId>
+        ensures some { IfSome result (λ s. MayMark s (part_of self.now.core)) }
+        ensures home { IfSome result (λ s. s.home ≡ self.now.core.numbers.local.me) }
+        ensures none { IfNone result ((s : ScopeId) → MayMark s (part_of self.now.core) → ⊥) }
+    {
+        snap_machines::next_mark(&self.core)
+    }
+
+    /// Whether the section may be sent now. It takes no memory, and nothing changes.
+    pub fn has_section(&mut self) -> bool
+        ensures yes { result ≡ true → MaySendSection self.old.core self.old.kept }
+        ensures no { result ≡ false → MayNotSendSection self.old.core self.old.kept }
+        ensures same { self.new ≡ self.old }
+    {
+        snap_machines::is_section_due(&self.core, &self.snaps, &mut self.seen)
     }
 
     /// The section of the snapshot that is known, once, where each own vertex has its mark.

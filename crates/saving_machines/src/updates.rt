@@ -1,5 +1,6 @@
 //! Updates, which are counted beside what is kept for snapshots.
-ghost use Rattle.std.specs.Prelude.{◌≡◌, ◌&&◌, not, None, Some, IfSome, OnOk, OnErr, IsErrOf};
+ghost use Rattle.std.specs.Prelude.{◌≡◌, ◌&&◌, not, true, false, None, Some, IfNone, IfSome, OnOk, OnErr, IsErrOf};
+ghost use Rattle.gl_base.specs.declared.scopes.ScopeId.{ScopeId};
 ghost use Rattle.machine_turns.specs.Turns.{HasMadeUpdate, HasRunOf, MayUpdate, flight_at, pending_here, task_here};
 ghost use Rattle.snap_update.specs.Snaps.{IsSameButRoom, asked_behind, with_asking};
 ghost use Rattle.saving_machines.specs.Machines.{SameSettings, part_of};
@@ -23,6 +24,8 @@ impl<P: Program> SnapMachine<P> {
         ensures no_memory { IsErrOf result Refused.NoMemory → MayUpdate scope (part_of self.old.core) 1 }
         ensures unchanged { OnErr result (part_of self.new.core ≡ part_of self.old.core) }
         ensures same { OnErr result (IsSameButRoom self.old.kept self.new.kept) }
+        ensures tasks { OnErr result (self.new.core.numbers.tasks ≡ self.old.core.numbers.tasks) }
+        ensures local { let old = self.old.core.numbers.local in let new = self.new.core.numbers.local in new ≡ record old { kept = new.kept; rows = new.rows; numbers = new.numbers } }
         ensures program { self.new.program ≡ self.old.program }
         ensures settings { SameSettings self.old.core self.new.core }
     {
@@ -52,6 +55,23 @@ impl<P: Program> SnapMachine<P> {
             }
             Err(refused) => Err(refused),
         }
+    }
+
+    /// Whether a scope may make its update now.
+    pub fn can_update(&self, scope: ScopeId) -> bool
+        ensures yes { result ≡ true → MayUpdate scope (part_of self.now.core) 1 }
+        ensures no { result ≡ false → MayUpdate scope (part_of self.now.core) 1 → ⊥ }
+    {
+        centre_to_update(&self.core, scope).is_some()
+    }
+
+    /// A scope of this home that may make its update now; `None` exactly where none may. It looks at the ready scopes alone.
+    pub fn next_update(&self) -> Option<ScopeId>
+        ensures some { IfSome result (λ s. MayUpdate s (part_of self.now.core) 1) }
+        ensures home { IfSome result (λ s. s.home ≡ self.now.core.numbers.local.me) }
+        ensures none { IfNone result ((s : ScopeId) → MayUpdate s (part_of self.now.core) 1 → ⊥) }
+    {
+        machine_turns::next_ready(&self.core)
     }
 
     /// The last acknowledged snapshot that is known, where one behind it is to be asked for: so many updates are outside, and it wasn't

@@ -5,3 +5,4 @@ pub mod Answering
 pub mod Leading
 pub mod Cutting
 pub mod Next
+pub mod Ordering

@@ -9,12 +9,13 @@ ghost use Rattle.coord_core.specs.Stores.{store_view};
 ghost use Rattle.snap_clusters.specs.Clusters.{BaseView, Cluster, GoesOnWith, IsSavingClusterOf, InEachCluster, Setting, StandsForSaving, StandsForSameSaving, StartsSaving};
 ghost use Rattle.snap_clusters.specs.Cuts.{IsSnapshotCut, RecordsCut};
 ghost use Rattle.snap_clusters.specs.Events.{CanTakePlace, CanNotTakePlace, TakesPlace, NamesItsMachines};
+ghost use Rattle.snap_clusters.specs.Ordered.{HasOneOrder};
 ghost use Rattle.snap_members.specs.Promises.{HasFirst};
 
 use crate::events::{Event, Lead, Local};
 use crate::parts::{Parts, first_parts};
 use coord_core::{Coordinator, Due, Store};
-use gl_base::{MachineNo, NoMemory, Record, Refused, ScopeId, Vertex};
+use gl_base::{Entry, MachineNo, NoMemory, Record, Refused, ScopeId, Vertex};
 use snap_members::SavingMachine;
 use std::alloc::Global;
 use std::marker::Model;
@@ -147,6 +148,16 @@ impl<M: SavingMachine> SnapCluster<M> {
         ensures is { InEachCluster M.stands self.now (λ st c. M.stands st m.0 (c.machine m.0) result.now) }
     {
         &self.parts.machines[m.0 as usize]
+    }
+
+    /// The updates that a machine made in this attempt. All machines' are one order, whose replay on the undivided graph gives the numbers
+    /// that the owners of the vertices have.
+    pub fn log(&self, m: MachineNo) -> &[Entry]
+        requires { m.0 < length self.now.machines.items }
+        ensures log { InEachCluster M.stands self.now (λ st c. result.now ≡ (c.machine m.0).part.log) }
+        ensures order { InEachCluster M.stands self.now HasOneOrder }
+    {
+        self.parts.machines[m.0 as usize].log()
     }
 
     /// Whether the machine has failed in this attempt.

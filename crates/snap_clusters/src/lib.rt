@@ -4,10 +4,12 @@
 
 mod clusters;
 mod events;
+mod laws;
 mod parts;
 
 pub use clusters::SnapCluster;
 pub use coord_core::{Coordinator, Due, Store};
 pub use events::{Event, Lead, Local, Passage};
+pub use laws::bases_stay_good;
 pub use parts::Parts;
 pub use snap_members::SavingMachine;

@@ -1,6 +1,6 @@
 -- The numbers of a machine as a vertex is marked, and the calls of a snapshot update from its guard to what it leaves.
-use Rattle.std.proofs.Common.{◌≡◌, ℕ, ◌+◌, ◌<◌, ◌≤◌, ◌==◌, ◌&&◌, ◌||◌, not, Bool, true, false, true≢false, if◌then◌else◌, Option, Some, None, List, [], ◌∷◌, length, refl, sym, ap, ◌∙◌, subst, arith, inl, inr}
-use Rattle.std.specs.Prelude.{is_some, nat_lt, slice_set, IfOk, OnOk, OnErr, Result, Ok, Err}
+use Rattle.std.proofs.Common.{◌≡◌, ℕ, ◌+◌, ◌<◌, ◌≤◌, ◌==◌, ◌&&◌, ◌||◌, not, Bool, true, false, if◌then◌else◌, Option, Some, None, List, [], ◌∷◌, length, refl, sym, ap, ◌∙◌, subst, inl, inr}
+use Rattle.std.specs.Prelude.{is_some, nat_lt, slice_set}
 use Rattle.std.proofs.lemmas.Bool.{cases_eq, eq-eqb, ne_eqb}
 use Rattle.gl_base.specs.declared.numbers.MachineNo.{MachineNo}
 use Rattle.gl_base.specs.declared.numbers.Vertex.{Vertex}
@@ -9,21 +9,20 @@ use Rattle.gl_base.specs.declared.scopes.Datum.{Datum}
 use Rattle.gl_base.specs.declared.scopes.ScopeId.{ScopeId}
 use Rattle.update_api.specs.declared.links.Link.{Link}
 use Rattle.vertex_queue.proofs.Queueing.{flag_within}
-use Rattle.local_graph.specs.Works.{IsRow}
 use Rattle.local_graph.specs.declared.sides.Side.{Side}
 use Rattle.local_graph.proofs.PlaceLemmas.{at_written}
 use Rattle.cluster_core.specs.Effects.{part_seeded}
 use Rattle.machine_numbers.specs.declared.keeping.Numbers.{Numbers}
-use Rattle.machine_numbers.specs.Views.{AreTasksOf, LocalView, TasksView, flag_there, ghost_datum, is_named, own_datum, own_or_ghost}
+use Rattle.machine_numbers.specs.Views.{AreTasksOf, LocalView, TasksView, flag_there, is_flagged, ghost_datum, is_named, own_datum, own_or_ghost}
 use Rattle.machine_parts.specs.declared.cores.Core.{Core}
-use Rattle.machine_parts.specs.Order.{IsOrderly, KnowsPlaces}
+use Rattle.machine_parts.specs.Order.{IsOrderly}
 use Rattle.machine_parts.specs.Parts.{number_of as number_in}
-use Rattle.machine_parts.specs.Settings.{SameSettings, Setting, IsPartOf}
+use Rattle.machine_parts.specs.Settings.{SameSettings}
 use Rattle.snap_update.specs.Snaps.{IsSameButRoom, with_edge}
-use Rattle.snap_machines.specs.Keeping.{Part, SnapView, part_of, with_snaps}
-use Rattle.snap_machines.specs.Marking.{HasEachRow, HasMarked, HasOnlyMadeRoom, HasSavedMore, IsSetting, MayMark, marked}
+use Rattle.snap_machines.specs.Keeping.{SnapView, part_of, with_snaps}
+use Rattle.snap_machines.specs.Marking.{HasEachRow, HasMarked, HasOnlyMadeRoom, HasSavedMore, MayMark, marked}
 use Rattle.snap_machines.specs.Seeding.{AreMarkedBelow, HasSeeded}
-use Rattle.snap_machines.specs.Inner.Marks.{CanBeMarked, CanMarkNumber, HasMarkedHere, HasMarkedNumber, IsRowIn, datum_here, ends_left, is_end_left, is_own, links_at, marked_alone, pending_here, place_at, sides_at, with_edges, with_mark}
+use Rattle.snap_machines.specs.Inner.Marks.{CanBeMarked, CanMarkNumber, HasMarkedHere, HasMarkedNumber, HasUnplanned, IsRowIn, datum_here, ends_left, is_end_left, is_own, links_at, marked_alone, pending_here, place_at, sides_at, with_edges, with_mark}
 
 -- ---- flags
 
@@ -48,7 +47,8 @@ ends_tasks n t k q [] = refl
 ends_tasks n t k q (s ∷ sides) = ap (λ (vs : List Vertex). if is_end_left n k q s then s.other ∷ vs else vs) (ends_tasks n t k q sides)
 
 module _ (old pended : Numbers) (t : TasksView) (l : LocalView) (v : Vertex) (k : ℕ) (d : Datum) (can : CanMarkNumber old v) (ended : (u : ℕ) → flag_there t.pending (place_at old.local u) ≡ (pending_here old u && not (u == v.0)))
-    (admitted : (place : ℕ) → place_at old.local v.0 ≡ Some place → t.admitted ≡ slice_set old.tasks.admitted place false) (tasks : AreTasksOf old.local t)
+    (admitted : (place : ℕ) → place_at old.local v.0 ≡ Some place → t.admitted ≡ slice_set old.tasks.admitted place false) (plans : (place : ℕ) → place_at old.local v.0 ≡ Some place → HasUnplanned old.tasks t place)
+    (tasks : AreTasksOf old.local t)
     (flags : t ≡ record old.tasks { pending = t.pending; admitted = t.admitted; planned = t.planned; plans = t.plans })
     (each : (u : ℕ) → pending_here pended u ≡ (is_named (ends_left old k old.local.me.0 (sides_at old.local v.0)) u || flag_there t.pending (place_at old.local u)))
     (rest : pended ≡ record old { tasks = record t { pending = pended.tasks.pending; asked = pended.tasks.asked } }) (is : d ≡ with_mark k (datum_here old v.0))
@@ -91,6 +91,13 @@ module _ (old pended : Numbers) (t : TasksView) (l : LocalView) (v : Vertex) (k 
             ap (flag_there pended.tasks.pending) (place_now u) ∙ ap (λ (m : LocalView). flag_there pended.tasks.pending (place_at m u)) (sym local_same) ∙ each u
             ∙ ap (λ (b : Bool). is_named (ends_left old k old.local.me.0 (sides_at old.local v.0)) u || b) (ended u);
         admitted = λ place at. ap (λ (s : TasksView). s.admitted) tasks_now ∙ admitted place at;
+        plans = λ place at.
+            let one = plans place at in
+            record {
+              plans = ap (λ (s : TasksView). s.plans + (if is_flagged old.tasks.planned place then 1 else 0)) tasks_now ∙ one.plans;
+              planned = ap (λ (s : TasksView). s.planned) tasks_now ∙ one.planned;
+              admitted = ap (λ (s : TasksView). s.admitted) tasks_now ∙ one.admitted;
+            };
         own = is_own_now;
         tasks = record {
           apart = λ x y j at there. tasks.apart x y j (sym (place_now x) ∙ at) (sym (place_now y) ∙ there);

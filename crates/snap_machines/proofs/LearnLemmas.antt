@@ -1,5 +1,5 @@
 -- What word of an update leaves beside what it tells of a snapshot.
-use Rattle.std.proofs.Common.{◌≡◌, ℕ, ◌<◌, ◌≤◌, ◌==◌, ◌||◌, Bool, true, false, true≢false, if◌then◌else◌, List, [], refl, sym, ap, ◌∙◌, subst, arith}
+use Rattle.std.proofs.Common.{◌≡◌, ℕ, ◌≤◌, ◌||◌, Bool, true, false, true≢false, if◌then◌else◌, List, [], refl, sym, ap, ◌∙◌, subst, arith}
 use Rattle.std.specs.Prelude.{nat_lt, slice_get}
 use Rattle.std.proofs.lemmas.Bool.{ltb-true, ne_eqb}
 use Rattle.gl_base.specs.declared.numbers.Vertex.{Vertex}
@@ -11,7 +11,7 @@ use Rattle.machine_numbers.specs.Steps.{HasLearned}
 use Rattle.machine_numbers.specs.Views.{LocalView, TasksView, datum_here, number_told, flag_there, is_named, is_own, place_at}
 use Rattle.machine_parts.specs.declared.cores.Core.{Core}
 use Rattle.machine_parts.specs.Parts.{Part, pending_here}
-use Rattle.machine_parts.specs.Settings.{IsPartOf, SameSettings, Setting}
+use Rattle.machine_parts.specs.Settings.{SameSettings}
 use Rattle.machine_updates.specs.Committing.{HasNoLock}
 use Rattle.snap_update.specs.Snaps.{IsSameButRoom, newly_begun, with_begun}
 use Rattle.snap_machines.specs.Hearing.{HasBegun}

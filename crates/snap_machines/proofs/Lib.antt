@@ -9,3 +9,5 @@ pub mod SaveLemmas
 pub mod EndLemmas
 pub mod SendLemmas
 pub mod LearnLemmas
+pub mod OnceLemmas
+pub mod ReadyLemmas

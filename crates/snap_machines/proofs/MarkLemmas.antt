@@ -1,22 +1,19 @@
 -- What a snapshot update saves and tells along the edges at its vertex is what the law has.
-use Rattle.std.proofs.Common.{◌≡◌, ℕ, suc, ◌<◌, ◌≤◌, ◌==◌, ◌&&◌, ◌||◌, Bool, true, false, true≢false, if◌then◌else◌, Option, Some, None, List, [], ◌∷◌, length, refl, sym, ap, ◌∙◌, subst, All, arith}
+use Rattle.std.proofs.Common.{◌≡◌, ℕ, ◌==◌, ◌&&◌, ◌||◌, Bool, true, false, if◌then◌else◌, Option, Some, None, List, [], ◌∷◌, length, refl, sym, ap, ◌∙◌, All, arith}
 use Rattle.std.specs.List.{list_any}
-use Rattle.std.proofs.lemmas.Bool.{and_parts, cases_eq, eq-eqb, eqb-true, ne_eqb}
+use Rattle.std.proofs.lemmas.Bool.{and_parts, eq-eqb, eqb-true}
 use Rattle.std.proofs.lemmas.List.Elements.{All-head, All-tail}
-use Rattle.gl_base.specs.declared.numbers.EdgeNo.{EdgeNo}
 use Rattle.gl_base.specs.declared.numbers.Vertex.{Vertex}
 use Rattle.gl_base.specs.declared.scopes.ScopeId.{ScopeId}
-use Rattle.graph_core.specs.DataGraph.{DataEdge, size}
-use Rattle.graph_core.specs.Halves.{DataHalf, halves_of}
+use Rattle.graph_core.specs.DataGraph.{size}
+use Rattle.graph_core.specs.Halves.{DataHalf}
 use Rattle.update_api.specs.declared.links.Link.{Link}
-use Rattle.cluster_core.specs.Effects.{first_pending, mark_news, number_if, pends_for, saves_edge}
-use Rattle.cluster_core.specs.Messages.{News}
+use Rattle.cluster_core.specs.Effects.{mark_news, number_if, pends_for}
 use Rattle.cluster_core.specs.Ranges.{first_passing}
-use Rattle.cluster_core.specs.Scopes.{is_found}
 use Rattle.cluster_core.specs.Settings.{IsSetting, is_near}
 use Rattle.cluster_core.proofs.Nearness.{near_within}
 use Rattle.local_graph.specs.declared.sides.Side.{Side}
-use Rattle.local_parts.specs.Parts.{IsLocalOf, halves_along}
+use Rattle.local_parts.specs.Parts.{halves_along}
 use Rattle.local_parts.proofs.FoundLemmas.{found_first}
 use Rattle.local_parts.proofs.NearLemmas.{all_among, near_all}
 use Rattle.machine_numbers.specs.declared.keeping.Numbers.{Numbers}
@@ -28,7 +25,7 @@ use Rattle.machine_parts.specs.Settings.{Setting, IsPartOf}
 use Rattle.machine_updates.proofs.ToldLemmas.{found_one}
 use Rattle.snap_update.specs.Holding.{AreEdgesToSave, last_of_edge, later_number}
 use Rattle.snap_machines.specs.Keeping.{Part, SnapView, part_of, with_snaps}
-use Rattle.snap_machines.specs.Inner.Marks.{datum_here, edge_here, edges_left, ends_left, is_end_left, is_own, is_unmarked, links_at, mark_told, number_pended, sides_at}
+use Rattle.snap_machines.specs.Inner.Marks.{edge_here, edges_left, ends_left, is_end_left, is_own, is_unmarked, links_at, mark_told, number_pended, sides_at}
 use Rattle.snap_machines.proofs.HalfLemmas.{later_none, saved_along, saved_of}
 use Rattle.snap_machines.proofs.SeedLemmas.{first_none}
 

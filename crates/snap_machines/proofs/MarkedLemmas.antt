@@ -1,11 +1,9 @@
 -- A machine whose scope has made its snapshot update: its order, its settings and its part.
-use Rattle.std.proofs.Common.{◌≡◌, ℕ, suc, ◌+◌, ◌<◌, ◌≤◌, ◌==◌, ◌&&◌, ◌||◌, ◌++◌, Bool, true, false, true≢false, not, pred, if◌then◌else◌, Option, Some, None, List, [], ◌∷◌, length, refl, sym, ap, ◌∙◌, subst, arith, inl, inr, add-one, length-set}
-use Rattle.std.specs.Prelude.{is_some, nat_lt, slice_get}
+use Rattle.std.proofs.Common.{◌≡◌, ℕ, ◌+◌, ◌≤◌, ◌==◌, ◌&&◌, ◌||◌, ◌++◌, Bool, true, false, true≢false, not, pred, if◌then◌else◌, Option, Some, None, List, [], ◌∷◌, length, refl, sym, ap, ◌∙◌, subst, arith, inl, inr, add-one, length-set}
+use Rattle.std.specs.Prelude.{is_some, slice_get}
 use Rattle.std.specs.List.{list_any}
 use Rattle.std.proofs.lemmas.Bool.{cases_eq, eq-eqb, ne_eqb}
 use Rattle.gl_base.specs.declared.atoms.GhostLine.{GhostLine}
-use Rattle.gl_base.specs.declared.entries.Entry.{Entry}
-use Rattle.gl_base.specs.declared.numbers.EdgeNo.{EdgeNo}
 use Rattle.gl_base.specs.declared.numbers.MachineNo.{MachineNo}
 use Rattle.gl_base.specs.declared.numbers.Vertex.{Vertex}
 use Rattle.gl_base.specs.declared.scopes.Datum.{Datum}
@@ -15,7 +13,7 @@ use Rattle.scope_lists.specs.Scopes.{is_scope, set_for}
 use Rattle.scope_pipe.specs.Pipes.{HasFinished, flight_count}
 use Rattle.update_api.specs.declared.links.Link.{Link}
 use Rattle.local_graph.specs.declared.sides.Side.{Side}
-use Rattle.cluster_core.specs.Effects.{mark_news, pends_for, save, tell}
+use Rattle.cluster_core.specs.Effects.{mark_news, tell}
 use Rattle.cluster_core.specs.Messages.{Message}
 use Rattle.cluster_core.specs.Messages as law
 use Rattle.cluster_core.specs.Scopes.{takes_part}
@@ -24,11 +22,11 @@ use Rattle.cluster_core.proofs.Basics.{set_at-cases}
 use Rattle.wire_msgs.specs.Views as told
 use Rattle.outboxes.specs.Outboxes.{OutboxesView}
 use Rattle.machine_numbers.specs.declared.keeping.Numbers.{Numbers}
-use Rattle.machine_numbers.specs.Views.{TasksView, flag_there, ghost_datum, is_named, edge_number_at}
+use Rattle.machine_numbers.specs.Views.{TasksView, flag_there, ghost_datum, edge_number_at}
 use Rattle.machine_numbers.specs.Settings.{IsRowOf}
 use Rattle.machine_parts.specs.declared.cores.Core.{Core}
 use Rattle.machine_parts.specs.declared.cores.Terms.{Terms}
-use Rattle.machine_parts.specs.Parts.{LocalView, PipeView, flight_at, place_at, is_owned, holder_at, queue_at, links_at, entered_at, task_here, messages_for, message_of, number_of as number_in, stand_at, news_told}
+use Rattle.machine_parts.specs.Parts.{LocalView, PipeView, flight_at, place_at, is_owned, holder_at, queue_at, links_at, entered_at, task_here, messages_for, message_of, number_of as number_in, stand_at}
 use Rattle.machine_parts.specs.Order.{AreNumbersInOrder, HasComeRight, IsGraphInOrder, IsOrderly, KnowsPlaces, StandByPlace}
 use Rattle.machine_parts.specs.Settings.{IsPartOf, SameSettings, Setting}
 use Rattle.machine_updates.specs.declared.reserving.Prepared.{Prepared}
@@ -38,12 +36,12 @@ use Rattle.machine_updates.proofs.GraphLemmas.{SameGraph, place_kept, sides_kept
 use Rattle.machine_updates.proofs.LeaveLemmas.{IsWithout, none_or, come_kept, other_entered, was_entered, locks_left, flights_left}
 use Rattle.machine_updates.proofs.OrderLemmas.{local_kept}
 use Rattle.machine_updates.proofs.ToldLemmas.{parts_are, told_at, told_many}
-use Rattle.snap_update.specs.Holding.{AreSavedIn, IsSnapPartOf, Machine, makes_mark}
+use Rattle.snap_update.specs.Holding.{IsSnapPartOf, Machine, makes_mark}
 use Rattle.snap_update.proofs.Saving.{marks_follow}
-use Rattle.snap_machines.specs.Keeping.{Part, Section, SnapView, part_of, saved_in, with_snaps}
+use Rattle.snap_machines.specs.Keeping.{Part, SnapView, part_of, with_snaps}
 use Rattle.snap_machines.specs.Seeding.{AreMarkedBelow}
 use Rattle.snap_machines.specs.Sending.{AreMarksUpTo}
-use Rattle.snap_machines.specs.Inner.Marks.{CanBeMarked, HasMarkedHere, HasMarkedNumber, IsReserved, after_told, datum_here, edges_left, ends_left, is_own, mark_told, marked_alone, pending_here, part_at, sides_at, with_edges, with_mark, with_vertex}
+use Rattle.snap_machines.specs.Inner.Marks.{CanBeMarked, HasMarkedNumber, IsReserved, after_told, datum_here, edges_left, is_own, mark_told, marked_alone, pending_here, sides_at, with_edges, with_mark, with_vertex}
 use Rattle.snap_machines.proofs.MarkLemmas.{edges_to_save, news_is, pends_are}
 
 -- what became of the parts of a machine

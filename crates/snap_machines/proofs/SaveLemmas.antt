@@ -1,5 +1,5 @@
 -- Edges, ends and machines that are gone through one after another.
-use Rattle.std.proofs.Common.{◌≡◌, ◌≢◌, ℕ, zero, suc, ◌+◌, ◌<◌, ◌≤◌, ◌==◌, ◌&&◌, ◌||◌, pred, Bool, true, false, if◌then◌else◌, List, [], ◌∷◌, length, get_or, drop, refl, sym, ap, ◌∙◌, subst, arith}
+use Rattle.std.proofs.Common.{◌≡◌, ℕ, zero, suc, ◌+◌, ◌<◌, ◌≤◌, ◌==◌, ◌&&◌, ◌||◌, pred, Bool, true, false, if◌then◌else◌, List, [], ◌∷◌, length, get_or, drop, refl, sym, ap, ◌∙◌, subst, arith}
 use Rattle.std.proofs.lemmas.List.{drop_more, drop_all}
 use Rattle.gl_base.specs.declared.numbers.MachineNo.{MachineNo}
 use Rattle.gl_base.specs.declared.numbers.Vertex.{Vertex}
@@ -8,7 +8,7 @@ use Rattle.local_graph.specs.declared.sides.Side.{Side}
 use Rattle.wire_msgs.specs.Views as told
 use Rattle.outboxes.specs.Outboxes.{OutboxesView}
 use Rattle.machine_numbers.specs.declared.keeping.Numbers.{Numbers}
-use Rattle.machine_numbers.specs.Views.{LocalView, TasksView, flag_there, is_named}
+use Rattle.machine_numbers.specs.Views.{TasksView, flag_there, is_named}
 use Rattle.machine_updates.specs.declared.reserving.Prepared.{Prepared}
 use Rattle.machine_updates.specs.Committing.{posted}
 use Rattle.machine_updates.proofs.TellLemmas.{can_step}

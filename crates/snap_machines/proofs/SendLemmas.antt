@@ -1,7 +1,7 @@
 -- Where all own vertices have the mark the section may be sent, and else not.
-use Rattle.std.proofs.Common.{◌≡◌, ◌⊎◌, ℕ, zero, suc, ◌+◌, ◌<◌, ◌≤◌, ◌==◌, ◌&&◌, not, Bool, true, false, true≢false, if◌then◌else◌, Option, Some, None, List, [], ◌∷◌, length, refl, sym, ap, ◌∙◌, subst, arith, inl, inr}
+use Rattle.std.proofs.Common.{◌≡◌, ℕ, zero, suc, ◌+◌, ◌<◌, ◌≤◌, ◌==◌, not, Bool, true, false, true≢false, if◌then◌else◌, Option, Some, None, List, ◌∷◌, length, sym, ap, ◌∙◌, arith, inl, inr}
 use Rattle.std.specs.Prelude.{is_some, nat_lt, slice_get, IfSome}
-use Rattle.std.proofs.lemmas.Bool.{and_parts, cases_Bool, cases_eq, eq-eqb, eqb-true, ltb-true, lt-ltb}
+use Rattle.std.proofs.lemmas.Bool.{and_parts, cases_eq, eq-eqb, eqb-true, ltb-true}
 use Rattle.std.proofs.lemmas.Option.{slice_get_cases}
 use Rattle.gl_base.specs.declared.numbers.Vertex.{Vertex}
 use Rattle.graph_core.specs.DataGraph.{size}
@@ -9,7 +9,6 @@ use Rattle.cluster_core.specs.Ranges.{all_passing}
 use Rattle.machine_numbers.specs.declared.keeping.Numbers.{Numbers}
 use Rattle.machine_numbers.specs.Views.{datum_here, is_own}
 use Rattle.machine_parts.specs.declared.cores.Core.{Core}
-use Rattle.machine_parts.specs.Settings.{IsPartOf, Setting}
 use Rattle.machine_updates.proofs.LeaveLemmas.{none_or, some_none}
 use Rattle.snap_machines.specs.Keeping.{SnapView}
 use Rattle.snap_machines.specs.Seeding.{AreMarkedBelow, HasUnmarked, IsFirstUnmarked, IsPastLast}

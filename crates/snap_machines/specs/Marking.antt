@@ -4,10 +4,15 @@ pub use Rattle.cluster_core.specs.Effects.{marked}
 pub use Rattle.cluster_core.specs.Settings.{IsSetting}
 pub use Rattle.machine_parts.specs.Rooms.{HasOnlyMadeRoom}
 pub use Rattle.machine_turns.specs.Turns.{HasEachRow}
-use Rattle.std.specs.Prelude.{◌≡◌}
+use Rattle.std.specs.Prelude.{◌≡◌, ◌+◌, ℕ, true, false, None, Some, if◌then◌else◌, slice_set}
+use Rattle.gl_base.specs.declared.numbers.Vertex.{Vertex}
 use Rattle.gl_base.specs.declared.scopes.ScopeId.{ScopeId}
 use Rattle.machine_parts.specs.declared.cores.Core.{Core}
+use Rattle.machine_parts.specs.Parts.{TasksView, flight_at, place_at}
 use Rattle.machine_parts.specs.Settings.{Setting, IsPartOf}
+use Rattle.snap_update.specs.Holding.{last_of_edge, last_of_vertex, saves_edge}
+use Rattle.snap_update.specs.Snaps.{IsSavedOnce}
+use Rattle.task_sched.specs.Tasks.{is_flagged}
 use Rattle.snap_machines.specs.Keeping.{SnapView, part_of, with_snaps}
 
 -- The scope might make its snapshot update. For each setting of which the machine is a part, the part, with what is kept for snapshots,
@@ -21,3 +26,19 @@ pub record HasMarked (old : Core) (kept : SnapView) (new : Core) (kept_now : Sna
 -- of what is kept the saved numbers alone have changed
 abbrev pub HasSavedMore : SnapView → SnapView → Type 0
 HasSavedMore old new = new ≡ record old { vertices = new.vertices; edges = new.edges; room = new.room }
+
+-- the vertex at this place is neither admitted nor planned any more
+pub record HasUnplanned (old new : TasksView) (place : ℕ) : Type 0 where
+  pub plans : new.plans + (if is_flagged old.planned place then 1 else 0) ≡ old.plans
+  pub planned : new.planned ≡ slice_set old.planned place false
+  pub admitted : new.admitted ≡ slice_set old.admitted place false
+
+-- the vertex of the scope is not
+abbrev pub HasEndedPlan : Core → Core → ScopeId → Type 0
+HasEndedPlan old new s = (v : Vertex) (place : ℕ) → flight_at old.pipe s ≡ Some v → place_at old.numbers.local v.0 ≡ Some place → HasUnplanned old.numbers.tasks new.numbers.tasks place
+
+-- Where neither the vertex of the scope was saved nor an edge that its snapshot update saves, nothing is saved twice.
+abbrev pub HasSavedOnce : Core → SnapView → SnapView → ScopeId → Type 0
+HasSavedOnce m kept now s =
+    (st : Setting) (v : Vertex) → IsSetting st → IsPartOf st m → flight_at m.pipe s ≡ Some v → IsSavedOnce kept → last_of_vertex kept.vertices v.0 ≡ None
+    → ((e : ℕ) → saves_edge st (with_snaps kept (part_of m)) v.0 e ≡ true → last_of_edge kept.edges e ≡ None) → IsSavedOnce now

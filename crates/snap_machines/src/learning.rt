@@ -28,6 +28,7 @@ pub fn learn(alloc: Global, core: &mut Core, snaps: &mut SnapPart, seen: &mut us
     ensures room { HasKeptRoom snaps.old.room snaps.new.room }
     ensures local { core.new.numbers.local ≡ record core.old.numbers.local { numbers = core.new.numbers.local.numbers } }
     ensures outside { core.new.numbers.tasks.outside ≡ core.old.numbers.tasks.outside }
+    ensures tasks { let now = core.new.numbers.tasks in now ≡ record core.old.numbers.tasks { task = now.task; pending = now.pending; asked = now.asked } }
     ensures rest { core.new ≡ record core.old { numbers = core.new.numbers; locks = core.new.locks } }
     ensures seen { AreMarkedBelow core.new.numbers snaps.new.known seen.new }
     ensures marks { AreMarksUpTo core.old.numbers snaps.old.known → AreMarksUpTo core.new.numbers snaps.new.known }

@@ -10,6 +10,7 @@ mod pending;
 mod saving;
 mod seeding;
 mod sending;
+mod waiting;
 
 pub use hearing::{begin, committed};
 pub use laws::{news_come_in_steps, scopes_go_apart_from_snapshots};
@@ -17,4 +18,5 @@ pub use learning::learn;
 pub use marking::mark;
 pub use pending::{pend_named, pend_one};
 pub use seeding::seed;
-pub use sending::section;
+pub use sending::{is_section_due, section};
+pub use waiting::next_mark;

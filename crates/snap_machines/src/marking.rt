@@ -5,10 +5,10 @@ ghost use Rattle.machine_parts.specs.Order.{IsOrderly, KnowsPlaces};
 ghost use Rattle.machine_parts.specs.Parts.{part_of};
 ghost use Rattle.machine_parts.specs.Settings.{SameSettings};
 ghost use Rattle.snap_update.specs.Snaps.{IsSameButRoom};
-ghost use Rattle.snap_machines.specs.Marking.{HasEachRow, HasMarked, HasOnlyMadeRoom, HasSavedMore, MayMark};
+ghost use Rattle.snap_machines.specs.Marking.{HasEachRow, HasEndedPlan, HasMarked, HasOnlyMadeRoom, HasSavedMore, HasSavedOnce, MayMark};
 ghost use Rattle.snap_machines.specs.Seeding.{AreMarkedBelow};
 ghost use Rattle.snap_machines.specs.Sending.{AreMarksUpTo};
-ghost use Rattle.snap_machines.specs.Inner.Marks.{AreTasksOf, CanBeMarked, HasMarkedHere, IsReserved, IsRowIn, flight_at, is_own, links_at, pending_here, sides_at};
+ghost use Rattle.snap_machines.specs.Inner.Marks.{AreTasksOf, CanBeMarked, HasMarkedHere, HasUnplanned, IsReserved, IsRowIn, datum_here, edges_left, flight_at, is_own, links_at, pending_here, place_at, sides_at, with_edges, with_vertex};
 
 use crate::marks::mark_number;
 use crate::saving::{save_marked, tell_marks};
@@ -41,6 +41,8 @@ pub fn mark(
     requires seen { AreMarkedBelow core.old.numbers snaps.old.known seen.old }
     ensures marked { OnOk result (HasMarked core.old snaps.old core.new snaps.new scope) }
     ensures saved { HasSavedMore snaps.old snaps.new }
+    ensures once { OnOk result (HasSavedOnce core.old snaps.old snaps.new scope) }
+    ensures plans { OnOk result (HasEndedPlan core.old core.new scope) }
     ensures not_now { IsErrOf result Refused.NotNow → MayMark scope (part_of core.old) → ⊥ }
     ensures no_memory { IsErrOf result Refused.NoMemory → MayMark scope (part_of core.old) }
     ensures unchanged { OnErr result (HasOnlyMadeRoom core.old core.new) }
@@ -71,7 +73,7 @@ pub fn mark(
 }
 
 /// The vertex of a scope that may make its snapshot update now.
-fn centre_to_mark(core: &Core, scope: ScopeId) -> Option<Vertex>
+pub fn centre_to_mark(core: &Core, scope: ScopeId) -> Option<Vertex>
     requires { IsOrderly core.now }
     ensures some { IfSome result (λ centre. CanBeMarked core.now scope centre) }
     ensures none { result ≡ None → MayMark scope (part_of core.now) → ⊥ }
@@ -144,6 +146,8 @@ fn make_mark(core: &mut Core, snaps: &mut SnapPart, flight: Flight, prepared: Ve
     requires edges { length (sides_at core.old.numbers.local flight.centre.0) ≤ snaps.old.room.edges }
     ensures marked { HasMarkedHere core.old snaps.old core.new snaps.new flight.scope flight.centre }
     ensures saved { HasSavedMore snaps.old snaps.new }
+    ensures sides { snaps.new ≡ with_edges (edges_left core.old.numbers snaps.old.known (sides_at core.old.numbers.local flight.centre.0)) (with_vertex flight.centre (datum_here core.old.numbers flight.centre.0).value snaps.old) }
+    ensures plans { (place : ℕ) → place_at core.old.numbers.local flight.centre.0 ≡ Some place → HasUnplanned core.old.numbers.tasks core.new.numbers.tasks place }
     ensures local { core.new.numbers.local ≡ record core.old.numbers.local { kept = core.new.numbers.local.kept } }
     ensures own { (x : ℕ) → is_own core.new.numbers.local x ≡ is_own core.old.numbers.local x }
     ensures outside { core.new.numbers.tasks.outside ≡ core.old.numbers.tasks.outside }

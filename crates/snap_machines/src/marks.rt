@@ -3,7 +3,7 @@ ghost use Rattle.std.specs.Prelude.{◌≡◌, ℕ, ◌<◌, ◌==◌, ◌&&◌,
 ghost use Rattle.std.specs.List.{All};
 ghost use Rattle.machine_numbers.specs.Steps.{IsSideHere};
 ghost use Rattle.machine_numbers.specs.Views.{flag_there, is_flagged, is_named};
-ghost use Rattle.snap_machines.specs.Inner.Marks.{AreTasksOf, CanMarkNumber, HasMarkedNumber, ends_left, is_end_left, is_own, pending_here, place_at, sides_at};
+ghost use Rattle.snap_machines.specs.Inner.Marks.{AreTasksOf, CanMarkNumber, HasMarkedNumber, HasUnplanned, ends_left, is_end_left, is_own, pending_here, place_at, sides_at};
 
 use crate::pending::pend_place;
 use crate::saving::{is_end_left, with_mark};
@@ -32,6 +32,7 @@ fn end_mark(tasks: &mut TaskSet, local: &LocalGraph, v: Vertex)
     requires pending { flag_there tasks.old.pending (place_at local.now v.0) ≡ true }
     ensures each { (u : ℕ) → flag_there tasks.new.pending (place_at local.now u) ≡ (flag_there tasks.old.pending (place_at local.now u) && not (u == v.0)) }
     ensures admitted { (k : ℕ) → place_at local.now v.0 ≡ Some k → tasks.new.admitted ≡ slice_set tasks.old.admitted k false }
+    ensures plans { (k : ℕ) → place_at local.now v.0 ≡ Some k → HasUnplanned tasks.old tasks.new k }
     ensures tasks { AreTasksOf local.now tasks.new }
     ensures rest { tasks.new ≡ record tasks.old { pending = tasks.new.pending; admitted = tasks.new.admitted; planned = tasks.new.planned; plans = tasks.new.plans } }
 {
@@ -48,6 +49,7 @@ fn end_place(tasks: &mut TaskSet, place: usize)
     requires pending { is_flagged tasks.old.pending place ≡ true }
     ensures pending { tasks.new.pending ≡ slice_set tasks.old.pending place false }
     ensures admitted { tasks.new.admitted ≡ slice_set tasks.old.admitted place false }
+    ensures plans { HasUnplanned tasks.old tasks.new place }
     ensures rest { tasks.new ≡ record tasks.old { pending = tasks.new.pending; admitted = tasks.new.admitted; planned = tasks.new.planned; plans = tasks.new.plans } }
 {
     let count = tasks.count() as usize;

@@ -33,16 +33,28 @@ pub fn section(
     ensures room { HasKeptRoom snaps.old.room snaps.new.room }
     ensures seen { AreMarkedBelow core.now.numbers snaps.old.known seen.new }
 {
-    if !snaps.is_unsent() {
-        return Err(Refused::NotNow);
-    }
-    if !are_all_marked(&core.numbers, snaps.known(), seen) {
+    if !is_section_due(core, snaps, seen) {
         return Err(Refused::NotNow);
     }
     match snaps.section(alloc) {
         Ok(section) => Ok(section),
         Err(NoMemory) => Err(Refused::NoMemory),
     }
+}
+
+/// Whether the section may be sent now. It takes no memory.
+pub fn is_section_due(core: &Core, snaps: &SnapPart, seen: &mut usize) -> bool
+    requires base { core.now.terms.base ≤ snaps.now.sent }
+    requires marks { AreMarksUpTo core.now.numbers snaps.now.known }
+    requires seen { AreMarkedBelow core.now.numbers snaps.now.known seen.old }
+    ensures yes { result ≡ true → MaySendSection core.now snaps.now }
+    ensures no { result ≡ false → MayNotSendSection core.now snaps.now }
+    ensures seen { AreMarkedBelow core.now.numbers snaps.now.known seen.new }
+{
+    if !snaps.is_unsent() {
+        return false;
+    }
+    are_all_marked(&core.numbers, snaps.known(), seen)
 }
 
 /// Whether each own vertex has the mark of this snapshot; those before `seen` have it.

@@ -4,3 +4,4 @@ pub mod CallLemmas
 pub mod ReadLemmas
 pub mod RestLemmas
 pub mod HearLemmas
+pub mod StepLemmas

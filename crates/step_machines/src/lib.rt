@@ -6,6 +6,7 @@ mod members;
 mod messages;
 mod reading;
 mod resting;
+mod steps;
 mod waves;
 
 pub use machines::ColorMachine;

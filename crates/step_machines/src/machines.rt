@@ -96,6 +96,7 @@ impl<P: Program> ColorMachine<P> {
         ensures done { OnOk result (HasDoneItsShare self.old.core) }
         ensures closed { OnOk result (part_in_steps self.new.core ≡ closes (part_in_steps self.old.core)) }
         ensures not_now { IsErrOf result Refused.NotNow → GoesOnHere self.old.core }
+        ensures open { IsErrOf result Refused.NotNow → self.old.core.closed ≡ false }
         ensures memory { IsErrOf result Refused.NoMemory → ⊥ }
         ensures unchanged { OnErr result (self.new ≡ self.old) }
     {
@@ -141,5 +142,12 @@ impl<P: Program> ColorMachine<P> {
         ensures received { HasHeardDone self.old.core self.new.core done.now }
     {
         color_machine::receive_done(&mut self.core, done);
+    }
+
+    /// Whether nothing more is admitted in this step.
+    pub fn is_closed(&self) -> bool
+        ensures { result ≡ self.now.core.closed }
+    {
+        self.core.closed
     }
 }

@@ -102,7 +102,7 @@ put_all P entry (first ∷ order) one all = elim (cases_lt (entry_rank entry) (e
   | inr more ↦ rw (le-ltb (entry_rank entry) (entry_rank first) more) (all.0, put_all P entry order one all.1)
 ]
 
-put_ascends : (entry : Entry) (order : List Entry) → Ascending entry_rank order → Ascending entry_rank (put_in_order entry order)
+pub put_ascends : (entry : Entry) (order : List Entry) → Ascending entry_rank order → Ascending entry_rank (put_in_order entry order)
 put_ascends entry [] up = (tt, tt)
 put_ascends entry (first ∷ order) up = elim (cases_lt (entry_rank entry) (entry_rank first)) [
   | inl less ↦
@@ -144,7 +144,7 @@ put_tied x entry (first ∷ order) up = elim (cases_lt (entry_rank entry) (entry
     behind true first front back = refl
     behind false first front back = refl
 
-with_ascends : (entries order : List Entry) → Ascending entry_rank order → Ascending entry_rank (with_entries order entries)
+pub with_ascends : (entries order : List Entry) → Ascending entry_rank order → Ascending entry_rank (with_entries order entries)
 with_ascends [] order up = up
 with_ascends (entry ∷ entries) order up = with_ascends entries (put_in_order entry order) (put_ascends entry order up)
 

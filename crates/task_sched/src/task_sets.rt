@@ -203,6 +203,15 @@ impl TaskSet {
         self.outside
     }
 
+    /// How many vertices are admitted for an update. Each vertex has its flag for that, and none that is not admitted is planned.
+    pub fn plans(&self) -> u64
+        ensures plans { result ≡ self.now.plans }
+        ensures flags { length self.now.planned ≡ length self.now.task }
+        ensures free { (u : ℕ) → is_flagged self.now.admitted u ≡ false → is_flagged self.now.planned u ≡ false }
+    {
+        self.plans
+    }
+
     /// How many vertices there are.
     pub fn count(&self) -> u32
         ensures { result ≡ length self.now.task }

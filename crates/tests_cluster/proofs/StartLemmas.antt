@@ -64,7 +64,7 @@ pub lone_starts : (machines : List Lone) (m : Lone) → m.progress ≡ Fresh →
 lone_starts machines m fresh is =
     record {
       setting = setting_is;
-      locks = refl;
+      engine = tt;
       many = ap (λ (ms : List Lone). length ms) is;
       here = λ a x stands. (here m x a (ap (λ (ms : List Lone). slice_get ms a) (sym is) ∙ stands), refl);
       start = λ a x stands.

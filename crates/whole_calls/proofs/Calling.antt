@@ -1,14 +1,16 @@
 -- What the events of a call make, part by part.
-use Rattle.std.proofs.Common.{◌≡◌, ◌⊎◌, ℕ, suc, ◌+◌, ◌/◌, ◌<◌, ◌≤◌, Bool, true, false, if◌then◌else◌, List, [], ◌∷◌, ◌++◌, length, map, sum_by, inl, inr, refl, sym, ◌∙◌, ap, ap₂, subst, ⊎_elim, append-nil, arith}
+use Rattle.std.proofs.Common.{◌≡◌, ◌⊎◌, ℕ, suc, ◌+◌, ◌/◌, ◌<◌, ◌≤◌, Bool, true, false, filter, if◌then◌else◌, List, [], ◌∷◌, ◌++◌, length, map, sum_by, inl, inr, refl, sym, ◌∙◌, ap, ap₂, subst, ⊎_elim, append-nil, arith}
 use Rattle.std.proofs.lemmas.Bool.{both_ways, cases_eq, cond-false, false_from_ne_true}
 use Rattle.std.specs.List.{AllByRecursion}
 use Rattle.std.proofs.lemmas.List.{append_cancel_left, length-append, length-map}
 use Rattle.gl_base.specs.declared.entries.Entry.{Entry}
 use Rattle.gl_base.specs.declared.entries.Entry.TheVariants.{Restart}
 use Rattle.gl_base.specs.declared.jobs.FailureAt.{FailureAt}
+use Rattle.graph_core.proofs.HalvesLaws.{each-append}
 use Rattle.graph_core.specs.DataGraph.{size}
+use Rattle.merged_logs.specs.Merges.{IsByMachineBelow, IsMerge}
 use Rattle.attempts.specs.Beginnings.{held_updates, order_after, snapshot_order, unheld_updates}
-use Rattle.attempts.specs.EngineCalls.{EngineCall, IsOrderInTurn, begins_behind, call_order, made_of, ticket_above}
+use Rattle.attempts.specs.EngineCalls.{EngineCall, IsOrderInTurn, begins_behind, call_order, lost_of, made_in, made_of, ticket_above}
 use Rattle.attempts.specs.Entries.{is_restart}
 use Rattle.attempts.specs.Stores.{attempted_snapshots, last_order, snapshot_orders, snapshots_of}
 use Rattle.attempts.proofs.Prefixes.{last_order_append}
@@ -25,7 +27,8 @@ use Rattle.cluster_ending.proofs.Courses.{start_followed}
 use Rattle.cluster_ending.proofs.Finding.{no_task_left}
 use Rattle.cluster_ending.proofs.Leaving.{none_woken}
 use Rattle.cluster_model.specs.Clusters.{BaseView, Cluster}
-use Rattle.cluster_model.specs.Events.{Event, PutBegin, Record, after_event, recovers, setting_after}
+use Rattle.cluster_model.specs.ByTicket.{restarts}
+use Rattle.cluster_model.specs.Events.{Event, GoesBackTo, PutBegin, Record, after_event, failures_in, recovers, setting_after}
 use Rattle.cluster_model.specs.Leading.{HasSeenTheEnd, HasStoreRoom, HoldsAll, RecordIsDue, Snapshot, SnapshotIsDue, entries_in, updates_told}
 use Rattle.cluster_model.specs.Working.{half_window}
 use Rattle.cluster_runs.specs.Attempts.{Attempt, Beginning}
@@ -34,23 +37,28 @@ use Rattle.cluster_whole.specs.Logged.{Logged, all_entries, entries_to}
 use Rattle.cluster_whole.specs.Views.{world_of}
 use Rattle.cluster_whole.specs.Whole.{setting_behind}
 use Rattle.cluster_whole.proofs.Flows.{total_from-none, total_from-same}
-use Rattle.cluster_records.specs.Recorded.{snapshot_due}
+use Rattle.cluster_records.specs.Recorded.{HaveSameNumbers, snapshot_due}
 use Rattle.cluster_records.specs.Few.{snapshot_at, snapshots_in_all, unasked_in}
 use Rattle.cluster_records.proofs.Fewness.{attempts_few, by_half}
 use Rattle.cluster_records.proofs.Outside.{many_outside}
-use Rattle.seq_run.specs.Orders.{tasks_after}
+use Rattle.seq_run.specs.Orders.{replay, tasks_after}
 use Rattle.seq_run.specs.States.{GraphState}
 use Rattle.whole_calls.specs.Called.{IsCallOf, KeepsWindows}
 use Rattle.whole_calls.specs.Following.{has_reached}
+use Rattle.whole_calls.specs.Lost.{AreLostIn, TakesAway, all_logged, is_lacking, machine_logs}
 use Rattle.whole_calls.specs.Opened.{IsCourseOfCall}
-use Rattle.whole_calls.specs.Saved.{AreSnapshotsOf, IsSnapshotOf, recorded_at, recorded_in}
+use Rattle.whole_calls.specs.Saved.{AreNextOrders, AreSnapshotsOf, fronts_in, IsSnapshotOf, recorded_at, recorded_in}
 use Rattle.whole_calls.specs.Telling.{HasSavedTheEnd, NeedsMoreStore, TellsOfCall, length_with}
 use Rattle.whole_calls.proofs.Acknowledged.{good_snapshots, pending_is, snapshots_append, snapshots_long}
-use Rattle.whole_calls.proofs.Ending.{EndsBehind, HasAskedAll, IsEnding, IsPlain, courses_end, which}
+use Rattle.whole_calls.proofs.Ending.{EndsBehind, GoOnFrom, all_fronted, HasAskedAll, IsEnding, IsPlain, courses_end, which}
+use Rattle.whole_calls.proofs.Fronting.{all_in_turn, next_once, next_orders}
 use Rattle.whole_calls.proofs.Going.{IsInCall}
 use Rattle.whole_calls.proofs.Holding.{holds_only, told_many}
 use Rattle.whole_calls.proofs.Leading.{behind_since, call_of, call_then, call_with, is_call, opened_at, opened_in, since, windows_are, windows_then}
+use Rattle.whole_calls.proofs.Owning.{begins_own, due_says}
 use Rattle.whole_calls.proofs.Reaching.{one_at, reached_many}
+use Rattle.whole_calls.proofs.Lacking.{lacking_taken}
+use Rattle.whole_calls.proofs.Returning.{may_return}
 use Rattle.whole_calls.proofs.Refusing.{made_none, newest_is, nil_of, refused_by}
 use Rattle.whole_calls.proofs.Waved.{end_unreached, recovered_late}
 use Rattle.whole_calls.proofs.Windowed.{unheld_many}
@@ -97,16 +105,19 @@ module _ (failures : List FailureAt) (kept : List Entry) (resumed : Bool) (numbe
       both_ways (vertex_woken u (way (world_of c) woken.0 (st.owner u))) (none_woken st at.is (world_of c) at.whole.consistent.copies.told left woken.0 (st.owner u) u) woken.1)
       ((its_call.tasks u low).0 task))
 
-  none_struck : HasSeenTheEnd c.coordinator → made_call.last.struck ≡ 0
-  none_struck end =
+  unreached_struck : ((a : ℕ) → a < st.machines → has_reached failures c a ≡ false) → made_call.last.struck ≡ 0
+  unreached_struck none =
       sym (struck_same st at.is c at.whole logged at.account failures behind at.so.done)
       ∙ sym (reached_many (done_before c) (done_now c) st.machines failures at.ordered.owned at.ordered.different at.stops)
       ∙ total_from-same 0 st.machines (λ a. 0) (one_at (done_before c) (done_now c) failures)
-      (λ a from to. cond-false (has_reached failures c a) 1 0 (end_unreached failures (opened_at kept resumed) st c logged failed at e.watch e.watched e.late end a (in_range a st.machines to)))
+      (λ a from to. cond-false (has_reached failures c a) 1 0 (none a (in_range a st.machines to)))
       ∙ total_from-none 0 st.machines (λ a. 0) (λ a. refl)
     where
       in_range : (a n : ℕ) → a < 0 + n → a < n
       in_range a n low = omega arith
+
+  none_struck : HasSeenTheEnd c.coordinator → made_call.last.struck ≡ 0
+  none_struck end = unreached_struck (λ a low. end_unreached failures (opened_at kept resumed) st c logged failed at e.watch e.watched e.late end a low)
 
   some_kept : st.stored ≡ true → HasSavedTheEnd st c.coordinator → (snapshots : List Snapshot) → c.coordinator.snapshots ≡ snapshots → 1 ≤ length snapshots
   some_kept stored ended [] is = absurd (ended.all (record { stored = stored; none = ended.none; wanted = inr (ended.end, inr is) }))
@@ -190,7 +201,7 @@ module _ (failures : List FailureAt) (kept : List Entry) (resumed : Bool) (numbe
         saved = saved_all;
         pending = λ due.
             let may = pending_is st at.is c at.whole logged at.account at.based failures behind at.so.front at.so.tickets newest e.resumes due in
-            (may.0, may.1, may.2, subst (λ (order : List Entry). IsSnapshotOf st c.coordinator.begun order (snapshot_order behind made_call.last may.0) (snapshot_due c.coordinator)) (sym last_is) may.3);
+            (may.0, may.1, may.2, subst (λ (order : List Entry). IsSnapshotOf st c.coordinator.begun order (snapshot_order behind made_call.last may.0) (snapshot_due c.coordinator)) (sym last_is) may.3, due_says st at.is c at.whole e.own logged at.account due);
         full = needs_more;
         spent = of_budget c.next c.left (ticket_above kept) budget (length (made_of made_call)) e.tickets its_call.next;
       }
@@ -222,6 +233,11 @@ one_at_most n stored share few once = ⊎_elim (λ (none : 0 + n ≡ 0). with_no
 
     with_one : (n stored share : ℕ) → stored ≤ share + n → 0 + n ≡ 1 → stored ≤ share + 1
     with_one n stored share few one = omega arith
+
+all_below : (machines : ℕ) (failed : List Attempt) (last : Attempt) → AllByRecursion (λ (a : Attempt). AllByRecursion (IsByMachineBelow machines) a.made) failed → AllByRecursion (IsByMachineBelow machines) last.made →
+    AllByRecursion (IsByMachineBelow machines) (made_in failed last)
+all_below machines [] last before its = its
+all_below machines (a ∷ failed) last before its = each-append (IsByMachineBelow machines) a.made (made_in failed last) before.0 (all_below machines failed last before.1 its)
 
 plus_none : (n : ℕ) → n ≡ n + 0
 plus_none n = omega arith
@@ -257,15 +273,17 @@ module _ (st : Setting) (failures : List FailureAt) (kept : List Entry) (resumed
         resumes = (if resumed then Restart (ticket_above kept) ∷ [] else [], refl, restart_alone resumed (ticket_above kept));
         behind = inl refl;
         reason = λ under. absurd (not_less base.number under);
+        own = begins_own st now base first;
+        made_below = tt;
         tickets = ap (λ (n : ℕ). n + first.left) course.opened.next;
       }
 
   abbrev last : Setting
   last = setting_behind now events
 
-  ended : EndsBehind failures (opened_at kept resumed) kept base.number (ticket_above kept + first.left) (since st last.start last.base) c (recorded_in now begun events) (0 + unasked_in now begun events)
+  ended : EndsBehind failures (opened_at kept resumed) kept base.number (ticket_above kept + first.left) (since st last.start last.base) c (recorded_in now begun events) (0 + unasked_in now begun events) [] (AreLostIn now begun events) (GoOnFrom (opened_at kept resumed) now begun events [])
   ended =
-      subst (λ (s : Setting). EndsBehind failures (opened_at kept resumed) kept base.number (ticket_above kept + first.left) s c (recorded_in now begun events) (0 + unasked_in now begun events)) (behind_since events now)
+      subst (λ (s : Setting). EndsBehind failures (opened_at kept resumed) kept base.number (ticket_above kept + first.left) s c (recorded_in now begun events) (0 + unasked_in now begun events) [] (AreLostIn now begun events) (GoOnFrom (opened_at kept resumed) now begun events [])) (behind_since events now)
       (courses_end failures (opened_at kept resumed) kept base.number (ticket_above kept + first.left) events now begun c [] [] [] 0 opening course.course course.follows)
 
   saved_then : (start : GraphState) (number : ℕ) → HasSavedTheEnd st c.coordinator → HasSavedTheEnd (since st start number) c.coordinator
@@ -287,6 +305,11 @@ module _ (st : Setting) (failures : List FailureAt) (kept : List Entry) (resumed
       × AreSnapshotsOf st base.number kept (recorded_in (going_on st base.numbers base.number) (recovers st base first) events) (snapshots_of one)
       × (0 < half_window st → length (snapshots_of one) ≤ first.left / half_window st + 1)
       × TellsOfCall st first.left c one
+      × ((lost : List Entry) → AreLostIn (going_on st base.numbers base.number) (recovers st base first) events lost → lost_of one ≡ lost)
+      × AreNextOrders st kept (fronts_in (going_on st base.numbers base.number) (recovers st base first) events)
+      (recorded_in (going_on st base.numbers base.number) (recovers st base first) events) (snapshots_of one)
+      × AllByRecursion (IsByMachineBelow st.machines) (made_of one)
+      × (((a : ℕ) → a < st.machines → has_reached failures c a ≡ false) → one.last.struck ≡ 0)
   the_call =
       let last_st : Setting = since st last.start last.base in
       let logged : List Logged = ended.0 in
@@ -298,9 +321,10 @@ module _ (st : Setting) (failures : List FailureAt) (kept : List Entry) (resumed
       let in_turn = course.opened.in_turn in
       let begins = course.opened.begins in
       let are : AreSnapshotsOf st base.number kept taken (snapshots_of one) = orders_are failures kept resumed base.number first.left last_st c logged failed taken unasked e in_turn begins in
+      let call_so : IsCallOf st failures kept resumed c one = call_then st last.start last.base failures kept resumed c one (call_of failures kept resumed last_st c logged failed e.at in_turn begins) in
       let told : TellsOfCall last_st first.left c one = tells failures kept resumed base.number first.left last_st c logged failed taken unasked e in_turn begins in (
         one,
-        call_then st last.start last.base failures kept resumed c one (call_of failures kept resumed last_st c logged failed e.at in_turn begins),
+        call_so,
         λ stored. windows_then st last.start last.base failures one (windows_are failures kept resumed last_st c logged failed e.at in_turn begins stored),
         are,
         λ half.
@@ -308,5 +332,44 @@ module _ (st : Setting) (failures : List FailureAt) (kept : List Entry) (resumed
             (one_at_most (unasked_in now begun events) (snapshots_in_all events) (first.left / half_window st)
             (by_half (half_window st) (snapshots_in_all events) (unasked_in now begun events) first.left half (attempts_few st course.is course.coloured base first events c course.course))
             (once_or last_st logged unasked e.once)),
-        record { tasks = told.tasks; unharmed = told.unharmed; told = told.told; saved = λ stored is. told.saved stored (saved_then last.start last.base is); pending = λ due. told.pending (due_then last.start last.base due); full = λ due refused. told.full (due_then last.start last.base due) (room_then last.start last.base refused); spent = told.spent },
+        record { tasks = told.tasks; unharmed = told.unharmed; told = told.told; saved = λ stored is. told.saved stored (saved_then last.start last.base is); pending = λ due. let p = told.pending (due_then last.start last.base due) in (p.0, p.1, p.2, p.3, record { updates = p.4.updates; some_vertex = p.4.some_vertex; some_edge = p.4.some_edge; vertices = p.4.vertices; edges = p.4.edges }); full = λ due refused. told.full (due_then last.start last.base due) (room_then last.start last.base refused); spent = told.spent },
+        ended.3,
+        next_orders (shared_of st failures) st base.number kept (fronts_in now begun events) taken (snapshots_of one) are
+            (all_fronted failures (opened_at kept resumed) kept base.number (ticket_above kept + first.left) last_st c logged failed taken unasked e (fronts_in now begun events)
+            (ended.4 (fronts_in now begun events) ([], ([], refl, tt), refl)))
+            (all_in_turn (shared_of st failures) one call_so.is),
+        all_below st.machines failed one.last e.made_below call_so.machines,
+        unreached_struck failures kept resumed base.number first.left last_st c logged failed taken unasked e in_turn begins,
       )
+
+  -- where a recovery may go back to
+  pub the_return : 0 < failures_in st c → ((a : ℕ) → a < st.machines → has_reached failures c a ≡ true → (c.machine a).failed ≡ true) → (orders : List (List Entry)) (missing : List Entry) →
+      AreNextOrders st kept (fronts_in (going_on st base.numbers base.number) (recovers st base first) events) (recorded_in (going_on st base.numbers base.number) (recovers st base first) events) orders →
+      filter is_restart (last_order kept orders) ++ missing ≡ filter is_restart c.base.order ++ restarts (failures_in st c) c.next →
+      (to : BaseView) × (to.number ≡ c.coordinator.acknowledged) × (to.number ≡ base.number + length (recorded_in (going_on st base.numbers base.number) (recovers st base first) events)) × (to.order ≡ last_order kept orders ++ missing)
+      × HaveSameNumbers st.graph to.numbers (replay st.graph st.program to.order) × GoesBackTo (setting_behind now events) c to
+  unfolding the_call
+  the_return some all orders missing are lacks =
+      let last_st : Setting = since st last.start last.base in
+      let e : IsEnding failures (opened_at kept resumed) kept base.number (ticket_above kept + first.left) last_st c ended.0 ended.1 (recorded_in now begun events) (0 + unasked_in now begun events) = ended.2 in
+      let snapshots : List (List Entry) = snapshots_of (call_with failures kept resumed c ended.0 ended.1) in
+      let same : orders ≡ snapshots = next_once st kept (fronts_in now begun events) (recorded_in now begun events) orders snapshots are the_call.7 in
+      let back = may_return failures kept resumed base.number first.left last_st c ended.0 ended.1 (recorded_in now begun events) (0 + unasked_in now begun events) e some all missing
+      (ap (λ (os : List (List Entry)). filter is_restart (last_order kept os) ++ missing) (sym same) ∙ lacks) in (
+        back.0,
+        back.1,
+        back.2,
+        back.3 ∙ ap (λ (os : List (List Entry)). last_order kept os ++ missing) (sym same),
+        back.4,
+        subst (λ (s : Setting). GoesBackTo s c back.0) (sym (behind_since events now)) back.5,
+      )
+
+  -- what a recovery takes away
+  pub the_losses : (to : BaseView) (merged : List Entry) → GoesBackTo (setting_behind now events) c to → IsMerge (all_logged (machine_logs st.machines c)) merged →
+      TakesAway (setting_behind now events) c to (filter (is_lacking to.order) merged)
+  the_losses to merged back merges =
+      let last_st : Setting = since st last.start last.base in
+      let at : IsInCall failures (opened_at kept resumed) last_st c ended.0 ended.1 = ended.2.at in
+      subst (λ (s : Setting). TakesAway s c to (filter (is_lacking to.order) merged)) (sym (behind_since events now))
+      (lacking_taken last_st at.is c at.whole ended.0 at.account at.based failures (begins_behind (opened_at kept resumed) ended.1) at.so.tickets to
+      (subst (λ (s : Setting). GoesBackTo s c to) (behind_since events now) back) merged merges)

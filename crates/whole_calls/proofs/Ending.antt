@@ -1,16 +1,17 @@
 -- A cluster in the course of a call, with its waves, its snapshots and its tickets.
-use Rattle.std.proofs.Common.{◌≡◌, ◌⊎◌, ℕ, suc, pred, ◌+◌, ◌<◌, ◌≤◌, Bool, true, false, if◌then◌else◌, Option, List, [], ◌∷◌, ◌++◌, length, inl, inr, refl, sym, ◌∙◌, ap, ap₂, subst, subst₂, ⊎_elim, le_refl, append-nil, append_assoc, arith}
+use Rattle.std.proofs.Common.{◌≡◌, ◌⊎◌, ℕ, suc, pred, ◌+◌, ◌<◌, ◌≤◌, Bool, true, false, if◌then◌else◌, Option, List, [], ◌∷◌, ◌++◌, length, inl, inr, refl, replicate, sym, ◌∙◌, ap, ap₂, subst, subst₂, ⊎_elim, le_refl, append-nil, append_assoc, arith}
 use Rattle.std.specs.List.{AllByRecursion}
 use Rattle.std.proofs.lemmas.Bool.{both_ways, cond-false, cond-true, false_from_ne_true}
-use Rattle.std.proofs.lemmas.List.{length-append}
+use Rattle.std.proofs.lemmas.List.{length-append, length-map}
 use Rattle.gl_base.specs.declared.entries.Entry.{Entry}
 use Rattle.gl_base.specs.declared.jobs.FailureAt.{FailureAt}
 use Rattle.gl_base.specs.declared.scopes.ScopeId.{ScopeId}
-use Rattle.attempts.specs.Beginnings.{again}
-use Rattle.attempts.specs.EngineCalls.{HaveFailed, begins_behind}
+use Rattle.attempts.specs.Beginnings.{again, unheld_updates}
+use Rattle.attempts.specs.EngineCalls.{HaveFailed, begins_behind, lost_in}
 use Rattle.attempts.specs.Stores.{ResumesFrom, attempted_snapshots, last_order, snapshot_orders}
 use Rattle.attempts.proofs.Prefixes.{last_order_append}
 use Rattle.attempts.proofs.Storing.{begins_push, goes_back}
+use Rattle.cluster_attempts.specs.CallsSoFar.{count_to, counts_of}
 use Rattle.cluster_attempts.proofs.Joining.{made_now}
 use Rattle.cluster_core.specs.Messages.{Message}
 use Rattle.cluster_core.specs.Settings.{Setting}
@@ -34,15 +35,23 @@ use Rattle.cluster_whole.proofs.Joining.{event_leads}
 use Rattle.cluster_whole.proofs.Wholeness.{is_exclusive}
 use Rattle.cluster_records.specs.Few.{snapshot_at, unasked_at, unasked_in}
 use Rattle.cluster_records.specs.Recorded.{GoOnByNumber, snapshot_due}
+use Rattle.cluster_records.proofs.Based.{base_kept}
 use Rattle.cluster_records.proofs.Entering.{IsNoUpdate, draws_none, own_logged, update_logged}
+use Rattle.cluster_records.proofs.Numbering.{all_own}
 use Rattle.cluster_records.proofs.Outside.{many_outside, outside_more}
 use Rattle.cluster_records.proofs.Recording.{IsNoRecord, adds_none}
+use Rattle.graph_core.proofs.HalvesLaws.{each-append}
+use Rattle.merged_logs.specs.Merges.{IsByMachineBelow}
 use Rattle.whole_calls.specs.Following.{FollowJob, FollowsJob, has_reached}
-use Rattle.whole_calls.specs.Saved.{AreSnapshotsOf, recorded_at, recorded_in}
+use Rattle.whole_calls.specs.Lost.{AreLostIn, IsTakenBy}
+use Rattle.whole_calls.specs.Saved.{AreSnapshotsOf, front_at, fronts_in, recorded_at, recorded_in}
 use Rattle.whole_calls.proofs.Acknowledged.{attempted_push, good_snapshots, numbered_long, snapshots_append}
 use Rattle.whole_calls.proofs.EventKinds.{by_kind}
+use Rattle.whole_calls.proofs.Fronting.{HaveRestartsOf, attempt_restarts, replicate_push, restarts_append}
 use Rattle.whole_calls.proofs.Going.{IsInCall, now_made, quiet_in, reached_kept, recover_in, update_in}
 use Rattle.whole_calls.proofs.Holding.{holds_all, holds_if}
+use Rattle.whole_calls.proofs.Losing.{lost_push, own_by_machines, taken_once, unheld_taken}
+use Rattle.whole_calls.proofs.Owning.{SavesOwn, begins_own, own_kept}
 use Rattle.whole_calls.proofs.Refusing.{again_longer}
 use Rattle.whole_calls.proofs.Waved.{IsLate, end_unreached, quiet_late, recovered_late, update_late}
 
@@ -55,26 +64,27 @@ pub record IsPlain (event : Event) : Type 0 where
   pub asks : (c : Cluster) → unasked_at c event ≡ 0
   pub adds : (c : Cluster) → recorded_at c event ≡ []
   pub counts : snapshot_at event ≡ 0
+  pub fronts : (c : Cluster) → front_at c event ≡ []
 
 pub which : (event : Event) → (event ≡ PutBegin) ⊎ ((event ≡ Record) ⊎ IsPlain event)
-which (Admit a v) = inr (inr (record { begins = λ same. cc; records = λ same. cc; asks = λ c. refl; adds = λ c. refl; counts = refl }))
-which (Grant a x) = inr (inr (record { begins = λ same. cc; records = λ same. cc; asks = λ c. refl; adds = λ c. refl; counts = refl }))
-which (Send p q) = inr (inr (record { begins = λ same. cc; records = λ same. cc; asks = λ c. refl; adds = λ c. refl; counts = refl }))
-which (SendCall a) = inr (inr (record { begins = λ same. cc; records = λ same. cc; asks = λ c. refl; adds = λ c. refl; counts = refl }))
-which (SendReport a) = inr (inr (record { begins = λ same. cc; records = λ same. cc; asks = λ c. refl; adds = λ c. refl; counts = refl }))
-which (Deliver p q) = inr (inr (record { begins = λ same. cc; records = λ same. cc; asks = λ c. refl; adds = λ c. refl; counts = refl }))
-which (DeliverCall a) = inr (inr (record { begins = λ same. cc; records = λ same. cc; asks = λ c. refl; adds = λ c. refl; counts = refl }))
-which (DeliverReport a) = inr (inr (record { begins = λ same. cc; records = λ same. cc; asks = λ c. refl; adds = λ c. refl; counts = refl }))
-which (Update s) = inr (inr (record { begins = λ same. cc; records = λ same. cc; asks = λ c. refl; adds = λ c. refl; counts = refl }))
-which (Mark s) = inr (inr (record { begins = λ same. cc; records = λ same. cc; asks = λ c. refl; adds = λ c. refl; counts = refl }))
-which (Section a) = inr (inr (record { begins = λ same. cc; records = λ same. cc; asks = λ c. refl; adds = λ c. refl; counts = refl }))
+which (Admit a v) = inr (inr (record { begins = λ same. cc; records = λ same. cc; asks = λ c. refl; adds = λ c. refl; counts = refl; fronts = λ c. refl }))
+which (Grant a x) = inr (inr (record { begins = λ same. cc; records = λ same. cc; asks = λ c. refl; adds = λ c. refl; counts = refl; fronts = λ c. refl }))
+which (Send p q) = inr (inr (record { begins = λ same. cc; records = λ same. cc; asks = λ c. refl; adds = λ c. refl; counts = refl; fronts = λ c. refl }))
+which (SendCall a) = inr (inr (record { begins = λ same. cc; records = λ same. cc; asks = λ c. refl; adds = λ c. refl; counts = refl; fronts = λ c. refl }))
+which (SendReport a) = inr (inr (record { begins = λ same. cc; records = λ same. cc; asks = λ c. refl; adds = λ c. refl; counts = refl; fronts = λ c. refl }))
+which (Deliver p q) = inr (inr (record { begins = λ same. cc; records = λ same. cc; asks = λ c. refl; adds = λ c. refl; counts = refl; fronts = λ c. refl }))
+which (DeliverCall a) = inr (inr (record { begins = λ same. cc; records = λ same. cc; asks = λ c. refl; adds = λ c. refl; counts = refl; fronts = λ c. refl }))
+which (DeliverReport a) = inr (inr (record { begins = λ same. cc; records = λ same. cc; asks = λ c. refl; adds = λ c. refl; counts = refl; fronts = λ c. refl }))
+which (Update s) = inr (inr (record { begins = λ same. cc; records = λ same. cc; asks = λ c. refl; adds = λ c. refl; counts = refl; fronts = λ c. refl }))
+which (Mark s) = inr (inr (record { begins = λ same. cc; records = λ same. cc; asks = λ c. refl; adds = λ c. refl; counts = refl; fronts = λ c. refl }))
+which (Section a) = inr (inr (record { begins = λ same. cc; records = λ same. cc; asks = λ c. refl; adds = λ c. refl; counts = refl; fronts = λ c. refl }))
 which Record = inr (inl refl)
 which PutBegin = inl refl
-which PutStep = inr (inr (record { begins = λ same. cc; records = λ same. cc; asks = λ c. refl; adds = λ c. refl; counts = refl }))
-which PutWave = inr (inr (record { begins = λ same. cc; records = λ same. cc; asks = λ c. refl; adds = λ c. refl; counts = refl }))
-which (Fail a) = inr (inr (record { begins = λ same. cc; records = λ same. cc; asks = λ c. refl; adds = λ c. refl; counts = refl }))
-which (Recover base) = inr (inr (record { begins = λ same. cc; records = λ same. cc; asks = λ c. refl; adds = λ c. refl; counts = refl }))
-which Stop = inr (inr (record { begins = λ same. cc; records = λ same. cc; asks = λ c. refl; adds = λ c. refl; counts = refl }))
+which PutStep = inr (inr (record { begins = λ same. cc; records = λ same. cc; asks = λ c. refl; adds = λ c. refl; counts = refl; fronts = λ c. refl }))
+which PutWave = inr (inr (record { begins = λ same. cc; records = λ same. cc; asks = λ c. refl; adds = λ c. refl; counts = refl; fronts = λ c. refl }))
+which (Fail a) = inr (inr (record { begins = λ same. cc; records = λ same. cc; asks = λ c. refl; adds = λ c. refl; counts = refl; fronts = λ c. refl }))
+which (Recover base) = inr (inr (record { begins = λ same. cc; records = λ same. cc; asks = λ c. refl; adds = λ c. refl; counts = refl; fronts = λ c. refl }))
+which Stop = inr (inr (record { begins = λ same. cc; records = λ same. cc; asks = λ c. refl; adds = λ c. refl; counts = refl; fronts = λ c. refl }))
 
 -- ---- tickets
 
@@ -125,6 +135,11 @@ HasReason st c logged =
     ((m : ℕ) × (m < st.machines) × (half_window st ≤ many_outside m c.coordinator.acknowledged logged))
     ⊎ (HasNoTaskLeft st (world_of c) × ((c.coordinator.snapshots ≡ []) ⊎ (entries_to c.coordinator.acknowledged logged ≡ all_entries logged → ⊥)))
 
+-- so many snapshots were acknowledged in earlier attempts and in this one, and these orders are what their attempts began with
+abbrev pub FrontsSoFar : Beginning → Cluster → List Attempt → List (List Entry) → Type 0
+FrontsSoFar start c failed fronts =
+    (earlier : List (List Entry)) × (fronts ≡ earlier ++ replicate (length c.coordinator.snapshots) c.base.order) × HaveRestartsOf earlier (attempted_snapshots start failed)
+
 -- These snapshots were acknowledged, the last ones in this attempt, so many were begun that no machine asked for, and so many tickets
 -- were there.
 pub record IsEnding (failures : List FailureAt) (start : Beginning) (kept : List Entry) (number total : ℕ) (st : Setting) (c : Cluster) (logged : List Logged) (failed : List Attempt) (taken : List Snapshot) (unasked : ℕ) : Type 0 where
@@ -141,6 +156,8 @@ pub record IsEnding (failures : List FailureAt) (start : Beginning) (kept : List
   -- who failed begins behind the last order, and a snapshot is under way for a reason
   pub behind : (failed ≡ []) ⊎ ((begins_behind start failed).front ≡ last_order kept (attempted_snapshots start failed) → ⊥)
   pub reason : c.coordinator.acknowledged < c.coordinator.begun → HasReason st c logged
+  pub own : SavesOwn st c
+  pub made_below : AllByRecursion (λ (a : Attempt). AllByRecursion (IsByMachineBelow st.machines) a.made) failed
   pub tickets : c.next + c.left ≡ total
 
 stays_zero : (n k : ℕ) → n ≡ 0 → k ≡ 0 → n + k ≡ 0
@@ -298,6 +315,35 @@ module _ (failures : List FailureAt) (start : Beginning) (kept : List Entry) (nu
       rest)
       (which event)
 
+  -- ---- what their attempts began with
+
+  abbrev FrontsBehind : Event → Type 0
+  FrontsBehind event = (fronts : List (List Entry)) → FrontsSoFar start c failed fronts → FrontsSoFar start (after_event st c event) failed (fronts ++ front_at c event)
+
+  none_fronted : (event : Event) → MayDo st c event → IsNoRecovery event → IsNoRecord event → front_at c event ≡ [] → FrontsBehind event
+  none_fronted event may other none adds = λ fronts so. (
+    so.0,
+    ap (λ (fs : List (List Entry)). fronts ++ fs) adds ∙ append-nil fronts ∙ so.1
+        ∙ ap₂ (λ (ss : List Snapshot) (front : List Entry). so.0 ++ replicate (length ss) front) (sym (adds_none st c event may other none).0) (ap (λ (b : BaseView). b.order) (sym (base_kept st c event may other))),
+    so.2,
+  )
+
+  fronts_on : (event : Event) → MayDo st c event → IsNoRecovery event → FrontsBehind event
+  fronts_on event may other =
+      ⊎_elim
+      (λ (begins : event ≡ PutBegin). subst (λ (x : Event). MayDo st c x → FrontsBehind x) (sym begins) (λ may_begin. none_fronted PutBegin may_begin begin_other (λ same. cc) refl) may)
+      (λ (rest : (event ≡ Record) ⊎ IsPlain event). ⊎_elim
+      (λ (records : event ≡ Record).
+      subst FrontsBehind (sym records) (λ fronts so. (
+        so.0,
+        ap (λ (fs : List (List Entry)). fs ++ c.base.order ∷ []) so.1 ∙ append_assoc so.0 (replicate (length c.coordinator.snapshots) c.base.order) (c.base.order ∷ [])
+            ∙ ap (λ (fs : List (List Entry)). so.0 ++ fs) (sym (replicate_push c.coordinator.snapshots (snapshot_due c.coordinator) c.base.order)),
+        so.2,
+      )))
+      (λ (plain : IsPlain event). none_fronted event may other plain.records (plain.fronts c))
+      rest)
+      (which event)
+
   -- ---- why a snapshot is under way
 
   abbrev ReasonBehind : Event → Type 0
@@ -371,6 +417,8 @@ module _ (failures : List FailureAt) (start : Beginning) (kept : List Entry) (nu
         resumes = e.resumes;
         behind = e.behind;
         reason = reason_on event may other;
+        own = own_kept st c e.own in_call.whole event may;
+        made_below = e.made_below;
         tickets = ap₂ (λ (n k : ℕ). n + k) (draws_none st c event may none) (left_kept st c event may none) ∙ e.tickets;
       }
 
@@ -413,6 +461,8 @@ module _ (failures : List FailureAt) (start : Beginning) (kept : List Entry) (nu
             (λ (done : HasNoTaskLeft st (world_of c) × ((c.coordinator.snapshots ≡ []) ⊎ (entries_to c.coordinator.acknowledged logged ≡ all_entries logged → ⊥))).
             absurd (both_ways ((c.machine s.home.0).part.task may.1.vertex) (done.0.tasks s.home.0 may.0.machine may.1.vertex own.1) may.1.task))
             (e.reason (subst₂ (λ (n k : ℕ). n < k) same.1 (numbers_after st c (Update s) other (λ same. cc)).1 under));
+        own = own_kept st c e.own in_call.whole (Update s) may;
+        made_below = e.made_below;
         tickets = subst (λ (flight : Option ℕ). (makes st c s flight).next + (makes st c s flight).left ≡ total) (sym may.1.flight) (one_ticket c.next c.left total e.tickets may.1.ticket);
       }
 
@@ -465,6 +515,9 @@ module _ (failures : List FailureAt) (start : Beginning) (kept : List Entry) (nu
             (sym (ap (λ (b : Beginning). b.front) (begins_push start failed a)) ∙ is ∙ ap (last_order kept) (attempted_push start failed a)
             ∙ last_order_append kept (attempted_snapshots start failed) (snapshot_orders behind a)));
         reason = λ under. absurd (not_less base.number under);
+        own = begins_own st (setting_after st (Recover base)) base c;
+        made_below = each-append (λ (one : Attempt). AllByRecursion (IsByMachineBelow st.machines) one.made) failed (a ∷ []) e.made_below
+            (own_by_machines st in_call.is (all_entries logged) (all_own st in_call.is logged in_call.account.since), tt);
         tickets = e.tickets;
       }
 
@@ -472,6 +525,43 @@ module _ (failures : List FailureAt) (start : Beginning) (kept : List Entry) (nu
   abbrev Leaves : Event → Type 0
   Leaves event = (now : List Logged) × (more : List Attempt)
       × IsEnding failures start kept number total (setting_after st event) (after_event st c event) now more (taken ++ recorded_at c event) (unasked + unasked_at c event)
+      × ((lost : List Entry) → IsTakenBy st c event lost → lost_in more ≡ lost_in failed ++ lost)
+      × ((fronts : List (List Entry)) → FrontsSoFar start c failed fronts → FrontsSoFar start (after_event st c event) more (fronts ++ front_at c event))
+
+  long_counts : (snapshots : List Snapshot) → length (counts_of logged snapshots) ≡ length snapshots
+  long_counts snapshots = length-map snapshots (λ (snapshot : Snapshot). count_to logged snapshot.number)
+
+  -- the snapshots of all attempts up to this one
+  pub all_fronted : (fronts : List (List Entry)) → FrontsSoFar start c failed fronts →
+      HaveRestartsOf fronts (attempted_snapshots start failed ++ snapshot_orders (begins_behind start failed) (now_made failures start st c logged failed in_call))
+  all_fronted fronts so =
+      let a : Attempt = now_made failures start st c logged failed in_call in
+      let b : Beginning = begins_behind start failed in
+      let many : ℕ = length c.coordinator.snapshots in
+      subst (λ (fs : List (List Entry)). HaveRestartsOf fs (attempted_snapshots start failed ++ snapshot_orders b a)) (sym so.1)
+      (restarts_append so.0 (replicate many c.base.order) (attempted_snapshots start failed) (snapshot_orders b a) so.2
+      (attempt_restarts b a c.base.order in_call.so.front in_call.so.tickets many (counts_of logged c.coordinator.snapshots) (long_counts c.coordinator.snapshots)))
+
+  recover_fronts : (base : BaseView) (fronts : List (List Entry)) → FrontsSoFar start c failed fronts →
+      FrontsSoFar start (recovers st base c) (failed ++ now_made failures start st c logged failed in_call ∷ []) (fronts ++ [])
+  recover_fronts base fronts so = (
+    fronts,
+    refl,
+    subst (HaveRestartsOf fronts) (sym (attempted_push start failed (now_made failures start st c logged failed in_call))) (all_fronted fronts so),
+  )
+
+  -- nothing is lost without a recovery
+  none_lost : (event : Event) → IsNoRecovery event → (lost : List Entry) → IsTakenBy st c event lost → lost_in failed ≡ lost_in failed ++ lost
+  none_lost event other lost by = sym (append-nil (lost_in failed)) ∙ ap (λ (es : List Entry). lost_in failed ++ es) (sym (by.other other))
+
+  some_lost : (base : BaseView) → GoesBackTo st c base → (lost : List Entry) → IsTakenBy st c (Recover base) lost →
+      lost_in (failed ++ now_made failures start st c logged failed in_call ∷ []) ≡ lost_in failed ++ lost
+  some_lost base back lost by =
+      let a : Attempt = now_made failures start st c logged failed in_call in
+      lost_push failed a
+      ∙ ap (λ (es : List Entry). lost_in failed ++ es)
+      (taken_once st c base (unheld_updates a) lost
+      (unheld_taken st in_call.is c in_call.whole logged in_call.account in_call.based failures (begins_behind start failed) in_call.so.tickets base back) (by.recovery base refl))
 
   pub event_ending : (event : Event) → MayDo st c event → FollowsJob st failures c event → Leaves event
   event_ending event may follows =
@@ -481,9 +571,11 @@ module _ (failures : List FailureAt) (start : Beginning) (kept : List Entry) (nu
         failed,
         subst (λ (s : Setting). IsEnding failures start kept number total s (after_event st c x) (logged ++ []) failed (taken ++ recorded_at c x) (unasked + unasked_at c x)) (sym (setting_same st x other))
             (quiet_ending x may_x other none follows_x),
+        none_lost x other,
+        fronts_on x may_x other,
       ))
-      (λ s may_x follows_x. (logged ++ update_logged st c s may_x.1.vertex ∷ [], failed, update_ending s may_x follows_x))
-      (λ base may_x follows_x. ([], failed ++ now_made failures start st c logged failed in_call ∷ [], recover_ending base may_x follows_x))
+      (λ s may_x follows_x. (logged ++ update_logged st c s may_x.1.vertex ∷ [], failed, update_ending s may_x follows_x, none_lost (Update s) (λ base same. cc), fronts_on (Update s) may_x (λ base same. cc)))
+      (λ base may_x follows_x. ([], failed ++ now_made failures start st c logged failed in_call ∷ [], recover_ending base may_x follows_x, some_lost base may_x, recover_fronts base))
       event may follows
 
 -- ---- every list of events
@@ -494,23 +586,39 @@ plus_none n = omega arith
 plus_more : (n k m : ℕ) → (n + k) + m ≡ n + (k + m)
 plus_more n k m = omega arith
 
--- where they lead
-abbrev pub EndsBehind : List FailureAt → Beginning → List Entry → ℕ → ℕ → Setting → Cluster → List Snapshot → ℕ → Type 0
-EndsBehind failures start kept number total st c taken unasked = (now : List Logged) × (more : List Attempt) × IsEnding failures start kept number total st c now more taken unasked
+-- where they lead, where these attempts had failed before
+abbrev pub EndsBehind : List FailureAt → Beginning → List Entry → ℕ → ℕ → Setting → Cluster → List Snapshot → ℕ → List Attempt → (List Entry → Type 0) → (List (List Entry) → Type 0) → Type 0
+EndsBehind failures start kept number total st c taken unasked before AreLost AreFronts = (now : List Logged) × (more : List Attempt) × IsEnding failures start kept number total st c now more taken unasked
+    × ((lost : List Entry) → AreLost lost → lost_in more ≡ lost_in before ++ lost)
+    × ((fronts : List (List Entry)) → AreFronts fronts → FrontsSoFar start c more fronts)
+
+-- these go on from fronts of before
+abbrev pub GoOnFrom : Beginning → Setting → Cluster → List Event → List Attempt → List (List Entry) → Type 0
+GoOnFrom start st old events failed all = (fronts : List (List Entry)) × FrontsSoFar start old failed fronts × (all ≡ fronts ++ fronts_in st old events)
 
 pub courses_end : (failures : List FailureAt) (start : Beginning) (kept : List Entry) (number total : ℕ) (events : List Event) (st : Setting) (old last : Cluster) (logged : List Logged) (failed : List Attempt) (taken : List Snapshot) (unasked : ℕ) →
     IsEnding failures start kept number total st old logged failed taken unasked → IsCourse st old events last → FollowJob st failures old events →
-    EndsBehind failures start kept number total (setting_behind st events) last (taken ++ recorded_in st old events) (unasked + unasked_in st old events)
+    EndsBehind failures start kept number total (setting_behind st events) last (taken ++ recorded_in st old events) (unasked + unasked_in st old events) failed (AreLostIn st old events) (GoOnFrom start st old events failed)
 courses_end failures start kept number total [] st old last logged failed taken unasked e course follow =
-    subst (λ (c : Cluster). EndsBehind failures start kept number total st c (taken ++ []) (unasked + 0)) (sym course)
-    (subst (λ (ss : List Snapshot). EndsBehind failures start kept number total st old ss (unasked + 0)) (sym (append-nil taken))
-    (subst (EndsBehind failures start kept number total st old taken) (plus_none unasked) (logged, failed, e)))
+    subst (λ (c : Cluster). EndsBehind failures start kept number total st c (taken ++ []) (unasked + 0) failed (AreLostIn st old []) (GoOnFrom start st old [] failed)) (sym course)
+    (subst (λ (ss : List Snapshot). EndsBehind failures start kept number total st old ss (unasked + 0) failed (AreLostIn st old []) (GoOnFrom start st old [] failed)) (sym (append-nil taken))
+    (subst (λ (n : ℕ). EndsBehind failures start kept number total st old taken n failed (AreLostIn st old []) (GoOnFrom start st old [] failed)) (plus_none unasked) (
+      logged,
+      failed,
+      e,
+      λ lost none. sym (append-nil (lost_in failed)) ∙ ap (λ (es : List Entry). lost_in failed ++ es) (sym none),
+      λ fronts go. subst (FrontsSoFar start old failed) (sym (go.2 ∙ append-nil go.0)) go.1,
+    )))
 courses_end failures start kept number total (event ∷ events) st old last logged failed taken unasked e course follow =
     let mid : Cluster = after_event st old event in
     let after_it : Setting = setting_after st event in
     let one = event_ending failures start kept number total st old logged failed taken unasked e event course.0.1 follow.0 in
     let rest = courses_end failures start kept number total events after_it mid last one.0 one.1 (taken ++ recorded_at old event) (unasked + unasked_at old event) one.2 course.1 follow.1 in
-    subst (λ (ss : List Snapshot). EndsBehind failures start kept number total (setting_behind after_it events) last ss (unasked + (unasked_at old event + unasked_in after_it mid events)))
+    let lost_so : (lost : List Entry) → AreLostIn st old (event ∷ events) lost → lost_in rest.1 ≡ lost_in failed ++ lost = λ lost are.
+    rest.3 are.1 are.3 ∙ ap (λ (es : List Entry). es ++ are.1) (one.3 are.0 are.2) ∙ append_assoc (lost_in failed) are.0 are.1 ∙ ap (λ (es : List Entry). lost_in failed ++ es) (sym are.4) in
+    let fronts_so : (all : List (List Entry)) → GoOnFrom start st old (event ∷ events) failed all → FrontsSoFar start last rest.1 all = λ all go.
+    rest.4 all (go.0 ++ front_at old event, one.4 go.0 go.1, go.2 ∙ sym (append_assoc go.0 (front_at old event) (fronts_in after_it mid events))) in
+    subst (λ (ss : List Snapshot). EndsBehind failures start kept number total (setting_behind after_it events) last ss (unasked + (unasked_at old event + unasked_in after_it mid events)) failed (AreLostIn st old (event ∷ events)) (GoOnFrom start st old (event ∷ events) failed))
     (append_assoc taken (recorded_at old event) (recorded_in after_it mid events))
-    (subst (EndsBehind failures start kept number total (setting_behind after_it events) last ((taken ++ recorded_at old event) ++ recorded_in after_it mid events))
-    (plus_more unasked (unasked_at old event) (unasked_in after_it mid events)) rest)
+    (subst (λ (n : ℕ). EndsBehind failures start kept number total (setting_behind after_it events) last ((taken ++ recorded_at old event) ++ recorded_in after_it mid events) n failed (AreLostIn st old (event ∷ events)) (GoOnFrom start st old (event ∷ events) failed))
+    (plus_more unasked (unasked_at old event) (unasked_in after_it mid events)) (rest.0, rest.1, rest.2, lost_so, fronts_so))

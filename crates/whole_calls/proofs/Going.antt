@@ -235,7 +235,7 @@ module _ (failures : List FailureAt) (start : Beginning) (st : Setting) (c : Clu
   now_made = attempt_of failures (begins_behind start failed) c logged
 
   -- as many machines have failed as failures were reached
-  fail_ordered : ((a : ℕ) → a < st.machines → has_reached failures c a ≡ true → (c.machine a).failed ≡ true) → FailAsOrdered st failures c
+  pub fail_ordered : ((a : ℕ) → a < st.machines → has_reached failures c a ≡ true → (c.machine a).failed ≡ true) → FailAsOrdered st failures c
   fail_ordered all =
       record {
         struck = total_from-same 0 st.machines (one_at (done_before c) (done_now c) failures) (λ a. if (c.machine a).failed then 1 else 0)

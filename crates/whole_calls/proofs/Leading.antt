@@ -22,19 +22,21 @@ use Rattle.cluster_model.specs.Clusters.{BaseView, Cluster}
 use Rattle.cluster_model.specs.Events.{Event, Admit, DeliverCall, DeliverReport, Deliver, Fail, Grant, Mark, PutBegin, PutStep, PutWave, Record, Recover, Section, Send, SendCall, SendReport, Stop, Update, recovers, setting_after}
 use Rattle.cluster_runs.specs.Attempts.{Attempt, Beginning, Shared, done_with}
 use Rattle.cluster_runs.specs.Recorded.{shared_of}
-use Rattle.cluster_whole.specs.Logged.{Logged}
+use Rattle.cluster_whole.specs.Logged.{Logged, all_entries}
 use Rattle.cluster_whole.specs.Views.{world_of}
 use Rattle.cluster_whole.specs.Whole.{AreColoured, setting_behind}
 use Rattle.cluster_records.specs.Bases.{IsBase}
 use Rattle.cluster_records.proofs.Based.{call_numbers, call_tasks}
 use Rattle.cluster_records.proofs.Courses.{begun}
 use Rattle.cluster_records.proofs.Fewness.{begun_asking}
+use Rattle.cluster_records.proofs.Numbering.{all_own}
 use Rattle.graph_core.specs.DataGraph.{size}
 use Rattle.seq_run.specs.Orders.{IsValidOrder, replay, tasks_after}
 use Rattle.seq_run.specs.States.{GraphState}
 use Rattle.whole_calls.specs.Called.{IsCallOf, KeepsWindows}
 use Rattle.whole_calls.specs.Opened.{IsOpened}
 use Rattle.whole_calls.proofs.Going.{IsInCall, stops_first}
+use Rattle.whole_calls.proofs.Losing.{own_by_machines}
 use Rattle.whole_calls.proofs.Windowed.{unheld_few}
 
 -- ---- the setting behind events
@@ -172,6 +174,7 @@ module _ (failures : List FailureAt) (kept : List Entry) (resumed : Bool) (st : 
         was_resumed = refl;
         front = at.so.front;
         logs = λ a. logs_are st c at.whole logged at.account a;
+        machines = own_by_machines st at.is (all_entries logged) (all_own st at.is logged at.account.since);
         next = at.so.next ∙ made_long (opened_at kept resumed) failed call.last;
         done = λ a. done_is st at.is c at.whole logged at.account failures here at.so.done a ∙ all_done (opened_at kept resumed) failed call.last a ∙ zero-add (done_of call a);
         numbers = λ v low. call_numbers st at.is c at.whole logged at.account at.based v low ∙ ap (λ (es : List Entry). (replay st.graph st.program es).vertex v) order_is;
@@ -197,6 +200,7 @@ call_then st start number failures kept resumed c one of =
       was_resumed = of.was_resumed;
       front = of.front;
       logs = of.logs;
+      machines = of.machines;
       next = of.next;
       done = of.done;
       numbers = of.numbers;

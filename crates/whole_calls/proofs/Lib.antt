@@ -8,7 +8,12 @@ pub mod Waved
 pub mod Holding
 pub mod Acknowledged
 pub mod Refusing
+pub mod Losing
+pub mod Fronting
+pub mod Owning
 pub mod Ending
+pub mod Lacking
+pub mod Returning
 pub mod Calling
 pub mod WorkedPair
 pub mod WorkedEnd

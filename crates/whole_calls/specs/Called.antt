@@ -1,4 +1,5 @@
 -- The call that a cluster makes of its events.
+use Rattle.std.specs.List.{AllByRecursion}
 use Rattle.std.specs.Prelude.{Bool, List, length, true, ℕ, ◌*◌, ◌+◌, ◌<◌, ◌↔◌, ◌≡◌, ◌≤◌}
 use Rattle.gl_base.specs.declared.entries.Entry.{Entry}
 use Rattle.gl_base.specs.declared.jobs.FailureAt.{FailureAt}
@@ -12,6 +13,7 @@ use Rattle.cluster_runs.specs.Attempts.{made_by}
 use Rattle.cluster_runs.specs.Recorded.{shared_of}
 use Rattle.cluster_whole.specs.Views.{world_of}
 use Rattle.graph_core.specs.DataGraph.{size}
+use Rattle.merged_logs.specs.Merges.{IsByMachineBelow}
 use Rattle.seq_run.specs.Orders.{replay, tasks_after}
 
 -- The call opened with this order, resumed or not, and the cluster stands where its attempts led.
@@ -22,6 +24,7 @@ pub record IsCallOf (st : Setting) (failures : List FailureAt) (kept : List Entr
   -- the cluster's attempt began where the call's last one did, and its machines' logs are the updates of that one
   pub front : c.base.order ≡ (last_beginning call).front
   pub logs : (a : ℕ) → (c.machine a).part.log ≡ entries_of a call.last.made
+  pub machines : AllByRecursion (IsByMachineBelow st.machines) call.last.made
   -- tickets and counts
   pub next : c.next ≡ first_ticket call + length (made_of call)
   pub done : (a : ℕ) → completed (c.machine a) ≡ done_of call a

@@ -3,5 +3,6 @@ pub mod Opened
 pub mod Called
 pub mod Saved
 pub mod Telling
+pub mod Lost
 pub mod PairAgain
 pub mod EndSaved

@@ -198,7 +198,7 @@ module _ {M : Type 0} (belongs : Setting → ℕ → M → Type 0) (part : M →
         among_answers seats made fresh counted many =
             record {
               made = λ st begin c of.
-                  among_made part st begin.start.setting begin.start.locks begin.plain old c of cl seats runs event (named st begin) (made st begin.start) counted;
+                  among_made part st begin.start.setting begin.locks begin.plain old c of cl seats runs event (named st begin) (made st begin.start) counted;
               moved = made;
               fresh = fresh;
               same = record { start = start; machines = machines; seats = many };
@@ -212,11 +212,11 @@ module _ {M : Type 0} (belongs : Setting → ℕ → M → Type 0) (part : M →
             (refused_with refused ≡ Err NoMemory → CanMakeEvent (StartIn belongs part old.cluster.start.machines.items) part old.cluster.now event) →
             HoldTheSame part old.cluster.now cl.now → AnswersHappening belongs part old (Among event) (Err refused) (record old { cluster = cl })
         among_refused NotNow cannot can held = (
-          λ st begin c of e is_event. among_cannot part st begin.start.setting begin.start.locks begin.plain old c of event (cannot refl st begin.start (whole_guard st begin.plain event)) e is_event,
+          λ st begin c of e is_event. among_cannot part st begin.start.setting begin.locks begin.plain old c of event (cannot refl st begin.start (whole_guard st begin.plain event)) e is_event,
           nothing_among held,
         )
         among_refused NoMemory cannot can held = (
-          λ st begin c of. among_can part st begin.start.setting begin.start.locks begin.plain old c of runs event (named st begin) (can refl st begin.start),
+          λ st begin c of. among_can part st begin.start.setting begin.locks begin.plain old c of runs event (named st begin) (can refl st begin.start),
           nothing_among held,
         )
 
@@ -232,7 +232,7 @@ module _ {M : Type 0} (belongs : Setting → ℕ → M → Type 0) (part : M →
                     event = law.PutWave;
                     is = refl;
                     may = (of.stopped ∙ runs, may);
-                    after = wave_made part st begin.start.setting begin.start.locks begin.plain old c of next put.1 may;
+                    after = wave_made part st begin.start.setting begin.locks begin.plain old c of next put.1 may;
                   };
               moved = λ st. refl;
               fresh = λ st begin order since. tt;
@@ -276,7 +276,7 @@ module _ {M : Type 0} (belongs : Setting → ℕ → M → Type 0) (part : M →
       stop_answers =
           record {
             made = λ st begin c of.
-                record { event = law.Stop; is = refl; may = (of.stopped ∙ runs, tt); after = stop_made part st begin.start.setting begin.start.locks begin.plain old c of };
+                record { event = law.Stop; is = refl; may = (of.stopped ∙ runs, tt); after = stop_made part st begin.start.setting begin.locks begin.plain old c of };
             moved = λ st. refl;
             fresh = λ st begin order since. tt;
             same = record { start = refl; machines = refl; seats = refl };
@@ -291,7 +291,7 @@ module _ {M : Type 0} (belongs : Setting → ℕ → M → Type 0) (part : M →
         pub send_call_none : (next : CoordinatorView) → HasHandedOver old.coordinator next a.0 None → AnswersHappening belongs part old (SendCall a) (Err NotNow) (record old { coordinator = next })
         send_call_none next handed = (
           λ st begin c of event is may.
-              none_waits part st begin.start.setting begin.start.locks begin.plain old c of next a.0 (low_is st begin a.0 low) handed (subst (MayDo st c) is may.1),
+              none_waits part st begin.start.setting begin.locks begin.plain old c of next a.0 (low_is st begin a.0 low) handed (subst (MayDo st c) is may.1),
           subst (λ (x : CoordinatorView). HasMadeNothing belongs part old (record old { coordinator = x })) (sym handed.0) nothing_again,
         )
 
@@ -300,32 +300,32 @@ module _ {M : Type 0} (belongs : Setting → ℕ → M → Type 0) (part : M →
         waits_wave next m handed =
             let begin = kept.began in
             let one = kept.stands kept.setting begin in
-            waiting_wave part kept.setting begin.start.setting begin.start.locks begin.plain old one.0 one.1 next a.0 m handed
+            waiting_wave part kept.setting begin.start.setting begin.locks begin.plain old one.0 one.1 next a.0 m handed
 
         pub report_may_come : (x : WaveAnswer) → seat.report ≡ Some x → MayBeCounted old.coordinator.counting a.0 x.wave
         report_may_come x some =
             let begin = kept.began in
             let one = kept.stands kept.setting begin in
-            report_awaited part kept.setting begin.start.setting begin.start.locks begin.plain old one.0 one.1 old.seats a.0 (low_is kept.setting begin a.0 low) (λ b off. refl) x some
+            report_awaited part kept.setting begin.start.setting begin.locks begin.plain old one.0 one.1 old.seats a.0 (low_is kept.setting begin a.0 low) (λ b off. refl) x some
 
         pub send_report_none : seat.answer ≡ None → AnswersHappening belongs part old (SendReport a) (Err NotNow) old
         send_report_none none = (
           λ st begin c of event is may.
-              no_report_waits part st begin.start.setting begin.start.locks begin.plain old c of old.seats a.0 (low_is st begin a.0 low) (λ b off. refl) none (subst (MayDo st c) is may.1),
+              no_report_waits part st begin.start.setting begin.locks begin.plain old c of old.seats a.0 (low_is st begin a.0 low) (λ b off. refl) none (subst (MayDo st c) is may.1),
           nothing_again,
         )
 
         pub deliver_call_none : seat.call ≡ None → AnswersHappening belongs part old (DeliverCall a) (Err NotNow) old
         deliver_call_none none = (
           λ st begin c of event is may.
-              no_call_comes part st begin.start.setting begin.start.locks begin.plain old c of old.seats a.0 (low_is st begin a.0 low) (λ b off. refl) none (subst (MayDo st c) is may.1),
+              no_call_comes part st begin.start.setting begin.locks begin.plain old c of old.seats a.0 (low_is st begin a.0 low) (λ b off. refl) none (subst (MayDo st c) is may.1),
           nothing_again,
         )
 
         pub deliver_report_none : seat.report ≡ None → AnswersHappening belongs part old (DeliverReport a) (Err NotNow) old
         deliver_report_none none = (
           λ st begin c of event is may.
-              no_report_comes part st begin.start.setting begin.start.locks begin.plain old c of old.seats a.0 (low_is st begin a.0 low) (λ b off. refl) none (subst (MayDo st c) is may.1),
+              no_report_comes part st begin.start.setting begin.locks begin.plain old c of old.seats a.0 (low_is st begin a.0 low) (λ b off. refl) none (subst (MayDo st c) is may.1),
           nothing_again,
         )
 
@@ -335,7 +335,7 @@ module _ {M : Type 0} (belongs : Setting → ℕ → M → Type 0) (part : M →
           λ st begin c of. (
             law.DeliverCall a.0,
             refl,
-            (of.stopped ∙ runs, may_deliver_call part st begin.start.setting begin.start.locks begin.plain old c of old.seats a.0 (low_is st begin a.0 low) (λ b off. refl) k some),
+            (of.stopped ∙ runs, may_deliver_call part st begin.start.setting begin.locks begin.plain old c of old.seats a.0 (low_is st begin a.0 low) (λ b off. refl) k some),
           ),
           nothing_again,
         )
@@ -346,7 +346,7 @@ module _ {M : Type 0} (belongs : Setting → ℕ → M → Type 0) (part : M →
           send_call_answers next m k handed told written =
               record {
                 made = λ st begin c of.
-                    let sent = send_call_made part st begin.start.setting begin.start.locks begin.plain old c of seats a.0 (low_is st begin a.0 low) others next m k handed told written in
+                    let sent = send_call_made part st begin.start.setting begin.locks begin.plain old c of seats a.0 (low_is st begin a.0 low) others next m k handed told written in
                     record { event = law.SendCall a.0; is = refl; may = (of.stopped ∙ runs, sent.0); after = sent.1 };
                 moved = λ st. refl;
                 fresh = λ st begin order since. tt;
@@ -358,7 +358,7 @@ module _ {M : Type 0} (belongs : Setting → ℕ → M → Type 0) (part : M →
           send_report_answers x some written =
               record {
                 made = λ st begin c of.
-                    let sent = send_report_made part st begin.start.setting begin.start.locks begin.plain old c of seats a.0 (low_is st begin a.0 low) others x some written in
+                    let sent = send_report_made part st begin.start.setting begin.locks begin.plain old c of seats a.0 (low_is st begin a.0 low) others x some written in
                     record { event = law.SendReport a.0; is = refl; may = (of.stopped ∙ runs, sent.0); after = sent.1 };
                 moved = λ st. refl;
                 fresh = λ st begin order since. tt;
@@ -370,7 +370,7 @@ module _ {M : Type 0} (belongs : Setting → ℕ → M → Type 0) (part : M →
           deliver_report_answers next x some taken written =
               record {
                 made = λ st begin c of.
-                    let come = deliver_report_made part st begin.start.setting begin.start.locks begin.plain old c of seats a.0 (low_is st begin a.0 low) others next x some taken written in
+                    let come = deliver_report_made part st begin.start.setting begin.locks begin.plain old c of seats a.0 (low_is st begin a.0 low) others next x some taken written in
                     record { event = law.DeliverReport a.0; is = refl; may = (of.stopped ∙ runs, come.0); after = come.1 };
                 moved = λ st. refl;
                 fresh = λ st begin order since. tt;
@@ -392,8 +392,8 @@ module _ {M : Type 0} (belongs : Setting → ℕ → M → Type 0) (part : M →
                     record {
                       event = law.DeliverCall a.0;
                       is = refl;
-                      may = (of.stopped ∙ runs, may_deliver_call part st begin.start.setting begin.start.locks begin.plain old c of seats a.0 (low_is st begin a.0 low) others k some);
-                      after = deliver_call_made part st begin.start.setting begin.start.locks begin.plain old c of seats a.0 (low_is st begin a.0 low) others k sent updates idle some
+                      may = (of.stopped ∙ runs, may_deliver_call part st begin.start.setting begin.locks begin.plain old c of seats a.0 (low_is st begin a.0 low) others k some);
+                      after = deliver_call_made part st begin.start.setting begin.locks begin.plain old c of seats a.0 (low_is st begin a.0 low) others k sent updates idle some
                           (subst (MayTellCounts seat.counts) waiting_is can) (sum ∙ ap (λ (n : ℕ). seat.counts.sent + n) waiting_is)
                           (made ∙ sym (ap (λ (p : Part). length p.log) is_part)) (rests st a.0 (here st begin.start) ∙ sym (ap (is_idle st) is_part)) written;
                     };

@@ -263,13 +263,13 @@ module _ {M : Type 0} (belongs : Setting → ℕ → M → Type 0) (part : M →
           report = refl;
         });
         link = refl;
-        coordinator = first st st.base 0 refl begin.start.locks begin.plain;
+        coordinator = first st st.base 0 refl begin.locks begin.plain;
         waves = λ a. tt;
         begun = refl;
         next = refl;
         left = refl;
         stopped = sym runs;
-        followed = followed_first st begin.start.setting begin.start.locks (part_now part st view.cluster) (told_on view.cluster.now.links) view.cluster.now.next view.cluster.now.left starts (world_unmarked belongs part view.cluster.now st begin.start none);
+        followed = followed_first st begin.start.setting begin.locks (part_now part st view.cluster) (told_on view.cluster.now.links) view.cluster.now.next view.cluster.now.left starts (world_unmarked belongs part view.cluster.now st begin.start none);
       }
 
 -- and they are kept

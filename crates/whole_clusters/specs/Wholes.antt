@@ -10,6 +10,7 @@ use Rattle.std.specs.List.{AllByRecursion}
 use Rattle.std.specs.Prelude.{Bool, List, None, [], false, ℕ, ◌<◌, ◌≡◌}
 use Rattle.gl_base.specs.declared.entries.Entry.{Entry}
 use Rattle.gl_base.specs.declared.scopes.ScopeId.{ScopeId}
+use Rattle.cluster_core.specs.Settings.{Locking}
 use Rattle.cluster_ending.specs.Ends.{IsFollowed}
 use Rattle.cluster_step.specs.Links.{told_on}
 use Rattle.whole_clusters.specs.declared.seats.Seat.{Seat}
@@ -38,9 +39,10 @@ pub record IsClusterOf {M : Type 0} (part : M → Part) (st : Setting) (view : W
   pub stopped : c.stopped ≡ view.stopped
   pub followed : IsFollowed st c
 
--- in a cluster of this setting, which takes no snapshots, these machines start
+-- in a cluster of this setting, whose scopes take locks and which takes no snapshots, these machines start
 pub record StartPlainIn {M : Type 0} (belongs : Setting → ℕ → M → Type 0) (part : M → Part) (machines : List M) (st : Setting) : Type 0 where
   pub start : StartIn belongs part machines st
+  pub locks : st.engine ≡ Locking
   pub plain : st.stored ≡ false
 
 -- in each setting without snapshots in which its machines started

@@ -4,14 +4,17 @@ use Rattle.std.specs.Prelude.{[], false, length, ℕ, ⊤, ◌+◌, ◌<◌, ◌
 use Rattle.gl_base.specs.declared.scopes.ScopeId.{ScopeId}
 use Rattle.cluster_core.specs.Messages.{Ask, Done, Message, Ready}
 use Rattle.cluster_core.specs.Places.{ArePlaces}
+use Rattle.cluster_core.specs.Settings.{Chromatic, Engine, Locking}
 use Rattle.cluster_core.specs.Snapshots.{IsConsistent}
 use Rattle.cluster_core.specs.Stages.{Stage}
 use Rattle.cluster_core.specs.Worlds.{way}
 use Rattle.cluster_cuts.specs.Goings.{GoesOn}
+use Rattle.cluster_places.specs.Steps.{AreApart}
 use Rattle.cluster_step.specs.Inner.Steps.{AreMachinesOf}
 use Rattle.cluster_step.specs.Worlds.{Part, Setting, World, earlier_at, world_of_parts}
 use Rattle.cluster_step.specs.Inner.Writing.{HaveLinks}
 use Rattle.cluster_step.specs.Starts.{StartIn}
+use Rattle.step_worlds.specs.Going.{GoesInStep}
 use Rattle.cluster_step.specs.declared.parts.Parts.{Parts}
 
 -- word of an update belongs to no snapshot, and makes nothing pending
@@ -24,10 +27,14 @@ IsPlain (Done s news) = (news.number ≡ 0) × ((u : ℕ) → news.pends u ≡ f
 abbrev pub AreAllPlain : World → Type 0
 AreAllPlain w = (p q : ℕ) → AllByRecursion IsPlain (way w p q)
 
--- each scope is in one place, and copies, numbers and marks have gone on from the start by updates alone
+-- With locks each scope is in one place. With colours neighbours have different ones, and the cluster is in the step of some colour.
+abbrev pub GoesBy : Engine → Setting → World → Type 0
+GoesBy Locking st w = (stage : ScopeId → Stage) × ArePlaces st w stage
+GoesBy (Chromatic colour colours) st w = AreApart st colour × ((step : ℕ) × GoesInStep st colour step w)
+
+-- the cluster goes by its engine, and copies, numbers and marks have gone on from the start by updates alone
 pub record IsGoingOn (st : Setting) (from now : World) : Type 0 where
-  pub stage : ScopeId → Stage
-  pub places : ArePlaces st now stage
+  pub by_engine : GoesBy st.engine st now
   pub plain : AreAllPlain now
   pub kept : IsConsistent st from
   pub none : kept.order ≡ []

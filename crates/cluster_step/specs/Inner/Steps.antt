@@ -2,9 +2,8 @@
 pub use Rattle.cluster_step.specs.Inner.Writing.{HaveLinks}
 use Rattle.std.specs.Prelude.{List, Some, length, slice_get, ℕ, ◌+◌, ◌∷◌, ◌≡◌}
 use Rattle.cluster_core.specs.Messages.{Message}
-use Rattle.cluster_core.specs.Receiving.{MayReceive}
-use Rattle.cluster_core.specs.Settings.{IsSetting, Locking}
-use Rattle.cluster_machines.specs.Promises.{IsAsExpected}
+use Rattle.cluster_core.specs.Settings.{IsSetting}
+use Rattle.cluster_machines.specs.Promises.{IsExpectedIn, MayReceiveIn}
 use Rattle.cluster_step.specs.Worlds.{Part, Setting, earlier_at, world_of_parts}
 use Rattle.cluster_step.specs.declared.parts.Parts.{Parts}
 
@@ -15,12 +14,11 @@ AreMachinesOf {M} belongs st machines = (a : ℕ) (m : M) → slice_get machines
 -- the machines belong to the setting, and the first message of each link may be received
 pub record CanGoOn {M : Type 0} (belongs : Setting → ℕ → M → Type 0) (part : M → Part) (p : Parts M) (st : Setting) : Type 0 where
   pub is : IsSetting st
-  pub locks : st.engine ≡ Locking
   pub machines : AreMachinesOf belongs st p.machines.items
   pub fronts : (a b : ℕ) (m : Message) (behind : List Message) → (world_of_parts part st p).link a b ≡ m ∷ behind →
-      MayReceive st a b ((world_of_parts part st p).part b) m
+      MayReceiveIn st a b ((world_of_parts part st p).part b) m
   pub expected : (a b : ℕ) (m : Message) (behind : List Message) → (world_of_parts part st p).link a b ≡ m ∷ behind →
-      IsAsExpected st b ((world_of_parts part st p).part b) m
+      IsExpectedIn st b ((world_of_parts part st p).part b) m
 
 -- there are as many machines, tickets and links; the machines belong to the settings to which they belonged, and their logs begin
 -- where they began

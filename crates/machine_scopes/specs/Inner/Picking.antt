@@ -1,6 +1,6 @@
 -- Picks of the tasks, and tasks that are as they were.
 pub use Rattle.task_sched.specs.Tasks.{TasksView, IsNextPick, is_flagged, is_free, is_open}
-use Rattle.std.specs.Prelude.{◌≡◌, ◌⊎◌, ℕ, ◌<◌, ◌==◌, true, false, if◌then◌else◌, length}
+use Rattle.std.specs.Prelude.{◌≡◌, ◌⊎◌, ℕ, ◌+◌, ◌<◌, ◌==◌, true, false, if◌then◌else◌, length, slice_set}
 use Rattle.std.specs.List.{list_any}
 use Rattle.task_sched.specs.declared.task_sets.Pick.{Pick}
 
@@ -25,3 +25,8 @@ pub record IsPutBack (old new : TasksView) (place : ℕ) : Type 0 where
   pub admitted : (u : ℕ) → is_flagged new.admitted u ≡ (if u == place then false else is_flagged old.admitted u)
   pub outside : new.outside ≡ old.outside
   pub window : new.window ≡ old.window
+
+-- the pick is planned no more
+pub record IsUnplanned (old new : TasksView) (pick : Pick) : Type 0 where
+  pub planned : new.planned ≡ slice_set old.planned pick.vertex.0 false
+  pub plans : new.plans + (if pick.snapshot then (if is_flagged old.planned pick.vertex.0 then 1 else 0) else 1) ≡ old.plans

@@ -1,10 +1,8 @@
--- What the parts of a new machine are made with.
+-- What a new machine has beside its numbers.
 use Rattle.std.specs.Prelude.{◌≡◌, ◌==◌, ℕ, [], length}
 use Rattle.std.specs.List.{list_any}
 use Rattle.gl_base.specs.declared.scopes.Peer.{Peer}
 use Rattle.gl_base.specs.declared.numbers.MachineNo.{MachineNo}
-use Rattle.machine_numbers.specs.declared.keeping.Numbers.{Numbers}
-use Rattle.machine_parts.specs.declared.cores.Core.{Core}
 use Rattle.machine_parts.specs.Order.{StandByPlace}
 use Rattle.machine_parts.specs.Parts.{LocalView, is_owned, waiting_for}
 use Rattle.scope_pipe.specs.Pipes.{IsEmpty}
@@ -19,24 +17,11 @@ pub record AreOwnLists (l : LocalView) (lists : OwnLists) : Type 0 where
   pub owned : (x : ℕ) → is_owned lists.locks x ≡ list_any (λ v. v.0 == x) l.owned
   pub unclaimed : IsUnclaimed lists.locks
 
--- no scope is in flight or has come, and there is an empty outbox to each machine
+-- no scope is in flight or has come, the first that is admitted gets the serial, and there is an empty outbox to each machine
 pub record AreEmptyWays (me : MachineNo) (terms : NewTerms) (ways : Ways) : Type 0 where
   pub home : ways.pipe.home ≡ me
   pub width : ways.pipe.width ≡ terms.terms.pipeline
+  pub serial : ways.pipe.serial ≡ terms.serial
   pub empty : IsEmpty ways.pipe
   pub machines : length ways.out.machines ≡ terms.machines
   pub none : (to : Peer) → waiting_for ways.out to ≡ []
-
--- The parts have these terms and numbers, and the own vertices by their places. No scope is in flight or has come, each own vertex has a
--- lock that nobody claims, and there is an empty outbox to each machine.
-pub record IsMadeWith (terms : NewTerms) (n : Numbers) (m : Core) : Type 0 where
-  pub terms_are : m.terms ≡ terms.terms
-  pub numbers_are : m.numbers ≡ n
-  pub by_place : StandByPlace n.local (length n.local.owned) m.by_place.items
-  pub home : m.pipe.home ≡ n.local.me
-  pub width : m.pipe.width ≡ terms.terms.pipeline
-  pub empty : IsEmpty m.pipe
-  pub owned : (x : ℕ) → is_owned m.locks x ≡ list_any (λ v. v.0 == x) n.local.owned
-  pub unclaimed : IsUnclaimed m.locks
-  pub machines : length m.out.machines ≡ terms.machines
-  pub none : (to : Peer) → waiting_for m.out to ≡ []

@@ -9,7 +9,7 @@ pub use Rattle.machine_updates.specs.Reserving.{CanTell, IsReserved}
 pub use Rattle.snap_update.specs.Holding.{with_edges}
 pub use Rattle.snap_update.specs.Snaps.{with_vertex}
 pub use Rattle.wire_msgs.specs.Views.{DoneView, done_view}
-use Rattle.std.specs.Prelude.{◌≡◌, ℕ, suc, ◌<◌, ◌==◌, ◌&&◌, ◌||◌, not, nat_lt, Bool, true, false, Some, List, [], ◌∷◌, length, slice_set, if◌then◌else◌}
+use Rattle.std.specs.Prelude.{◌≡◌, ℕ, suc, ◌<◌, ◌==◌, ◌&&◌, ◌||◌, not, nat_lt, Bool, true, false, Some, List, [], ◌∷◌, slice_set, if◌then◌else◌}
 use Rattle.std.specs.List.{All}
 use Rattle.gl_base.specs.declared.numbers.EdgeNo.{EdgeNo}
 use Rattle.gl_base.specs.declared.numbers.MachineNo.{MachineNo}
@@ -24,6 +24,7 @@ use Rattle.machine_numbers.specs.Views.{is_named}
 use Rattle.machine_parts.specs.declared.cores.Core.{Core}
 use Rattle.machine_parts.specs.Settings.{Setting, IsPartOf}
 use Rattle.snap_machines.specs.Keeping.{Part, SnapView, part_of, with_snaps}
+pub use Rattle.snap_machines.specs.Marking.{HasUnplanned}
 use Rattle.snap_machines.specs.Marking.{IsSetting}
 use Rattle.snap_machines.specs.Seeding.{AreMarkedBelow}
 use Rattle.snap_machines.specs.Sending.{AreMarksUpTo}
@@ -113,6 +114,7 @@ pub record HasMarkedNumber (old new : Numbers) (v : Vertex) (k : ℕ) : Type 0 w
   pub datum : (u : ℕ) → datum_here new u ≡ set_at (datum_here old) v.0 (with_mark k (datum_here old v.0)) u
   pub pending : (u : ℕ) → pending_here new u ≡ (is_named (ends_left old k old.local.me.0 (sides_at old.local v.0)) u || (pending_here old u && not (u == v.0)))
   pub admitted : (place : ℕ) → place_at old.local v.0 ≡ Some place → new.tasks.admitted ≡ slice_set old.tasks.admitted place false
+  pub plans : (place : ℕ) → place_at old.local v.0 ≡ Some place → HasUnplanned old.tasks new.tasks place
   pub own : (x : ℕ) → is_own new.local x ≡ is_own old.local x
   pub tasks : AreTasksOf new.local new.tasks
   pub flags : HasOtherFlags old.tasks new.tasks

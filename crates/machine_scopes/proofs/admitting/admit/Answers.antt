@@ -2,7 +2,7 @@ use Rattle.std.proofs.Common.{◌∙◌, ap, length}
 use Rattle.task_sched.specs.Tasks.{TasksView}
 use Rattle.machine_parts.specs.declared.cores.Core.{Core}
 use Rattle.machine_numbers.specs.declared.keeping.Numbers.{Numbers}
-use Rattle.machine_scopes.proofs.AdmitLemmas.{admit_done, admit_new, admit_orderly, admit_own, can_admit, few_flights, flags_back, picked_at, places_keep, refused_orderly, refused_part}
+use Rattle.machine_scopes.proofs.AdmitLemmas.{admit_done, admit_new, admit_orderly, admit_own, can_admit, few_flights, flags_back, picked_at, places_keep, plans_back, refused_orderly, refused_part}
 use Rattle.machine_scopes.proofs.FlownLemmas.{admitted_is, outside_stays, task_stays}
 use Rattle.machine_scopes.proofs.PickLemmas.{none_may, pick_own}
 use Rattle.machine_scopes.proofs.StartLemmas.{can_with_pipe}
@@ -80,7 +80,7 @@ returns-in-Err-clause-orderly c =
     let now = c.prepare.new.core in
     let picked = ap (λ (n : Core). n.numbers.tasks) c.prepare.ensures.rest ∙ (c.in-Some.ensures).taken in
     refused_orderly m c.take_pick.new.tasks c.put_back.new.tasks now c.requires.orderly c.prepare.ensures.same
-    (flags_back m.numbers.tasks now.numbers.tasks c.put_back.new.tasks c.in-Some.pick (c.in-Some.ensures).can picked c.put_back.ensures)
+    (flags_back m.numbers.tasks now.numbers.tasks c.put_back.new.tasks c.in-Some.pick (c.in-Some.ensures).can picked c.put_back.ensures.back)
 
 pub returns-in-Err-clause-no_memory : goal.returns-in-Err-clause-no_memory
 returns-in-Err-clause-no_memory c =
@@ -97,7 +97,7 @@ returns-in-Err-clause-unchanged c =
     let now = c.prepare.new.core in
     let picked = ap (λ (n : Core). n.numbers.tasks) c.prepare.ensures.rest ∙ (c.in-Some.ensures).taken in
     refused_part m c.take_pick.new.tasks c.put_back.new.tasks now c.requires.orderly c.prepare.ensures.same
-    (flags_back m.numbers.tasks now.numbers.tasks c.put_back.new.tasks c.in-Some.pick (c.in-Some.ensures).can picked c.put_back.ensures)
+    (flags_back m.numbers.tasks now.numbers.tasks c.put_back.new.tasks c.in-Some.pick (c.in-Some.ensures).can picked c.put_back.ensures.back)
 
 pub returns-in-Ok-clause-outside : goal.returns-in-Ok-clause-outside
 returns-in-Ok-clause-outside c =
@@ -106,4 +106,11 @@ returns-in-Ok-clause-outside c =
 
 pub returns-in-Err-clause-outside : goal.returns-in-Err-clause-outside
 returns-in-Err-clause-outside c =
-    c.put_back.ensures.outside ∙ ap (λ (n : Core). n.numbers.tasks.outside) c.prepare.ensures.rest ∙ ap (λ (ts : TasksView). ts.outside) (c.in-Some.ensures).taken ∙ outside_stays c.args.core.now.numbers.tasks c.in-Some.pick
+    c.put_back.ensures.back.outside ∙ ap (λ (n : Core). n.numbers.tasks.outside) c.prepare.ensures.rest ∙ ap (λ (ts : TasksView). ts.outside) (c.in-Some.ensures).taken ∙ outside_stays c.args.core.now.numbers.tasks c.in-Some.pick
+
+pub returns-in-Err-clause-plans : goal.returns-in-Err-clause-plans
+returns-in-Err-clause-plans c =
+    let m = c.args.core.now in
+    let now = c.prepare.new.core in
+    let picked = ap (λ (n : Core). n.numbers.tasks) c.prepare.ensures.rest ∙ (c.in-Some.ensures).taken in
+    plans_back m.numbers.tasks now.numbers.tasks c.put_back.new.tasks c.in-Some.pick (c.in-Some.ensures).can picked c.put_back.ensures.back c.put_back.ensures.plans

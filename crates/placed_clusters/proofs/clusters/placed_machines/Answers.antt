@@ -1,4 +1,5 @@
 use Rattle.std.proofs.Common.{◌≡◌, ◌∙◌, length, false}
+use Rattle.cluster_core.specs.Settings.{Locking}
 use Rattle.placed_graphs.proofs.PartLemmas.{both_ok}
 use Rattle.placed_clusters.specs.Inner.Programs.{HaveProgram}
 use Rattle.placed_clusters.specs.Running.{AreStartIn, Setting, placed_owner}
@@ -28,8 +29,8 @@ returns-clause-plain g c =
     let machines = c.in_ok-machines.machines.items in
     let some = some_run c.args.graph.now (meaning program) c.args.of.now c.args.owner.now c.args.base.now c.args.run c.in_ok-machines.ensures.graph c.requires.each c.requires.atoms c.requires.machines c.requires.base in
     let runs = runs_on c.args.graph.now (meaning program) (placed_owner c.args.of.now c.args.owner.now) c.args.base.now c.args.run some.0 machines some.1 (c.in_ok-machines.ensures.new some.0 (meaning program) some.1) in
-    both_ok c.with_program.result (λ all. HaveProgram program machines all.items) (λ all. HaveProgram program machines all.items) (λ all. (st : Setting) × AreStartIn meaning all.items st × (st.stored ≡ false))
-    (λ all have same. (some.0, start_in meaning program some.0 machines runs all.items have, some.1.stored))
+    both_ok c.with_program.result (λ all. HaveProgram program machines all.items) (λ all. HaveProgram program machines all.items) (λ all. (st : Setting) × AreStartIn meaning all.items st × (st.stored ≡ false) × (st.engine ≡ Locking))
+    (λ all have same. (some.0, start_in meaning program some.0 machines runs all.items have, some.1.stored, some.1.engine))
     c.with_program.ensures c.with_program.ensures
 
 pub returns-clause-many : goal.returns-clause-many

@@ -1,6 +1,5 @@
 -- What the calls leave makes up the snapshot update.
 use Rattle.std.proofs.Common.{ℕ, refl, sym, subst}
-use Rattle.machine_parts.specs.declared.cores.Core.{Core}
 use Rattle.snap_machines.specs.Inner.Marks.{datum_here, edges_left, sides_at, with_vertex}
 use Rattle.snap_machines.specs.Marking.{HasSavedMore}
 use Rattle.snap_machines.proofs.EndLemmas.{row_of, saved_more}
@@ -89,3 +88,6 @@ returns-clause-outside c =
     let r = c.requires in
     let row = row_of m.numbers.local f.centre.0 r.row in
     outside_same m _ f.scope f.centre c.args.prepared.items c.args.snaps.now.known row.0 r.orderly r.can row.1 r.reserved (all_done c)
+
+pub returns-clause-plans : goal.returns-clause-plans
+returns-clause-plans c = c.mark_number.ensures.plans

@@ -1,12 +1,13 @@
 -- Room is made, the snapshot update is made, and then the first unmarked vertex becomes pending where none is.
-use Rattle.std.proofs.Common.{◌≡◌, ◌≤◌, ℕ, refl, ap, ◌∙◌, sym, subst}
+use Rattle.std.proofs.Common.{◌≡◌, ℕ, ap, ◌∙◌, sym, subst}
 use Rattle.machine_parts.specs.declared.cores.Core.{Core}
 use Rattle.machine_parts.specs.Parts.{LocalView}
 use Rattle.snap_machines.specs.Keeping.{SnapView}
 use Rattle.snap_machines.specs.Seeding.{AreMarkedBelow, HasSeeded}
 use Rattle.snap_machines.specs.Sending.{AreMarksUpTo}
 use Rattle.snap_machines.specs.Inner.Marks.{is_own}
-use Rattle.snap_machines.proofs.EndLemmas.{base_roomy, below_roomy, can_roomy, core_kept, has_marked, local_end, may_mark, row_roomy, rows_end, saved_none, saved_room}
+use Rattle.snap_machines.proofs.EndLemmas.{base_roomy, below_roomy, can_roomy, core_kept, has_marked, local_end, row_of, row_roomy, rows_end, saved_room}
+use Rattle.snap_machines.proofs.OnceLemmas.{plans_end, saved_once, sides_saved}
 use Rattle.snap_machines.proofs.marking.mark.Goals as goal
 
 pub make_mark-requires : goal.make_mark-requires
@@ -104,3 +105,25 @@ returns-in-Err-clause-marks c most =
     let e = c.reserve_mark.ensures in
     let wide = c.reserve_mark.new.snaps in
     subst (λ (m : Core). AreMarksUpTo m.numbers wide.known) (sym e.made.rest) (subst (λ (w : SnapView). AreMarksUpTo c.args.core.now.numbers w.known) (sym e.same) most)
+
+pub returns-in-Ok-clause-once : goal.returns-in-Ok-clause-once
+returns-in-Ok-clause-once c =
+    let m = c.args.core.now in
+    let roomy = c.reserve_mark.new.core in
+    let w = c.args.snaps.now in
+    let wide = c.reserve_mark.new.snaps in
+    let e = c.reserve_mark.ensures in
+    let v = c.in-Some.centre in
+    let can = c.in-Some.ensures.some in
+    let own = c.requires.orderly.flights.own c.args.scope v can.flight in
+    let row = row_of m.numbers.local v.0 (c.requires.rows v.0 own) in
+    saved_once m wide c.make_mark.new.snaps w c.args.scope v row.0 own row.1 can.flight e.same
+    (sides_saved m roomy e.made w wide c.make_mark.new.snaps v e.same c.make_mark.ensures.sides)
+
+pub returns-in-Ok-clause-plans : goal.returns-in-Ok-clause-plans
+returns-in-Ok-clause-plans c v place flight at =
+    let m = c.args.core.now in
+    let roomy = c.reserve_mark.new.core in
+    let e = c.reserve_mark.ensures in
+    let can = c.in-Some.ensures.some in
+    plans_end m roomy c.make_mark.new.core c.seed.new.core e.made v c.in-Some.centre place (sym can.flight ∙ flight) at c.make_mark.ensures.plans c.seed.ensures.rest

@@ -1,7 +1,8 @@
 -- The flags at the place of the vertex.
-use Rattle.std.proofs.Common.{◌≡◌, ℕ, false, Bool, List, Option, Some, length, slice_set, refl, ap, ◌∙◌, sym, subst}
+use Rattle.std.proofs.Common.{◌≡◌, ℕ, false, Some, slice_set, ap, ◌∙◌, sym, subst}
 use Rattle.machine_numbers.proofs.WakeLemmas.{own_inside}
-use Rattle.machine_numbers.specs.Views.{AreTasksOf, flag_there}
+use Rattle.machine_numbers.specs.Views.{flag_there}
+use Rattle.snap_machines.specs.Marking.{HasUnplanned}
 use Rattle.snap_machines.proofs.EndLemmas.{ended_at}
 use Rattle.snap_machines.proofs.marks.end_mark.Goals as goal
 
@@ -28,3 +29,8 @@ pub returns-clause-admitted : goal.returns-clause-admitted
 returns-clause-admitted c k at =
     let here = sym c.place.ensures ∙ c.in-Some.is in
     c.end_place.ensures.admitted ∙ ap (λ (j : ℕ). slice_set c.args.tasks.now.admitted j false) (place_same c.in-Some.place k (sym here ∙ at))
+
+pub returns-clause-plans : goal.returns-clause-plans
+returns-clause-plans c k at =
+    let here = sym c.place.ensures ∙ c.in-Some.is in
+    subst (λ (j : ℕ). HasUnplanned c.args.tasks.now c.end_place.new.tasks j) (place_same c.in-Some.place k (sym here ∙ at)) c.end_place.ensures.plans

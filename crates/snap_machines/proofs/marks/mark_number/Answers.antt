@@ -12,6 +12,6 @@ returns c =
     let v = c.args.v in
     let k = c.args.known in
     let t = c.end_mark.new.tasks in
-    number_marked n c.pend_ends.new.numbers t c.set_datum.new.self v k c.with_mark-marked.result c.requires c.end_mark.ensures.each c.end_mark.ensures.admitted c.end_mark.ensures.tasks c.end_mark.ensures.rest
+    number_marked n c.pend_ends.new.numbers t c.set_datum.new.self v k c.with_mark-marked.result c.requires c.end_mark.ensures.each c.end_mark.ensures.admitted c.end_mark.ensures.plans c.end_mark.ensures.tasks c.end_mark.ensures.rest
     (λ u. c.pend_ends.ensures.each u ∙ ap (λ (vs : List Vertex). is_named vs u || flag_there t.pending (place_at n.local u)) (ends_tasks n t k n.local.me.0 (sides_at n.local v.0)))
     c.pend_ends.ensures.rest (c.with_mark-marked.ensures ∙ ap (with_mark k) c.datum.ensures) c.set_datum.ensures.datum c.set_datum.ensures.rest

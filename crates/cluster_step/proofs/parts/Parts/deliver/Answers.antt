@@ -1,10 +1,9 @@
 -- The first message of the link is received, or put back.
 use Rattle.std.proofs.Common.{refl, subst}
 use Rattle.cluster_core.specs.Parts.{Part}
-use Rattle.cluster_core.specs.Receiving.{MayReceive}
-use Rattle.cluster_machines.specs.Promises.{IsAsExpected}
+use Rattle.cluster_machines.specs.Promises.{IsExpectedIn, MayReceiveIn}
 use Rattle.cluster_machines.specs.Told.{told_by}
-use Rattle.cluster_step.proofs.CallLemmas.{cluster_both, comes_in, deliver_can, deliver_made, expected_in, here, here_belongs, same_both}
+use Rattle.cluster_step.proofs.CallLemmas.{cluster_both, deliver_can, deliver_made, here, here_belongs, same_both}
 use Rattle.cluster_step.proofs.WorldLemmas.{back_same, has_stays, links_stay, taken_changes, told_behind, told_first}
 use Rattle.cluster_step.proofs.parts.Parts.deliver.Goals as goal
 
@@ -17,10 +16,10 @@ receive-requires g c =
       is = go.is;
       number = c.args.to.0;
       here = here_belongs g.M.ClusterMachine.belongs g.M.ClusterMachine.part g.M.ClusterMachine.earlier c.args.self.now c.args.to.0 c.index_mut.result.now c.requires.to c.index_mut.ensures.value st go;
-      may = comes_in st c.args.from.0 c.args.to.0 (g.M.ClusterMachine.part c.index_mut.result.now) (told_by c.in-Some.message) go.locks (subst (λ (x : Part). MayReceive st c.args.from.0 c.args.to.0 x (told_by c.in-Some.message)) (here g.M.ClusterMachine.belongs g.M.ClusterMachine.part g.M.ClusterMachine.earlier c.args.self.now c.args.to.0 c.index_mut.result.now c.requires.to c.index_mut.ensures.value st)
-          (go.fronts c.args.from.0 c.args.to.0 (told_by c.in-Some.message) (told_behind c.args.self.now.links c.args.from.0 c.args.to.0 c.requires.link c.in-Some.message c.in-Some.ensures.first c.take.new.self c.in-Some.ensures.behind c.in-Some.ensures.rest) (told_first c.args.self.now.links c.args.from.0 c.args.to.0 c.requires.link c.in-Some.message c.in-Some.ensures.first c.take.new.self c.in-Some.ensures.behind c.in-Some.ensures.rest)));
-      expected = expected_in st c.args.to.0 (g.M.ClusterMachine.part c.index_mut.result.now) (told_by c.in-Some.message) go.locks (subst (λ (x : Part). IsAsExpected st c.args.to.0 x (told_by c.in-Some.message)) (here g.M.ClusterMachine.belongs g.M.ClusterMachine.part g.M.ClusterMachine.earlier c.args.self.now c.args.to.0 c.index_mut.result.now c.requires.to c.index_mut.ensures.value st)
-          (go.expected c.args.from.0 c.args.to.0 (told_by c.in-Some.message) (told_behind c.args.self.now.links c.args.from.0 c.args.to.0 c.requires.link c.in-Some.message c.in-Some.ensures.first c.take.new.self c.in-Some.ensures.behind c.in-Some.ensures.rest) (told_first c.args.self.now.links c.args.from.0 c.args.to.0 c.requires.link c.in-Some.message c.in-Some.ensures.first c.take.new.self c.in-Some.ensures.behind c.in-Some.ensures.rest)));
+      may = subst (λ (x : Part). MayReceiveIn st c.args.from.0 c.args.to.0 x (told_by c.in-Some.message)) (here g.M.ClusterMachine.belongs g.M.ClusterMachine.part g.M.ClusterMachine.earlier c.args.self.now c.args.to.0 c.index_mut.result.now c.requires.to c.index_mut.ensures.value st)
+          (go.fronts c.args.from.0 c.args.to.0 (told_by c.in-Some.message) (told_behind c.args.self.now.links c.args.from.0 c.args.to.0 c.requires.link c.in-Some.message c.in-Some.ensures.first c.take.new.self c.in-Some.ensures.behind c.in-Some.ensures.rest) (told_first c.args.self.now.links c.args.from.0 c.args.to.0 c.requires.link c.in-Some.message c.in-Some.ensures.first c.take.new.self c.in-Some.ensures.behind c.in-Some.ensures.rest));
+      expected = subst (λ (x : Part). IsExpectedIn st c.args.to.0 x (told_by c.in-Some.message)) (here g.M.ClusterMachine.belongs g.M.ClusterMachine.part g.M.ClusterMachine.earlier c.args.self.now c.args.to.0 c.index_mut.result.now c.requires.to c.index_mut.ensures.value st)
+          (go.expected c.args.from.0 c.args.to.0 (told_by c.in-Some.message) (told_behind c.args.self.now.links c.args.from.0 c.args.to.0 c.requires.link c.in-Some.message c.in-Some.ensures.first c.take.new.self c.in-Some.ensures.behind c.in-Some.ensures.rest) (told_first c.args.self.now.links c.args.from.0 c.args.to.0 c.requires.link c.in-Some.message c.in-Some.ensures.first c.take.new.self c.in-Some.ensures.behind c.in-Some.ensures.rest));
     }
 
 pub returns-in-Ok-clause-made : goal.returns-in-Ok-clause-made

@@ -1,0 +1,6 @@
+//! Which updates a recovery takes away.
+#![tactic(auto)]
+
+mod lost;
+
+pub use lost::lost_updates;

@@ -1,0 +1,3 @@
+pub mod StartLemmas
+pub mod ManyLemmas
+pub mod RunLemmas

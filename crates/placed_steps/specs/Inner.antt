@@ -1,0 +1,3 @@
+-- What clauses of private functions cite. Who reads the public clauses need not read it.
+pub mod Lines
+pub mod Making

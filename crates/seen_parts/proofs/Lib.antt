@@ -1,0 +1,4 @@
+pub mod ApartLemmas
+pub mod SeenLemmas
+pub mod MadeLemmas
+pub mod GuardLemmas

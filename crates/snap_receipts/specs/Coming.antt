@@ -1,0 +1,28 @@
+-- What comes first on a link to a machine that takes snapshots.
+pub use Rattle.cluster_core.specs.Messages.{Ask, Done, Message, Ready}
+pub use Rattle.cluster_core.specs.Settings.{Setting}
+pub use Rattle.cluster_machines.specs.Told.{no_word}
+pub use Rattle.cluster_model.specs.Clusters.{Cluster}
+pub use Rattle.machine_parts.specs.Parts.{machine_numbers}
+pub use Rattle.machine_scopes.specs.Asking.{AreMachinesFor, CanBecomeReady, IsNewAt}
+pub use Rattle.snap_machines.specs.Keeping.{SnapView}
+pub use Rattle.snap_machines.specs.Learning.{CanLearnNews, news_of}
+use Rattle.std.specs.Prelude.{List, ℕ, ◌∷◌, ◌≡◌}
+use Rattle.cluster_core.specs.Settings.{IsSetting}
+use Rattle.cluster_whole.specs.Whole.{IsWhole}
+use Rattle.machine_parts.specs.declared.cores.Core.{Core}
+use Rattle.machine_parts.specs.Order.{IsOrderly}
+use Rattle.machine_parts.specs.Settings.{IsPartOf}
+use Rattle.seen_parts.specs.Alike.{LooksAlike}
+use Rattle.snap_machines.specs.Keeping.{part_of, with_snaps}
+
+-- In this whole cluster the machine of these parts, with what it keeps for snapshots, is the one of its number as far as it looks, and the
+-- message is the first on the link to it from machine p.
+pub record IsFrontFor (st : Setting) (c : Cluster) (p : ℕ) (m : Core) (w : SnapView) (message : Message) : Type 0 where
+  pub setting : IsSetting st
+  pub whole : IsWhole st c
+  pub orderly : IsOrderly m
+  pub part : IsPartOf st m
+  pub holds : LooksAlike st m.numbers.local.me.0 (c.machine m.numbers.local.me.0).part (with_snaps w (part_of m))
+  pub behind : List Message
+  pub first : c.link p m.numbers.local.me.0 ≡ message ∷ behind

@@ -1,0 +1,3 @@
+mod Sorting
+mod Saying
+mod Going
