@@ -1,0 +1,39 @@
+//! Events that happen, or may not happen now.
+ghost use Rattle.std.specs.Prelude.{◌≡◌, length};
+ghost use Rattle.call_rounds.specs.Pauses.{IsNoRecord, IsSameAttempt, NamesItsMachines};
+
+use call_courses::{Course, Event, SavingMachine};
+use gl_base::{NoMemory, Refused};
+
+/// Makes the event, and says whether it happened.
+pub(crate) fn happens<M: SavingMachine>(
+    course: &mut Course<M>,
+    event: Event,
+) -> Result<bool, NoMemory>
+    requires names { NamesItsMachines (length course.old.now.machines.items) event }
+    requires none { IsNoRecord event }
+    ensures { IsSameAttempt course.old course.new }
+{
+    match course.apply(event) {
+        Ok(()) => Ok(true),
+        Err(Refused::NotNow) => Ok(false),
+        Err(Refused::NoMemory) => Err(NoMemory),
+    }
+}
+
+/// Makes the event as often as it may happen, and says whether it happened.
+pub(crate) fn exhaust<M: SavingMachine>(
+    course: &mut Course<M>,
+    event: Event,
+) -> Result<bool, NoMemory>
+    requires names { NamesItsMachines (length course.old.now.machines.items) event }
+    requires none { IsNoRecord event }
+    ensures { IsSameAttempt course.old course.new }
+{
+    for times in 0..u64::MAX {
+        if !happens(course, event)? {
+            return Ok(times > 0);
+        }
+    }
+    Ok(true)
+}
