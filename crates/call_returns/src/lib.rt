@@ -1,0 +1,10 @@
+//! What an attempt that ends with failures goes back to: the store's last snapshot, and the restarts that the store lacks.
+#![tactic(auto)]
+
+mod bases;
+mod missing;
+mod records;
+
+pub use bases::base_behind;
+pub use missing::missing_restarts;
+pub use records::record_behind;
