@@ -1,0 +1,47 @@
+-- There is an attempt that begins as it is to.
+use Rattle.std.proofs.Common.{◌≡◌, ◌<◌, ℕ, List, refl, slice_index}
+use Rattle.cluster_ending.specs.FourWaves.{fresh_cluster, fresh_machine, fresh_part}
+use Rattle.cluster_model.specs.Leading.{first_coordinator}
+use Rattle.gl_base.specs.declared.snapshots.Base.{Base}
+use Rattle.graph_core.specs.DataGraph.{DataGraph, IsDataGraph, size}
+use Rattle.update_api.specs.Updates.{Update}
+use Rattle.placed_savers.specs.Beginning.{BaseView, Cluster, IsAttemptFrom, IsBaseFor, Setting}
+use Rattle.placed_savers.specs.declared.savers.SavingRun.{SavingRun}
+use Rattle.placed_savers.proofs.RunLemmas.{run_setting}
+
+-- machines that have admitted so many scopes and done nothing else
+abbrev cluster_behind : Setting → List ℕ → ℕ → ℕ → ℕ → Cluster
+cluster_behind st serials next left store_end =
+    record (fresh_cluster st) {
+      machine = λ a. record fresh_machine { part = record fresh_part { serial = slice_index serials a } };
+      coordinator = first_coordinator st 0 store_end;
+      next = next;
+      left = left;
+    }
+
+abbrev base_seen : Base → BaseView
+base_seen base = record { number = base.number; order = base.order.items; numbers = record { vertex = slice_index base.values.items; edge = slice_index base.edges.items } }
+
+pub attempt_begins : (g : DataGraph) (program : Update) (owner : ℕ → ℕ) (run : SavingRun) (base : Base) (serials : List ℕ) (next left store_end : ℕ) → IsDataGraph g → ((v : ℕ) → v < size g → owner v < run.machines) → IsBaseFor g base
+    → IsAttemptFrom g program owner run base serials next left store_end
+attempt_begins g program owner run base serials next left store_end graph low for = record {
+  st = run_setting g program owner run base;
+  view = base_seen base;
+  before = cluster_behind (run_setting g program owner run base) serials next left store_end;
+  runs = record {
+    setting = record { is = record { graph = graph; owner = low }; locks = refl; stored = refl };
+    placed = record { graph = refl; machines = refl; owners = λ v inside. refl };
+    program_is = refl;
+    pipeline = refl;
+    window = refl;
+  };
+  of_base = record {
+    number = refl;
+    vertices = record { count = for.vertices; each = λ k inside. refl };
+    edges = record { count = for.edges; each = λ k inside. refl };
+  };
+  admitted = λ a inside. refl;
+  next_is = refl;
+  left_is = refl;
+  store_end_is = refl;
+}

@@ -1,0 +1,4 @@
+pub mod FirstLemmas
+pub mod ManyLemmas
+pub mod RunLemmas
+pub mod LawLemmas

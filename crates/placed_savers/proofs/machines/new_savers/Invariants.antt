@@ -1,0 +1,10 @@
+use Rattle.std.proofs.Common.{◌≡◌, length}
+use Rattle.placed_savers.proofs.ManyLemmas.{StandSoFar}
+use Rattle.placed_savers.proofs.machines.new_savers.Given as goal
+
+abbrev pub invariant-loop-local : goal.invariant-loop-local
+invariant-loop-local g l =
+    record {
+      count : length l.savers.items ≡ length l.yielded;
+      stand : StandSoFar g.P.Program.meaning l.program l.fn.parts.items l.base l.terms l.window l.serials l.savers.items;
+    }

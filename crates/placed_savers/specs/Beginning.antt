@@ -1,0 +1,52 @@
+-- How the machines of an attempt that takes snapshots begin.
+pub use Rattle.cluster_model.specs.Clusters.{BaseView, Cluster}
+pub use Rattle.placed_graphs.specs.Beginnings.{IsBaseFor}
+pub use Rattle.placed_graphs.specs.Placed.{IsOwnedBy, placed_owner}
+pub use Rattle.snap_members.specs.Going.{IsSnapSetting}
+pub use Rattle.snap_savers.specs.Savers.{IsSaverOf, SaverView, Setting}
+use Rattle.std.specs.Prelude.{List, length, slice_index, slice_index_or, ℕ, ◌<◌, ◌≡◌}
+use Rattle.cluster_core.specs.Recovering.{going_on}
+use Rattle.cluster_model.specs.Events.{recovers}
+use Rattle.gl_base.specs.declared.snapshots.Base.{Base}
+use Rattle.graph_core.specs.DataGraph.{DataGraph, size}
+use Rattle.seq_run.specs.Runs.{AreNumbers}
+use Rattle.update_api.specs.Updates.{Update}
+use Rattle.placed_savers.specs.declared.savers.SavingRun.{SavingRun}
+
+-- The cluster runs this program on this graph, with these owners of the vertices. Scopes take locks, and so many of one machine may be in
+-- flight; snapshots are taken, with this window.
+pub record IsSavingRunOf (g : DataGraph) (program : Update) (owner : ℕ → ℕ) (run : SavingRun) (st : Setting) : Type 0 where
+  pub setting : IsSnapSetting st
+  pub placed : IsOwnedBy g run.machines owner st
+  pub program_is : st.program ≡ program
+  pub pipeline : st.pipeline ≡ run.pipeline
+  pub window : st.window ≡ run.window
+
+-- the base of the law has this one's number and numbers
+pub record IsBaseOf (st : Setting) (base : Base) (view : BaseView) : Type 0 where
+  pub number : view.number ≡ base.number
+  pub vertices : AreNumbers (size st.graph) view.numbers.vertex base.values.items
+  pub edges : AreNumbers (length st.graph.edges) view.numbers.edge base.edges.items
+
+-- each machine has admitted so many scopes
+abbrev pub HaveAdmitted : Setting → List ℕ → Cluster → Type 0
+HaveAdmitted st serials before = (a : ℕ) → a < st.machines → (before.machine a).part.serial ≡ slice_index serials a
+
+-- There are as many machines as the cluster has, and each is the one of the law at its place, as an attempt begins from this base, whatever was
+-- before.
+pub record AreSaversOf {P : Type 0} (meaning : P → Update) (st : Setting) (view : BaseView) (before : Cluster) (savers : List (SaverView P)) : Type 0 where
+  pub many : length savers ≡ st.machines
+  pub each : (a : ℕ) (d : SaverView P) → a < st.machines → IsSaverOf meaning (going_on st view.numbers view.number) a ((recovers st view before).machine a) (slice_index_or savers a d)
+
+-- An attempt of the law that runs so and begins from this base, behind a cluster whose machines have admitted so many scopes, with these
+-- tickets, and with so many bytes of the store in use.
+pub record IsAttemptFrom (g : DataGraph) (program : Update) (owner : ℕ → ℕ) (run : SavingRun) (base : Base) (serials : List ℕ) (next left store_end : ℕ) : Type 0 where
+  pub st : Setting
+  pub view : BaseView
+  pub before : Cluster
+  pub runs : IsSavingRunOf g program owner run st
+  pub of_base : IsBaseOf st base view
+  pub admitted : HaveAdmitted st serials before
+  pub next_is : before.next ≡ next
+  pub left_is : before.left ≡ left
+  pub store_end_is : before.coordinator.store_end ≡ store_end

@@ -1,0 +1,9 @@
+//! The machines of an attempt that takes snapshots, of a graph that is placed on them, as they begin from a base.
+#![tactic(auto)]
+
+mod laws;
+mod machines;
+mod savers;
+
+pub use laws::attempts_can_begin;
+pub use savers::{SavingRun, placed_savers};
