@@ -2,9 +2,11 @@
 #![tactic(auto)]
 
 mod bases;
+mod laws;
 mod missing;
 mod records;
 
 pub use bases::base_behind;
+pub use laws::stored_restarts_come_first;
 pub use missing::missing_restarts;
 pub use records::record_behind;
