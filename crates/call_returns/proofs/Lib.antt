@@ -1,1 +1,3 @@
 mod Lacking
+mod Coming
+mod Counting

@@ -2,9 +2,13 @@
 #![tactic(auto)]
 
 mod bases;
+mod failing;
+mod laws;
 mod missing;
 mod records;
 
 pub use bases::base_behind;
+pub use failing::count_failed;
+pub use laws::stored_restarts_come_first;
 pub use missing::missing_restarts;
 pub use records::record_behind;
