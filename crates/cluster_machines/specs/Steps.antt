@@ -4,17 +4,6 @@ pub use Rattle.cluster_machines.specs.Promises.{Part, Setting}
 use Rattle.std.specs.Prelude.{None, false, true, ℕ, ◌≡◌, ◌⊎◌}
 use Rattle.gl_base.specs.declared.scopes.ScopeId.{ScopeId}
 use Rattle.cluster_core.specs.Actions.{MayAdmit}
-use Rattle.cluster_core.specs.Settings.{Chromatic}
-
--- The machine is of some cluster whose vertices run by colours, and no scope of it is in flight.
-pub record CanStep {M : Type 0} (belongs : Setting → ℕ → M → Type 0) (part : M → Part) (m : M) : Type 0 where
-  pub setting : Setting
-  pub number : ℕ
-  pub here : belongs setting number m
-  pub colour : ℕ → ℕ
-  pub colours : ℕ
-  pub chromatic : setting.engine ≡ Chromatic colour colours
-  pub flights : (s : ScopeId) → (part m).flight s ≡ None
 
 -- ---- when its share of the step is done
 

@@ -1,7 +1,8 @@
 //! A machine of a cluster that is led through steps.
-ghost use Rattle.std.specs.Prelude.{◌≡◌, ◌↔◌, IsTrue, IsErrOf, OnOk, OnErr};
+ghost use Rattle.std.specs.Prelude.{◌≡◌, ◌↔◌, None, IsTrue, IsErrOf, OnOk, OnErr};
+ghost use Rattle.gl_base.specs.declared.scopes.ScopeId.{ScopeId};
 ghost use Rattle.cluster_machines.specs.Promises.{IsSameMachine};
-ghost use Rattle.cluster_machines.specs.Steps.{CanStep, EndsNoShare, EndsShare, IsOver, closes, steps_to};
+ghost use Rattle.cluster_machines.specs.Steps.{EndsNoShare, EndsShare, IsOver, closes, steps_to};
 
 use crate::machines::ClusterMachine;
 use gl_base::Refused;
@@ -9,9 +10,10 @@ use gl_base::Refused;
 /// A machine of a cluster whose vertices run by colours, step after step. In a step it admits scopes of vertices of one colour, until
 /// its share of the step is done.
 pub trait StepMachine: ClusterMachine {
-    /// The step of this colour begins here, where no scope is in flight. It takes no memory.
+    /// The step of this colour begins here, where no scope is in flight: from now on vertices of this colour are admitted, and no others.
+    /// It takes no memory.
     fn step(&mut self, colour: u32)
-        requires { CanStep Self.belongs Self.part self.old }
+        requires { (s : ScopeId) → (Self.part self.old).flight s ≡ None }
         ensures begun { Self.part self.new ≡ steps_to colour (Self.part self.old) }
         ensures same { IsSameMachine Self.belongs Self.earlier self.old self.new };
 

@@ -1,9 +1,9 @@
 -- Steps of the cluster: what a call makes of it.
-use Rattle.std.proofs.Common.{◌≡◌, ℕ, ◌+◌, ◌<◌, ◌++◌, Bool, true, false, true≢false, if◌then◌else◌, List, [], ◌∷◌, length, get_or, sym, refl, ap, ap₂, ◌∙◌, subst, inl, inr, arith}
+use Rattle.std.proofs.Common.{None, ◌≡◌, ℕ, ◌+◌, ◌<◌, ◌++◌, Bool, true, false, true≢false, if◌then◌else◌, List, [], ◌∷◌, length, get_or, sym, refl, ap, ap₂, ◌∙◌, subst, inl, inr, arith}
 use Rattle.std.specs.Prelude.{Result, Ok, Err, IsTrue, OnErr, OnOk, nat_lt, not, ◌↔◌}
 use Rattle.std.proofs.lemmas.Bool.{cases_eq, lt-ltb, ltb-true}
-use Rattle.std.proofs.lemmas.Option.{slice_get_read}
 use Rattle.gl_base.specs.declared.refusals.Refused.{Refused}
+use Rattle.gl_base.specs.declared.scopes.ScopeId.{ScopeId}
 use Rattle.cluster_core.specs.Actions.{HasFirst}
 use Rattle.cluster_core.specs.Messages.{Message}
 use Rattle.cluster_core.specs.Parts.{Part}
@@ -11,10 +11,10 @@ use Rattle.cluster_core.specs.Ranges.{set_at}
 use Rattle.cluster_core.specs.Settings.{Setting}
 use Rattle.cluster_core.specs.Worlds.{World}
 use Rattle.cluster_core.proofs.Basics.{set_at-other, set_at-same}
-use Rattle.cluster_machines.specs.Steps.{CanStep, EndsNoShare, EndsShare}
+use Rattle.cluster_machines.specs.Steps.{EndsNoShare, EndsShare}
 use Rattle.cluster_step.specs.Events.{HoldTheSame}
 use Rattle.cluster_step.specs.Inner.Steps.{CanGoOn, IsSameCluster}
-use Rattle.cluster_step.specs.Stepping.{CannotCloseAt, ClosesAt, IsShareDone, IsStill, RunsByColours, closes, steps_to, with_part, with_step}
+use Rattle.cluster_step.specs.Stepping.{CannotCloseAt, ClosesAt, IsShareDone, IsStill, closes, steps_to, with_part, with_step}
 use Rattle.cluster_step.specs.Worlds.{part_of_machine, world_of_parts}
 use Rattle.cluster_step.specs.declared.parts.Parts.{Parts}
 use Rattle.cluster_step.proofs.CallLemmas.{here, here_belongs, same_one, with_one, world_one}
@@ -103,19 +103,11 @@ module _ {M : Type 0} (belongs : Setting → ℕ → M → Type 0) (part : M →
     part_was : (st : Setting) → part m ≡ (world_of_parts part st old).part k
     part_was st = sym (here belongs part earlier now k m low is st) ∙ ap (λ (w : World). w.part k) (so_far.world st) ∙ not_stepped k colour (world_of_parts part st old)
 
-    pub can_step : (st : Setting) × CanGoOn belongs part old st × RunsByColours st → ((st : Setting) → IsStill (length old.machines.items) (world_of_parts part st old)) → CanStep belongs part m
-    can_step some still =
+    pub none_flies : (st : Setting) × CanGoOn belongs part old st → ((st : Setting) → IsStill (length old.machines.items) (world_of_parts part st old)) → (s : ScopeId) → (part m).flight s ≡ None
+    none_flies some still s =
         let st = some.0 in
         let inside : k < length old.machines.items = subst (λ (n : ℕ). k < n) so_far.same.many low in
-        record {
-          setting = st;
-          number = k;
-          here = so_far.same.settings st some.1.machines k m (slice_get_read now.machines.items (length now.machines.items) k m refl low is);
-          colour = some.2.colour;
-          colours = some.2.colours;
-          chromatic = some.2.chromatic;
-          flights = λ s. ap (λ (p : Part). p.flight s) (part_was st) ∙ (still st k inside).over.flights s;
-        }
+        ap (λ (p : Part). p.flight s) (part_was st) ∙ (still st k inside).over.flights s
 
     pub stepped_more : (new : M) → part new ≡ steps_to colour (part m) → IsSameCluster belongs earlier now (with_one now k new) → SteppedSoFar old (with_one now k new) colour (k + 1)
     stepped_more new begun same = record {

@@ -27,7 +27,7 @@ use Rattle.cluster_step.specs.Clusters.{ClusterView}
 use Rattle.cluster_step.specs.Inner.Going.{GoesBy, IsGoingOn, IsKept, IsPlain}
 use Rattle.cluster_step.specs.Inner.Steps.{CanGoOn, IsSameCluster}
 use Rattle.cluster_step.specs.Starts.{StartIn}
-use Rattle.cluster_step.specs.Stepping.{CannotCloseAt, ClosesAt, HasStepped, IsStill, RunsByColours, closes, steps_to, with_step}
+use Rattle.cluster_step.specs.Stepping.{CannotCloseAt, ClosesAt, HasStepped, IsStill, closes, steps_to, with_step}
 use Rattle.cluster_step.specs.Worlds.{no_part, world_of_parts}
 use Rattle.cluster_step.specs.declared.parts.Parts.{Parts}
 use Rattle.cluster_step.specs.Events.{HoldTheSame}
@@ -210,11 +210,6 @@ module _ {M : Type 0} (belongs : Setting → ℕ → M → Type 0) (part : M →
 
     pub few_seen : length view.now.machines.items < 65536 → length old.machines.items < 65536
     few_seen few = subst (λ (v : ClusterView M). length v.now.machines.items < 65536) (sym seen) few
-
-    pub some_seen : (st : Setting) × StartIn belongs part view.start.machines.items st × RunsByColours st → (st : Setting) × CanGoOn belongs part old st × RunsByColours st
-    some_seen some =
-        let st = some.0 in
-        (st, can_go belongs part earlier start old kept st (subst (λ (v : ClusterView M). StartIn belongs part v.start.machines.items st) (sym seen) some.1), some.2)
 
     pub begun_seen : (colour : ℕ) (r : Result (Unit {0}) Refused) (new : Parts M) → OnOk r ((st : Setting) → HasStepped (length old.machines.items) colour (world_of_parts part st old) (world_of_parts part st new))
         → OnOk r ((st : Setting) → HasStepped (length view.now.machines.items) colour (world_of_parts part st view.now) (world_of_parts part st new))

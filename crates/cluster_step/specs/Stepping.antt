@@ -2,15 +2,8 @@
 pub use Rattle.cluster_machines.specs.Steps.{IsOver, IsShareDone, closes, steps_to}
 pub use Rattle.cluster_core.specs.Worlds.{way, with_part}
 use Rattle.std.specs.Prelude.{[], false, if◌then◌else◌, length, nat_lt, ℕ, ◌<◌, ◌≡◌}
-use Rattle.cluster_core.specs.Settings.{Chromatic}
 use Rattle.cluster_step.specs.Worlds.{Part, Setting, World, world_of_parts}
 use Rattle.cluster_step.specs.declared.parts.Parts.{Parts}
-
--- vertices run by colours
-pub record RunsByColours (st : Setting) : Type 0 where
-  pub colour : ℕ → ℕ
-  pub colours : ℕ
-  pub chromatic : st.engine ≡ Chromatic colour colours
 
 -- ---- the end of a machine's share
 

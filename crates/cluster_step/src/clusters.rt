@@ -7,7 +7,7 @@ ghost use Rattle.cluster_step.specs.Links.{told_on};
 ghost use Rattle.cluster_step.specs.Worlds.{Setting, earlier_at};
 ghost use Rattle.cluster_step.specs.AtOnce.{CanMoveAtOnce, CanNotMoveAtOnce, IsActionRun, MovesAtOnce, actions_at_once};
 ghost use Rattle.cluster_step.specs.InTurn.{GrantsInTurn};
-ghost use Rattle.cluster_step.specs.Stepping.{BeginsStep, CannotCloseAt, ClosesAt, IsInAStep, RunsByColours};
+ghost use Rattle.cluster_step.specs.Stepping.{BeginsStep, CannotCloseAt, ClosesAt, IsInAStep};
 ghost use Rattle.cluster_step.specs.Events.{NamesMachinesOf, MakesEvent, CanMakeEvent, CanNotMakeEvent, HasFirst, HoldTheSame};
 ghost use Rattle.cluster_step.specs.Starts.{StartIn, IsFresh, IsOrderSince, IsStart, IsEndOf, WasFresh, AllHaveHeard, replay_of, tasks_of, size};
 ghost use Rattle.cluster_step.specs.Clusters.{InEachSetting, OfTheOrder, part_now, world_now};
@@ -257,8 +257,7 @@ impl<M: StepMachine> Cluster<M> {
     /// The step of this colour begins at each machine, where the step before is over: each machine has closed, no scope is in flight,
     /// and nothing is on its way. It takes no memory.
     pub fn step(&mut self, colour: u32) -> Result<(), Refused>
-        requires few { length self.old.now.machines.items < 65536 }
-        requires colours { (st : Setting) × StartIn M.belongs M.part self.old.start.machines.items st × RunsByColours st }
+        requires { length self.old.now.machines.items < 65536 }
         ensures begun { OnOk result (BeginsStep M.part self.old.now colour self.new.now) }
         ensures not_now { IsErrOf result Refused.NotNow → IsInAStep M.part self.old.now }
         ensures no_memory { IsErrOf result Refused.NoMemory → ⊥ }

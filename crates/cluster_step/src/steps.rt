@@ -3,7 +3,7 @@ ghost use Rattle.std.specs.Prelude.{◌≡◌, ◌↔◌, ◌<◌, [], length, I
 ghost use Rattle.cluster_step.specs.Events.{HoldTheSame};
 ghost use Rattle.cluster_step.specs.Inner.Steps.{CanGoOn, IsSameCluster};
 ghost use Rattle.cluster_step.specs.Inner.Writing.{HasLinkBetween, HaveLinks};
-ghost use Rattle.cluster_step.specs.Stepping.{CannotCloseAt, ClosesAt, HasStepped, IsStill, IsStillAt, RunsByColours, way, with_step};
+ghost use Rattle.cluster_step.specs.Stepping.{CannotCloseAt, ClosesAt, HasStepped, IsStill, IsStillAt, way, with_step};
 ghost use Rattle.cluster_step.specs.Worlds.{Setting, world_of_parts};
 
 use crate::parts::Parts;
@@ -27,7 +27,7 @@ impl<M: StepMachine> Parts<M> {
     pub(crate) fn step(&mut self, colour: u32) -> Result<(), Refused>
         requires few { length self.old.machines.items < 65536 }
         requires links { HaveLinks self.old.links (length self.old.machines.items) }
-        requires some { (st : Setting) × CanGoOn M.belongs M.part self.old st × RunsByColours st }
+        requires some { (st : Setting) × CanGoOn M.belongs M.part self.old st }
         ensures begun { OnOk result ((st : Setting) → HasStepped (length self.old.machines.items) colour (world_of_parts M.part st self.old) (world_of_parts M.part st self.new)) }
         ensures not_now { IsErrOf result Refused.NotNow → (st : Setting) → ¬ IsStill (length self.old.machines.items) (world_of_parts M.part st self.old) }
         ensures no_memory { IsErrOf result Refused.NoMemory → ⊥ }
@@ -43,7 +43,7 @@ impl<M: StepMachine> Parts<M> {
 
     /// The step of this colour begins at each machine.
     fn step_each(&mut self, colour: u32)
-        requires some { (st : Setting) × CanGoOn M.belongs M.part self.old st × RunsByColours st }
+        requires some { (st : Setting) × CanGoOn M.belongs M.part self.old st }
         requires still { (st : Setting) → IsStill (length self.old.machines.items) (world_of_parts M.part st self.old) }
         ensures begun { (st : Setting) → world_of_parts M.part st self.new ≡ with_step (length self.old.machines.items) colour (world_of_parts M.part st self.old) }
         ensures same { IsSameCluster M.belongs M.earlier self.old self.new }

@@ -1,8 +1,11 @@
 -- The settings in which a cluster begins that runs by colours.
-use Rattle.std.proofs.Common.{◌≡◌, ◌<◌, ℕ, ◌∙◌, false, List, Some, length, get_or, ap, sym, subst, refl, slice_index}
+use Rattle.std.proofs.Common.{true, ◌≡◌, ◌<◌, ℕ, ◌∙◌, false, List, Some, length, get_or, ap, sym, subst, refl, slice_index}
 use Rattle.std.specs.Prelude.{All, slice_get, slice_index_or}
 use Rattle.std.proofs.lemmas.Option.{get_or_from_slice_get, slice_get_within}
-use Rattle.cluster_core.specs.Settings.{Chromatic}
+use Rattle.cluster_core.specs.Settings.{Chromatic, Engine}
+use Rattle.cluster_step.specs.Clusters.{ClusterView}
+use Rattle.cluster_step.specs.Starts.{StartsBy}
+use Rattle.cluster_step.specs.declared.parts.Parts.{Parts}
 use Rattle.cluster_places.specs.Steps.{AreApart}
 use Rattle.gl_base.specs.declared.numbers.AtomNo.{AtomNo}
 use Rattle.gl_base.specs.declared.numbers.MachineNo.{MachineNo}
@@ -12,7 +15,7 @@ use Rattle.graph_core.specs.DataGraph.{DataEdge, DataGraph, IsDataGraph, IsEdge,
 use Rattle.machine_places.proofs.OwnerLemmas.{owner_low}
 use Rattle.update_api.specs.Updates.{Update}
 use Rattle.placed_steps.specs.Beginning.{AllRunProgram, AreNewInSteps, GoesInSteps, IsNewInSteps}
-use Rattle.placed_steps.specs.Running.{AreStartInSteps, ColorMachineView, IsBaseFor, IsSteppedRunOf, Setting, placed_owner}
+use Rattle.placed_steps.specs.Running.{AreStartInSteps, ColorMachineView, IsBaseFor, IsSteppedRunOf, Setting, StartsInSteps, part_in_steps, placed_owner}
 use Rattle.placed_steps.specs.declared.runs.StepRun.{StepRun}
 
 -- the colour of a vertex
@@ -91,18 +94,31 @@ module _ (g : DataGraph) (program : Update) (owner : ℕ → ℕ) (base : Base) 
     program_at : (a : ℕ) (m : ColorMachineView P) → slice_get all a ≡ Some m → m.program ≡ mine
     program_at a m at = subst (λ (x : ColorMachineView P). x.program ≡ mine) (get_or_from_slice_get all a m m at) (runs a m (slice_get_within all a m at))
 
+    closed_at : (a : ℕ) (m : ColorMachineView P) → slice_get all a ≡ Some m → (part_in_steps m.core).closed ≡ true
+    closed_at a m at = (new_at a m at).closed
+
     pub start_in_steps : IsDataGraph g → IsProperColouring g (colour_in colours) → AreStartInSteps meaning all st
     start_in_steps graph proper =
         record {
           setting = is.is;
-          colour = is.colour;
-          greatest = is.greatest;
-          chromatic = is.chromatic;
-          apart = apart_in graph proper;
+          engine = subst (λ (e : Engine). StartsBy e st (λ (m : ColorMachineView P). part_in_steps m.core) all) (sym is.chromatic) (apart_in graph proper, closed_at);
           many = new.count;
           here = λ a m at.
               let one = new_at a m at in
               record { setting = is.is; part = one.part; number = one.number; program = is.program_is ∙ sym same ∙ sym (ap meaning (program_at a m at)) };
           start = λ a m at. (new_at a m at).start;
-          closed = λ a m at. (new_at a m at).closed;
         }
+
+    pub many_there : length all ≡ run.machines
+    many_there = new.count ∙ is.placed.machines
+
+-- where machines start, so does a cluster that holds them and has made no event
+module _ {P : Type 0} (meaning : P → Update) (all : List (ColorMachineView P)) (k : ClusterView (ColorMachineView P)) (same : k.now.machines.items ≡ all) (began : k.start ≡ k.now) where
+  held : k.start.machines.items ≡ all
+  held = ap (λ (p : Parts (ColorMachineView P)). p.machines.items) began ∙ same
+
+  pub started_in : (st : Setting) → AreStartInSteps meaning all st → StartsInSteps meaning st k
+  started_in st start = subst (λ (ms : List (ColorMachineView P)). AreStartInSteps meaning ms st) (sym held) start
+
+  pub many_held : (n : ℕ) → length all ≡ n → length k.now.machines.items ≡ n
+  many_held n many = ap (λ (ms : List (ColorMachineView P)). length ms) same ∙ many

@@ -7,4 +7,4 @@ mod machines;
 mod runs;
 
 pub use machines::{new_color_machine, new_color_machines};
-pub use runs::{StepRun, colored_machines};
+pub use runs::{StepRun, colored_cluster, colored_machines};

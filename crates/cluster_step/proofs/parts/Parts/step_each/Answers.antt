@@ -3,7 +3,7 @@ use Rattle.std.proofs.Common.{◌≡◌, ◌<◌, ℕ, length, subst, arith}
 use Rattle.cluster_step.specs.Stepping.{with_step}
 use Rattle.cluster_step.specs.Worlds.{world_of_parts}
 use Rattle.cluster_step.proofs.CallLemmas.{cluster_one}
-use Rattle.cluster_step.proofs.StepLemmas.{can_step, stepped_more, stepped_none}
+use Rattle.cluster_step.proofs.StepLemmas.{none_flies, stepped_more, stepped_none}
 use Rattle.cluster_step.proofs.parts.Parts.step_each.Goals as goal
 
 pub loop-at-init : goal.loop-at-init
@@ -14,7 +14,7 @@ step-requires g c =
     let many = c.loop-at.invariant.same.many in
     let len = c.len-at-end.ensures in
     let low : c.loop-at.at < length c.loop-at.self.machines.items = omega (arith, c.loop-at-test.true, many, len) in
-    can_step g.M.ClusterMachine.belongs g.M.ClusterMachine.part g.M.ClusterMachine.earlier c.args.self.now c.loop-at.self c.args.colour c.loop-at.at c.index_mut.result.now c.loop-at.invariant low c.index_mut.ensures.value
+    none_flies g.M.ClusterMachine.belongs g.M.ClusterMachine.part g.M.ClusterMachine.earlier c.args.self.now c.loop-at.self c.args.colour c.loop-at.at c.index_mut.result.now c.loop-at.invariant low c.index_mut.ensures.value
     c.requires.some c.requires.still
 
 pub loop-at-preserved : goal.loop-at-preserved
