@@ -34,7 +34,7 @@ module _ {M : Type 0} (stands : Setting → ℕ → Machine → M → Type 0) (v
   pub makes_call : (call : EngineCall) × MakesCall st v.failures o events c call
   makes_call =
       let all = the_call st v.failures o.kept o.resumed o.base o.first events c is.course in
-      (all.0, record { is = all.1; windows = all.2 is.setting.stored; snapshots = all.3; few = all.4; tells = all.5 })
+      (all.0, record { is = all.1; windows = all.2 is.setting.stored; snapshots = all.3; few = all.4; tells = all.5; lost = all.6; orders = all.7; owners = all.8 })
 
   abbrev last : Setting
   last = newest_setting st o events
@@ -44,7 +44,7 @@ module _ {M : Type 0} (stands : Setting → ℕ → Machine → M → Type 0) (v
       let there : HasSavedTheEnd (since (first_setting st o) last.start last.base) c.coordinator = subst (λ (s : Setting). HasSavedTheEnd s c.coordinator) (behind_since events (first_setting st o)) end in
       record { end = there.end; none = there.none; all = λ (due : SnapshotIsDue st c.coordinator). there.all (record { stored = due.stored; none = due.none; wanted = due.wanted }) }
 
-  due_first : RecordIsDue last c.coordinator → RecordIsDue st c.coordinator
+  pub due_first : RecordIsDue last c.coordinator → RecordIsDue st c.coordinator
   due_first due =
       let there : RecordIsDue (since (first_setting st o) last.start last.base) c.coordinator = subst (λ (s : Setting). RecordIsDue s c.coordinator) (behind_since events (first_setting st o)) due in
       record { under = there.under; sections = there.sections }

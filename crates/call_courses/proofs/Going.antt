@@ -32,7 +32,7 @@ behind_append : (xs ys : List law.Event) (st : Setting) → setting_behind st (x
 behind_append [] ys st = refl
 behind_append (x ∷ xs) ys st = behind_append xs ys (law.setting_after st x)
 
-ends_at : (events : List law.Event) (st : Setting) (a c : Cluster) → law.IsCourse st a events c → c ≡ after_events st events a
+pub ends_at : (events : List law.Event) (st : Setting) (a c : Cluster) → law.IsCourse st a events c → c ≡ after_events st events a
 ends_at [] st a c course = course
 ends_at (event ∷ events) st a c course = ends_at events (law.setting_after st event) (law.after_event st a event) c course.1
 
@@ -541,3 +541,13 @@ module _ {M : Type 0} (stands : Setting → ℕ → Machine → M → Type 0) (v
 pub on_ok : {X E P Q : Type 0} (r : Result X E) → (P → Q) → OnOk r P → OnOk r Q
 on_ok (Ok x) to p = to p
 on_ok (Err e) to p = tt
+
+-- nothing has happened since the call opened
+pub begun_now : {M : Type 0} (stands : Setting → ℕ → Machine → M → Type 0) (v : CourseView M) → ((a : ℕ) → slice_index_or v.done a 0 ≡ 0) → v.now ≡ v.start →
+    (st : Setting) (o : CallOpening) → OpensCall stands v.start v.failures st o → IsCourseNow stands v st o [] (first_cluster st o)
+begun_now stands v none same st o opens = record {
+  setting = opens.setting;
+  course = record { is = opens.setting.is; coloured = subst (AreColoured st) (sym opens.setting.locks) tt; opened = opens.opened; course = refl; follows = tt };
+  code = subst (λ p. IsSavingClusterOf stands (first_setting st o) p (first_cluster st o)) (sym same) opens.code;
+  done = λ a low. opens.opened.done a ∙ sym (none a);
+}

@@ -1,15 +1,19 @@
 -- The call that a course makes, and what is so of it.
+use Rattle.std.specs.List.{AllByRecursion}
 use Rattle.std.specs.Prelude.{List, false, length, true, ℕ, ◌+◌, ◌/◌, ◌<◌, ◌≡◌, ◌≤◌}
 use Rattle.gl_base.specs.declared.jobs.FailureAt.{FailureAt}
-use Rattle.attempts.specs.EngineCalls.{EngineCall, call_order}
+use Rattle.gl_base.specs.declared.entries.Entry.{Entry}
+use Rattle.attempts.specs.EngineCalls.{EngineCall, call_order, lost_of, made_of}
 use Rattle.attempts.specs.Stores.{last_order, snapshots_of}
 use Rattle.cluster_model.specs.Events as law
 use Rattle.cluster_model.specs.Working.{half_window}
 use Rattle.call_courses.specs.Courses.{CallOpening, Cluster, CourseView, InEachCourse, Machine, Setting, first_cluster, first_setting}
 use Rattle.graph_core.specs.DataGraph.{size}
+use Rattle.merged_logs.specs.Merges.{IsByMachineBelow}
 use Rattle.seq_run.specs.Orders.{tasks_after}
 use Rattle.whole_calls.specs.Called.{IsCallOf, KeepsWindows}
-use Rattle.whole_calls.specs.Saved.{AreSnapshotsOf, recorded_in}
+use Rattle.whole_calls.specs.Lost.{AreLostIn}
+use Rattle.whole_calls.specs.Saved.{AreNextOrders, AreSnapshotsOf, fronts_in, recorded_in}
 use Rattle.whole_calls.specs.Telling.{TellsOfCall}
 
 -- These events make this call: it keeps its windows, the snapshots that were acknowledged are its, and what waves and tickets tell is so
@@ -20,6 +24,11 @@ pub record MakesCall (st : Setting) (failures : List FailureAt) (o : CallOpening
   pub snapshots : AreSnapshotsOf st o.base.number o.kept (recorded_in (first_setting st o) (first_cluster st o) events) (snapshots_of call)
   pub few : 0 < half_window st → length (snapshots_of call) ≤ o.first.left / half_window st + 1
   pub tells : TellsOfCall st o.first.left c call
+  -- what the recoveries took away is what it lost
+  pub lost : (lost : List Entry) → AreLostIn (first_setting st o) (first_cluster st o) events lost → lost_of call ≡ lost
+  -- the orders of its snapshots are told by what their attempts began with and what their sections brought
+  pub orders : AreNextOrders st o.kept (fronts_in (first_setting st o) (first_cluster st o) events) (recorded_in (first_setting st o) (first_cluster st o) events) (snapshots_of call)
+  pub owners : AllByRecursion (IsByMachineBelow st.machines) (made_of call)
 
 -- in each course, of each call that it makes
 abbrev pub OfTheCall : {M : Type 0} → (Setting → ℕ → Machine → M → Type 0) → CourseView M → (Setting → CallOpening → Cluster → EngineCall → Type 0) → Type 0

@@ -1,8 +1,8 @@
 //! The course of a call.
-ghost use Rattle.std.specs.Prelude.{◌≡◌, ◌+◌, ◌^◌, ◌<◌, ◌≤◌, ℕ, length, slice_index_or, IfOk, IfSome, IsErrOf, OnErr, OnOk};
+ghost use Rattle.std.specs.Prelude.{[], ◌≡◌, ◌+◌, ◌^◌, ◌<◌, ◌≤◌, ℕ, length, slice_index_or, IfOk, IfSome, IsErrOf, OnErr, OnOk};
 ghost use Rattle.attempts.specs.EngineCalls.{done_of, first_ticket, made_of};
 ghost use Rattle.call_courses.specs.Calls.{HasCall, HasEndedCall, HasTaskLeft, OfTheCall};
-ghost use Rattle.call_courses.specs.Courses.{CallOpening, CanGoBack, CourseGoesOn, HasCourse, HasGoneBack, InEachCourse, IsSameAttempt, OpensCall, Setting, StartsCall, as_since, newest_setting};
+ghost use Rattle.call_courses.specs.Courses.{CallOpening, CanGoBack, CourseGoesOn, HasCourse, HasGoneBack, InEachCourse, IsCourseNow, IsSameAttempt, OpensCall, Setting, StartsCall, as_since, first_cluster, newest_setting};
 ghost use Rattle.call_courses.specs.Events.{CanHappenInCall, CanNotHappenInCall, HappensInCall, IsHeldBack, IsNoRecord, StaysThere};
 ghost use Rattle.cluster_core.specs.Replays.{entries_of};
 ghost use Rattle.cluster_model.specs.Machines.{completed};
@@ -63,6 +63,8 @@ impl<M: SavingMachine> Course<M> {
         ensures first { IfOk result (λ c. c.now ≡ c.start) }
         // It is an opening of the law, in each setting in which the machines start.
         ensures opened { IfOk result (λ c. (st : Setting) (o : CallOpening) → StartsCall M.stands machines.items (store_view store) next left failures.items st o → OpensCall M.stands c.start c.failures st o) }
+        // Nothing has happened yet.
+        ensures begun { IfOk result (λ c. (st : Setting) (o : CallOpening) → OpensCall M.stands c.start c.failures st o → IsCourseNow M.stands c st o [] (first_cluster st o)) }
     {
         let done = Vec::from_elem(alloc, 0, machines.len())?;
         let cluster = SnapCluster::new(alloc, machines, store, next, left)?;

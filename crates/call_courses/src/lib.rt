@@ -3,6 +3,8 @@
 
 mod courses;
 mod failing;
+mod laws;
 
 pub use courses::Course;
+pub use laws::courses_add_up;
 pub use snap_clusters::{Coordinator, Due, Event, Lead, Local, Passage, SavingMachine, Store};

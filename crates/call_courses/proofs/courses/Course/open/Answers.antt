@@ -2,7 +2,7 @@
 use Rattle.std.proofs.Common.{◌≡◌, ◌∙◌, ap, length, subst, sym, rules}
 use Rattle.std.specs.Prelude.{replicate, slice_index_or}
 use Rattle.call_courses.specs.Courses.{HasCourse, OpensCall}
-use Rattle.call_courses.proofs.Going.{has_first, none_done, opens_call}
+use Rattle.call_courses.proofs.Going.{begun_now, has_first, none_done, opens_call}
 use Rattle.coord_core.specs.Stores.{store_view}
 use Rattle.call_courses.proofs.courses.Course.open.Given as given
 use Rattle.call_courses.proofs.courses.Course.open.Goals as goal
@@ -28,3 +28,7 @@ pub returns-clause-opened : goal.returns-clause-opened
 returns-clause-opened g c = λ st o starts.
     subst (λ p. OpensCall g.M.SavingMachine.stands p c.args.failures.items st o) (sym c.of-start.ensures)
     (opens_call g.M.SavingMachine.stands c.args.machines.items (store_view c.args.store) c.args.next c.args.left c.in_ok-cluster.cluster c.in_ok-cluster.ensures.began c.args.failures.items st o starts)
+
+pub returns-clause-begun : goal.returns-clause-begun
+returns-clause-begun g c = λ st o opens.
+    begun_now g.M.SavingMachine.stands _ (λ a. ap (λ xs. slice_index_or xs a 0) (zeros g c) ∙ none_done c.len.result a) (sym c.of-start.ensures) st o opens
