@@ -1,10 +1,12 @@
 -- There is an attempt that begins as it is to.
-use Rattle.std.proofs.Common.{◌≡◌, ◌<◌, ℕ, List, refl, slice_index}
+use Rattle.std.proofs.Common.{◌≡◌, ◌+◌, ◌*◌, ◌<◌, ℕ, List, refl, slice_index, arith}
 use Rattle.cluster_ending.specs.FourWaves.{fresh_cluster, fresh_machine, fresh_part}
 use Rattle.cluster_model.specs.Leading.{first_coordinator}
+use Rattle.cluster_model.specs.Totals.{total}
 use Rattle.gl_base.specs.declared.snapshots.Base.{Base}
 use Rattle.graph_core.specs.DataGraph.{DataGraph, IsDataGraph, size}
 use Rattle.update_api.specs.Updates.{Update}
+use Rattle.wave_counts.proofs.CountLemmas.{total_from-nothing}
 use Rattle.placed_savers.specs.Beginning.{BaseView, Cluster, IsAttemptFrom, IsBaseFor, Setting}
 use Rattle.placed_savers.specs.declared.savers.SavingRun.{SavingRun}
 use Rattle.placed_savers.proofs.RunLemmas.{run_setting}
@@ -18,6 +20,9 @@ cluster_behind st serials next left store_end =
       next = next;
       left = left;
     }
+
+none_more : (n failed : ℕ) → failed ≡ 0 → n + 16 * failed ≡ n
+none_more n failed none = omega (arith, none)
 
 abbrev base_seen : Base → BaseView
 base_seen base = record { number = base.number; order = base.order.items; numbers = record { vertex = slice_index base.values.items; edge = slice_index base.edges.items } }
@@ -43,5 +48,5 @@ attempt_begins g program owner run base serials next left store_end graph low fo
   admitted = λ a inside. refl;
   next_is = refl;
   left_is = refl;
-  store_end_is = refl;
+  store_end_is = none_more store_end (total run.machines (λ a. 0)) (total_from-nothing 0 run.machines (λ a. 0) (λ a. refl));
 }

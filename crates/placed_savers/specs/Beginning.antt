@@ -49,4 +49,4 @@ pub record IsAttemptFrom (g : DataGraph) (program : Update) (owner : ℕ → ℕ
   pub admitted : HaveAdmitted st serials before
   pub next_is : before.next ≡ next
   pub left_is : before.left ≡ left
-  pub store_end_is : before.coordinator.store_end ≡ store_end
+  pub store_end_is : (recovers st view before).coordinator.store_end ≡ store_end
