@@ -25,6 +25,6 @@ abbrev pub EndsNoShare : {M : Type 0} → (Setting → ℕ → M → Type 0) →
 EndsNoShare belongs part m = (st : Setting) (a : ℕ) → belongs st a m → ¬ IsShareDone st a (part m)
 
 -- nothing more is admitted, and no scope is in flight
-pub record IsOver (part : Part) : Type 0 where
+pub record IsStepOver (part : Part) : Type 0 where
   pub closed : part.closed ≡ true
   pub flights : (s : ScopeId) → part.flight s ≡ None

@@ -2,7 +2,7 @@
 ghost use Rattle.std.specs.Prelude.{◌≡◌, ◌↔◌, None, IsTrue, IsErrOf, OnOk, OnErr};
 ghost use Rattle.gl_base.specs.declared.scopes.ScopeId.{ScopeId};
 ghost use Rattle.cluster_machines.specs.Promises.{IsSameMachine};
-ghost use Rattle.cluster_machines.specs.Steps.{EndsNoShare, EndsShare, IsOver, closes, steps_to};
+ghost use Rattle.cluster_machines.specs.Steps.{EndsNoShare, EndsShare, IsStepOver, closes, steps_to};
 
 use crate::machines::ClusterMachine;
 use gl_base::Refused;
@@ -28,5 +28,5 @@ pub trait StepMachine: ClusterMachine {
 
     /// Whether the step is over here: nothing more is admitted, and no scope is in flight.
     fn is_over(&self) -> bool
-        ensures { IsTrue result ↔ IsOver (Self.part self.now) };
+        ensures { IsTrue result ↔ IsStepOver (Self.part self.now) };
 }

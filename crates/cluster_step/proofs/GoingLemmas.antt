@@ -31,7 +31,7 @@ use Rattle.cluster_cuts.proofs.CutsKept.{one_step}
 use Rattle.cluster_cuts.proofs.CutsGoOn.{goes_not, goes_then, step_goes}
 use Rattle.cluster_machines.specs.Promises.{IsAsExpected, IsExpectedBy, IsExpectedIn, MayReceiveBy, MayReceiveIn}
 use Rattle.cluster_step.specs.Events.{IsActionOf}
-use Rattle.cluster_step.specs.Inner.Going.{AreAllPlain, GoesBy, IsGoingOn, IsPlain}
+use Rattle.cluster_step.specs.Inner.Going.{AreAllPlain, GoesByEngine, IsGoingOn, IsPlain}
 use Rattle.cluster_step.specs.declared.events.Event.{Event}
 use Rattle.cluster_step.specs.declared.events.Event.TheVariants.{Admit, Deliver, Grant, Send, Update}
 use Rattle.cluster_step.proofs.PlainLemmas.{event_plain}
@@ -49,7 +49,7 @@ abbrev pub StartsAt : Engine → Setting → World → Type 0
 StartsAt Locking st w = Unit {0}
 StartsAt (Chromatic colour colours) st w = AreApart st colour × ((a : ℕ) → (w.part a).closed ≡ true)
 
-goes_first : (e : Engine) (st : Setting) (w : World) → IsStart st w → StartsAt e st w → GoesBy e st w
+goes_first : (e : Engine) (st : Setting) (w : World) → IsStart st w → StartsAt e st w → GoesByEngine e st w
 goes_first Locking st w start at = (λ s. Idle, start_placed st w start)
 goes_first (Chromatic colour colours) st w start at = (at.0, (0, starts st colour 0 w start at.1))
 
@@ -61,7 +61,7 @@ begins_going st is w at start unmarked =
     record { by_engine = goes_first st.engine st w start at; plain = plain; kept = kept; none = refl; gone = goes_not st w kept }
 
 -- scopes exclude one another
-pub excludes : (e : Engine) (st : Setting) → IsSetting st → (w : World) → GoesBy e st w → IsExclusive st w
+pub excludes : (e : Engine) (st : Setting) → IsSetting st → (w : World) → GoesByEngine e st w → IsExclusive st w
 excludes Locking st is w goes = exclusive st is w goes.0 goes.1
 excludes (Chromatic colour colours) st is w goes = step_excludes st colour goes.1.0 goes.0 w goes.1.1.in_step
 
@@ -74,7 +74,7 @@ event_apart (Deliver p q) action of = subst IsApartFromSnapshots (sym of) tt
 event_apart (Update s) action of = subst IsApartFromSnapshots (sym of) tt
 
 -- each event that may happen leaves it going by its engine
-keeps_going : (e : Engine) (st : Setting) → IsSetting st → st.engine ≡ e → (w : World) → GoesBy e st w → (event : Event) (action : Action) → IsActionOf event action → MayHappen st w action → GoesBy e st (after st w action)
+keeps_going : (e : Engine) (st : Setting) → IsSetting st → st.engine ≡ e → (w : World) → GoesByEngine e st w → (event : Event) (action : Action) → IsActionOf event action → MayHappen st w action → GoesByEngine e st (after st w action)
 keeps_going Locking st is locks w goes event action of may = action_keeps st is locks w goes.0 goes.1 action may
 keeps_going (Chromatic colour colours) st is chromatic w goes event action of may =
     (goes.0, (goes.1.0, goes_on st colour colours goes.1.0 w chromatic goes.1.1 action (event_apart event action of) may))
@@ -116,11 +116,11 @@ module _ (st : Setting) (is : IsSetting st) (now : World) (stage : ScopeId → S
       }
 
 module _ (st : Setting) (is : IsSetting st) (now : World) (plain : AreAllPlain now) (told_right : (p q : ℕ) → AllByRecursion (IsToldTo st p q) (way now p q)) where
-  comes_by : (e : Engine) → GoesBy e st now → (p q : ℕ) (m : Message) (behind : List Message) → now.link p q ≡ m ∷ behind → MayReceiveBy e st p q (now.part q) m
+  comes_by : (e : Engine) → GoesByEngine e st now → (p q : ℕ) (m : Message) (behind : List Message) → now.link p q ≡ m ∷ behind → MayReceiveBy e st p q (now.part q) m
   comes_by Locking goes p q m behind first = front st is now goes.0 goes.1 p q (told_right p q) m behind first
   comes_by (Chromatic colour colours) goes p q m behind first = (may_be_heard st colour colours goes.1.0 now p q m behind goes.1.1 (told_right p q) first).0
 
-  expected_by : (e : Engine) → GoesBy e st now → (p q : ℕ) (m : Message) (behind : List Message) → now.link p q ≡ m ∷ behind → IsExpectedBy e st q (now.part q) m
+  expected_by : (e : Engine) → GoesByEngine e st now → (p q : ℕ) (m : Message) (behind : List Message) → now.link p q ≡ m ∷ behind → IsExpectedBy e st q (now.part q) m
   expected_by Locking goes p q m behind first = placed_expected st is now goes.0 goes.1 plain told_right p q m behind first
   expected_by (Chromatic colour colours) goes p q m behind first = (may_be_heard st colour colours goes.1.0 now p q m behind goes.1.1 (told_right p q) first).1
 

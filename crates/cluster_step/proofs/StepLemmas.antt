@@ -14,7 +14,7 @@ use Rattle.cluster_core.proofs.Basics.{set_at-other, set_at-same}
 use Rattle.cluster_machines.specs.Steps.{EndsNoShare, EndsShare}
 use Rattle.cluster_step.specs.Events.{HoldTheSame}
 use Rattle.cluster_step.specs.Inner.Steps.{CanGoOn, IsSameCluster}
-use Rattle.cluster_step.specs.Stepping.{CannotCloseAt, ClosesAt, IsShareDone, IsStill, closes, steps_to, with_part, with_step}
+use Rattle.cluster_step.specs.Stepping.{CannotCloseAt, ClosesAt, IsShareDone, IsStepStill, closes, steps_to, with_part, with_step_begun}
 use Rattle.cluster_step.specs.Worlds.{part_of_machine, world_of_parts}
 use Rattle.cluster_step.specs.declared.parts.Parts.{Parts}
 use Rattle.cluster_step.proofs.CallLemmas.{here, here_belongs, same_one, with_one, world_one}
@@ -44,7 +44,7 @@ module _ {M : Type 0} (belongs : Setting → ℕ → M → Type 0) (part : M →
 -- ---- machine after machine
 
 -- no machine yet
-pub none_stepped : (colour : ℕ) (w : World) → w ≡ with_step 0 colour w
+pub none_stepped : (colour : ℕ) (w : World) → w ≡ with_step_begun 0 colour w
 none_stepped colour w = λ i. record w { part = λ a. stays a i }
   where
     by : (a : ℕ) (b : Bool) → nat_lt a 0 ≡ b → w.part a ≡ (if b then steps_to colour (w.part a) else w.part a)
@@ -55,7 +55,7 @@ none_stepped colour w = λ i. record w { part = λ a. stays a i }
     stays a = by a (nat_lt a 0) refl
 
 -- a machine that hasn't stepped is as it was
-pub not_stepped : (k colour : ℕ) (w : World) → (with_step k colour w).part k ≡ w.part k
+pub not_stepped : (k colour : ℕ) (w : World) → (with_step_begun k colour w).part k ≡ w.part k
 not_stepped k colour w = by (nat_lt k k) refl
   where
     by : (b : Bool) → nat_lt k k ≡ b → (if b then steps_to colour (w.part k) else w.part k) ≡ w.part k
@@ -63,11 +63,11 @@ not_stepped k colour w = by (nat_lt k k) refl
     by true is = absurd (omega (arith, ltb-true k k is))
 
 -- one machine more
-pub one_stepped : (k colour : ℕ) (w : World) → with_part (with_step k colour w) k (steps_to colour (w.part k)) ≡ with_step (k + 1) colour w
+pub one_stepped : (k colour : ℕ) (w : World) → with_part (with_step_begun k colour w) k (steps_to colour (w.part k)) ≡ with_step_begun (k + 1) colour w
 one_stepped k colour w = λ i. record w { part = λ a. there a i }
   where
     now : ℕ → Part
-    now = (with_step k colour w).part
+    now = (with_step_begun k colour w).part
 
     beside : (a : ℕ) (one other : Bool) → nat_lt a k ≡ one → nat_lt a (k + 1) ≡ other → (a ≡ k → ⊥) → (if one then steps_to colour (w.part a) else w.part a) ≡ (if other then steps_to colour (w.part a) else w.part a)
     beside a true true one other off = refl
@@ -90,7 +90,7 @@ one_stepped k colour w = λ i. record w { part = λ a. there a i }
 module _ {M : Type 0} (belongs : Setting → ℕ → M → Type 0) (part : M → Part) (earlier : M → ℕ) where
   -- so far the first machines have stepped
   pub record SteppedSoFar (old now : Parts M) (colour k : ℕ) : Type 0 where
-    pub world : (st : Setting) → world_of_parts part st now ≡ with_step k colour (world_of_parts part st old)
+    pub world : (st : Setting) → world_of_parts part st now ≡ with_step_begun k colour (world_of_parts part st old)
     pub same : IsSameCluster belongs earlier old now
 
   pub stepped_none : (old : Parts M) (colour : ℕ) → SteppedSoFar old old colour 0
@@ -103,7 +103,7 @@ module _ {M : Type 0} (belongs : Setting → ℕ → M → Type 0) (part : M →
     part_was : (st : Setting) → part m ≡ (world_of_parts part st old).part k
     part_was st = sym (here belongs part earlier now k m low is st) ∙ ap (λ (w : World). w.part k) (so_far.world st) ∙ not_stepped k colour (world_of_parts part st old)
 
-    pub none_flies : (st : Setting) × CanGoOn belongs part old st → ((st : Setting) → IsStill (length old.machines.items) (world_of_parts part st old)) → (s : ScopeId) → (part m).flight s ≡ None
+    pub none_flies : (st : Setting) × CanGoOn belongs part old st → ((st : Setting) → IsStepStill (length old.machines.items) (world_of_parts part st old)) → (s : ScopeId) → (part m).flight s ≡ None
     none_flies some still s =
         let st = some.0 in
         let inside : k < length old.machines.items = subst (λ (n : ℕ). k < n) so_far.same.many low in

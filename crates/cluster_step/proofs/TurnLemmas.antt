@@ -24,10 +24,10 @@ use Rattle.cluster_whole.proofs.Keeping.{move_step}
 use Rattle.step_worlds.specs.Going.{GoesInStep, IsAtStandstill, IsStepMessage}
 use Rattle.step_worlds.proofs.GoingLemmas.{step_begins, still_next}
 use Rattle.cluster_step.specs.Clusters.{ClusterView}
-use Rattle.cluster_step.specs.Inner.Going.{GoesBy, IsGoingOn, IsKept, IsPlain}
+use Rattle.cluster_step.specs.Inner.Going.{GoesByEngine, IsGoingOn, IsKept, IsPlain}
 use Rattle.cluster_step.specs.Inner.Steps.{CanGoOn, IsSameCluster}
 use Rattle.cluster_step.specs.Starts.{StartIn}
-use Rattle.cluster_step.specs.Stepping.{CannotCloseAt, ClosesAt, HasStepped, IsStill, closes, steps_to, with_step}
+use Rattle.cluster_step.specs.Stepping.{CannotCloseAt, ClosesAt, HasStepped, IsStepStill, closes, steps_to, with_step_begun}
 use Rattle.cluster_step.specs.Worlds.{no_part, world_of_parts}
 use Rattle.cluster_step.specs.declared.parts.Parts.{Parts}
 use Rattle.cluster_step.specs.Events.{HoldTheSame}
@@ -49,7 +49,7 @@ places_turned st w stage places a new turns =
       serial = ap (λ (p : Part). p.serial) turns;
     })
 
-turned_going : (st : Setting) → IsSetting st → (from now : World) → IsGoingOn st from now → (a : ℕ) (new : Part) → IsTurned (now.part a) new → GoesBy st.engine st (with_part now a new) → IsGoingOn st from (with_part now a new)
+turned_going : (st : Setting) → IsSetting st → (from now : World) → IsGoingOn st from now → (a : ℕ) (new : Part) → IsTurned (now.part a) new → GoesByEngine st.engine st (with_part now a new) → IsGoingOn st from (with_part now a new)
 turned_going st is from now going a new turns goes =
     let apart : IsExclusive st now = excludes st.engine st is now going.by_engine in
     let move : IsMove st now (with_part now a new) = (now, inl refl, inr (a, new, turns, refl)) in
@@ -79,7 +79,7 @@ closed_in_step st colour step a w goes =
       words = λ p q. subst (AllByRecursion (IsStepMessage st q)) (sym (out p q)) (goes.words p q);
     }
 
-closes_by : (e : Engine) (st : Setting) (a : ℕ) (w : World) → GoesBy e st w → GoesBy e st (with_part w a (closes (w.part a)))
+closes_by : (e : Engine) (st : Setting) (a : ℕ) (w : World) → GoesByEngine e st w → GoesByEngine e st (with_part w a (closes (w.part a)))
 closes_by Locking st a w goes = (goes.0, places_turned st w goes.0 goes.1 a (closes (w.part a)) refl)
 closes_by (Chromatic colour colours) st a w goes = (goes.0, (goes.1.0, closed_in_step st colour goes.1.0 a w goes.1.1))
 
@@ -90,7 +90,7 @@ abbrev GoesAs : Engine → Setting → ℕ → World → Type 0
 GoesAs Locking st step w = (stage : ScopeId → Stage) × ArePlaces st w stage
 GoesAs (Chromatic colour colours) st step w = AreApart st colour × GoesInStep st colour step w
 
-as_some : (e : Engine) (st : Setting) (step : ℕ) (w : World) → GoesAs e st step w → GoesBy e st w
+as_some : (e : Engine) (st : Setting) (step : ℕ) (w : World) → GoesAs e st step w → GoesByEngine e st w
 as_some Locking st step w goes = goes
 as_some (Chromatic colour colours) st step w goes = (goes.0, (step, goes.1))
 
@@ -103,18 +103,18 @@ record Stepped (st : Setting) (from : World) (step k : ℕ) (w : World) : Type 0
   going : IsGoingOn st from w
   goes : GoesAs st.engine st step w
 
-stepped : (st : Setting) → IsSetting st → (from : World) (step : ℕ) (w : World) → IsGoingOn st from w → GoesAs st.engine st step w → (k : ℕ) → Stepped st from step k (with_step k step w)
+stepped : (st : Setting) → IsSetting st → (from : World) (step : ℕ) (w : World) → IsGoingOn st from w → GoesAs st.engine st step w → (k : ℕ) → Stepped st from step k (with_step_begun k step w)
 stepped st is from step w going goes zero = subst (Stepped st from step 0) (none_stepped step w) (record { going = going; goes = goes })
 stepped st is from step w going goes (suc k) =
     let before = stepped st is from step w going goes k in
-    let mid : World = with_step k step w in
+    let mid : World = with_step_begun k step w in
     let next : GoesAs st.engine st step (with_part mid k (steps_to step (mid.part k))) = begins_as st.engine st step k mid before.goes in
     let whole : Stepped st from step (suc k) (with_part mid k (steps_to step (mid.part k))) = record {
       going = turned_going st is from mid before.going k (steps_to step (mid.part k)) refl (as_some st.engine st step (with_part mid k (steps_to step (mid.part k))) next);
       goes = next;
     } in
     subst (Stepped st from step (suc k))
-    (ap (λ (p : Part). with_part mid k (steps_to step p)) (not_stepped k step w) ∙ one_stepped k step w ∙ ap (λ (n : ℕ). with_step n step w) (add-one k)) whole
+    (ap (λ (p : Part). with_part mid k (steps_to step p)) (not_stepped k step w) ∙ one_stepped k step w ∙ ap (λ (n : ℕ). with_step_begun n step w) (add-one k)) whole
 
 -- ---- the step before is over
 
@@ -150,7 +150,7 @@ module _ {M : Type 0} (belongs : Setting → ℕ → M → Type 0) (part : M →
     beyond : (a : ℕ) → length old.machines.items ≤ a → now.part a ≡ no_part st
     beyond a high = get_or_past (map part old.machines.items) a (no_part st) (subst (λ (n : ℕ). n ≤ a) (sym (length-map old.machines.items part)) high)
 
-    module _ (still : IsStill (length old.machines.items) now) where
+    module _ (still : IsStepStill (length old.machines.items) now) where
       closed_now : (a : ℕ) → (now.part a).closed ≡ true
       closed_now a = elim (cases_lt a (length old.machines.items)) [
         | inl low ↦ (still a low).over.closed
@@ -171,11 +171,11 @@ module _ {M : Type 0} (belongs : Setting → ℕ → M → Type 0) (part : M →
             ways = λ p q. way_nothing st begin.setting (length old.machines.items) p q (way now p q) (kept.many ∙ begin.many) (goes.words p q) (going.gone.next.copies.told p q) (λ low high. (still p low).ways q high);
           }
 
-      next_as : (e : Engine) (step : ℕ) → GoesBy e st now → GoesAs e st step now
+      next_as : (e : Engine) (step : ℕ) → GoesByEngine e st now → GoesAs e st step now
       next_as Locking step goes = goes
       next_as (Chromatic colour colours) step goes = (goes.0, still_next st colour goes.1.0 step now (standstill colour goes.1.0 goes.1.1) goes.1.1)
 
-      pub stepped_going : (step : ℕ) → IsGoingOn st from (with_step (length old.machines.items) step now)
+      pub stepped_going : (step : ℕ) → IsGoingOn st from (with_step_begun (length old.machines.items) step now)
       stepped_going step = (stepped st begin.setting from step now going (next_as st.engine step going.by_engine) (length old.machines.items)).going
 
   -- ---- what the cluster keeps
@@ -216,8 +216,8 @@ module _ {M : Type 0} (belongs : Setting → ℕ → M → Type 0) (part : M →
     begun_seen colour r new begun =
         subst (λ (v : ClusterView M). OnOk r ((st : Setting) → HasStepped (length v.now.machines.items) colour (world_of_parts part st v.now) (world_of_parts part st new))) seen begun
 
-    pub in_step_seen : ((st : Setting) → IsStill (length old.machines.items) (world_of_parts part st old) → ⊥) → (st : Setting) → IsStill (length view.now.machines.items) (world_of_parts part st view.now) → ⊥
-    in_step_seen none = subst (λ (v : ClusterView M). (st : Setting) → IsStill (length v.now.machines.items) (world_of_parts part st v.now) → ⊥) seen none
+    pub in_step_seen : ((st : Setting) → IsStepStill (length old.machines.items) (world_of_parts part st old) → ⊥) → (st : Setting) → IsStepStill (length view.now.machines.items) (world_of_parts part st view.now) → ⊥
+    in_step_seen none = subst (λ (v : ClusterView M). (st : Setting) → IsStepStill (length v.now.machines.items) (world_of_parts part st v.now) → ⊥) seen none
 
     pub unstepped_seen : (r : Result (Unit {0}) Refused) (new : Parts M) → OnErr r (new ≡ old) → OnErr r (HoldTheSame part view.now new)
     unstepped_seen (Ok done) new same = tt

@@ -1,5 +1,5 @@
 -- Steps of a cluster whose vertices run by colours.
-pub use Rattle.cluster_machines.specs.Steps.{IsOver, IsShareDone, closes, steps_to}
+pub use Rattle.cluster_machines.specs.Steps.{IsStepOver, IsShareDone, closes, steps_to}
 pub use Rattle.cluster_core.specs.Worlds.{way, with_part}
 use Rattle.std.specs.Prelude.{[], false, if◌then◌else◌, length, nat_lt, ℕ, ◌<◌, ◌≡◌}
 use Rattle.cluster_step.specs.Worlds.{Part, Setting, World, world_of_parts}
@@ -16,21 +16,21 @@ pub record IsClosedAt (st : Setting) (old : World) (a : ℕ) (new : World) : Typ
 
 -- the step is over at machine p of so many, and nothing is on its way from there to another of them
 pub record IsStillAt (n p : ℕ) (w : World) : Type 0 where
-  pub over : IsOver (w.part p)
+  pub over : IsStepOver (w.part p)
   pub ways : (q : ℕ) → q < n → way w p q ≡ []
 
 -- so it is at each of so many machines
-abbrev pub IsStill : ℕ → World → Type 0
-IsStill n w = (p : ℕ) → p < n → IsStillAt n p w
+abbrev pub IsStepStill : ℕ → World → Type 0
+IsStepStill n w = (p : ℕ) → p < n → IsStillAt n p w
 
 -- the step of this colour begins at each of so many machines
-abbrev pub with_step : ℕ → ℕ → World → World
-with_step n colour w = record w { part = λ a. if nat_lt a n then steps_to colour (w.part a) else w.part a }
+abbrev pub with_step_begun : ℕ → ℕ → World → World
+with_step_begun n colour w = record w { part = λ a. if nat_lt a n then steps_to colour (w.part a) else w.part a }
 
 -- the step before was over, and that of this colour has begun at each of so many machines
 pub record HasStepped (n colour : ℕ) (old new : World) : Type 0 where
-  pub still : IsStill n old
-  pub after : new ≡ with_step n colour old
+  pub still : IsStepStill n old
+  pub after : new ≡ with_step_begun n colour old
 
 -- ---- the same of machines and links, in each of these settings
 
@@ -48,4 +48,4 @@ BeginsStep part old colour new = (st : Setting) → HasStepped (length old.machi
 
 -- the step before isn't over
 abbrev pub IsInAStep : {M : Type 0} → (M → Part) → Parts M → Type 0
-IsInAStep part old = (st : Setting) → ¬ IsStill (length old.machines.items) (world_of_parts part st old)
+IsInAStep part old = (st : Setting) → ¬ IsStepStill (length old.machines.items) (world_of_parts part st old)

@@ -3,7 +3,7 @@ ghost use Rattle.std.specs.Prelude.{◌≡◌, ◌↔◌, ◌<◌, [], length, I
 ghost use Rattle.cluster_step.specs.Events.{HoldTheSame};
 ghost use Rattle.cluster_step.specs.Inner.Steps.{CanGoOn, IsSameCluster};
 ghost use Rattle.cluster_step.specs.Inner.Writing.{HasLinkBetween, HaveLinks};
-ghost use Rattle.cluster_step.specs.Stepping.{CannotCloseAt, ClosesAt, HasStepped, IsStill, IsStillAt, way, with_step};
+ghost use Rattle.cluster_step.specs.Stepping.{CannotCloseAt, ClosesAt, HasStepped, IsStepStill, IsStillAt, way, with_step_begun};
 ghost use Rattle.cluster_step.specs.Worlds.{Setting, world_of_parts};
 
 use crate::parts::Parts;
@@ -29,7 +29,7 @@ impl<M: StepMachine> Parts<M> {
         requires links { HaveLinks self.old.links (length self.old.machines.items) }
         requires some { (st : Setting) × CanGoOn M.belongs M.part self.old st }
         ensures begun { OnOk result ((st : Setting) → HasStepped (length self.old.machines.items) colour (world_of_parts M.part st self.old) (world_of_parts M.part st self.new)) }
-        ensures not_now { IsErrOf result Refused.NotNow → (st : Setting) → ¬ IsStill (length self.old.machines.items) (world_of_parts M.part st self.old) }
+        ensures not_now { IsErrOf result Refused.NotNow → (st : Setting) → ¬ IsStepStill (length self.old.machines.items) (world_of_parts M.part st self.old) }
         ensures no_memory { IsErrOf result Refused.NoMemory → ⊥ }
         ensures unchanged { OnErr result (self.new ≡ self.old) }
         ensures same { IsSameCluster M.belongs M.earlier self.old self.new }
@@ -44,8 +44,8 @@ impl<M: StepMachine> Parts<M> {
     /// The step of this colour begins at each machine.
     fn step_each(&mut self, colour: u32)
         requires some { (st : Setting) × CanGoOn M.belongs M.part self.old st }
-        requires still { (st : Setting) → IsStill (length self.old.machines.items) (world_of_parts M.part st self.old) }
-        ensures begun { (st : Setting) → world_of_parts M.part st self.new ≡ with_step (length self.old.machines.items) colour (world_of_parts M.part st self.old) }
+        requires still { (st : Setting) → IsStepStill (length self.old.machines.items) (world_of_parts M.part st self.old) }
+        ensures begun { (st : Setting) → world_of_parts M.part st self.new ≡ with_step_begun (length self.old.machines.items) colour (world_of_parts M.part st self.old) }
         ensures same { IsSameCluster M.belongs M.earlier self.old self.new }
     {
         for at in 0..self.machines.len() {
@@ -57,7 +57,7 @@ impl<M: StepMachine> Parts<M> {
     fn is_still(&self) -> bool
         requires few { length self.now.machines.items < 65536 }
         requires links { HaveLinks self.now.links (length self.now.machines.items) }
-        ensures { (st : Setting) → IsTrue result ↔ IsStill (length self.now.machines.items) (world_of_parts M.part st self.now) }
+        ensures { (st : Setting) → IsTrue result ↔ IsStepStill (length self.now.machines.items) (world_of_parts M.part st self.now) }
     {
         for at in 0..self.machines.len() {
             if !self.is_still_at(MachineNo(at as u16)) {

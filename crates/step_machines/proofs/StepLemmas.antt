@@ -5,7 +5,7 @@ use Rattle.gl_base.specs.declared.refusals.Refused.{Refused}
 use Rattle.gl_base.specs.declared.scopes.ScopeId.{ScopeId}
 use Rattle.cluster_core.specs.Actions.{MayAdmit, MayUpdate}
 use Rattle.update_api.specs.Updates.{Update}
-use Rattle.cluster_machines.specs.Steps.{EndsNoShare, EndsShare, HasNothingLeft, IsOver, IsShareDone}
+use Rattle.cluster_machines.specs.Steps.{EndsNoShare, EndsShare, HasNothingLeft, IsStepOver, IsShareDone}
 use Rattle.color_parts.specs.declared.cores.ColorCore.{ColorCore}
 use Rattle.step_machines.specs.Machines.{ColorMachineView, GoesOnHere, HasDoneItsShare, IsColorMachineOf, Setting, part_in_steps}
 use Rattle.step_machines.proofs.CallLemmas.{admits_none, belongs_to, holds}
@@ -32,8 +32,8 @@ module _ {P : Type 0} (meaning : P → Update) where
 
 -- ---- whether it is over
 
-pub over_some : (m : ColorCore) (s : ScopeId) → MayUpdate s (part_in_steps m) 1 → IsTrue false ↔ IsOver (part_in_steps m)
+pub over_some : (m : ColorCore) (s : ScopeId) → MayUpdate s (part_in_steps m) 1 → IsTrue false ↔ IsStepOver (part_in_steps m)
 over_some m s ready = (λ is. absurd (true≢false (sym is)), λ over. absurd (none_some ready.vertex (sym (over.flights s) ∙ ready.flight)))
 
-pub over_none : (m : ColorCore) (closed : Bool) → closed ≡ m.closed → ((s : ScopeId) → (part_in_steps m).flight s ≡ None) → IsTrue closed ↔ IsOver (part_in_steps m)
+pub over_none : (m : ColorCore) (closed : Bool) → closed ≡ m.closed → ((s : ScopeId) → (part_in_steps m).flight s ≡ None) → IsTrue closed ↔ IsStepOver (part_in_steps m)
 over_none m closed same quiet = (λ is. record { closed = sym same ∙ is; flights = quiet }, λ over. same ∙ over.closed)

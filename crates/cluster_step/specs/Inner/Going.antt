@@ -28,13 +28,13 @@ abbrev pub AreAllPlain : World → Type 0
 AreAllPlain w = (p q : ℕ) → AllByRecursion IsPlain (way w p q)
 
 -- With locks each scope is in one place. With colours neighbours have different ones, and the cluster is in the step of some colour.
-abbrev pub GoesBy : Engine → Setting → World → Type 0
-GoesBy Locking st w = (stage : ScopeId → Stage) × ArePlaces st w stage
-GoesBy (Chromatic colour colours) st w = AreApart st colour × ((step : ℕ) × GoesInStep st colour step w)
+abbrev pub GoesByEngine : Engine → Setting → World → Type 0
+GoesByEngine Locking st w = (stage : ScopeId → Stage) × ArePlaces st w stage
+GoesByEngine (Chromatic colour colours) st w = AreApart st colour × ((step : ℕ) × GoesInStep st colour step w)
 
 -- the cluster goes by its engine, and copies, numbers and marks have gone on from the start by updates alone
 pub record IsGoingOn (st : Setting) (from now : World) : Type 0 where
-  pub by_engine : GoesBy st.engine st now
+  pub by_engine : GoesByEngine st.engine st now
   pub plain : AreAllPlain now
   pub kept : IsConsistent st from
   pub none : kept.order ≡ []

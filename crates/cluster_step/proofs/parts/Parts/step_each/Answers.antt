@@ -1,6 +1,6 @@
 -- Machine after machine begins the step.
 use Rattle.std.proofs.Common.{◌≡◌, ◌<◌, ℕ, length, subst, arith}
-use Rattle.cluster_step.specs.Stepping.{with_step}
+use Rattle.cluster_step.specs.Stepping.{with_step_begun}
 use Rattle.cluster_step.specs.Worlds.{world_of_parts}
 use Rattle.cluster_step.proofs.CallLemmas.{cluster_one}
 use Rattle.cluster_step.proofs.StepLemmas.{none_flies, stepped_more, stepped_none}
@@ -31,6 +31,6 @@ returns g c =
     let len = c.len-at-end.ensures in
     let at : c.loop-at.at ≡ length c.args.self.now.machines.items = omega (arith, c.loop-at-test.false, c.loop-at.auto.at-end, len) in
     record {
-      begun = λ st. subst (λ (n : ℕ). world_of_parts g.M.ClusterMachine.part st c.loop-at.self ≡ with_step n c.args.colour (world_of_parts g.M.ClusterMachine.part st c.args.self.now)) at (c.loop-at.invariant.world st);
+      begun = λ st. subst (λ (n : ℕ). world_of_parts g.M.ClusterMachine.part st c.loop-at.self ≡ with_step_begun n c.args.colour (world_of_parts g.M.ClusterMachine.part st c.args.self.now)) at (c.loop-at.invariant.world st);
       same = c.loop-at.invariant.same;
     }
