@@ -1,0 +1,37 @@
+//! Laws of a store beside the course of a call. Each is the contract of a function that does nothing.
+ghost use Rattle.std.specs.Prelude.{List, [], length, ℕ, ◌++◌, ◌∷◌, ◌≡◌};
+ghost use Rattle.gl_base.specs.declared.entries.Entry.{Entry};
+ghost use Rattle.gl_base.specs.declared.snapshots.Record.{Record};
+ghost use Rattle.call_courses.specs.Courses.{BaseView, GoesBackWith, HasGoneBack, StoreView, newest_setting};
+ghost use Rattle.call_courses.specs.Events.{HappensInCall};
+ghost use Rattle.cluster_runs.specs.Recorded.{shared_of};
+ghost use Rattle.recovery.specs.Journals.{NumbersFit, RecordFits, body_bytes};
+ghost use Rattle.snap_clusters.specs.declared.events.Event.TheVariants as event;
+ghost use Rattle.snap_clusters.specs.declared.events.Lead.TheVariants as lead;
+ghost use Rattle.whole_calls.specs.Lost.{TakesAway};
+ghost use Rattle.stored_courses.specs.Stores.{CallOpening, CourseGoesOn, CourseView, Header, IsCourseNow, IsDueBehind, IsGoodStore, IsRememberedAt, IsStoredCourse, KeepsStore, OpensCall, Setting, as_since, first_cluster};
+
+use call_courses::SavingMachine;
+use stored_records::stores_keep_up;
+
+/// A good store keeps up as a call opens; it still does behind events that acknowledge nothing and begin no attempt; and where the record that
+/// is due is added and then acknowledged, it does so with that record too. Where all go back it stays as it is, and what
+/// was lost grows by what that takes away.
+pub fn stores_go_with_courses<M: SavingMachine>()
+    ensures opens { (v : CourseView M) (header : Header) (start : List (List ℕ)) →
+        ((st : Setting) (o : CallOpening) → OpensCall M.stands v.start v.failures st o → IsCourseNow M.stands v st o [] (first_cluster st o)) →
+        ((st : Setting) (o : CallOpening) → OpensCall M.stands v.start v.failures st o → IsGoodStore (shared_of st v.failures) header start) → KeepsStore M.stands v header start start [] }
+    ensures passes { (old new : CourseView M) (header : Header) (start bodies : List (List ℕ)) (lost : List Entry) →
+        IsRememberedAt old new → CourseGoesOn M.stands (as_since new) new → KeepsStore M.stands old header start bodies lost → KeepsStore M.stands new header start bodies lost }
+    ensures grows { (old new : CourseView M) (header : Header) (start bodies : List (List ℕ)) (lost : List Entry) (made : Record) →
+        new.start ≡ old.start → new.failures ≡ old.failures → HappensInCall M.stands old (event.Lead lead.Record) new → IsDueBehind M.stands old bodies made →
+        RecordFits made → NumbersFit made → length made.sections.items ≡ header.machines →
+        KeepsStore M.stands old header start bodies lost → KeepsStore M.stands new header start (bodies ++ body_bytes made ∷ []) lost }
+    ensures returns { (old new : CourseView M) (header : Header) (start bodies : List (List ℕ)) (lost gone : List Entry) (machines : List M) (store : StoreView) →
+        new.start ≡ old.start → new.failures ≡ old.failures → HasGoneBack M.stands old machines store new →
+        ((st : Setting) (o : CallOpening) (was : IsStoredCourse M.stands old header start bodies lost st o) →
+        (base : BaseView) × GoesBackWith M.stands old machines store st o was.events was.cluster base × TakesAway (newest_setting st o was.events) was.cluster base gone) →
+        KeepsStore M.stands old header start bodies lost → KeepsStore M.stands new header start bodies (lost ++ gone) }
+{
+    stores_keep_up();
+}
