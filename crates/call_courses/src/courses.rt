@@ -226,7 +226,7 @@ impl<M: SavingMachine> Course<M> {
         self.cluster.record(alloc)
     }
 
-    /// A lock that may be granted at the machine; `None` exactly where none may be.
+    /// A lock that may be granted at the machine, as the cluster names it.
     pub fn next_grant(&mut self, at: MachineNo) -> Option<Vertex>
         requires { at.0 < length self.old.now.machines.items }
         ensures stays { StaysThere M.stands self.old self.new }
