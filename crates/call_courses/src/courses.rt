@@ -58,7 +58,7 @@ impl<M: SavingMachine> Course<M> {
         requires many { length machines.items < 65535 }
         requires few { next + left < 2 ^ 64 }
         requires newest { store.newest + 1 < 2 ^ 32 }
-        requires length { store.length ≤ 1073741824 }
+        requires length { store.length < 2 ^ 32 }
         ensures failures { IfOk result (λ c. c.failures ≡ failures.items) }
         ensures first { IfOk result (λ c. c.now ≡ c.start) }
         // It is an opening of the law, in each setting in which the machines start.
@@ -113,7 +113,7 @@ impl<M: SavingMachine> Course<M> {
     pub fn recover(&mut self, alloc: Global, machines: Vec<M>, store: Store) -> Result<(), NoMemory>
         requires again { CanGoBack M.stands self.old machines.items (store_view store) }
         requires newest { store.newest + 1 < 2 ^ 32 }
-        requires length { store.length ≤ 1073741824 }
+        requires length { store.length < 2 ^ 32 }
         ensures recovered { OnOk result (HasGoneBack M.stands self.old machines.items (store_view store) self.new) }
         ensures since { OnOk result (self.new.since ≡ self.new.now) }
         ensures unchanged { OnErr result (self.new ≡ self.old) }

@@ -51,7 +51,7 @@ impl<M: SavingMachine> SnapCluster<M> {
         requires many { length machines.items < 65535 }
         requires few { next + left < 2 ^ 64 }
         requires newest { store.newest + 1 < 2 ^ 32 }
-        requires length { store.length ≤ 1073741824 }
+        requires length { store.length < 2 ^ 32 }
         // It is what the law begins with, whatever was before.
         ensures began { IfOk result (λ c. (st : Setting) (base : BaseView) (before : Cluster) → StartsSaving M.stands machines.items (store_view store) next left st base before →
             IsSavingClusterOf M.stands (going_on st base.numbers base.number) c (recovers st base before)) }
@@ -77,7 +77,7 @@ impl<M: SavingMachine> SnapCluster<M> {
     pub fn recover(&mut self, alloc: Global, machines: Vec<M>, store: Store) -> Result<(), NoMemory>
         requires again { (st : Setting) × (c : Cluster) × (base : BaseView) × GoesOnWith M.stands self.old machines.items (store_view store) st c base }
         requires newest { store.newest + 1 < 2 ^ 32 }
-        requires length { store.length ≤ 1073741824 }
+        requires length { store.length < 2 ^ 32 }
         ensures recovered { OnOk result ((st : Setting) (c : Cluster) (base : BaseView) → GoesOnWith M.stands self.old machines.items (store_view store) st c base →
             IsSavingClusterOf M.stands (going_on st base.numbers base.number) self.new (recovers st base c)) }
         ensures unchanged { OnErr result (self.new ≡ self.old) }
