@@ -456,7 +456,7 @@ pub(crate) fn first_parts<M: SavingMachine>(
     requires many { length machines.items < 65535 }
     requires few { next + left < 2 ^ 64 }
     requires newest { store.newest + 1 < 2 ^ 32 }
-    requires length { store.length ≤ 1073741824 }
+    requires length { store.length < 2 ^ 32 }
     ensures began { IfOk result (λ p. (st : Setting) (base : BaseView) (before : Cluster) → StartsSaving M.stands machines.items (store_view store) next left st base before →
         IsSavingClusterOf M.stands (going_on st base.numbers base.number) p (recovers st base before)) }
     ensures machines { IfOk result (λ p. p.machines.items ≡ machines.items) }
