@@ -1,7 +1,7 @@
 -- Where the rounds of an attempt pause.
 pub use Rattle.call_courses.specs.Courses.{CallOpening, Cluster, CourseView, InEachCourse, IsSameAttempt, Machine, Setting}
 pub use Rattle.call_courses.specs.Calls.{HasEndedCall, HasTaskLeft, OfTheCall}
-pub use Rattle.call_courses.specs.Events.{IsNoRecord}
+pub use Rattle.call_courses.specs.Events.{GoesOnBy}
 pub use Rattle.snap_clusters.specs.Events.{NamesItsMachines}
 use Rattle.std.specs.Prelude.{false, length, true, ℕ, ◌<◌, ◌≡◌}
 use Rattle.gl_base.specs.declared.numbers.MachineNo.{MachineNo}

@@ -63,6 +63,11 @@ NamesItsMachines n (event.Local what) = NamesLocal n what
 NamesItsMachines n (event.Lead what) = ⊤
 NamesItsMachines n (event.Passage what) = NamesPassage n what
 
+-- it doesn't end the run
+abbrev pub IsNoStop : Event → Type 0
+IsNoStop (event.Lead lead.Stop) = ⊥
+IsNoStop _ = ⊤
+
 -- the machine that acts in it
 abbrev pub acting_local : Local → ℕ
 acting_local (local.Admit a) = a.0
