@@ -6,3 +6,4 @@ pub mod Leading
 pub mod Cutting
 pub mod Next
 pub mod Ordering
+pub mod Acknowledging
