@@ -1,0 +1,4 @@
+pub mod GrowthPlaces
+pub mod FallingOrders
+pub mod Placings
+pub mod Placements
