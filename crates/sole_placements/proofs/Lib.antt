@@ -2,3 +2,4 @@ pub mod GrowthPlaces
 pub mod FallingOrders
 pub mod Placings
 pub mod Placements
+pub mod StoreOwners
