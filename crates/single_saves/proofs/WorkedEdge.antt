@@ -18,7 +18,7 @@ use Rattle.cluster_model.specs.Leading.{Come, RecordIsDue}
 use Rattle.cluster_model.specs.Totals.{total_from}
 use Rattle.cluster_records.specs.Recorded.{snapshot_due}
 use Rattle.cluster_whole.specs.Windows.{scope_at}
-use Rattle.single_saves.specs.EdgeSaved.{both_come, both_marked, first_marked, first_marks, one_wants, pair_saves_once, pair_with_store, second_marks, sections_go, wanted_then}
+use Rattle.single_saves.specs.EdgeSaved.{both_come, both_marked, first_marked, first_marks, one_wants, pair_saves_once, pair_with_store, second_marks, sections_go, one_wanted}
 use Rattle.whole_calls.specs.Following.{FollowJob}
 use Rattle.whole_calls.specs.Opened.{IsCourseOfCall, IsOpened}
 use Rattle.whole_calls.proofs.WorkedPair.{course_append}
@@ -90,11 +90,11 @@ marked_at_second v low own = second_mark v low own ∙ sym second_known
 
 -- ---- the events
 
-wants_may : IsCourse pair_with_store (started_from pair_with_store) one_wants wanted_then
+wants_may : IsCourse pair_with_store (started_from pair_with_store) one_wants one_wanted
 unfolding first_passing all_passing total_from
 wants_may = ((refl, (record { machine = low_first; runs = refl }, record { may = record { vertex = low_first; owned = refl; due = inr refl; fresh = λ s is. none_flies 0 is; turn = low_one }; room = inr refl })), ((refl, (record { machine = low_first; runs = refl }, record { vertex = low_first; owned = refl; claim = _; behind = _; first = refl; together = λ s mode is. absurd (none_holds mode is) })), ((refl, (record { machine = low_first; runs = refl }, low_second, record { message = _; behind = _; first = refl })), ((refl, (record { machine = low_second; runs = refl }, low_first, record { message = _; behind = _; first = refl })), ((refl, (record { machine = low_second; runs = refl }, record { vertex = low_second; owned = refl; claim = _; behind = _; first = refl; together = λ s mode is. absurd (none_holds mode is) })), ((refl, (record { machine = low_second; runs = refl }, low_first, record { message = _; behind = _; first = refl })), ((refl, (record { machine = low_first; runs = refl }, low_second, record { message = _; behind = _; first = refl })), ((refl, (record { machine = low_first; runs = refl }, record { vertex = _; flight = refl; ready = refl; not_pending = refl; task = refl; ticket = omega arith })), ((refl, (record { machine = low_first; runs = refl }, low_second, record { message = _; behind = _; first = refl })), ((refl, (record { machine = low_second; runs = refl }, low_first, record { message = _; behind = _; first = refl })), ((refl, (record { machine = low_first; runs = refl }, record { message = _; behind = _; first = refl })), ((refl, (low_first, record { message = _; behind = _; first = refl })), refl))))))))))))
 
-first_may : IsCourse pair_with_store wanted_then first_marks first_marked
+first_may : IsCourse pair_with_store one_wanted first_marks first_marked
 unfolding first_passing all_passing total_from
 first_may = ((refl, record { stored = refl; none = refl; wanted = inl refl }), ((refl, (low_first, record { message = _; behind = _; first = refl })), ((refl, (record { machine = low_first; runs = refl }, record { message = _; behind = _; first = refl })), ((refl, (record { machine = low_first; runs = refl }, record { may = record { vertex = low_first; owned = refl; due = inl refl; fresh = λ s is. none_flies 0 (ended (is_scope s (scope_at 0 0)) _ 0 0 is); turn = low_one }; room = inl refl })), ((refl, (record { machine = low_first; runs = refl }, record { vertex = low_first; owned = refl; claim = _; behind = _; first = refl; together = λ s mode is. absurd (none_holds mode (freed (is_scope s (scope_at 0 0)) _ Writer mode is)) })), ((refl, (record { machine = low_first; runs = refl }, low_second, record { message = _; behind = _; first = refl })), ((refl, (record { machine = low_second; runs = refl }, low_first, record { message = _; behind = _; first = refl })), ((refl, (record { machine = low_second; runs = refl }, record { vertex = low_second; owned = refl; claim = _; behind = _; first = refl; together = λ s mode is. absurd (none_holds mode (freed (is_scope s (scope_at 0 0)) _ Reader mode is)) })), ((refl, (record { machine = low_second; runs = refl }, low_first, record { message = _; behind = _; first = refl })), ((refl, (record { machine = low_first; runs = refl }, low_second, record { message = _; behind = _; first = refl })), ((refl, (record { machine = low_first; runs = refl }, record { vertex = _; flight = refl; ready = refl; pending = refl })), ((refl, (record { machine = low_first; runs = refl }, low_second, record { message = _; behind = _; first = refl })), ((refl, (record { machine = low_second; runs = refl }, low_first, record { message = _; behind = _; first = refl })), refl)))))))))))))
 
@@ -108,8 +108,8 @@ sections_may = ((refl, (record { machine = low_first; runs = refl }, record { be
 
 all_may : IsCourse pair_with_store (started_from pair_with_store) pair_saves_once both_come
 all_may =
-    course_append one_wants (first_marks ++ (second_marks ++ sections_go)) pair_with_store (started_from pair_with_store) wanted_then both_come wants_may
-    (course_append first_marks (second_marks ++ sections_go) pair_with_store wanted_then first_marked both_come first_may
+    course_append one_wants (first_marks ++ (second_marks ++ sections_go)) pair_with_store (started_from pair_with_store) one_wanted both_come wants_may
+    (course_append first_marks (second_marks ++ sections_go) pair_with_store one_wanted first_marked both_come first_may
     (course_append second_marks sections_go pair_with_store first_marked both_marked both_come second_may sections_may))
 
 -- ---- all of it

@@ -14,15 +14,15 @@ pair_with_store = record on_a_pair { stored = true; window = 1 }
 abbrev pub one_wants : List Event
 one_wants = first_vertex 0 ++ SendReport 0 ∷ DeliverReport 0 ∷ []
 
-abbrev pub wanted_then : Cluster
-wanted_then = led_through pair_with_store (started_from pair_with_store) one_wants
+abbrev pub one_wanted : Cluster
+one_wanted = led_through pair_with_store (started_from pair_with_store) one_wants
 
 -- a snapshot begins at machine 0, the first vertex is marked, and word of that comes to machine 1
 abbrev pub first_marks : List Event
 first_marks = PutBegin ∷ SendCall 0 ∷ DeliverCall 0 ∷ Admit 0 0 ∷ Grant 0 0 ∷ (hop 0 1 ++ Grant 1 1 ∷ (hop 1 0 ++ Mark (scope_at 0 1) ∷ hop 0 1))
 
 abbrev pub first_marked : Cluster
-first_marked = led_through pair_with_store wanted_then first_marks
+first_marked = led_through pair_with_store one_wanted first_marks
 
 -- the second vertex is marked
 abbrev pub second_marks : List Event
