@@ -1,8 +1,8 @@
-//! What a snapshot that is due brings: each edge in one section alone, and tickets within the budget.
+//! What a snapshot that is due brings: of the graph alone, each edge in one section, and tickets within the budget.
 #![tactic(auto)]
 
 mod examples;
 mod laws;
 
 pub use examples::an_edge_in_one_section;
-pub use laws::{edges_are_saved_once, tickets_keep_to_the_budget};
+pub use laws::{edges_are_saved_once, sections_keep_to_the_graph, tickets_keep_to_the_budget};
