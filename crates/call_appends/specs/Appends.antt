@@ -50,8 +50,8 @@ pub record IsInForm (header : Header) (stored : ℕ) (made : Record) : Type 0 wh
 
 -- a store of so many snapshots and bytes has no room for the record of the snapshot that is due: it may not be acknowledged, or the record is
 -- in the store's form, and too long
-abbrev pub HasNoRoom : {M : Type 0} → (Setting → ℕ → Machine → M → Type 0) → CourseView M → Restarts → Header → ℕ → ℕ → Type 0
-HasNoRoom stands v restarts header stored long =
+abbrev pub LacksRoomForDue : {M : Type 0} → (Setting → ℕ → Machine → M → Type 0) → CourseView M → Restarts → Header → ℕ → ℕ → Type 0
+LacksRoomForDue stands v restarts header stored long =
     CanNotHappenInCall stands v (event.Lead lead.Record)
     ⊎ ((made : Record) × IsDueWith stands v restarts made × IsInForm header stored made × IsFullFor stored long (9 + length (body_bytes made)))
 
@@ -59,7 +59,7 @@ HasNoRoom stands v restarts header stored long =
 -- of it has changed.
 abbrev pub IsWhyNotAppended : {D M : Type 0} → (Setting → ℕ → Machine → M → Type 0) → CourseView M → Restarts → JournalState D → JournalState D → ℕ → ℕ → AppendFault → Type 0
 IsWhyNotAppended stands v restarts old new before now (Full stored long) =
-    (stored ≡ old.count) × (long ≡ old.length) × (new ≡ old) × HasNoRoom stands v restarts old.header old.count old.length
+    (stored ≡ old.count) × (long ≡ old.length) × (new ≡ old) × LacksRoomForDue stands v restarts old.header old.count old.length
 IsWhyNotAppended stands v restarts old new before now DiskFault = (new.failed ≡ true) × Rose before now
 IsWhyNotAppended stands v restarts old new before now NotInForm =
     (new ≡ old) × ((made : Record) × IsDueWith stands v restarts made × (IsInForm old.header old.count made → ⊥))
