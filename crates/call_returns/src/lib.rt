@@ -11,6 +11,6 @@ mod restarts;
 pub use bases::base_behind;
 pub use failing::count_failed;
 pub use laws::stored_restarts_come_first;
-pub use missing::missing_restarts;
+pub use missing::{missing_restarts, restarts_of};
 pub use records::record_behind;
 pub use restarts::Restarts;
