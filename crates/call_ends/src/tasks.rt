@@ -1,6 +1,6 @@
 //! A task that is left.
 ghost use Rattle.std.specs.Prelude.{◌≡◌, ℕ, ◌<◌, false, true, length, IfNone, IfSome};
-ghost use Rattle.call_ends.specs.Gathered.{HasTask, InEachCourse, IsSaverOf, IsTaskIn, OfEach};
+ghost use Rattle.call_ends.specs.Gathered.{HasFlaggedTask, InEachCourse, IsSaverOf, IsTaskIn, OfEach};
 ghost use Rattle.graph_core.specs.DataGraph.{size};
 
 use call_courses::Course;
@@ -10,7 +10,7 @@ use update_api::Program;
 
 /// A vertex that is a task of the machine that owns it, and vertex 0 where no machine has a task.
 pub fn task_left<P: Program>(course: &Course<Saver<P>>) -> Vertex
-    ensures { HasTask (IsSaverOf P.meaning) course.now → InEachCourse (IsSaverOf P.meaning) course.now (λ st o events c. IsTaskIn st c result.0) }
+    ensures { HasFlaggedTask (IsSaverOf P.meaning) course.now → InEachCourse (IsSaverOf P.meaning) course.now (λ st o events c. IsTaskIn st c result.0) }
 {
     match first_task(course) {
         Some(v) => v,
