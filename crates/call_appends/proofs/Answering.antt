@@ -59,7 +59,7 @@ fault_in {T} r y x full is so other = sym so ∙ same_fault (sym is ∙ other)
 -- the same attempt, remembered anew
 pub same_anew : {M : Type 0} (old mid new : CourseView M) → IsSameAttempt old mid → IsSameAttempt (record mid { since = new.now }) new → IsSameAttempt (record old { since = new.now }) new
 same_anew old mid new one other =
-    record { start = other.start ∙ one.start; failures = other.failures ∙ one.failures; done = other.done ∙ one.done; since = other.since; many = other.many ∙ one.many }
+    record { start = other.start ∙ one.start; failures = other.failures ∙ one.failures; done = other.done ∙ one.done; since = other.since; many = other.many ∙ one.many; stopped = other.stopped ∙ one.stopped }
 
 -- ---- the same store, told otherwise
 
