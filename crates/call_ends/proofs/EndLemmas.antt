@@ -112,8 +112,8 @@ module _ {M : Type 0} (stands : Setting → ℕ → Machine → M → Type 0) (v
         full = λ none needs. (
           unharmed none,
           needs_room st v.failures o.kept o.resumed c call of (length bodies) (65 + records_size bodies) stored front bodies
-          (ap (λ (ks : List Entry). last_order ks (snapshots_of call)) known.kept ∙ ap (last_order (stored_order start)) (sym once) ∙ last_behind (stored_order start) added
-          ∙ behind_joined [] start added ∙ ap stored_order (sym known.was.keeps.stored))
-          known.stored_are (known.front_are ∙ ap (filter is_restart) (sym known.base)) known.count known.place lists.order order_is needs,
+              (ap (λ (ks : List Entry). last_order ks (snapshots_of call)) known.kept ∙ ap (last_order (stored_order start)) (sym once) ∙ last_behind (stored_order start) added
+              ∙ behind_joined [] start added ∙ ap stored_order (sym known.was.keeps.stored))
+              known.stored_are (known.front_are ∙ ap (filter is_restart) (sym known.base)) known.count known.place lists.order order_is needs,
         );
       }

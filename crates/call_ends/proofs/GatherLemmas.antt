@@ -54,11 +54,11 @@ valid_within g p is s tasks (Restart ticket ∷ order) within valid = (tt, valid
 valid_within g p is s tasks (Go machine vertex ticket ∷ order) within valid = (
   within vertex.0 valid.0,
   valid_within g p is (after_entry g p s (Go machine vertex ticket)) (tasks_after_entry g p s tasks (Go machine vertex ticket)) order
-  (λ u task. ⊎_elim
-  (λ (woken : wakes g p s vertex.0 u ≡ true). wakes-within g is p s vertex.0 u woken)
-  (λ (was : (tasks u && not (u == vertex.0)) ≡ true). within u (and_parts (tasks u) (not (u == vertex.0)) was).0)
-  (or_cases (wakes g p s vertex.0 u) (tasks u && not (u == vertex.0)) task))
-  valid.1,
+      (λ u task. ⊎_elim
+      (λ (woken : wakes g p s vertex.0 u ≡ true). wakes-within g is p s vertex.0 u woken)
+      (λ (was : (tasks u && not (u == vertex.0)) ≡ true). within u (and_parts (tasks u) (not (u == vertex.0)) was).0)
+      (or_cases (wakes g p s vertex.0 u) (tasks u && not (u == vertex.0)) task))
+      valid.1,
 )
 
 -- ---- places of failures

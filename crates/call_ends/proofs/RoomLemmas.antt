@@ -127,22 +127,25 @@ module _ (st : Setting) (failures : List FailureAt) (kept : List Entry) (resumed
       c.coordinator.store_end + 16 * length stored ≡ bytes + 16 * length front → (order : List Entry) → order ≡ call_order call → NeedsMoreStore st c.coordinator call →
       NeedsMoreRoom (shared_of st failures) st.machines st.window kept (snapshots_of call) count bytes order
   needs_room newest_is stored_are front_are count_is place order order_is (inl many) =
-      inl (subst (λ (n : ℕ). 4096 ≤ n) count_is many.0, elim many.1 [
-        | inl half ↦ inl (record {
+      inl (
+        subst (λ (n : ℕ). 4096 ≤ n) count_is many.0,
+        elim many.1 [
+          | inl half ↦ inl (record {
             outside = unheld_updates call.last;
             same = subst₂_same;
             machine = half.0;
             below = half.1;
             enough = half.2;
           })
-        | inr lacks ↦ inr (record {
+          | inr lacks ↦ inr (record {
             tasks = λ u low. ap (λ (es : List Entry). tasks_after st.graph st.program es u) order_is ∙ lacks.0 u low;
             none = elim lacks.1 [
               | inl none ↦ inl none
               | inr other ↦ inr (λ same. other (ap (λ (ks : List Entry). last_order ks (snapshots_of call)) of.base ∙ same ∙ order_is))
             ];
           })
-      ])
+        ],
+      )
     where
       subst₂_same : IsPermutation (filter is_update (last_order kept (snapshots_of call)) ++ unheld_updates call.last) (filter is_update order)
       subst₂_same =
