@@ -13,7 +13,7 @@ use Rattle.call_courses.specs.Events.{CanNotHappenInCall, HappensInCall, StaysTh
 use Rattle.snap_clusters.specs.declared.events.Event.TheVariants as event
 use Rattle.snap_clusters.specs.declared.events.Local.TheVariants as local
 use Rattle.whole_calls.specs.Following.{reaches}
-use Rattle.call_backs.specs.Failing.{ArePassing, CallOpening, Cluster, CourseView, HaveFailed, InEachCourse, IsCourseNow, IsSameAttempt, IsSameButFailed, Machine, Setting, has_reached, newest_setting}
+use Rattle.call_backs.specs.Failing.{ArePassing, CallOpening, Cluster, CourseView, HaveFailedSince, InEachCourse, IsCourseNow, IsSameAttempt, IsSameButFailed, Machine, Setting, has_reached, newest_setting}
 
 pub same_then : {M : Type 0} (a b c : CourseView M) → IsSameAttempt a b → IsSameAttempt b c → IsSameAttempt a c
 same_then a b c one other = record {
@@ -54,7 +54,7 @@ apart is = cc
 module _ {M : Type 0} (stands : Setting → ℕ → Machine → M → Type 0) where
   -- where it has stayed, no machine has failed
   pub stayed : (old new : CourseView M) (these : ℕ → Type 0) → StaysThere stands old new →
-      InEachCourse stands old (λ st o events c. c.stopped ≡ false → (a : ℕ) → these a → has_reached new.failures c a ≡ true → (c.machine a).failed ≡ true) → InEachCourse stands old (HaveFailed stands new these)
+      InEachCourse stands old (λ st o events c. c.stopped ≡ false → (a : ℕ) → these a → has_reached new.failures c a ≡ true → (c.machine a).failed ≡ true) → InEachCourse stands old (HaveFailedSince stands new these)
   stayed old new these still holds st o events c is = record {
     more = [];
     later = c;
@@ -65,7 +65,7 @@ module _ {M : Type 0} (stands : Setting → ℕ → Machine → M → Type 0) wh
   }
 
   pub untouched : (v : CourseView M) (these : ℕ → Type 0) →
-      InEachCourse stands v (λ st o events c. c.stopped ≡ false → (a : ℕ) → these a → has_reached v.failures c a ≡ true → (c.machine a).failed ≡ true) → InEachCourse stands v (HaveFailed stands v these)
+      InEachCourse stands v (λ st o events c. c.stopped ≡ false → (a : ℕ) → these a → has_reached v.failures c a ≡ true → (c.machine a).failed ≡ true) → InEachCourse stands v (HaveFailedSince stands v these)
   untouched v these holds = stayed v v these (λ st o events c is. is) holds
 
   -- the machine has not reached the count, or it had failed
@@ -79,7 +79,7 @@ module _ {M : Type 0} (stands : Setting → ℕ → Machine → M → Type 0) wh
   failed_already v m failed is on st o events c here running a at reached = subst (λ (k : ℕ). (c.machine k).failed ≡ true) (sym at) (sym (is st o events c here) ∙ on)
 
   -- the one machine has failed
-  pub failed_one : (old new : CourseView M) (m : MachineNo) → HappensInCall stands old (event.Local (local.Fail m)) new → InEachCourse stands old (HaveFailed stands new (λ a. a ≡ m.0))
+  pub failed_one : (old new : CourseView M) (m : MachineNo) → HappensInCall stands old (event.Local (local.Fail m)) new → InEachCourse stands old (HaveFailedSince stands new (λ a. a ≡ m.0))
   failed_one old new m happens st o events c is =
       let has = happens st o events c is in
       let now : IsCourseNow stands new st o (events ++ law.Fail m.0 ∷ []) (law.after_event (newest_setting st o events) c (law.Fail m.0)) =
@@ -94,7 +94,7 @@ module _ {M : Type 0} (stands : Setting → ℕ → Machine → M → Type 0) wh
       }
 
   -- fewer machines
-  pub fewer : (new : CourseView M) (these those : ℕ → Type 0) → ((a : ℕ) → those a → these a) → (st : Setting) (o : CallOpening) (events : List law.Event) (c : Cluster) → HaveFailed stands new these st o events c → HaveFailed stands new those st o events c
+  pub fewer : (new : CourseView M) (these those : ℕ → Type 0) → ((a : ℕ) → those a → these a) → (st : Setting) (o : CallOpening) (events : List law.Event) (c : Cluster) → HaveFailedSince stands new these st o events c → HaveFailedSince stands new those st o events c
   fewer new these those less st o events c has = record {
     more = has.more;
     later = has.later;
@@ -106,9 +106,9 @@ module _ {M : Type 0} (stands : Setting → ℕ → Machine → M → Type 0) wh
 
   -- some fail, and then others
   module _ (mid new : CourseView M) (one other these : ℕ → Type 0) (same : new.failures ≡ mid.failures) (split : (a : ℕ) → these a → one a ⊎ other a) where
-    pub both_failed : (st : Setting) (o : CallOpening) (events : List law.Event) (c : Cluster) → HaveFailed stands mid one st o events c → InEachCourse stands mid (HaveFailed stands new other) → HaveFailed stands new these st o events c
+    pub both_failed : (st : Setting) (o : CallOpening) (events : List law.Event) (c : Cluster) → HaveFailedSince stands mid one st o events c → InEachCourse stands mid (HaveFailedSince stands new other) → HaveFailedSince stands new these st o events c
     both_failed st o events c first then =
-        let second : HaveFailed stands new other st o (events ++ first.more) first.later = then st o (events ++ first.more) first.later first.now in
+        let second : HaveFailedSince stands new other st o (events ++ first.more) first.later = then st o (events ++ first.more) first.later first.now in
         record {
           more = first.more ++ second.more;
           later = second.later;

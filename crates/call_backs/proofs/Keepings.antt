@@ -14,7 +14,7 @@ use Rattle.stored_courses.specs.Stores.{IsStoredCourse, KeepsUp, first_cluster, 
 use Rattle.update_api.specs.Updates.{Update}
 use Rattle.whole_calls.proofs.Leading.{behind_since}
 use Rattle.whole_calls.specs.Lost.{AreLostIn}
-use Rattle.call_backs.specs.Failing.{CallOpening, Cluster, CourseView, HaveFailed, IsCourseNow, Machine, Setting, has_reached, newest_setting}
+use Rattle.call_backs.specs.Failing.{CallOpening, Cluster, CourseView, HaveFailedSince, IsCourseNow, Machine, Setting, has_reached, newest_setting}
 use Rattle.call_backs.specs.Returning.{BaseView, GoesBackSo, HasFailures, HasReachedSome, Header, IsKnownCourse, StoreView, is_restart}
 
 -- a setting has as many machines in each attempt
@@ -23,7 +23,7 @@ machines_same st o events = ap (λ (s : Setting). s.machines) (behind_since even
 
 module _ {M : Type 0} (stands : Setting → ℕ → Machine → M → Type 0) (old new : CourseView M) (failures : new.failures ≡ old.failures) (header : Header) (start bodies : List (List ℕ)) (lost stored front order : List Entry) (st : Setting) (o : CallOpening) where
   -- where machines fail
-  pub known_on : (these : ℕ → Type 0) (known : IsKnownCourse stands old header start bodies lost stored front order st o) → HaveFailed stands new these st o known.was.events known.was.cluster → IsKnownCourse stands new header start bodies lost stored front order st o
+  pub known_on : (these : ℕ → Type 0) (known : IsKnownCourse stands old header start bodies lost stored front order st o) → HaveFailedSince stands new these st o known.was.events known.was.cluster → IsKnownCourse stands new header start bodies lost stored front order st o
   known_on these known fails =
       let events : List law.Event = known.was.events in
       let all : List law.Event = events ++ fails.more in
@@ -48,7 +48,7 @@ module _ {M : Type 0} (stands : Setting → ℕ → Machine → M → Type 0) (o
 
   -- each that has reached a count has failed, and one has
   module _ (known : IsKnownCourse stands old header start bodies lost stored front order st o) (runs : old.now.stopped ≡ false) (some : HasReachedSome old st known.was.cluster)
-      (fails : HaveFailed stands new (λ a. a < length old.now.machines.items) st o known.was.events known.was.cluster) where
+      (fails : HaveFailedSince stands new (λ a. a < length old.now.machines.items) st o known.was.events known.was.cluster) where
     running : known.was.cluster.stopped ≡ false
     running = known.was.now.code.stopped ∙ runs
 
@@ -90,7 +90,7 @@ module _ {M : Type 0} (stands : Setting → ℕ → Machine → M → Type 0) (o
 
   -- so there is a course in which all may go back
   pub known_failed : (known : IsKnownCourse stands old header start bodies lost stored front order st o) → old.now.stopped ≡ false → HasReachedSome old st known.was.cluster →
-      HaveFailed stands new (λ a. a < length old.now.machines.items) st o known.was.events known.was.cluster →
+      HaveFailedSince stands new (λ a. a < length old.now.machines.items) st o known.was.events known.was.cluster →
       (after : IsKnownCourse stands new header start bodies lost stored front order st o) × HasFailures new st after.was.cluster
   unfolding known_on
   known_failed known runs some fails = (known_on (λ a. a < length old.now.machines.items) known fails, have_failures known runs some fails)

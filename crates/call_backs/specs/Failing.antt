@@ -15,7 +15,7 @@ pub record IsSameButFailed (failures : List FailureAt) (c later : Cluster) : Typ
 
 -- In this course machines have failed since, and nothing else has happened. Where the run goes on, each of these machines that has reached
 -- the count of a failure has failed.
-pub record HaveFailed {M : Type 0} (stands : Setting → ℕ → Machine → M → Type 0) (new : CourseView M) (these : ℕ → Type 0) (st : Setting) (o : CallOpening) (events : List law.Event) (c : Cluster) : Type 0 where
+pub record HaveFailedSince {M : Type 0} (stands : Setting → ℕ → Machine → M → Type 0) (new : CourseView M) (these : ℕ → Type 0) (st : Setting) (o : CallOpening) (events : List law.Event) (c : Cluster) : Type 0 where
   pub more : List law.Event
   pub later : Cluster
   pub passing : ArePassing more

@@ -1,6 +1,6 @@
 //! All machines of a call go back.
 ghost use Rattle.std.specs.Prelude.{◌≡◌, ◌≤◌, ◌+◌, ◌*◌, ◌^◌, ℕ, List, false, length, IfErr, IfOk, IsTrue, OnErr, OnOk};
-ghost use Rattle.call_backs.specs.Failing.{HaveFailed};
+ghost use Rattle.call_backs.specs.Failing.{HaveFailedSince};
 ghost use Rattle.call_backs.specs.Returning.{ArePlacesOf, Begins, CallOpening, HasReachedSome, InEachCourse, IsKnownCourse, IsRunAt, IsSameAttempt, IsSaverOf, IsWhyNotBack, Setting};
 ghost use Rattle.cluster_model.specs.Events.{failures_in};
 ghost use Rattle.gl_base.specs.declared.entries.Entry.{Entry};
@@ -58,7 +58,7 @@ pub fn go_back<D: Disk, P: Program>(
     ensures refused { IfErr result (IsWhyNotBack (IsTrue D.told) (InEachCourse (IsSaverOf P.meaning) course.new (λ st o events c. 2 ^ 32 ≤ c.coordinator.store_end + 16 * failures_in st c))
         journal.old.failed journal.new.failed (D.faults journal.old.disk) (D.faults journal.new.disk)) }
     ensures attempt { OnErr result (IsSameAttempt course.old course.new) }
-    ensures failed { OnErr result (InEachCourse (IsSaverOf P.meaning) course.old (HaveFailed (IsSaverOf P.meaning) course.new (λ a. ⊥))) }
+    ensures failed { OnErr result (InEachCourse (IsSaverOf P.meaning) course.old (HaveFailedSince (IsSaverOf P.meaning) course.new (λ a. ⊥))) }
     ensures unlost { OnErr result ((lost.new ≡ lost.old) × (restarts.new ≡ restarts.old)) }
 
     // The journal is as it is where its last snapshot is read.

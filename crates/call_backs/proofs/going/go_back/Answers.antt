@@ -4,13 +4,13 @@ use Rattle.coord_core.specs.Stores.{store_view}
 use Rattle.snap_journal.specs.Journals.{snapshots_in}
 use Rattle.call_backs.proofs.Failings.{fewer, on_err}
 use Rattle.call_backs.proofs.Keepings.{known_back, known_failed, lost_read}
-use Rattle.call_backs.specs.Failing.{CourseView, HaveFailed, InEachCourse}
+use Rattle.call_backs.specs.Failing.{CourseView, HaveFailedSince, InEachCourse}
 use Rattle.call_backs.specs.Returning.{IsSaverOf, SaverView}
 use Rattle.call_backs.proofs.going.go_back.Goals as goal
 
 pub returns-in_err-next-clause-failed : goal.returns-in_err-next-clause-failed
 returns-in_err-next-clause-failed g c =
-    let some : InEachCourse (IsSaverOf g.P.Program.meaning) c.args.course.now (HaveFailed (IsSaverOf g.P.Program.meaning) c.fail_reached.new.course (λ a. ⊥)) =
+    let some : InEachCourse (IsSaverOf g.P.Program.meaning) c.args.course.now (HaveFailedSince (IsSaverOf g.P.Program.meaning) c.fail_reached.new.course (λ a. ⊥)) =
     λ st o events x is. fewer (IsSaverOf g.P.Program.meaning) c.fail_reached.new.course (λ a. a < length c.args.course.now.now.machines.items) (λ a. ⊥) (λ a none. absurd none) st o events x (c.in_ok-fail_reached.ensures.failed st o events x is) in
     on_err _ some
 
@@ -19,10 +19,10 @@ recover-requires-clause-many g c = c.in_ok-next.ensures.many
 
 pub returns-in_err-recover-clause-failed : goal.returns-in_err-recover-clause-failed
 returns-in_err-recover-clause-failed g c =
-    let some : InEachCourse (IsSaverOf g.P.Program.meaning) c.args.course.now (HaveFailed (IsSaverOf g.P.Program.meaning) c.fail_reached.new.course (λ a. ⊥)) =
+    let some : InEachCourse (IsSaverOf g.P.Program.meaning) c.args.course.now (HaveFailedSince (IsSaverOf g.P.Program.meaning) c.fail_reached.new.course (λ a. ⊥)) =
     λ st o events x is. fewer (IsSaverOf g.P.Program.meaning) c.fail_reached.new.course (λ a. a < length c.args.course.now.now.machines.items) (λ a. ⊥) (λ a none. absurd none) st o events x (c.in_ok-fail_reached.ensures.failed st o events x is) in
-    let same : InEachCourse (IsSaverOf g.P.Program.meaning) c.args.course.now (HaveFailed (IsSaverOf g.P.Program.meaning) c.recover.new.self (λ a. ⊥)) =
-    subst (λ v. InEachCourse (IsSaverOf g.P.Program.meaning) c.args.course.now (HaveFailed (IsSaverOf g.P.Program.meaning) v (λ a. ⊥))) (sym c.in_err-recover.ensures.unchanged) some in
+    let same : InEachCourse (IsSaverOf g.P.Program.meaning) c.args.course.now (HaveFailedSince (IsSaverOf g.P.Program.meaning) c.recover.new.self (λ a. ⊥)) =
+    subst (λ v. InEachCourse (IsSaverOf g.P.Program.meaning) c.args.course.now (HaveFailedSince (IsSaverOf g.P.Program.meaning) v (λ a. ⊥))) (sym c.in_err-recover.ensures.unchanged) some in
     on_err _ same
 
 pub returns-clause-back : goal.returns-clause-back
