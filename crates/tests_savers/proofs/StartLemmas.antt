@@ -15,10 +15,10 @@ use Rattle.snap_clusters.specs.Clusters.{StartsSaving}
 pub start_of : {P : Type 0} (meaning : P → Update) (g : DataGraph) (program : Update) (of : List AtomNo) (owner : List MachineNo) (run : SavingRun) (base : Base) (serials : List ℕ) (savers : List (SaverView P)) (store : StoreView) (next left : ℕ) → IsDataGraph g
     → length of ≡ size g → All (λ a. a.0 < length owner) of → All (λ m. m.0 < run.machines) owner → IsBaseFor g base
     → ((st : Setting) (view : BaseView) (before : Cluster) → IsSavingRunOf g program (placed_owner of owner) run st → IsBaseOf st base view → HaveAdmitted st serials before → AreSaversOf meaning st view before savers)
-    → store.vertices ≡ size g → store.edges ≡ length g.edges → store.newest ≡ base.number → store.store_end ≡ 0
+    → store.vertices ≡ size g → store.edges ≡ length g.edges → store.newest ≡ base.number
     → (st : Setting) × (view : BaseView) × (before : Cluster) × StartsSaving (IsSaverOf meaning) savers store next left st view before
-start_of meaning g program of owner run base serials savers store next left graph each atoms below for stand vertices edges newest store_end =
-    let at = attempt_begins g program (placed_owner of owner) run base serials next left 0 graph (owner_low g run.machines of owner each atoms below) for in
+start_of meaning g program of owner run base serials savers store next left graph each atoms below for stand vertices edges newest =
+    let at = attempt_begins g program (placed_owner of owner) run base serials next left store.store_end graph (owner_low g run.machines of owner each atoms below) for in
     let one = stand at.st at.view at.before at.runs at.of_base at.admitted in (
       at.st,
       at.view,
@@ -30,7 +30,7 @@ start_of meaning g program of owner run base serials savers store next left grap
         vertices = ap size at.runs.placed.graph ∙ sym vertices;
         edges = ap (λ (h : DataGraph). length h.edges) at.runs.placed.graph ∙ sym edges;
         newest = at.of_base.number ∙ sym newest;
-        store_end = at.store_end_is ∙ sym store_end;
+        store_end = at.store_end_is;
         first = at.next_is;
         tickets = at.left_is;
       },

@@ -1,28 +1,59 @@
-//! A line of three vertices on two machines, of which a snapshot is taken in the middle of its updates.
+//! Plays scenarios of a cluster that takes snapshots: what happens in turn, and what has to be seen of it.
+//!
+//! Its words name files of scenarios. A scenario of a file behind `--wrong` has to differ, and one behind `--calls` is of a call that is
+//! driven to its end.
 #![tactic(auto)]
 
+mod acts;
+mod answers;
+mod beginnings;
+mod calls;
+mod chances;
+mod driving;
+mod events;
+mod fields;
 mod graphs;
-mod lines;
-mod steps;
+mod judging;
+mod looks;
+mod plans;
+mod playing;
+mod records;
+mod recovering;
+mod replays;
+mod restarts;
+mod scenarios;
+mod scenes;
+mod stores;
 mod trouble;
 
-use lines::snapshot_of_a_line;
-use std::io;
+use judging::{Kind, Tally, play_file};
 use std::process::ExitCode;
-use trouble::Trouble;
+use std::rt::{Env, Files};
+use std::sync::Wait;
+use std::{env, io};
 
 fn main(rt: HostRuntime) -> io::Result<ExitCode> {
-    let alloc = rt.alloc();
-    println!(rt; "a snapshot of a line: {}", said(snapshot_of_a_line(alloc)))?;
-    Ok(ExitCode::SUCCESS)
+    let tally = play_files(&rt)?;
+    println!(rt; "{} passed, {} failed", tally.passed, tally.failed)?;
+    Ok(if tally.failed == 0 {
+        ExitCode::SUCCESS
+    } else {
+        ExitCode::FAILURE
+    })
 }
 
-/// How it went.
-fn said(outcome: Result<(), Trouble>) -> &'static str {
-    match outcome {
-        Ok(()) => "as said",
-        Err(Trouble::NoMemory) => "out of memory",
-        Err(Trouble::NoGraph) => "no graph",
-        Err(Trouble::Differs) => "differs",
+/// Plays the files that the words name.
+fn play_files<R: Env + Files + Print + AllocGlobal + Wait>(rt: &R) -> io::Result<Tally> {
+    let mut tally = Tally {
+        passed: 0,
+        failed: 0,
+    };
+    let mut kind = Kind::Events;
+    for word in env::args(rt)?.skip(1) {
+        match Kind::of_word(word.as_str()) {
+            Some(next) => kind = next,
+            None => play_file(rt, word.as_str(), kind, &mut tally)?,
+        }
     }
+    Ok(tally)
 }

@@ -1,15 +1,17 @@
-//! What may go wrong.
+//! What may go wrong with a line.
 use gl_base::NoMemory;
 use std::alloc::{AllocError, AllocFailed};
 
-/// What may go wrong.
-#[derive(Clone, Copy, Debug, PartialEq, Eq)]
+/// What may go wrong with a line of a scenario.
+#[derive(Debug, Drop)]
 pub enum Trouble {
+    /// The line can't be understood.
+    Malformed(&'static str),
+    /// What came is another thing than what is wanted.
+    Differs(&'static str),
+    /// This is seen in place of what is wanted.
+    Seen(String),
     NoMemory,
-    /// The lists of a graph are too long, its identifiers too great, or they are of no graph.
-    NoGraph,
-    /// What the cluster says isn't what was expected.
-    Differs,
 }
 
 impl From<NoMemory> for Trouble {

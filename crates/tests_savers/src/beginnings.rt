@@ -1,0 +1,222 @@
+//! Clusters that begin, or begin again.
+ghost use Rattle.std.specs.Prelude.{◌≡◌, ◌+◌, ◌^◌, ◌<◌, ℕ, All, IfOk, IsTrue, length};
+ghost use Rattle.coord_core.specs.Stores.{store_view};
+ghost use Rattle.graph_core.specs.DataGraph.{IsDataGraph, size};
+ghost use Rattle.placed_savers.specs.Beginning.{BaseView, Cluster, IsBaseFor, IsSaverOf, Setting};
+ghost use Rattle.snap_clusters.specs.Clusters.{StartsSaving};
+
+use crate::plans::Plan;
+use crate::trouble::Trouble;
+use call_courses::Course;
+use coord_core::Store;
+use gl_base::{AtomNo, Base, FailureAt, MachineNo, Vertex};
+use graph_core::Graph;
+use placed_graphs::first_base;
+use placed_savers::{SavingRun, placed_savers};
+use snap_clusters::{SavingMachine, SnapCluster};
+use snap_savers::Saver;
+use std::alloc::Global;
+use update_api::Program;
+
+/// A cluster that takes snapshots, whose machines run this program.
+pub type Whole<P> = SnapCluster<Saver<P>>;
+
+/// Such a cluster in the course of a call.
+pub type InCourse<P> = Course<Saver<P>>;
+
+/// As many tickets as there are at most.
+const MOST_TICKETS: u64 = 4611686018427387904;
+
+/// As many bytes as a store has at most.
+const MOST_BYTES: u64 = 1073741824;
+
+/// What a cluster begins with, each time that it does.
+#[derive(Drop)]
+pub struct Beginning<'a, P: Program> {
+    pub graph: &'a Graph,
+    pub program: P,
+    /// Each vertex is in the atom of its machine's number.
+    pub of: Vec<AtomNo>,
+    pub owner: Vec<MachineNo>,
+    pub run: SavingRun,
+}
+
+/// What the plan says of it.
+pub fn beginning_of<'a, P: Program>(
+    alloc: Global,
+    graph: &'a Graph,
+    program: P,
+    plan: &Plan,
+) -> Result<Beginning<'a, P>, Trouble> {
+    let mut of = Vec::new(alloc);
+    let mut last = 0;
+    for number in plan.machines.iter() {
+        if *number >= 16 {
+            return Err(Trouble::Malformed("too many machines"));
+        }
+        last = last.max(*number as u16);
+        of.push(AtomNo(*number as u16))?;
+    }
+    let machines = last.saturating_add(1);
+    let mut owner = Vec::new(alloc);
+    for machine in 0..machines {
+        owner.push(MachineNo(machine))?;
+    }
+    Ok(Beginning {
+        graph,
+        program,
+        of,
+        run: SavingRun {
+            machines,
+            pipeline: plan.pipeline,
+            first: Vertex(0),
+            window: plan.window,
+        },
+        owner,
+    })
+}
+
+/// The numbers with which the plan begins: those that it lists, or else those with which the program starts, and 0 for each edge.
+pub fn base_of<P: Program>(
+    alloc: Global,
+    graph: &Graph,
+    program: &P,
+    plan: &Plan,
+) -> Result<Base, Trouble> {
+    let mut base = first_base(alloc, graph, program)?;
+    if let Some(values) = &plan.values {
+        base.values = Vec::from_slice(alloc, values)?;
+    }
+    Ok(base)
+}
+
+/// Whether each vertex has an atom, and each atom one of so many machines.
+fn has_places(graph: &Graph, of: &[AtomNo], owner: &[MachineNo], machines: u16) -> bool
+    ensures each { IsTrue result → length of.now ≡ size graph.now }
+    ensures atoms { IsTrue result → All (λ a. a.0 < length owner.now) of.now }
+    ensures machines { IsTrue result → All (λ m. m.0 < machines) owner.now }
+    ensures graph { IsDataGraph graph.now }
+{
+    of.len() == graph.n() as usize
+        && of.iter().all(|a| (a.0 as usize) < owner.len())
+        && owner.iter().all(|m| m.0 < machines)
+}
+
+/// Whether there is a number for each vertex and for each edge.
+fn has_numbers(graph: &Graph, base: &Base) -> bool
+    ensures { IsTrue result → IsBaseFor graph.now base.now }
+{
+    base.values.len() == graph.n() as usize && base.edges.len() == graph.m() as usize
+}
+
+/// The store of this base, as the cluster knows it.
+fn store_of(graph: &Graph, base: &Base) -> Store
+    ensures vertices { result.vertices ≡ size graph.now }
+    ensures edges { result.edges ≡ length graph.now.edges }
+    ensures newest { result.newest ≡ base.now.number }
+    ensures length { result.length ≡ base.now.length }
+{
+    Store {
+        vertices: graph.n(),
+        edges: graph.m(),
+        newest: base.number,
+        length: base.length,
+    }
+}
+
+/// The machines that begin from this base, and its store, where each vertex has a machine, and each machine has admitted so many scopes.
+fn machines_of<P: Program>(
+    alloc: Global,
+    beginning: &Beginning<'_, P>,
+    base: &Base,
+    serials: &[u64],
+) -> Result<(Vec<Saver<P>>, Store), Trouble>
+    ensures start { IfOk result (λ made. (next left : ℕ) → (st : Setting) × (view : BaseView) × (before : Cluster) × StartsSaving (IsSaverOf P.meaning) made.0.items (store_view made.1) next left st view before) }
+    ensures many { IfOk result (λ made. length made.0.items < 65535) }
+    ensures newest { IfOk result (λ made. made.1.newest + 1 < 2 ^ 32) }
+    ensures length { IfOk result (λ made. made.1.length < 2 ^ 32) }
+{
+    let (graph, program, run) = (beginning.graph, beginning.program, beginning.run);
+    let of = beginning.of.as_slice();
+    let owner = beginning.owner.as_slice();
+    let has_places = has_places(graph, of, owner, run.machines);
+    if !has_places || serials.len() != run.machines as usize || run.machines == u16::MAX {
+        return Err(Trouble::Malformed("a vertex without a machine"));
+    }
+    if !has_numbers(graph, base) {
+        return Err(Trouble::Malformed("not a number for each"));
+    }
+    let store = store_of(graph, base);
+    if store.newest == u32::MAX || store.length > MOST_BYTES {
+        return Err(Trouble::Malformed("too great a store"));
+    }
+    let machines = placed_savers(alloc, graph, program, base, of, owner, run, serials)?;
+    Ok((machines, store))
+}
+
+/// The cluster that begins from this base, with so many tickets.
+pub fn begun<P: Program>(
+    alloc: Global,
+    beginning: &Beginning<'_, P>,
+    base: &Base,
+    tickets: u64,
+) -> Result<Whole<P>, Trouble> {
+    if tickets >= MOST_TICKETS {
+        return Err(Trouble::Malformed("too many tickets"));
+    }
+    let serials = vec![in alloc; 0u64; beginning.run.machines as usize]?;
+    let (machines, store) = machines_of(alloc, beginning, base, &serials)?;
+    Ok(SnapCluster::new(alloc, machines, store, 0, tickets)?)
+}
+
+/// All machines of the cluster go back to this base.
+pub fn begin_again<P: Program>(
+    alloc: Global,
+    beginning: &Beginning<'_, P>,
+    base: &Base,
+    whole: &mut Whole<P>,
+) -> Result<(), Trouble> {
+    let mut serials = Vec::new(alloc);
+    for m in 0..whole.machines() {
+        serials.push(whole.machine(MachineNo(m as u16)).serial())?;
+    }
+    let (machines, store) = machines_of(alloc, beginning, base, &serials)?;
+    if machines.len() != whole.machines() {
+        return Err(Trouble::Malformed("another count of machines"));
+    }
+    Ok(whole.recover(alloc, machines, store)?)
+}
+
+/// The call that opens from this base, with so many tickets and these failures.
+pub fn begin_call<P: Program>(
+    alloc: Global,
+    beginning: &Beginning<'_, P>,
+    base: &Base,
+    tickets: u64,
+    failures: Vec<FailureAt>,
+) -> Result<InCourse<P>, Trouble> {
+    if tickets >= MOST_TICKETS {
+        return Err(Trouble::Malformed("too many tickets"));
+    }
+    let serials = vec![in alloc; 0u64; beginning.run.machines as usize]?;
+    let (machines, store) = machines_of(alloc, beginning, base, &serials)?;
+    Ok(Course::open(alloc, machines, store, 0, tickets, failures)?)
+}
+
+/// All machines of the call go back to this base.
+pub fn call_again<P: Program>(
+    alloc: Global,
+    beginning: &Beginning<'_, P>,
+    base: &Base,
+    course: &mut InCourse<P>,
+) -> Result<(), Trouble> {
+    let mut serials = Vec::new(alloc);
+    for m in 0..course.machines() {
+        serials.push(course.machine(MachineNo(m as u16)).serial())?;
+    }
+    let (machines, store) = machines_of(alloc, beginning, base, &serials)?;
+    if machines.len() != course.machines() {
+        return Err(Trouble::Malformed("another count of machines"));
+    }
+    Ok(course.recover(alloc, machines, store)?)
+}

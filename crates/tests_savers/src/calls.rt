@@ -1,0 +1,207 @@
+//! Calls, which are driven from one pause to the next.
+ghost use Rattle.std.specs.Prelude.{◌<◌, IsTrue, length};
+
+use crate::answers::is_answer;
+use crate::beginnings::{Beginning, InCourse, base_of, begin_call, beginning_of, call_again};
+use crate::fields::Fields;
+use crate::graphs::graph_of;
+use crate::looks::{is_text, kept_text, number_text, word_text};
+use crate::plans::{Plan, plan_of};
+use crate::records::keep_record;
+use crate::recovering::{newest_base, with_restarts};
+use crate::scenarios::{Line, Scenario};
+use crate::scenes::{Kept, first_kept};
+use crate::trouble::Trouble;
+use call_courses::{Event, Local};
+use call_returns::count_failed;
+use call_rounds::{Pause, drive};
+use gl_base::{Algorithm, MachineNo, Refused};
+use graph_core::Graph;
+use prog_labels::{Components, Levels};
+use prog_paths::Paths;
+use std::alloc::Global;
+use std::sync::Wait;
+use update_api::Program;
+
+/// As often as a call may pause.
+const MOST_PAUSES: u32 = 1000000;
+
+/// A call, with the store beside it, how often machines went back, and why it paused last.
+#[derive(Drop)]
+struct Call<'a, P: Program> {
+    beginning: &'a Beginning<'a, P>,
+    course: InCourse<P>,
+    kept: Kept,
+    recoveries: u64,
+    pause: Option<Pause>,
+}
+
+/// Plays a scenario of a call: drives it to its end, and then looks at what its lines say. `at` follows the line.
+pub fn play_call<R: Wait + AllocGlobal>(
+    rt: &R,
+    scenario: &Scenario<'_>,
+    at: &mut usize,
+) -> Result<(), Trouble> {
+    let alloc = rt.alloc();
+    let (plan, taken) = plan_of(alloc, scenario, at)?;
+    let lines = scenario.lines.get(taken..).unwrap_or(&[]);
+    let graph = graph_of(alloc, &plan)?;
+    let source = plan.source;
+    match plan.algorithm {
+        Algorithm::Levels => call_on(rt, &graph, Levels { source }, &plan, lines, at),
+        Algorithm::Components => call_on(rt, &graph, Components, &plan, lines, at),
+        Algorithm::Paths => call_on(rt, &graph, Paths { source }, &plan, lines, at),
+        Algorithm::Colours => Err(Trouble::Malformed("no such program")),
+    }
+}
+
+/// The same with this program.
+fn call_on<R: Wait + AllocGlobal, P: Program>(
+    rt: &R,
+    graph: &Graph,
+    program: P,
+    plan: &Plan,
+    lines: &[Line<'_>],
+    at: &mut usize,
+) -> Result<(), Trouble> {
+    let beginning = beginning_of(rt.alloc(), graph, program, plan)?;
+    let mut call = opened_call(rt.alloc(), &beginning, plan)?;
+    go_on(rt, &mut call)?;
+    for line in lines {
+        *at = line.number;
+        look(rt.alloc(), &call, line.text)?;
+    }
+    Ok(())
+}
+
+/// The call opens with a store without snapshots.
+fn opened_call<'a, P: Program>(
+    alloc: Global,
+    beginning: &'a Beginning<'a, P>,
+    plan: &Plan,
+) -> Result<Call<'a, P>, Trouble> {
+    let base = base_of(alloc, beginning.graph, &beginning.program, plan)?;
+    let mut kept = first_kept(alloc, beginning, &base)?;
+    let base = newest_base(alloc, beginning, &mut kept)?;
+    let failures = Vec::from_slice(alloc, &plan.failures)?;
+    Ok(Call {
+        beginning,
+        course: begin_call(alloc, beginning, &base, plan.tickets, failures)?,
+        kept,
+        recoveries: 0,
+        pause: None,
+    })
+}
+
+/// Goes on from pause to pause until the call has ended, or its budget is spent.
+fn go_on<R: Wait + AllocGlobal, P: Program>(rt: &R, call: &mut Call<'_, P>) -> Result<(), Trouble> {
+    for _ in 0..MOST_PAUSES {
+        let pause = drive(rt, &mut call.course)?;
+        call.pause = Some(pause);
+        match pause {
+            Pause::Ended | Pause::Spent => return Ok(()),
+            Pause::Record(_) => take_due(rt.alloc(), call)?,
+            Pause::Reached(_) => go_back(rt.alloc(), call)?,
+        }
+    }
+    Err(Trouble::Differs("a call has no end"))
+}
+
+/// The record that is due is kept, and acknowledged.
+fn take_due<P: Program>(alloc: Global, call: &mut Call<'_, P>) -> Result<(), Trouble> {
+    let record = match call.course.record(alloc) {
+        Ok(record) => record,
+        Err(Refused::NotNow) => return Err(Trouble::Differs("no record is due")),
+        Err(Refused::NoMemory) => return Err(Trouble::NoMemory),
+    };
+    let number = record.number;
+    keep_record(alloc, call.beginning, &mut call.kept, record)?;
+    call.course.acknowledge(number);
+    Ok(())
+}
+
+/// Each machine that has reached the count of a failure fails, and all go back to the newest snapshot.
+fn go_back<P: Program>(alloc: Global, call: &mut Call<'_, P>) -> Result<(), Trouble> {
+    let mut flags = Vec::new(alloc);
+    for m in 0..call.beginning.run.machines {
+        flags.push(fails(&mut call.course, MachineNo(m))?)?;
+    }
+    let failures = count_failed(&flags);
+    let base = newest_base(alloc, call.beginning, &mut call.kept)?;
+    let base = with_restarts(alloc, &mut call.kept, base, failures, call.course.next())?;
+    call_again(alloc, call.beginning, &base, &mut call.course)?;
+    call.recoveries = call.recoveries.saturating_add(1);
+    Ok(())
+}
+
+/// Whether the call has this machine.
+fn has_machine<P: Program>(course: &InCourse<P>, at: MachineNo) -> bool
+    ensures { IsTrue result → at.0 < length course.now.now.machines.items }
+{
+    (at.0 as usize) < course.machines()
+}
+
+/// The machine fails, where it has reached the count of a failure; and no other may. Tells whether it has failed.
+fn fails<P: Program>(course: &mut InCourse<P>, at: MachineNo) -> Result<bool, Trouble> {
+    if !has_machine(course, at) {
+        return Err(Trouble::Malformed("no such machine"));
+    }
+    let reached = course.has_reached(at);
+    if course.apply(Event::Local(Local::Fail(at))).is_ok() != reached {
+        return Err(Trouble::Differs("a machine fails at another time"));
+    }
+    if has_machine(course, at) && course.has_failed(at) == reached {
+        Ok(reached)
+    } else {
+        Err(Trouble::Differs("a machine has failed at another time"))
+    }
+}
+
+/// Looks at what the line says.
+fn look<P: Program>(alloc: Global, call: &Call<'_, P>, text: &str) -> Result<(), Trouble> {
+    if text == "answer" {
+        return is_answer(alloc, call.beginning, &call.kept);
+    }
+    let Some((asked, wanted)) = text.split_once(" is ") else {
+        return Err(Trouble::Malformed("no such word"));
+    };
+    let found = seen(alloc, call, &Fields::of(alloc, asked)?)?;
+    is_text(found, wanted)
+}
+
+/// What is to be seen where the line asks for it.
+fn seen<P: Program>(
+    alloc: Global,
+    call: &Call<'_, P>,
+    fields: &Fields<'_>,
+) -> Result<String, Trouble> {
+    match fields.first() {
+        "pause" => pause_text(alloc, call.pause),
+        "recoveries" => number_text(alloc, call.recoveries),
+        "stored" => number_text(alloc, call.course.coordinator().stored() as u64),
+        "left" => number_text(alloc, call.course.left()),
+        "completed" => completed_text(alloc, call, fields.machine(0)?),
+        _ => kept_text(alloc, call.beginning.graph, &call.kept, fields),
+    }
+}
+
+fn pause_text(alloc: Global, pause: Option<Pause>) -> Result<String, Trouble> {
+    match pause {
+        Some(Pause::Ended) => word_text(alloc, "ended"),
+        Some(Pause::Spent) => word_text(alloc, "spent"),
+        _ => word_text(alloc, "none"),
+    }
+}
+
+/// How many updates the machine has completed in the call.
+fn completed_text<P: Program>(
+    alloc: Global,
+    call: &Call<'_, P>,
+    at: MachineNo,
+) -> Result<String, Trouble> {
+    if has_machine(&call.course, at) {
+        number_text(alloc, call.course.completed(at))
+    } else {
+        Err(Trouble::Malformed("no such machine"))
+    }
+}

@@ -1,0 +1,102 @@
+//! A scenario is played.
+use crate::acts::act;
+use crate::answers::is_answer;
+use crate::beginnings::{base_of, beginning_of};
+use crate::chances::play_seeds;
+use crate::driving::{bring, drive, settle};
+use crate::fields::Fields;
+use crate::graphs::graph_of;
+use crate::looks::{is_text, seen};
+use crate::plans::{Plan, plan_of};
+use crate::scenarios::{Line, Scenario};
+use crate::scenes::Scene;
+use crate::trouble::Trouble;
+use gl_base::Algorithm;
+use graph_core::Graph;
+use prog_labels::{Components, Levels};
+use prog_paths::Paths;
+use std::alloc::Global;
+use update_api::Program;
+
+/// Plays a scenario to its last line, or to the first that differs or can't be understood. `at` follows the line that is played.
+pub fn play(alloc: Global, scenario: &Scenario<'_>, at: &mut usize) -> Result<(), Trouble> {
+    let (plan, taken) = plan_of(alloc, scenario, at)?;
+    let lines = scenario.lines.get(taken..).unwrap_or(&[]);
+    let graph = graph_of(alloc, &plan)?;
+    play_by(alloc, &graph, &plan, lines, at)
+}
+
+/// Plays the lines with the program of the plan.
+fn play_by(
+    alloc: Global,
+    graph: &Graph,
+    plan: &Plan,
+    lines: &[Line<'_>],
+    at: &mut usize,
+) -> Result<(), Trouble> {
+    let source = plan.source;
+    match plan.algorithm {
+        Algorithm::Levels => play_on(alloc, graph, Levels { source }, plan, lines, at),
+        Algorithm::Components => play_on(alloc, graph, Components, plan, lines, at),
+        Algorithm::Paths => play_on(alloc, graph, Paths { source }, plan, lines, at),
+        Algorithm::Colours => Err(Trouble::Malformed("no such program")),
+    }
+}
+
+/// Plays the lines on a cluster of this program.
+fn play_on<P: Program>(
+    alloc: Global,
+    graph: &Graph,
+    program: P,
+    plan: &Plan,
+    lines: &[Line<'_>],
+    at: &mut usize,
+) -> Result<(), Trouble> {
+    let beginning = beginning_of(alloc, graph, program, plan)?;
+    let base = base_of(alloc, graph, &program, plan)?;
+    let mut scene = Scene::new(alloc, &beginning, &base, plan.tickets)?;
+    for line in lines {
+        *at = line.number;
+        play_line(alloc, &mut scene, line.text)?;
+    }
+    Ok(())
+}
+
+/// Plays a line.
+fn play_line<P: Program>(
+    alloc: Global,
+    scene: &mut Scene<'_, P>,
+    text: &str,
+) -> Result<(), Trouble> {
+    if let Some((asked, wanted)) = text.split_once(" is ") {
+        let found = seen(alloc, scene, &Fields::of(alloc, asked)?)?;
+        return is_text(found, wanted);
+    }
+    match text.strip_prefix("not-now ") {
+        Some(refused) => act(alloc, scene, &Fields::of(alloc, refused)?, false),
+        None => play_far(alloc, scene, &Fields::of(alloc, text)?),
+    }
+}
+
+/// Lets much happen, or looks over the whole, or lets one thing happen.
+fn play_far<P: Program>(
+    alloc: Global,
+    scene: &mut Scene<'_, P>,
+    fields: &Fields<'_>,
+) -> Result<(), Trouble> {
+    match fields.first() {
+        "settle" => {
+            settle(scene, fields.machine(0)?)?;
+            Ok(())
+        }
+        "bring" => bring(scene),
+        "drive" => drive(alloc, scene, false),
+        "drive-to-record" => drive(alloc, scene, true),
+        "answer" => is_answer(alloc, scene.beginning, &scene.kept),
+        "seeds" | "seeds-and-failures" => {
+            let may_fail = fields.first() == "seeds-and-failures";
+            play_seeds(alloc, scene, fields.number(0)?, fields.number(1)?, may_fail)
+        }
+        _ => act(alloc, scene, fields, true),
+    }
+}

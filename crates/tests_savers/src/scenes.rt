@@ -1,0 +1,83 @@
+//! A cluster as a scenario plays it, with the store beside it.
+use crate::beginnings::{Beginning, Whole, begun};
+use crate::replays::Numbers;
+use crate::stores::empty_store;
+use crate::trouble::Trouble;
+use gl_base::{Base, Entry};
+use gl_outside::MemDisk;
+use std::alloc::Global;
+use store_format::Header;
+use update_api::Program;
+
+/// What is known beside the cluster: its store, and what follows from the records so far.
+#[derive(Drop)]
+pub struct Kept {
+    pub header: Header,
+    pub disk: Option<MemDisk>,
+    /// The numbers with which replays begin, and those of the newest snapshot.
+    pub first: Numbers,
+    pub newest: Numbers,
+    /// The order of the newest snapshot: the entries of all records, by ticket.
+    pub order: Vec<Entry>,
+    /// The entries of the newest record.
+    pub entries: Vec<Entry>,
+    /// The restarts of the order that the attempt began with which the store lacks.
+    pub lacking: Vec<Entry>,
+}
+
+/// A cluster, what it begins with, and what is known beside it.
+#[derive(Drop)]
+pub struct Scene<'a, P: Program> {
+    pub beginning: &'a Beginning<'a, P>,
+    pub base: &'a Base,
+    pub tickets: u64,
+    pub whole: Whole<P>,
+    pub kept: Kept,
+}
+
+impl<'a, P: Program> Scene<'a, P> {
+    /// The cluster as it begins, with a store without snapshots.
+    pub fn new(
+        alloc: Global,
+        beginning: &'a Beginning<'a, P>,
+        base: &'a Base,
+        tickets: u64,
+    ) -> Result<Scene<'a, P>, Trouble> {
+        Ok(Scene {
+            beginning,
+            base,
+            tickets,
+            whole: begun(alloc, beginning, base, tickets)?,
+            kept: first_kept(alloc, beginning, base)?,
+        })
+    }
+
+    /// Begins anew.
+    pub fn begin_anew(&mut self, alloc: Global) -> Result<(), Trouble> {
+        self.whole = begun(alloc, self.beginning, self.base, self.tickets)?;
+        self.kept = first_kept(alloc, self.beginning, self.base)?;
+        Ok(())
+    }
+}
+
+/// What is known at first.
+pub fn first_kept<P: Program>(
+    alloc: Global,
+    beginning: &Beginning<'_, P>,
+    base: &Base,
+) -> Result<Kept, Trouble> {
+    let (disk, header) = empty_store(alloc, beginning.graph, beginning.run.machines)?;
+    let first = Numbers {
+        values: Vec::from_slice(alloc, &base.values)?,
+        edges: Vec::from_slice(alloc, &base.edges)?,
+    };
+    Ok(Kept {
+        header,
+        disk: Some(disk),
+        newest: first.again(alloc)?,
+        first,
+        order: Vec::new(alloc),
+        entries: Vec::new(alloc),
+        lacking: Vec::new(alloc),
+    })
+}
