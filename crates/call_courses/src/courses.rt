@@ -9,7 +9,7 @@ ghost use Rattle.cluster_model.specs.Machines.{completed};
 ghost use Rattle.coord_core.specs.Calls.{IsDueOf, IsRecordFor};
 ghost use Rattle.coord_core.specs.Stores.{store_view};
 ghost use Rattle.snap_clusters.specs.Cuts.{snapshot_due};
-ghost use Rattle.snap_clusters.specs.Events.{CanNotTakePlace, CanTakePlace, NamesItsMachines};
+ghost use Rattle.snap_clusters.specs.Events.{CanNotTakePlace, CanTakePlace, IsReadyToAcknowledge, NamesItsMachines};
 ghost use Rattle.whole_calls.specs.Following.{has_reached};
 ghost use Rattle.whole_calls.specs.Saved.{MayFollow};
 
@@ -99,18 +99,15 @@ impl<M: SavingMachine> Course<M> {
         self.cluster.apply(event)
     }
 
-    /// The snapshot under way is acknowledged.
-    pub fn acknowledge(&mut self) -> Result<(), Refused>
-        ensures made { OnOk result (HappensInCall M.stands self.old (Event.Lead Lead.Record) self.new) }
-        ensures not_now { IsErrOf result Refused.NotNow → CanNotHappenInCall M.stands self.old (Event.Lead Lead.Record) }
-        ensures no_memory { IsErrOf result Refused.NoMemory → CanHappenInCall M.stands self.old (Event.Lead Lead.Record) }
-        ensures unchanged { OnErr result (StaysThere M.stands self.old self.new) }
+    /// The snapshot of this number, whose record was made, is acknowledged. It takes no memory.
+    pub fn acknowledge(&mut self, number: u32)
+        requires { IsReadyToAcknowledge self.old.now number }
+        ensures made { HappensInCall M.stands self.old (Event.Lead Lead.Record) self.new }
         ensures since { self.new.since ≡ self.new.now }
         ensures same { IsSameAttempt (record self.old { since = self.new.now }) self.new }
     {
-        let made = self.cluster.apply(Event::Lead(Lead::Record));
+        self.cluster.acknowledge(number);
         self.since = Snapshot::of(&self.cluster);
-        made
     }
 
     /// All machines go back to a base: the call goes on with these machines, which begin its next attempt from it. Of the base only what the
@@ -236,7 +233,8 @@ impl<M: SavingMachine> Course<M> {
         self.cluster.is_stopped()
     }
 
-    /// The record of the snapshot under way. It acknowledges nothing. `NotNow` comes exactly where `acknowledge` answers it.
+    /// The record of the snapshot under way. It acknowledges nothing: `acknowledge` does, for which there is room from then on. `NotNow` comes
+    /// exactly where the snapshot may not be acknowledged.
     pub fn record(&mut self, alloc: Global) -> Result<Record, Refused>
         ensures is { IfOk result (λ made. InEachCourse M.stands self.old (λ st o events c. IsRecordFor st (snapshot_due c.coordinator) made)) }
         ensures due { OnOk result (CanHappenInCall M.stands self.old (Event.Lead Lead.Record)) }
@@ -244,6 +242,7 @@ impl<M: SavingMachine> Course<M> {
         ensures no_memory { IsErrOf result Refused.NoMemory → CanHappenInCall M.stands self.old (Event.Lead Lead.Record) }
         ensures stays { StaysThere M.stands self.old self.new }
         ensures same { IsSameAttempt self.old self.new }
+        ensures ready { IfOk result (λ made. IsReadyToAcknowledge self.new.now made.number) }
     {
         self.cluster.record(alloc)
     }

@@ -7,3 +7,4 @@ pub mod Cutting
 pub mod Next
 pub mod Ordering
 pub mod Stopping
+pub mod Acknowledging

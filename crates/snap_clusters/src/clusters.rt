@@ -8,7 +8,7 @@ ghost use Rattle.coord_core.specs.Calls.{IsDueOf};
 ghost use Rattle.coord_core.specs.Stores.{store_view};
 ghost use Rattle.snap_clusters.specs.Clusters.{BaseView, Cluster, GoesOnWith, IsSavingClusterOf, InEachCluster, Setting, StandsForSaving, StandsForSameSaving, StartsSaving};
 ghost use Rattle.snap_clusters.specs.Cuts.{IsSnapshotCut, RecordsCut};
-ghost use Rattle.snap_clusters.specs.Events.{CanTakePlace, CanNotTakePlace, IsNoStop, TakesPlace, NamesItsMachines};
+ghost use Rattle.snap_clusters.specs.Events.{CanTakePlace, CanNotTakePlace, IsNoStop, IsReadyToAcknowledge, TakesPlace, NamesItsMachines};
 ghost use Rattle.snap_clusters.specs.Ordered.{HasOneOrder};
 ghost use Rattle.snap_members.specs.Promises.{HasFirst};
 
@@ -92,8 +92,8 @@ impl<M: SavingMachine> SnapCluster<M> {
         Ok(())
     }
 
-    /// The record of the snapshot under way, for a store. It acknowledges nothing: the event of `Lead::Record` does. `NotNow` comes exactly
-    /// where that event may not happen. What the record has is a consistent cut.
+    /// The record of the snapshot under way, for a store. It acknowledges nothing: `acknowledge` does, for which there is room from then on.
+    /// `NotNow` comes exactly where the event of `Lead::Record` may not happen. What the record has is a consistent cut.
     pub fn record(&mut self, alloc: Global) -> Result<Record, Refused>
         ensures cut { IfOk result (λ made. InEachCluster M.stands self.old (λ st c. RecordsCut st c made)) }
         ensures due { OnOk result (CanTakePlace M.stands self.old (Event.Lead Lead.Record)) }
@@ -102,8 +102,19 @@ impl<M: SavingMachine> SnapCluster<M> {
         ensures same { StandsForSameSaving M.stands self.old self.new }
         ensures machines { length self.new.machines.items ≡ length self.old.machines.items }
         ensures stopped { self.new.stopped ≡ self.old.stopped }
+        ensures ready { IfOk result (λ made. IsReadyToAcknowledge self.new made.number) }
     {
         self.parts.record(alloc)
+    }
+
+    /// The snapshot of this number, whose record was made, is acknowledged: the event of `Lead::Record` happens. It takes no memory.
+    pub fn acknowledge(&mut self, number: u32)
+        requires { IsReadyToAcknowledge self.old number }
+        ensures made { TakesPlace M.stands self.old (Event.Lead Lead.Record) self.new }
+        ensures machines { length self.new.machines.items ≡ length self.old.machines.items }
+        ensures stopped { self.new.stopped ≡ self.old.stopped }
+    {
+        self.parts.recorded(number);
     }
 
     /// How many snapshots are stored: the number of the newest acknowledged one. Each that was acknowledged in this attempt is a

@@ -114,12 +114,10 @@ fn take_due<P: Program>(alloc: Global, call: &mut Call<'_, P>) -> Result<(), Tro
         Err(Refused::NotNow) => return Err(Trouble::Differs("no record is due")),
         Err(Refused::NoMemory) => return Err(Trouble::NoMemory),
     };
+    let number = record.number;
     keep_record(alloc, call.beginning, &mut call.kept, record)?;
-    if call.course.acknowledge().is_ok() {
-        Ok(())
-    } else {
-        Err(Trouble::Differs("the record is not acknowledged"))
-    }
+    call.course.acknowledge(number);
+    Ok(())
 }
 
 /// Each machine that has reached the count of a failure fails, and all go back to the newest snapshot.
