@@ -1,0 +1,11 @@
+pub mod Moments
+pub mod Lines
+pub mod Going
+pub mod Backs
+pub mod Saves
+pub mod Pausing
+pub mod Begun
+pub mod Ended
+pub mod Owners
+pub mod Runs
+pub mod Playing

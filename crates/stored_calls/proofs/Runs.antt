@@ -1,0 +1,105 @@
+-- A run with a store, from its beginning to its end.
+use Rattle.std.proofs.Common.{◌≡◌, ◌≤◌, ◌<◌, ◌∙◌, ◌⊎◌, ℕ, Bool, Err, IfErr, IfOk, List, Ok, Result, ap, false, inl, inr, length, subst, sym, true, true≢false, arith}
+use Rattle.gl_base.specs.declared.entries.Entry.{Entry}
+use Rattle.gl_base.specs.declared.jobs.FailureAt.{FailureAt}
+use Rattle.graph_core.specs.DataGraph.{DataGraph, IsDataGraph, size}
+use Rattle.placed_savers.specs.Beginning.{placed_owner}
+use Rattle.placed_savers.specs.declared.savers.Places.{Places}
+use Rattle.snap_journal.specs.Disks.{Rose}
+use Rattle.snap_journal.specs.declared.faults.JournalFault.{JournalFault}
+use Rattle.snap_journal.specs.declared.faults.JournalFault.TheVariants as fault
+use Rattle.store_format.specs.declared.faults.StoreFault.{StoreFault}
+use Rattle.stored_answers.specs.declared.runs.StoredEnd.{StoredEnd}
+use Rattle.stored_answers.specs.declared.runs.StoredEnd.TheVariants as end
+use Rattle.stored_answers.specs.declared.runs.StoredPlan.{StoredPlan}
+use Rattle.stored_answers.specs.declared.runs.StoredRun.{StoredRun}
+use Rattle.stored_calls.proofs.Owners.{HasOwner, end_at, kept_good, run_named, with_owner}
+use Rattle.stored_calls.specs.Calls.{CallOpening, DiskPast, EndsBy, EndsCall, Header, IsCallAt, IsCallEnded, IsRunAt, IsWhyStopped, JournalState, KeepsCall, Setting, orders_behind, shared_of, snapshots_in, stored_order}
+use Rattle.stored_calls.specs.Runs.{ArePlacedFor, HasCallBegun, IsEndAt, IsGoodStore, IsPlacement, IsRunSo, IsStoredRun, IsWhyNoRun, IsWhyNotBegun, KeepsByOwner, KeepsGood, Shared, owned_shared}
+use Rattle.stored_calls.specs.declared.calls.StoredCall.{StoredCall}
+use Rattle.update_api.specs.Updates.{Update}
+
+module _ {D P : Type 0} (meaning : P → Update) (past : D → DiskPast) (g : DataGraph) (program : Update) (plan : StoredPlan) (failures : List FailureAt) (journal mid after : JournalState D) (call later : StoredCall P) (resumed : Bool)
+    (graph : IsDataGraph g) (placed : ArePlacedFor g plan call.places)
+    (one : (owner other : ℕ → ℕ) → IsPlacement g plan.run.atoms plan.run.machines owner → IsPlacement g plan.run.atoms plan.run.machines other → (v : ℕ) → v < size g → owner v ≡ other v)
+    (begun : (st : Setting) → IsRunAt g program call.places st → IsGoodStore (shared_of st failures) journal.header (snapshots_in past journal) → HasCallBegun meaning past call journal mid resumed plan.run.budget st)
+    (same : later.course.failures ≡ failures) (header : after.header ≡ journal.header) where
+  abbrev bodies : List (List ℕ)
+  bodies = snapshots_in past journal
+
+  has : (owner : ℕ → ℕ) → IsPlacement g plan.run.atoms plan.run.machines owner → HasOwner g program call.places owner failures
+  has owner placement = with_owner g program plan call.places owner failures graph placed (one owner (placed_owner call.places.of.items call.places.owner.items) placement placed.placement)
+
+  abbrev starts : (owner : ℕ → ℕ) (placement : IsPlacement g plan.run.atoms plan.run.machines owner) → IsGoodStore (owned_shared g program owner failures) journal.header bodies → HasCallBegun meaning past call journal mid resumed plan.run.budget (has owner placement).st
+  starts owner placement good =
+      begun (has owner placement).st (has owner placement).runs (subst (λ (s : Shared). IsGoodStore s journal.header bodies) (sym (has owner placement).shared_is) good)
+
+  shared_later : (owner : ℕ → ℕ) (placement : IsPlacement g plan.run.atoms plan.run.machines owner) → shared_of (has owner placement).st later.course.failures ≡ owned_shared g program owner failures
+  shared_later owner placement = ap (λ (fs : List FailureAt). shared_of (has owner placement).st fs) same ∙ (has owner placement).shared_is
+
+  -- what crashes leave, wherever it stopped
+  pub keeps_owner : KeepsCall meaning past g program call mid later after → KeepsByOwner past g program plan.run.atoms plan.run.machines failures journal after
+  keeps_owner keeps owner placement good =
+      let start : HasCallBegun meaning past call journal mid resumed plan.run.budget (has owner placement).st = starts owner placement good in
+      let at : IsCallAt meaning past later after bodies (past journal.disk) (has owner placement).st start.opening = keeps bodies (past journal.disk) (has owner placement).st start.opening (has owner placement).runs start.at in (
+        orders_behind (stored_order bodies) at.added,
+        kept_good meaning past later after bodies (past journal.disk) (has owner placement).st start.opening (owned_shared g program owner failures) journal.header (shared_later owner placement) header at,
+      )
+
+  -- what the run is, and what crashes leave, where it has ended
+  pub runs_owner : (how : StoredEnd) (run : StoredRun) (count : ℕ) → EndsCall meaning past g program call mid later after how → later.places ≡ call.places → length bodies ≡ count →
+      ((program : Update) (header : Header) (start added : List (List ℕ)) (st : Setting) (o : CallOpening) → IsRunAt g program later.places st → IsEndAt meaning later header start added st o how → IsRunSo st failures o start added run) →
+      (owner : ℕ → ℕ) → IsPlacement g plan.run.atoms plan.run.machines owner → IsGoodStore (owned_shared g program owner failures) journal.header bodies →
+      (snapshots : List (List Entry)) × IsStoredRun (owned_shared g program owner failures) plan.run.machines plan.window plan.run.budget count (stored_order bodies) resumed snapshots run
+      × KeepsGood (owned_shared g program owner failures) journal.header bodies snapshots (past journal.disk) (past after.disk)
+  runs_owner how run count ends places counted gathered owner placement good =
+      let start : HasCallBegun meaning past call journal mid resumed plan.run.budget (has owner placement).st = starts owner placement good in
+      let e : IsCallEnded meaning past later after bodies (past journal.disk) (has owner placement).st start.opening how = ends bodies (past journal.disk) (has owner placement).st start.opening (has owner placement).runs start.at in
+      let there : IsRunAt g program later.places (has owner placement).st = subst (λ (p : Places). IsRunAt g program p (has owner placement).st) (sym places) (has owner placement).runs in (
+        orders_behind (stored_order bodies) e.at.added,
+        run_named (has owner placement).st failures start.opening bodies e.at.added run (owned_shared g program owner failures) plan.run.machines plan.window plan.run.budget count resumed (has owner placement).shared_is
+            ((has owner placement).runs.placed.machines ∙ placed.are.many) ((has owner placement).runs.window ∙ placed.window) start.tickets counted start.resumed_is
+            (gathered program after.header bodies e.at.added (has owner placement).st start.opening there (end_at meaning past later after bodies (past journal.disk) (has owner placement).st start.opening how e)),
+        kept_good meaning past later after bodies (past journal.disk) (has owner placement).st start.opening (owned_shared g program owner failures) journal.header (shared_later owner placement) header e.at,
+      )
+
+-- ---- why there is no run
+
+pub not_begun : (told : Type 0) (failed : Bool) (old new : DiskPast) (before now : ℕ) (kept : Type 0) (why : JournalFault) → failed ≡ false → (told → new ≡ old) → IsWhyNotBegun failed before now why → IsWhyNoRun told old new before now kept why
+not_begun told failed old new before now kept fault.DiskFault well still is = (is, still)
+not_begun told failed old new before now kept (fault.BadStore bad) well still is = λ t. inl (still t)
+not_begun told failed old new before now kept (fault.Full stored bytes) well still is = absurd is
+not_begun told failed old new before now kept fault.Failed well still is = absurd (true≢false (sym is ∙ well))
+not_begun told failed old new before now kept fault.NoMemory well still is = λ t. inl (still t)
+
+pub stopped : (told : Type 0) (old new : DiskPast) (before now : ℕ) (kept : Type 0) (why : JournalFault) → (told → kept) → IsWhyStopped why → IsWhyNoRun told old new before now kept why
+stopped told old new before now kept fault.DiskFault keeps is = absurd is
+stopped told old new before now kept (fault.BadStore bad) keeps is = λ t. inr (keeps t)
+stopped told old new before now kept (fault.Full stored bytes) keeps is = absurd is
+stopped told old new before now kept fault.Failed keeps is = absurd is
+stopped told old new before now kept fault.NoMemory keeps is = λ t. inr (keeps t)
+
+-- ---- what is so of each run, or of each fault
+
+pub ok_then : {X E : Type 0} (r : Result X E) (P Q : X → Type 0) → ((x : X) → P x → Q x) → IfOk r P → IfOk r Q
+ok_then (Ok x) P Q by holds = by x holds
+ok_then (Err e) P Q by holds = tt
+
+pub err_then : {X E : Type 0} (r : Result X E) (P Q : E → Type 0) → ((e : E) → P e → Q e) → IfErr r P → IfErr r Q
+err_then (Ok x) P Q by holds = tt
+err_then (Err e) P Q by holds = by e holds
+
+-- memory ran out, or the order is of another graph
+pub not_gathered : (told : Type 0) (old new : DiskPast) (before now : ℕ) (kept : Type 0) (bad : StoreFault) (other : Type 0) (why : JournalFault) → (told → kept) → (why ≡ fault.NoMemory) ⊎ ((why ≡ fault.BadStore bad) × other) → IsWhyNoRun told old new before now kept why
+not_gathered told old new before now kept bad other why keeps (inl none) = subst (IsWhyNoRun told old new before now kept) (sym none) (λ t. inr (keeps t))
+not_gathered told old new before now kept bad other why keeps (inr is) = subst (IsWhyNoRun told old new before now kept) (sym is.0) (λ t. inr (keeps t))
+
+-- what ended the run by the counts of faults, told of an earlier count
+pub by_earlier : {D : Type 0} (journal : JournalState D) (old mid now : ℕ) (how : StoredEnd) → old ≤ mid → EndsBy journal mid now how → EndsBy journal old now how
+by_earlier journal old mid now end.Finished less by = by
+by_earlier journal old mid now (end.Spent left) less by = by
+by_earlier journal old mid now (end.Full stored bytes) less by = by
+by_earlier journal old mid now end.DiskFault less by = (by.0, λ small. above old mid now less (by.1 small))
+  where
+    above : (old mid now : ℕ) → old ≤ mid → mid < now → old < now
+    above old mid now less more = omega (arith, less, more)

@@ -1,0 +1,30 @@
+-- The lists are those of the run.
+use Rattle.std.proofs.Common.{All, List, inr, refl, rules, subst, sym, ◌++◌}
+use Rattle.std.specs.Prelude.{IsErrOf}
+use Rattle.call_ends.specs.Gathered.{gathered_lists}
+use Rattle.stored_answers.specs.declared.runs.StoredRun.{StoredRun}
+use Rattle.stored_calls.proofs.Ended.{gathers, run_so}
+use Rattle.stored_calls.specs.Runs.{IsEntryOf, IsRunSo}
+use Rattle.stored_calls.proofs.running.gathered.Goals as goal
+
+pub returns-in-Ok-clause-run : goal.returns-in-Ok-clause-run
+returns-in-Ok-clause-run g c = λ program header start added st o runs at.
+    let meaning = g.P.Program.meaning in
+    let graph = c.args.graph.now in
+    let call = c.args.call in
+    let lists = c.in-Ok.lists in
+    subst (IsRunSo st c.args.failures.now o start added) (sym c.run_of.ensures)
+    (run_so meaning graph program call header start added st o c.args.end runs at c.args.failures.now c.requires.failures c.requires.running lists
+    (c.in-Ok.ensures.gathered st o at.known.was.events at.known.was.cluster at.now (gathers meaning graph program call header start added st o c.args.end runs at))
+    (c.calls_end_so.ensures at.paused header start (start ++ added) call.lost.items call.restarts.stored.items call.restarts.front.items call.order.items st o at.known (gathered_lists lists)))
+
+pub returns-in-Ok-clause-entries : goal.returns-in-Ok-clause-entries
+returns-in-Ok-clause-entries g c = subst (λ (r : StoredRun). All (IsEntryOf c.args.graph.now) r.order.items) (sym c.run_of.ensures) c.in-Ok.ensures.entries
+
+pub returns-in-Err-OtherGraph-clause-other : goal.returns-in-Err-OtherGraph-clause-other
+returns-in-Err-OtherGraph-clause-other g c =
+    inr (
+      refl,
+      λ program header start added st o runs at.
+          c.in-Err-OtherGraph.ensures.other (search rules) st o at.known.was.events at.known.was.cluster at.now (gathers g.P.Program.meaning c.args.graph.now program c.args.call header start added st o c.args.end runs at),
+    )

@@ -1,0 +1,58 @@
+-- The run from its beginning to its end, by whatever owners the placement gives.
+use Rattle.std.proofs.Common.{List, length, subst, sym, ℕ, ◌∙◌, ◌≡◌}
+use Rattle.std.proofs.lemmas.Result.{err_from_is_err_and}
+use Rattle.graph_core.specs.DataGraph.{IsDataGraph}
+use Rattle.stored_calls.proofs.Runs.{by_earlier, err_then, keeps_owner, not_gathered, ok_then, runs_owner, stopped}
+use Rattle.stored_calls.specs.Calls.{EndsBy, snapshots_in}
+use Rattle.stored_calls.proofs.running.run_stored.Goals as goal
+
+pub returns-in_err-end-clause-same : goal.returns-in_err-end-clause-same
+returns-in_err-end-clause-same g c = g.met.D.Disk.same_trans _ _ _ c.in_ok-call.ensures.same c.in_err-end.ensures.same
+
+pub returns-clause-same : goal.returns-clause-same
+returns-clause-same g c = g.met.D.Disk.same_trans _ _ _ c.in_ok-call.ensures.same c.in_ok-end.ensures.same
+
+pub returns-in_err-end-clause-refused : goal.returns-in_err-end-clause-refused
+returns-in_err-end-clause-refused g c =
+    let graph = c.args.graph.now in
+    let there = c.in_ok-call.ensures.setting in
+    let sound : IsDataGraph graph = subst IsDataGraph there.1.placed.graph there.1.setting.is.graph in
+    let exit = err_from_is_err_and c.from_residual-in_err-end.result c.from_residual-in_err-end.ensures.1 in
+    rw (exit.1, exit.2) (stopped _ _ _ _ _ _ _
+    (λ told. keeps_owner g.P.Program.meaning g.D.Disk.past graph (g.P.Program.meaning c.args.program) c.args.plan c.args.failures.now c.args.journal.now c.begin.new.journal c.play_to_end.new.journal c.in_ok-call.call c.play_to_end.new.call c.args.resumed
+    sound c.in_ok-call.ensures.places (λ owner other. c.placements_are_one.ensures graph c.args.plan.run.atoms c.args.plan.run.machines owner other sound c.requires.plan.machines) (c.in_ok-call.ensures.begun told)
+    (c.in_err-end.ensures.call.failures ∙ c.in_ok-call.ensures.failures) (c.in_err-end.ensures.header ∙ c.in_ok-call.ensures.header) (c.in_err-end.ensures.keeps told))
+    c.in_err-end.ensures.refused)
+
+pub returns-clause-run : goal.returns-clause-run
+returns-clause-run g c = λ told.
+    let graph = c.args.graph.now in
+    let there = c.in_ok-call.ensures.setting in
+    let sound : IsDataGraph graph = subst IsDataGraph there.1.placed.graph there.1.setting.is.graph in
+    let counted : length (snapshots_in g.D.Disk.past c.args.journal.now) ≡ c.args.journal.now.count = sym (c.count-stored.ensures.stored told c.requires.well) ∙ c.count-stored.ensures.count in
+    ok_then c.gathered.result _ _
+    (λ run is. runs_owner g.P.Program.meaning g.D.Disk.past graph (g.P.Program.meaning c.args.program) c.args.plan c.args.failures.now c.args.journal.now c.begin.new.journal c.play_to_end.new.journal c.in_ok-call.call c.play_to_end.new.call c.args.resumed
+    sound c.in_ok-call.ensures.places (λ owner other. c.placements_are_one.ensures graph c.args.plan.run.atoms c.args.plan.run.machines owner other sound c.requires.plan.machines) (c.in_ok-call.ensures.begun told)
+    (c.in_ok-end.ensures.call.failures ∙ c.in_ok-call.ensures.failures) (c.in_ok-end.ensures.header ∙ c.in_ok-call.ensures.header)
+    c.in_ok-end.end run c.args.journal.now.count (c.in_ok-end.ensures.ends told) c.in_ok-end.ensures.call.places counted is)
+    c.gathered.ensures.run
+
+pub returns-clause-by : goal.returns-clause-by
+returns-clause-by g c =
+    ok_then c.gathered.result _ _
+    (λ run is. subst (EndsBy c.play_to_end.new.journal (g.D.Disk.faults c.args.journal.now.disk) (g.D.Disk.faults c.play_to_end.new.journal.disk)) (sym is)
+    (by_earlier c.play_to_end.new.journal (g.D.Disk.faults c.args.journal.now.disk) (g.D.Disk.faults c.begin.new.journal.disk) (g.D.Disk.faults c.play_to_end.new.journal.disk) c.in_ok-end.end c.in_ok-call.ensures.later c.in_ok-end.ensures.by))
+    c.gathered.ensures.end
+
+pub returns-clause-refused : goal.returns-clause-refused
+returns-clause-refused g c =
+    let graph = c.args.graph.now in
+    let there = c.in_ok-call.ensures.setting in
+    let sound : IsDataGraph graph = subst IsDataGraph there.1.placed.graph there.1.setting.is.graph in
+    err_then c.gathered.result _ _
+    (λ why other. not_gathered _ _ _ _ _ _ _ _ why
+    (λ told. keeps_owner g.P.Program.meaning g.D.Disk.past graph (g.P.Program.meaning c.args.program) c.args.plan c.args.failures.now c.args.journal.now c.begin.new.journal c.play_to_end.new.journal c.in_ok-call.call c.play_to_end.new.call c.args.resumed
+    sound c.in_ok-call.ensures.places (λ owner other. c.placements_are_one.ensures graph c.args.plan.run.atoms c.args.plan.run.machines owner other sound c.requires.plan.machines) (c.in_ok-call.ensures.begun told)
+    (c.in_ok-end.ensures.call.failures ∙ c.in_ok-call.ensures.failures) (c.in_ok-end.ensures.header ∙ c.in_ok-call.ensures.header) (c.in_ok-end.ensures.keeps told))
+    other)
+    c.gathered.ensures.other

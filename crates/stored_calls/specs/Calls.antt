@@ -1,0 +1,111 @@
+-- Where a call with a store is as it goes on, and as it ends.
+pub use Rattle.call_appends.specs.Appends.{NeedsMore}
+pub use Rattle.call_courses.specs.Courses.{CallOpening, CourseView, IsCourseNow, Setting}
+pub use Rattle.call_ends.specs.Gathered.{IsTaskIn}
+pub use Rattle.call_returns.specs.Missing.{Begins}
+pub use Rattle.call_rounds.specs.Pauses.{NoneReached, PausesSo}
+pub use Rattle.cluster_runs.specs.Recorded.{shared_of}
+pub use Rattle.placed_savers.specs.Beginning.{ArePlacesOf, IsRunAt, IsSaverOf, SaverView}
+pub use Rattle.recovery.specs.Recovered.{IsHeaderOf}
+pub use Rattle.snap_journal.specs.Disks.{DiskPast, IsImage, LeavesOnly}
+pub use Rattle.snap_journal.specs.Journals.{JournalState, snapshots_in}
+pub use Rattle.stored_answers.specs.Images.{HoldsGood, orders_behind, stored_order}
+pub use Rattle.stored_answers.specs.Lines.{AreSnapLines}
+pub use Rattle.stored_courses.specs.Stores.{Cluster, Header, IsKnownCourse}
+use Rattle.std.specs.Prelude.{Err, List, Ok, Option, Result, Some, false, length, suc, true, ⊤, ℕ, ◌+◌, ◌++◌, ◌≡◌}
+use Rattle.call_appends.specs.declared.faults.AppendFault.{AppendFault}
+use Rattle.call_appends.specs.declared.faults.AppendFault.TheVariants as append
+use Rattle.call_rounds.specs.declared.pauses.Pause.TheVariants as pause
+use Rattle.graph_core.specs.DataGraph.{DataGraph}
+use Rattle.recovery.specs.Journals.{records_size}
+use Rattle.snap_journal.specs.Disks.{Rose}
+use Rattle.snap_journal.specs.declared.faults.JournalFault.{JournalFault}
+use Rattle.snap_journal.specs.declared.faults.JournalFault.TheVariants as fault
+use Rattle.store_format.specs.declared.faults.StoreFault.TheVariants.{BadByte}
+use Rattle.stored_answers.specs.declared.runs.StoredEnd.{StoredEnd}
+use Rattle.stored_answers.specs.declared.runs.StoredEnd.TheVariants as end
+use Rattle.stored_calls.specs.declared.calls.StoredCall.{StoredCall}
+use Rattle.update_api.specs.Updates.{Update}
+
+-- what is known of the course of the call, and of a store of these snapshots
+abbrev pub IsKnownAt : {P : Type 0} → (P → Update) → CourseView (SaverView P) → StoredCall P → Header → List (List ℕ) → List (List ℕ) → Setting → CallOpening → Type 0
+IsKnownAt meaning v call header start bodies st o =
+    IsKnownCourse (IsSaverOf meaning) v header start bodies call.lost.items call.restarts.stored.items call.restarts.front.items call.order.items st o
+
+-- The store began with these snapshots, and has got others since, of which the call has a line each. Whatever a crash left since that first
+-- time is a good store that begins with the first ones; and what one leaves now has the others besides.
+pub record IsCallAt {D P : Type 0} (meaning : P → Update) (past : D → DiskPast) (call : StoredCall P) (journal : JournalState D) (start : List (List ℕ)) (first : DiskPast) (st : Setting) (o : CallOpening) : Type 0 where
+  pub added : List (List ℕ)
+  pub known : IsKnownAt meaning call.course call journal.header start (start ++ added) st o
+  pub stored : journal.failed ≡ false → snapshots_in past journal ≡ start ++ added
+  pub lines : AreSnapLines (shared_of st call.course.failures) (suc (length start)) (orders_behind (stored_order start) added) call.snapshots.items
+  pub any_moment : LeavesOnly first (past journal.disk) (HoldsGood (shared_of st call.course.failures) journal.header start)
+  pub at_end : (image : List ℕ) → IsImage (past journal.disk).now image → HoldsGood (shared_of st call.course.failures) journal.header (start ++ added) image
+
+-- what a pause of this course gives for the end of the run, where its store has these snapshots
+abbrev pub PauseGives : {P : Type 0} → (P → Update) → CourseView (SaverView P) → List (List ℕ) → Setting → CallOpening → Cluster → StoredEnd → Type 0
+PauseGives meaning v bodies st o c end.Finished = PausesSo (IsSaverOf meaning) v pause.Ended
+PauseGives meaning v bodies st o c (end.Spent left) = PausesSo (IsSaverOf meaning) v pause.Spent × IsTaskIn st c left.0
+PauseGives meaning v bodies st o c (end.Full stored bytes) =
+    (stored ≡ length bodies) × (bytes ≡ 65 + records_size bodies) × NoneReached (IsSaverOf meaning) v × NeedsMore (IsSaverOf meaning) v st o
+PauseGives meaning v bodies st o c end.DiskFault = ⊤
+
+-- The run has ended so: the course paused where it gives that, and is where it paused.
+pub record IsCallEnded {D P : Type 0} (meaning : P → Update) (past : D → DiskPast) (call : StoredCall P) (journal : JournalState D) (start : List (List ℕ)) (first : DiskPast) (st : Setting) (o : CallOpening) (how : StoredEnd) : Type 0 where
+  pub at : IsCallAt meaning past call journal start first st o
+  pub paused : CourseView (SaverView P)
+  pub known : IsKnownAt meaning paused call journal.header start (start ++ at.added) st o
+  pub failures : paused.failures ≡ call.course.failures
+  pub now : IsCourseNow (IsSaverOf meaning) call.course st o known.was.events known.was.cluster
+  pub gives : PauseGives meaning paused (start ++ at.added) st o known.was.cluster how
+
+-- what ends a run by the counts of the disk's faults, and what the journal has then
+abbrev pub EndsBy : {D : Type 0} → JournalState D → ℕ → ℕ → StoredEnd → Type 0
+EndsBy journal before now end.Finished = journal.failed ≡ false
+EndsBy journal before now (end.Spent left) = journal.failed ≡ false
+EndsBy journal before now (end.Full stored bytes) = (journal.failed ≡ false) × (stored ≡ journal.count) × (bytes ≡ journal.length)
+EndsBy journal before now end.DiskFault = (journal.failed ≡ true) × Rose before now
+
+-- Why a run stopped without an end: memory ran out, or the store or a record for it was not as it should be.
+abbrev pub IsWhyStopped : JournalFault → Type 0
+IsWhyStopped fault.NoMemory = ⊤
+IsWhyStopped (fault.BadStore why) = ⊤
+IsWhyStopped fault.DiskFault = ⊥
+IsWhyStopped (fault.Full stored bytes) = ⊥
+IsWhyStopped fault.Failed = ⊥
+
+-- it is the same call, on the same places, and the run goes on
+pub record IsSameCall {P : Type 0} (old new : StoredCall P) : Type 0 where
+  pub places : new.places ≡ old.places
+  pub start : new.course.start ≡ old.course.start
+  pub failures : new.course.failures ≡ old.course.failures
+  pub machines : length new.course.now.machines.items ≡ length old.course.now.machines.items
+  pub stopped : new.course.now.stopped ≡ old.course.now.stopped
+
+-- The call and its journal can go on: its graph is placed on its machines, the journal is of that graph and found no fault, and the run
+-- wasn't stopped.
+pub record CanCallGoOn {D P : Type 0} (g : DataGraph) (call : StoredCall P) (journal : JournalState D) : Type 0 where
+  pub places : ArePlacesOf g (length call.course.now.machines.items) call.places
+  pub header : IsHeaderOf g journal.header
+  pub restarts : Begins call.restarts.stored.items call.restarts.front.items
+  pub well : journal.failed ≡ false
+  pub running : call.course.now.stopped ≡ false
+
+-- The call has gone on, in each setting of the run, from where it was to where it is.
+abbrev pub KeepsCall : {D P : Type 0} → (P → Update) → (D → DiskPast) → DataGraph → Update → StoredCall P → JournalState D → StoredCall P → JournalState D → Type 0
+KeepsCall meaning past g program call journal later after =
+    (start : List (List ℕ)) (first : DiskPast) (st : Setting) (o : CallOpening) → IsRunAt g program call.places st →
+    IsCallAt meaning past call journal start first st o → IsCallAt meaning past later after start first st o
+
+-- and it has ended so
+abbrev pub EndsCall : {D P : Type 0} → (P → Update) → (D → DiskPast) → DataGraph → Update → StoredCall P → JournalState D → StoredCall P → JournalState D → StoredEnd → Type 0
+EndsCall meaning past g program call journal later after how =
+    (start : List (List ℕ)) (first : DiskPast) (st : Setting) (o : CallOpening) → IsRunAt g program call.places st →
+    IsCallAt meaning past call journal start first st o → IsCallEnded meaning past later after start first st o how
+
+-- what becomes of a run where the snapshot that is due was not added to a store of so many bytes
+abbrev pub end_of : AppendFault → ℕ → Result (Option StoredEnd) JournalFault
+end_of (append.Full stored long) length = Ok (Some (end.Full stored long))
+end_of append.DiskFault length = Ok (Some end.DiskFault)
+end_of append.NotInForm length = Err (fault.BadStore (BadByte length))
+end_of append.NoMemory length = Err fault.NoMemory

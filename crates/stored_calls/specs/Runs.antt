@@ -1,0 +1,75 @@
+-- How a run with a store begins, and what it is as it ends.
+pub use Rattle.call_ends.specs.Ends.{IsEndedRun}
+pub use Rattle.call_starts.specs.Starting.{ArePlacedFor, run_shared}
+pub use Rattle.cluster_plays.specs.Plans.{IsInRange}
+pub use Rattle.job_runs.specs.Plays.{IsPlacement}
+pub use Rattle.order_text.specs.Orders.{IsEntryOf}
+pub use Rattle.stored_answers.specs.Images.{HoldsGood, IsGoodStore, KeepsGood, stored_order}
+pub use Rattle.stored_answers.specs.Runs.{IsStoredRun, Shared}
+pub use Rattle.whole_calls.specs.Following.{AreJobFailures}
+use Rattle.std.specs.Prelude.{Bool, List, length, suc, true, ⊤, ℕ, ◌++◌, ◌≡◌, ◌⊎◌}
+use Rattle.gl_base.specs.declared.entries.Entry.{Entry}
+use Rattle.gl_base.specs.declared.jobs.FailureAt.{FailureAt}
+use Rattle.graph_core.specs.DataGraph.{DataGraph}
+use Rattle.snap_journal.specs.Disks.{DiskPast, Rose}
+use Rattle.snap_journal.specs.declared.faults.JournalFault.{JournalFault}
+use Rattle.snap_journal.specs.declared.faults.JournalFault.TheVariants as fault
+use Rattle.store_format.specs.declared.faults.StoreFault.TheVariants.{BadByte}
+use Rattle.stored_answers.specs.declared.runs.StoredEnd.{StoredEnd}
+use Rattle.stored_answers.specs.declared.runs.StoredRun.{StoredRun}
+use Rattle.stored_calls.specs.Calls.{AreSnapLines, CallOpening, CourseView, Header, IsCallAt, IsCourseNow, IsKnownAt, IsSaverOf, JournalState, PauseGives, SaverView, Setting, orders_behind, shared_of, snapshots_in}
+use Rattle.stored_calls.specs.declared.calls.StoredCall.{StoredCall}
+use Rattle.update_api.specs.Updates.{Update}
+
+-- In this setting the call has begun, resumed or not as this says, with so many tickets, from the store that the journal had.
+pub record HasCallBegun {D P : Type 0} (meaning : P → Update) (past : D → DiskPast) (call : StoredCall P) (journal after : JournalState D) (resumed : Bool) (budget : ℕ) (st : Setting) : Type 0 where
+  pub opening : CallOpening
+  pub resumed_is : opening.resumed ≡ resumed
+  pub tickets : opening.first.left ≡ budget
+  pub at : IsCallAt meaning past call after (snapshots_in past journal) (past journal.disk) st opening
+
+-- The store began with these snapshots and got others, of which the call has a line each; and the run ends so, where the course paused.
+pub record IsEndAt {P : Type 0} (meaning : P → Update) (call : StoredCall P) (header : Header) (start added : List (List ℕ)) (st : Setting) (o : CallOpening) (how : StoredEnd) : Type 0 where
+  pub lines : AreSnapLines (shared_of st call.course.failures) (suc (length start)) (orders_behind (stored_order start) added) call.snapshots.items
+  pub paused : CourseView (SaverView P)
+  pub known : IsKnownAt meaning paused call header start (start ++ added) st o
+  pub failures : paused.failures ≡ call.course.failures
+  pub now : IsCourseNow (IsSaverOf meaning) call.course st o known.was.events known.was.cluster
+  pub gives : PauseGives meaning paused (start ++ added) st o known.was.cluster how
+
+-- the run is one with a store that began with these snapshots, and got these others
+abbrev pub IsRunSo : Setting → List FailureAt → CallOpening → List (List ℕ) → List (List ℕ) → StoredRun → Type 0
+IsRunSo st failures o start added run =
+    IsStoredRun (shared_of st failures) st.machines st.window o.first.left (length start) (stored_order start) o.resumed (orders_behind (stored_order start) added) run
+
+-- what a run shares on this graph, with this owner of each vertex
+abbrev pub owned_shared : DataGraph → Update → (ℕ → ℕ) → List FailureAt → Shared
+owned_shared g program owner failures = record { graph = g; program = program; owner = owner; failures = failures }
+
+-- For each owner that is the placement and by which the store was good: whatever crashes left and leave is good, with the snapshots that were added.
+abbrev pub KeepsByOwner : {D : Type 0} → (D → DiskPast) → DataGraph → Update → ℕ → ℕ → List FailureAt → JournalState D → JournalState D → Type 0
+KeepsByOwner past g program atoms machines failures journal after =
+    (owner : ℕ → ℕ) → IsPlacement g atoms machines owner → IsGoodStore (owned_shared g program owner failures) journal.header (snapshots_in past journal) →
+    (snapshots : List (List Entry)) × KeepsGood (owned_shared g program owner failures) journal.header (snapshots_in past journal) snapshots (past journal.disk) (past after.disk)
+
+-- Why no run was made. There was a fault of the disk before the run began, and the disk is as it was; or memory ran out, or the store or a record
+-- for it was not as it should be, and the disk is as it was, or `kept` holds.
+abbrev pub IsWhyNoRun : Type 0 → DiskPast → DiskPast → ℕ → ℕ → Type 0 → JournalFault → Type 0
+IsWhyNoRun told old new before now kept fault.DiskFault = Rose before now × (told → new ≡ old)
+IsWhyNoRun told old new before now kept (fault.BadStore why) = told → (new ≡ old) ⊎ kept
+IsWhyNoRun told old new before now kept (fault.Full stored bytes) = ⊥
+IsWhyNoRun told old new before now kept fault.Failed = ⊥
+IsWhyNoRun told old new before now kept fault.NoMemory = told → (new ≡ old) ⊎ kept
+
+-- why a call did not begin; `failed` says whether an earlier call had found a fault of the disk
+abbrev pub IsWhyNotBegun : Bool → ℕ → ℕ → JournalFault → Type 0
+IsWhyNotBegun failed before now fault.DiskFault = Rose before now
+IsWhyNotBegun failed before now (fault.BadStore why) = ⊤
+IsWhyNotBegun failed before now (fault.Full stored bytes) = ⊥
+IsWhyNotBegun failed before now fault.Failed = failed ≡ true
+IsWhyNotBegun failed before now fault.NoMemory = ⊤
+
+-- why it did not, by why it did not start: a store of so many bytes that is too long is refused
+abbrev pub refused_by : JournalFault → ℕ → JournalFault
+refused_by (fault.Full stored bytes) length = fault.BadStore (BadByte length)
+refused_by why length = why

@@ -1,0 +1,20 @@
+//! A call that goes on.
+use call_courses::Course;
+use call_returns::Restarts;
+use gl_base::Entry;
+use placed_savers::Places;
+use snap_savers::Saver;
+use stored_answers::SnapLine;
+use update_api::Program;
+
+/// A call in its course: where its graph is placed, the restarts of the store's last order and of that with which the newest attempt began,
+/// that order, the updates that failures took away, and the snapshots that were acknowledged.
+#[derive(Drop)]
+pub(crate) struct StoredCall<P: Program> {
+    pub(crate) course: Course<Saver<P>>,
+    pub(crate) places: Places,
+    pub(crate) restarts: Restarts,
+    pub(crate) order: Vec<Entry>,
+    pub(crate) lost: Vec<Entry>,
+    pub(crate) snapshots: Vec<SnapLine>,
+}

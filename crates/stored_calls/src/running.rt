@@ -1,0 +1,196 @@
+//! A run with a store.
+ghost use Rattle.std.specs.Prelude.{All, List, [], false, length, ◌≡◌, ◌≤◌, ◌<◌, ◌⊎◌, ℕ, IfErr, IfOk, IsErrOf, IsTrue};
+ghost use Rattle.gl_base.specs.declared.entries.Entry.{Entry};
+ghost use Rattle.graph_core.specs.DataGraph.{size};
+ghost use Rattle.snap_journal.specs.declared.faults.JournalFault.TheVariants as fault;
+ghost use Rattle.store_format.specs.declared.faults.StoreFault.TheVariants.{BadByte};
+ghost use Rattle.stored_calls.specs.Calls.{ArePlacesOf, CallOpening, CanCallGoOn, EndsBy, Header, IsHeaderOf, IsRunAt, Setting, shared_of, snapshots_in};
+ghost use Rattle.stored_calls.specs.Runs.{AreJobFailures, ArePlacedFor, HasCallBegun, IsEndAt, IsEntryOf, IsGoodStore, IsInRange, IsRunSo, IsPlacement, IsStoredRun, IsWhyNoRun, IsWhyNotBegun, KeepsByOwner, KeepsGood, owned_shared, refused_by, run_shared, stored_order};
+ghost use Rattle.update_api.specs.Updates.{Update};
+
+use crate::calls::StoredCall;
+use crate::steps::play_to_end;
+use call_ends::{CallLists, GatherFault, calls_end_so, gather_call};
+use call_starts::{Started, start_call};
+use gl_base::FailureAt;
+use gl_outside::Disk;
+use graph_core::Graph;
+use snap_journal::{Journal, JournalFault};
+use snap_savers::Saver;
+use sole_placements::placements_are_one;
+use std::alloc::Global;
+use std::sync::Wait;
+use store_format::StoreFault;
+use stored_answers::{SnapLine, StoredEnd, StoredPlan, StoredRun};
+use update_api::Program;
+
+/// Runs a program from what the store has to the end of the run. Machines fail as the failures order, and all go back to the last snapshot that was
+/// acknowledged; snapshots are taken as the window asks, and one for the end. Where it resumes, the run goes on from the order of
+/// the store's last snapshot, behind which stands a restart; else the store has no snapshot yet.
+///
+/// The run ends finished, at its budget, at a store that is full, or at a fault of the disk while it goes on. `DiskFault` comes where the
+/// disk failed before the run began.
+pub fn run_stored<R: Wait, D: Disk, P: Program>(
+    rt: &R,
+    alloc: Global,
+    graph: &Graph,
+    program: P,
+    plan: StoredPlan,
+    failures: &[FailureAt],
+    journal: &mut Journal<D>,
+    resumed: bool,
+) -> Result<StoredRun, JournalFault>
+    requires plan { IsInRange plan.run }
+    requires few { plan.run.machines < 65535 }
+    requires failures { AreJobFailures plan.run.machines failures.now }
+    requires places { length failures.now ≤ 65536 }
+    requires graph { IsHeaderOf graph.now journal.old.header }
+    requires machines { journal.old.header.machines ≡ plan.run.machines }
+    requires fresh { resumed ≡ false → journal.old.count ≡ 0 }
+    requires well { journal.old.failed ≡ false }
+
+    // From a store that is good by the owners that the placement gives: what the run is, and what crashes leave.
+    ensures run { IsTrue D.told → IfOk result (λ run. (owner : ℕ → ℕ) → IsPlacement graph.now plan.run.atoms plan.run.machines owner →
+        IsGoodStore (owned_shared graph.now (P.meaning program) owner failures.now) journal.old.header (snapshots_in D.past journal.old) →
+        (snapshots : List (List Entry)) × IsStoredRun (owned_shared graph.now (P.meaning program) owner failures.now) plan.run.machines plan.window plan.run.budget journal.old.count
+        (stored_order (snapshots_in D.past journal.old)) resumed snapshots run
+        × KeepsGood (owned_shared graph.now (P.meaning program) owner failures.now) journal.old.header (snapshots_in D.past journal.old) snapshots (D.past journal.old.disk) (D.past journal.new.disk)) }
+
+    ensures by { IfOk result (λ run. EndsBy journal.new (D.faults journal.old.disk) (D.faults journal.new.disk) run.end) }
+    ensures numbers { IfOk result (λ run. length run.numbers.items ≡ size graph.now) }
+    ensures entries { IfOk result (λ run. All (IsEntryOf graph.now) run.order.items) }
+    ensures refused { IfErr result (IsWhyNoRun (IsTrue D.told) (D.past journal.old.disk) (D.past journal.new.disk) (D.faults journal.old.disk) (D.faults journal.new.disk)
+        (KeepsByOwner D.past graph.now (P.meaning program) plan.run.atoms plan.run.machines failures.now journal.old journal.new)) }
+    ensures header { journal.new.header ≡ journal.old.header }
+    ensures same { D.same journal.old.disk journal.new.disk }
+    ensures later { D.faults journal.old.disk ≤ D.faults journal.new.disk }
+{
+    placements_are_one();
+    let _stored = journal.count();
+    let mut call = begin(alloc, graph, program, plan, failures, journal, resumed)?;
+    let end = play_to_end(rt, alloc, graph, program, &mut call, journal)?;
+    let long = journal.length();
+    gathered(alloc, graph, failures, call, end, long)
+}
+
+/// The call as it starts.
+fn begin<D: Disk, P: Program>(
+    alloc: Global,
+    graph: &Graph,
+    program: P,
+    plan: StoredPlan,
+    failures: &[FailureAt],
+    journal: &mut Journal<D>,
+    resumed: bool,
+) -> Result<StoredCall<P>, JournalFault>
+    requires plan { IsInRange plan.run }
+    requires few { plan.run.machines < 65535 }
+    requires failures { AreJobFailures plan.run.machines failures.now }
+    requires graph { IsHeaderOf graph.now journal.old.header }
+    requires machines { journal.old.header.machines ≡ plan.run.machines }
+    requires fresh { resumed ≡ false → journal.old.count ≡ 0 }
+    ensures can { IfOk result (λ call. CanCallGoOn graph.now call journal.new) }
+    ensures begun { IsTrue D.told → IfOk result (λ call. (st : Setting) → IsRunAt graph.now (P.meaning program) call.places st →
+        IsGoodStore (shared_of st failures.now) journal.old.header (snapshots_in D.past journal.old) → HasCallBegun P.meaning D.past call journal.old journal.new resumed plan.run.budget st) }
+    ensures setting { IfOk result (λ call. (st : Setting) × IsRunAt graph.now (P.meaning program) call.places st × (shared_of st failures.now ≡ run_shared graph.now (P.meaning program) call.places failures.now)) }
+    ensures places { IfOk result (λ call. ArePlacedFor graph.now plan call.places) }
+    ensures failures { IfOk result (λ call. call.course.failures ≡ failures.now) }
+    ensures refused { IfErr result (IsWhyNotBegun journal.old.failed (D.faults journal.old.disk) (D.faults journal.new.disk)) }
+    ensures past { IsTrue D.told → D.past journal.new.disk ≡ D.past journal.old.disk }
+    ensures header { journal.new.header ≡ journal.old.header }
+    ensures same { D.same journal.old.disk journal.new.disk }
+    ensures later { D.faults journal.old.disk ≤ D.faults journal.new.disk }
+{
+    let _stored = journal.count();
+    match start_call(alloc, graph, program, plan, failures, journal, resumed) {
+        Ok(started) => Ok(call_of(alloc, started)),
+        Err(why) => Err(refused_by(why, journal.length())),
+    }
+}
+
+/// The call that has started.
+fn call_of<P: Program>(alloc: Global, started: Started<P>) -> StoredCall<P>
+    ensures course { result.course ≡ started.course }
+    ensures places { result.places ≡ started.places }
+    ensures restarts { result.restarts ≡ started.restarts }
+    ensures order { result.order ≡ started.order }
+    ensures lost { result.lost.items ≡ [] }
+    ensures snapshots { result.snapshots.items ≡ [] }
+{
+    let Started {
+        course,
+        places,
+        order,
+        restarts,
+    } = started;
+    StoredCall {
+        course,
+        places,
+        restarts,
+        order,
+        lost: Vec::new(alloc),
+        snapshots: Vec::new(alloc),
+    }
+}
+
+/// Why a call did not begin with a store of so many bytes. One that is so long that its length can't be told is refused.
+fn refused_by(why: JournalFault, length: u64) -> JournalFault
+    ensures { result ≡ refused_by why length }
+{
+    match why {
+        JournalFault::Full { .. } => JournalFault::BadStore(StoreFault::BadByte(length)),
+        why => why,
+    }
+}
+
+/// The run of a call that ended so, whose store has so many bytes.
+fn gathered<P: Program>(
+    alloc: Global,
+    graph: &Graph,
+    failures: &[FailureAt],
+    call: StoredCall<P>,
+    end: StoredEnd,
+    long: u64,
+) -> Result<StoredRun, JournalFault>
+    requires places { ArePlacesOf graph.now (length call.course.now.machines.items) call.places }
+    requires failures { call.course.failures ≡ failures.now }
+    requires few { length failures.now ≤ 65536 }
+    requires running { call.course.now.stopped ≡ false }
+    ensures run { IfOk result (λ run. (program : Update) (header : Header) (start added : List (List ℕ)) (st : Setting) (o : CallOpening) → IsRunAt graph.now program call.places st →
+        IsEndAt P.meaning call header start added st o end → IsRunSo st failures.now o start added run) }
+    ensures end { IfOk result (λ run. run.end ≡ end) }
+    ensures numbers { IfOk result (λ run. length run.numbers.items ≡ size graph.now) }
+    ensures entries { IfOk result (λ run. All (IsEntryOf graph.now) run.order.items) }
+    ensures other { IfErr result (λ why. (why ≡ fault.NoMemory) ⊎ ((why ≡ fault.BadStore (BadByte long)) × ((program : Update) (header : Header) (start added : List (List ℕ)) (st : Setting) (o : CallOpening) →
+        IsRunAt graph.now program call.places st → IsEndAt P.meaning call header start added st o end → ⊥))) }
+{
+    calls_end_so::<Saver<P>>();
+    let StoredCall {
+        course,
+        places,
+        order,
+        lost,
+        snapshots,
+        ..
+    } = call;
+    match gather_call(alloc, graph, &course, &places, failures, order, lost) {
+        Ok(lists) => Ok(run_of(lists, snapshots, end)),
+        Err(GatherFault::OtherGraph) => Err(JournalFault::BadStore(StoreFault::BadByte(long))),
+        Err(GatherFault::NoMemory) => Err(JournalFault::NoMemory),
+    }
+}
+
+/// The run with these lists.
+fn run_of(lists: CallLists, snapshots: Vec<SnapLine>, end: StoredEnd) -> StoredRun
+    ensures { result ≡ record { order = lists.order; lost = lists.lost; done = lists.done; fired = lists.fired; snapshots = snapshots; numbers = lists.numbers; end = end } }
+{
+    StoredRun {
+        order: lists.order,
+        lost: lists.lost,
+        done: lists.done,
+        fired: lists.fired,
+        snapshots,
+        numbers: lists.numbers,
+        end,
+    }
+}
