@@ -1,5 +1,5 @@
 -- The next attempt, from what the store has.
-use Rattle.std.proofs.Common.{◌≡◌, ℕ, ◌+◌, ◌*◌, ◌<◌, ◌++◌, ◌∙◌, true, false, List, [], ◌∷◌, ap, ap₂, filter, if◌then◌else◌, length, refl, subst, sym, ⊎_elim}
+use Rattle.std.proofs.Common.{◌≡◌, ℕ, ◌+◌, ◌*◌, ◌<◌, ◌++◌, ◌∙◌, true, List, [], ◌∷◌, ap, ap₂, filter, if◌then◌else◌, length, refl, subst, sym, ⊎_elim}
 use Rattle.std.specs.Prelude.{slice_index_or}
 use Rattle.gl_base.specs.declared.entries.Entry.{Entry}
 use Rattle.gl_base.specs.declared.numbers.AtomNo.{AtomNo}

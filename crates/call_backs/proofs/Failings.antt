@@ -1,5 +1,5 @@
 -- Machines fail, and nothing else happens.
-use Rattle.std.proofs.Common.{◌≡◌, ◌⊎◌, ℕ, zero, suc, ◌<◌, ◌++◌, ◌∙◌, Bool, true, false, List, [], ◌∷◌, append_assoc, arith, length, refl, sym, ap, subst, ⊎_elim}
+use Rattle.std.proofs.Common.{◌≡◌, ◌⊎◌, ℕ, zero, suc, ◌<◌, ◌++◌, ◌∙◌, Bool, true, false, List, [], ◌∷◌, append_assoc, arith, length, refl, sym, subst, ⊎_elim}
 use Rattle.std.proofs.lemmas.List.{append-nil}
 use Rattle.std.specs.Prelude.{Err, Ok, OnErr, Result, slice_index_or}
 use Rattle.gl_base.specs.declared.jobs.FailureAt.{FailureAt}

@@ -10,11 +10,11 @@ use Rattle.cluster_model.specs.Totals.{total}
 use Rattle.cluster_whole.proofs.Flows.{total_from-all_none}
 use Rattle.recovery.specs.Journals.{records_size}
 use Rattle.snap_savers.specs.Savers.{IsSaverOf, SaverView}
-use Rattle.stored_courses.specs.Stores.{IsStoredCourse, KeepsUp, first_cluster, fronts_in, recorded_in}
+use Rattle.stored_courses.specs.Stores.{KeepsUp, first_cluster, fronts_in, recorded_in}
 use Rattle.update_api.specs.Updates.{Update}
 use Rattle.whole_calls.proofs.Leading.{behind_since}
 use Rattle.whole_calls.specs.Lost.{AreLostIn}
-use Rattle.call_backs.specs.Failing.{CallOpening, Cluster, CourseView, HaveFailedSince, IsCourseNow, Machine, Setting, has_reached, newest_setting}
+use Rattle.call_backs.specs.Failing.{CallOpening, Cluster, CourseView, HaveFailedSince, Machine, Setting, has_reached, newest_setting}
 use Rattle.call_backs.specs.Returning.{BaseView, GoesBackSo, HasFailures, HasReachedSome, Header, IsKnownCourse, StoreView, is_restart}
 
 -- a setting has as many machines in each attempt

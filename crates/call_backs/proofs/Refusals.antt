@@ -1,5 +1,5 @@
 -- Why all didn't go back.
-use Rattle.std.proofs.Common.{◌≡◌, ℕ, ◌+◌, ◌*◌, ◌≤◌, ◌^◌, ◌∙◌, Bool, true, false, ap₂, refl, subst, sym}
+use Rattle.std.proofs.Common.{◌≡◌, ℕ, ◌+◌, ◌*◌, ◌≤◌, ◌^◌, ◌∙◌, Bool, false, ap₂, subst, sym}
 use Rattle.call_courses.proofs.Going.{setting_now}
 use Rattle.call_courses.specs.Courses.{IsSnapSetting}
 use Rattle.cluster_model.specs.Events.{failures_in}

@@ -1,8 +1,7 @@
 -- Machine by machine.
-use Rattle.std.proofs.Common.{◌≡◌, ◌⊎◌, ◌+◌, ◌<◌, ◌≤◌, ℕ, arith, inl, inr, length}
+use Rattle.std.proofs.Common.{◌≡◌, ◌⊎◌, ◌+◌, ◌<◌, ◌≤◌, ℕ, arith, inl, inr}
 use Rattle.std.proofs.lemmas.Bool.{cases_lt}
 use Rattle.call_backs.proofs.Failings.{both_failed, on_err, same_itself, same_then, untouched}
-use Rattle.call_backs.proofs.failing.fail_reached.Given as given
 use Rattle.call_backs.proofs.failing.fail_reached.Goals as goal
 
 none : (a : ℕ) → a < 0 → ⊥

@@ -1,4 +1,4 @@
-use Rattle.std.proofs.Common.{ℕ, ◌<◌}
+use Rattle.std.proofs.Common.{◌<◌}
 use Rattle.call_backs.specs.Failing.{HaveFailedSince, InEachCourse, IsSameAttempt}
 use Rattle.call_backs.proofs.failing.fail_reached.Given as goal
 

@@ -1,11 +1,11 @@
 -- All go back.
-use Rattle.std.proofs.Common.{◌≡◌, ◌<◌, ◌∙◌, length, subst, sym, ℕ}
+use Rattle.std.proofs.Common.{◌<◌, length, subst, sym}
 use Rattle.coord_core.specs.Stores.{store_view}
 use Rattle.snap_journal.specs.Journals.{snapshots_in}
 use Rattle.call_backs.proofs.Failings.{fewer, on_err}
 use Rattle.call_backs.proofs.Keepings.{known_back, known_failed, lost_read}
-use Rattle.call_backs.specs.Failing.{CourseView, HaveFailedSince, InEachCourse}
-use Rattle.call_backs.specs.Returning.{IsSaverOf, SaverView}
+use Rattle.call_backs.specs.Failing.{HaveFailedSince, InEachCourse}
+use Rattle.call_backs.specs.Returning.{IsSaverOf}
 use Rattle.call_backs.proofs.going.go_back.Goals as goal
 
 pub returns-in_err-next-clause-failed : goal.returns-in_err-next-clause-failed

@@ -1,5 +1,5 @@
 -- The machines of the next attempt, and what is lost.
-use Rattle.std.proofs.Common.{◌≡◌, ◌<◌, ◌++◌, ◌∙◌, List, ap, length, subst, sym, ℕ}
+use Rattle.std.proofs.Common.{◌++◌, ◌∙◌, List, ap, length, sym}
 use Rattle.gl_base.specs.declared.entries.Entry.{Entry}
 use Rattle.call_backs.proofs.Attempts.{admitted_so, stand_so, starts_so}
 use Rattle.call_backs.specs.Returning.{newest_setting}

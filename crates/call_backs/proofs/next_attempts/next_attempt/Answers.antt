@@ -1,5 +1,5 @@
 -- The next attempt goes on from what the store has.
-use Rattle.std.proofs.Common.{◌≡◌, ◌+◌, ◌*◌, ◌++◌, ◌∙◌, List, ap, filter, subst, sym, ℕ}
+use Rattle.std.proofs.Common.{◌≡◌, ◌++◌, ◌∙◌, List, ap, filter, subst, sym}
 use Rattle.std.proofs.lemmas.Result.{err_from_is_err_and}
 use Rattle.gl_base.specs.declared.entries.Entry.{Entry}
 use Rattle.cluster_runs.specs.Recorded.{shared_of}

@@ -1,7 +1,7 @@
 -- One machine more.
 use Rattle.std.proofs.Common.{◌≡◌, Bool, ℕ, suc, ◌+◌, ◌<◌, ◌++◌, [], ◌∷◌, ◌∙◌, add-one, ap, arith, false, length, length-append, subst, sym}
 use Rattle.std.specs.Prelude.{slice_index_or}
-use Rattle.call_backs.specs.Failing.{InEachCourse, newest_setting}
+use Rattle.call_backs.specs.Failing.{InEachCourse}
 use Rattle.call_backs.proofs.Failings.{grown}
 use Rattle.call_backs.proofs.reading.failed_flags.Given as given
 use Rattle.call_backs.proofs.reading.failed_flags.Goals as goal

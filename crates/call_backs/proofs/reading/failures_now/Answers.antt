@@ -1,5 +1,5 @@
 -- Counted by the flags.
-use Rattle.std.proofs.Common.{◌≡◌, ◌<◌, ◌∙◌, List, Bool, ap, false, length, subst, sym, ℕ}
+use Rattle.std.proofs.Common.{◌<◌, ◌∙◌, List, Bool, ap, false, length, subst, sym, ℕ}
 use Rattle.std.specs.Prelude.{slice_index_or}
 use Rattle.call_backs.proofs.Keepings.{machines_same}
 use Rattle.call_backs.proofs.reading.failures_now.Goals as goal

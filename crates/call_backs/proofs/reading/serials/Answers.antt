@@ -1,5 +1,5 @@
 -- One machine more.
-use Rattle.std.proofs.Common.{◌≡◌, Bool, ℕ, suc, ◌+◌, ◌<◌, ◌++◌, [], ◌∷◌, ◌∙◌, add-one, ap, arith, false, length, length-append, rules, subst, sym}
+use Rattle.std.proofs.Common.{◌≡◌, ℕ, suc, ◌+◌, ◌<◌, ◌++◌, [], ◌∷◌, ◌∙◌, add-one, ap, arith, length, length-append, rules, subst, sym}
 use Rattle.std.specs.Prelude.{slice_index_or}
 use Rattle.call_backs.specs.Failing.{InEachCourse, newest_setting}
 use Rattle.call_backs.proofs.Failings.{grown}
