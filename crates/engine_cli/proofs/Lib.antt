@@ -6,6 +6,11 @@ pub mod CutMade
 pub mod StoreMade
 pub mod PlansInRange
 pub mod Results
+pub mod JobFailures
+pub mod DisksLeft
+pub mod StoreRuns
+pub mod StoreUsed
+pub mod Preparing
 pub mod RunsSay
 pub mod Bounds
 pub mod EntriesInside

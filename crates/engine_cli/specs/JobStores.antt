@@ -38,11 +38,11 @@ abbrev pub KeepsAllImages : Bool → FilesState → (List ℕ → DiskPast) → 
 KeepsAllImages told old new = (name : List ℕ) → IfDisksTold told old (KeepsImages (old.pasts name) (new name))
 
 -- A run that went on from a good store wanted memory: it may have got snapshots, and the store keeps all that it had.
-pub record KeepsGoing (job : JobSayings) (g : DataGraph) (old new : DiskPast) : Type 0 where
-  pub owner : ℕ → ℕ
-  pub placement : IsPlacement g job.fields.atoms job.fields.machines owner
-  pub keeps : (front : List (List ℕ)) → AreGoodImages (shared_by job g owner) (header_for job.fields g) front old
-      → (snapshots : List (List Entry)) × KeepsStore (shared_by job g owner) (header_for job.fields g) front (snapshots_on job g old) snapshots old new
+abbrev pub KeepsGoing : JobSayings → DataGraph → DiskPast → DiskPast → Type 0
+KeepsGoing job g old new =
+    (owner : ℕ → ℕ) → IsPlacement g job.fields.atoms job.fields.machines owner
+    → (front : List (List ℕ)) → AreGoodImages (shared_by job g owner) (header_for job.fields g) front old
+    → (snapshots : List (List Entry)) × KeepsStore (shared_by job g owner) (header_for job.fields g) front (snapshots_on job g old) snapshots old new
 
 -- this holds of the name of the job's store, and of all that the job says and its graph
 abbrev pub OfStoredJob : JobVerb → FilesState → List ℕ → (List ℕ → JobSayings → DataGraph → Type 0) → Type 0

@@ -41,19 +41,19 @@ pub fn run_stored<R: Wait, D: Disk, P: Program>(
     requires machines { journal.old.header.machines ≡ plan.run.machines }
     requires fresh { resumed ≡ false → journal.old.count ≡ 0 }
     requires well { journal.old.failed ≡ false }
-    ensures run { IsTrue D.told → IfOk result (λ run. (owner : ℕ → ℕ) × IsPlacement graph.now plan.run.atoms plan.run.machines owner
-        × ((shared : Shared) → shared ≡ record { graph = graph.now; program = P.meaning program; owner = owner; failures = failures.now } → IsGoodStore shared journal.old.header (snapshots_in D.past journal.old) →
+    ensures run { IsTrue D.told → IfOk result (λ run. (owner : ℕ → ℕ) → IsPlacement graph.now plan.run.atoms plan.run.machines owner →
+        (shared : Shared) → shared ≡ record { graph = graph.now; program = P.meaning program; owner = owner; failures = failures.now } → IsGoodStore shared journal.old.header (snapshots_in D.past journal.old) →
         (snapshots : List (List Entry)) × IsStoredRun shared plan.run.machines plan.window plan.run.budget journal.old.count (stored_order (snapshots_in D.past journal.old)) resumed snapshots run
-        × KeepsGood shared journal.old.header (snapshots_in D.past journal.old) snapshots (D.past journal.old.disk) (D.past journal.new.disk))) }
+        × KeepsGood shared journal.old.header (snapshots_in D.past journal.old) snapshots (D.past journal.old.disk) (D.past journal.new.disk)) }
     ensures full { IsTrue D.told → IfOk result (λ run. (stored bytes : ℕ) → run.end ≡ Full stored bytes →
         (stored ≡ length (snapshots_in D.past journal.new)) × (bytes ≡ 65 + records_size (snapshots_in D.past journal.new))) }
     ensures fault { IfOk result (λ run. run.end ≡ DiskFault → Rose (D.faults journal.old.disk) (D.faults journal.new.disk)) }
     ensures numbers { IfOk result (λ run. length run.numbers.items ≡ size graph.now) }
     ensures entries { IfOk result (λ run. All (IsEntryOf graph.now) run.order.items) }
     ensures refused { IfErr result (IsWhyNoRun (IsTrue D.told) (D.past journal.old.disk) (D.past journal.new.disk) (D.faults journal.old.disk) (D.faults journal.new.disk)
-        ((owner : ℕ → ℕ) × IsPlacement graph.now plan.run.atoms plan.run.machines owner
-        × ((shared : Shared) → shared ≡ record { graph = graph.now; program = P.meaning program; owner = owner; failures = failures.now } → IsGoodStore shared journal.old.header (snapshots_in D.past journal.old) →
-        (snapshots : List (List Entry)) × KeepsGood shared journal.old.header (snapshots_in D.past journal.old) snapshots (D.past journal.old.disk) (D.past journal.new.disk)))) }
+        ((owner : ℕ → ℕ) → IsPlacement graph.now plan.run.atoms plan.run.machines owner →
+        (shared : Shared) → shared ≡ record { graph = graph.now; program = P.meaning program; owner = owner; failures = failures.now } → IsGoodStore shared journal.old.header (snapshots_in D.past journal.old) →
+        (snapshots : List (List Entry)) × KeepsGood shared journal.old.header (snapshots_in D.past journal.old) snapshots (D.past journal.old.disk) (D.past journal.new.disk))) }
     ensures header { journal.new.header ≡ journal.old.header }
     ensures same { D.same journal.old.disk journal.new.disk }
     ensures later { D.faults journal.old.disk ≤ D.faults journal.new.disk }

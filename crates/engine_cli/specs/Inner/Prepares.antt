@@ -71,7 +71,7 @@ abbrev pub UsesNamed : Option (List ℕ) → FilesState → FilesState → Type 
 UsesNamed None old new = new ≡ old
 UsesNamed (Some name) old new = UsesDisk name old new
 
--- the job is that of the file, the graph is that of its two texts, and the run is one of the job on it
+-- the job is that of the file, the graph is that of its two texts, and the run is one of the job on it; without a store no disk changed
 pub record IsPreparedFrom (told : Bool) (asked : JobVerb) (old new : FilesState) (file : List ℕ) (prepared : Prepared) : Type 0 where
   pub job : SaysJob asked old file (job_view prepared.job)
   pub texts : OfTexts old (job_view prepared.job).fields (λ vertices edges. DescribeJobGraph (job_view prepared.job).fields vertices edges prepared.graph)
@@ -81,6 +81,7 @@ pub record IsPreparedFrom (told : Bool) (asked : JobVerb) (old new : FilesState)
   pub runs : RunsSo told asked old new.pasts (job_view prepared.job) prepared.graph prepared.run prepared.job.store
   pub fault : prepared.run.end ≡ end.DiskFault → Rose old.disks.faults new.disks.faults
   pub printable : IsPrintable prepared.graph prepared.run
+  pub alone : prepared.job.store ≡ None → new.pasts ≡ old.pasts
 
 -- a run that was made; or why none was
 abbrev pub IsPrepared : Bool → JobVerb → FilesState → FilesState → List ℕ → Result Prepared Status → Type 0

@@ -30,21 +30,18 @@ use Rattle.engine_cli.specs.JobStores.{KeepsGoing, KeepsImages, RefusesStore}
 abbrev pub shared_with : JobSayings → DataGraph → Update → (ℕ → ℕ) → Shared
 shared_with job g p owner = record { graph = g; program = p; owner = owner; failures = job.failures }
 
--- A run of this program from an opened store with these snapshots, which are so many. From a good store it is one that goes on from it.
+-- A run of this program from an opened store with these snapshots, which are so many. From one that is good for the placed graph it is one that goes on from it.
 pub record IsRunFrom (job : JobSayings) (g : DataGraph) (p : Update) (resumed : Bool) (count : ℕ) (bodies : List (List ℕ)) (old new : DiskPast) (run : StoredRun) : Type 0 where
-  pub owner : ℕ → ℕ
-  pub placement : IsPlacement g job.fields.atoms job.fields.machines owner
-  pub goes_on : IsGoodStore (shared_with job g p owner) (header_for job.fields g) bodies →
+  pub goes_on : (owner : ℕ → ℕ) → IsPlacement g job.fields.atoms job.fields.machines owner → IsGoodStore (shared_with job g p owner) (header_for job.fields g) bodies →
       (snapshots : List (List Entry)) × IsStoredRun (shared_with job g p owner) job.fields.machines job.fields.window job.fields.budget count (stored_order bodies) resumed snapshots run
       × KeepsGood (shared_with job g p owner) (header_for job.fields g) bodies snapshots old new
   pub full : (stored bytes : ℕ) → run.end ≡ end.Full stored bytes → (stored ≡ length (snapshots_on job g new)) × (bytes ≡ 65 + records_size (snapshots_on job g new))
 
 -- a good store with these snapshots may have got others, and keeps what it had
-pub record IsKept (job : JobSayings) (g : DataGraph) (p : Update) (bodies : List (List ℕ)) (old new : DiskPast) : Type 0 where
-  pub owner : ℕ → ℕ
-  pub placement : IsPlacement g job.fields.atoms job.fields.machines owner
-  pub keeps : IsGoodStore (shared_with job g p owner) (header_for job.fields g) bodies →
-      (snapshots : List (List Entry)) × KeepsGood (shared_with job g p owner) (header_for job.fields g) bodies snapshots old new
+abbrev pub IsKept : JobSayings → DataGraph → Update → List (List ℕ) → DiskPast → DiskPast → Type 0
+IsKept job g p bodies old new =
+    (owner : ℕ → ℕ) → IsPlacement g job.fields.atoms job.fields.machines owner → IsGoodStore (shared_with job g p owner) (header_for job.fields g) bodies →
+    (snapshots : List (List Entry)) × KeepsGood (shared_with job g p owner) (header_for job.fields g) bodies snapshots old new
 
 -- why there is no run of this program
 abbrev pub IsWhyNotStored : Type 0 → JobSayings → DataGraph → Update → List (List ℕ) → DiskPast → DiskPast → ℕ → ℕ → JournalFault → Type 0
