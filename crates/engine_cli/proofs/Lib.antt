@@ -6,8 +6,10 @@ pub mod CutMade
 pub mod StoreMade
 pub mod PlansInRange
 pub mod Results
+pub mod Alone
 pub mod JobFailures
 pub mod DisksLeft
+pub mod StoredBy
 pub mod StoreRuns
 pub mod StoreUsed
 pub mod Preparing

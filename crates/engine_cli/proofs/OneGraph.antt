@@ -26,7 +26,7 @@ use Rattle.engine_cli.specs.Status.{IsDoneOrNoMemory}
 use Rattle.job_files.specs.JobTexts.{LacksSource, RefusesEdges, is_weighted, OfJob, OfSaid, OfTexts, RefusesSource, RefusesTexts, DescribeJobGraph, RefusesJob}
 use Rattle.engine_cli.specs.Answer.{IsValid}
 use Rattle.engine_cli.specs.JobRuns.{CallLists, IsEndAlone, MakesRun, RunsAlone, RunsSo, is_resumed, left_at}
-use Rattle.engine_cli.specs.JobStores.{RefusesStore}
+use Rattle.engine_cli.specs.JobStores.{IsOtherStore, RefusesStore}
 use Rattle.engine_cli.specs.Plays.{IsSpent, update_of}
 use Rattle.gl_outside.specs.Disk.{DiskPast}
 use Rattle.job_stores.specs.JobHeaders.{header_for}
@@ -240,8 +240,14 @@ not_refused told asked file before now (BadStore fault) says sound =
     let old : FilesState = before.files in
     let named = of_said asked old file
     (λ job. (name : List ℕ) × (job.fields.store ≡ Some name) × OfTexts old job.fields (OfGraph job.fields (λ g. IfDisksTold told old (RefusesStore (is_resumed asked) (header_for job.fields g) (old.pasts name).now.seen fault))))
-    sound.input says.0 in
-    no_store named.0 sound.input.job.fields.store sound.alone named.1
+    sound.input in
+    let other = of_said asked old file
+    (λ job. (name : List ℕ) × (job.fields.store ≡ Some name) × OfTexts old job.fields (OfGraph job.fields (λ g. IfDisksTold told old (IsOtherStore job g (old.pasts name)))))
+    sound.input in
+    ⊎_elim
+    (λ refused. let at = named refused.0 in no_store at.0 sound.input.job.fields.store sound.alone at.1)
+    (λ is. let at = other is in no_store at.0 sound.input.job.fields.store sound.alone at.1)
+    says
 not_refused told asked file before now (BudgetSpent left) says sound = says
 not_refused told asked file before now (SnapshotsFull stored length) says sound = says
 not_refused told asked file before now NoMemory says sound = tt

@@ -29,7 +29,7 @@ use Rattle.whole_files.specs.FilesUsed.{HandsOver}
 use Rattle.engine_cli.specs.Inner.Prepares.{ChangesInput, IsWhyNoneMade, UsesNamed}
 use Rattle.engine_cli.specs.Inner.Storing.{IsWhyNoStoredRun}
 use Rattle.engine_cli.specs.JobRuns.{RunsOnStore, RunsSo, is_resumed}
-use Rattle.engine_cli.specs.JobStores.{KeepsAllImages, KeepsGoing, KeepsImages, LeavesDisks, NamesStore, OfStoredJob, RefusesStore, UsesStore}
+use Rattle.engine_cli.specs.JobStores.{IsOtherStore, KeepsAllImages, KeepsGoing, KeepsImages, LeavesDisks, NamesStore, OfStoredJob, RefusesStore, UsesStore}
 use Rattle.engine_cli.specs.NamesWritten.{order_names}
 use Rattle.engine_cli.specs.Says.{Refuses}
 use Rattle.engine_cli.specs.Status.{IsBeforeMaking, IsRefusedInput, status_of_no_input, status_of_no_store}
@@ -202,11 +202,16 @@ module _ (told : Bool) (asked : JobVerb) (file : List ℕ) (old mid new : FilesS
         → Refuses told asked file old new (status_of_no_store cause)
     stored-refuses name (no_store.BadStore fault) named used refused =
         let R : DiskPast → Type 0 = λ p. RefusesStore (is_resumed asked) (header_for job.fields input.graph) p.now.seen fault in
-        let said = since (λ p. R (p name) × KeepsImages (p name) (new.pasts name)) refused in (
-          of-store name named (λ n j g. IfDisksTold told old (RefusesStore (is_resumed asked) (header_for j.fields g) (old.pasts n).now.seen fault))
-              (both-first (R (old.pasts name)) (KeepsImages (old.pasts name) (new.pasts name)) said),
-          all-images name used (both-second (R (old.pasts name)) (KeepsImages (old.pasts name) (new.pasts name)) said),
-        )
+        let K = KeepsImages (old.pasts name) (new.pasts name) in
+        let said = since (λ p. (R (p name) × KeepsImages (p name) (new.pasts name)) ⊎ IsOtherStore job input.graph (p name)) refused in
+        ⊎_elim
+        (λ refuses.
+        inl (
+          of-store name named (λ n j g. IfDisksTold told old (RefusesStore (is_resumed asked) (header_for j.fields g) (old.pasts n).now.seen fault)) (both-first (R (old.pasts name)) K refuses),
+          all-images name used (both-second (R (old.pasts name)) K refuses),
+        ))
+        (λ other. inr (of-store name named (λ n j g. IfDisksTold told old (IsOtherStore j g (old.pasts n))) other))
+        (either (R (old.pasts name) × K) (IsOtherStore job input.graph (old.pasts name)) said)
     stored-refuses name no_store.DiskFault named used refused =
         (rose-since refused.0, names-store name named, all-images name used (since (λ p. KeepsImages (p name) (new.pasts name)) refused.1))
     stored-refuses name no_store.NoMemory named used refused =

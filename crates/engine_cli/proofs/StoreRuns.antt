@@ -27,9 +27,9 @@ use Rattle.stored_answers.specs.declared.runs.StoredEnd.{StoredEnd}
 use Rattle.stored_answers.specs.declared.runs.StoredEnd.TheVariants as end
 use Rattle.stored_answers.specs.declared.runs.StoredRun.{StoredRun}
 use Rattle.update_api.specs.Updates.{Update}
-use Rattle.engine_cli.specs.Inner.Storing.{IsKept, IsRunFrom, IsWhyNotOnDisk, IsWhyNotOnJournal, IsWhyNotStored, no_store_of_journal}
+use Rattle.engine_cli.specs.Inner.Storing.{IsKept, IsNotGood, IsRunFrom, IsWhyNotOnDisk, IsWhyNotOnJournal, IsWhyNotStored, no_store_of_journal}
 use Rattle.engine_cli.specs.JobRuns.{AreGoodImages, GoesOnFrom, KeepsStore, RunsOnStore, shared_by, snapshots_on}
-use Rattle.engine_cli.specs.JobStores.{IsUsed, KeepsGoing, KeepsImages, RefusesStore}
+use Rattle.engine_cli.specs.JobStores.{IsOtherStore, IsUsed, KeepsGoing, KeepsImages, RefusesStore}
 use Rattle.engine_cli.specs.Plays.{AreResults, update_of}
 use Rattle.engine_cli.proofs.DisksLeft.{leaves-more, leaves-same, leaves-twice}
 use Rattle.engine_cli.proofs.Results.{results-of}
@@ -129,6 +129,10 @@ module _ (job : JobSayings) (g : DataGraph) (old mid new : DiskPast) (bodies : L
       let K : List (List ℕ) → Type 0 = λ b. KeepsStore shared header front b went.0 old new in
       (went.0, subst K same (keeps-store shared front went.0 good went.1))
 
+  -- the store is none that calls leave
+  other-store : IsNotGood job g program bodies → IsOtherStore job g old
+  other-store not owner placed front good = not owner placed (front-opened (shared_by job g owner) front good).2
+
   -- a disk that the run left as it was opened
   unchanged : new ≡ mid → KeepsImages old new
   unchanged same = subst (λ (p : DiskPast). KeepsImages old p) (sym same) opened
@@ -138,8 +142,10 @@ pub not-on-disk : (told : Type 0) (resumed : Bool) (job : JobSayings) (g : DataG
     → (told → IsImage old.now old.now.seen) → (told → StandsFor (header_for job.fields g) bodies old.now.seen) → (told → LeavesOnly old mid (IsImage old.now)) → before ≤ between
     → IsWhyNotOnJournal told resumed job g (update_of job.fields.algorithm job.fields.source) bodies mid new between now why → IsWhyNotOnDisk told resumed job g old new before now why
 not-on-disk told resumed job g old mid new bodies before between now (no_store.BadStore fault) seen stands opened later refused is =
-    let said = refused is in
-    (inr (said.0, record { snapshots = bodies; stands = stands is; some = said.1; told = said.2 }), unchanged job g old mid new bodies (seen is) (stands is) (opened is) said.3)
+    ⊎_elim
+    (λ said. inl (inr (said.0, record { snapshots = bodies; stands = stands is; some = said.1; told = said.2 }), unchanged job g old mid new bodies (seen is) (stands is) (opened is) said.3))
+    (λ not. inr (other-store job g old mid new bodies (seen is) (stands is) (opened is) not))
+    (refused is)
 not-on-disk told resumed job g old mid new bodies before between now no_store.DiskFault seen stands opened later refused = (
   Rose-later before between now later refused.0,
   λ is. unchanged job g old mid new bodies (seen is) (stands is) (opened is) (refused.1 is),
@@ -152,7 +158,7 @@ not-on-disk told resumed job g old mid new bodies before between now no_store.No
 pub not-opened : (told : Type 0) (resumed : Bool) (job : JobSayings) (g : DataGraph) (old new : DiskPast) (before now : ℕ) (fault : JournalFault)
     → IsWhyNotOpened told (header_for job.fields g) old.now.seen before now fault → (told → LeavesOnly old new (IsImage old.now)) → IsWhyNotOnDisk told resumed job g old new before now (no_store_of_journal fault)
 not-opened told resumed job g old new before now journal.DiskFault refused left = (refused, left)
-not-opened told resumed job g old new before now (journal.BadStore fault) refused left = λ is. (inl (refused is), left is)
+not-opened told resumed job g old new before now (journal.BadStore fault) refused left = λ is. inl (inl (refused is), left is)
 not-opened told resumed job g old new before now (journal.Full stored length) refused left = absurd refused
 not-opened told resumed job g old new before now journal.Failed refused left = absurd refused
 not-opened told resumed job g old new before now journal.NoMemory refused left = λ is. inl (left is)
@@ -162,7 +168,7 @@ pub not-stored : (told : Type 0) (resumed : Bool) (job : JobSayings) (g : DataGr
     → IsWhyNotStored told job g (update_of job.fields.algorithm job.fields.source) bodies old new before now fault
     → IsWhyNotOnJournal told resumed job g (update_of job.fields.algorithm job.fields.source) bodies old new before now (no_store_of_journal fault)
 not-stored told resumed job g bodies old new before now journal.DiskFault refused = refused
-not-stored told resumed job g bodies old new before now (journal.BadStore fault) refused = λ is. absurd (refused is)
+not-stored told resumed job g bodies old new before now (journal.BadStore fault) refused = λ is. inr (refused is)
 not-stored told resumed job g bodies old new before now (journal.Full stored length) refused = absurd refused
 not-stored told resumed job g bodies old new before now journal.Failed refused = absurd refused
 not-stored told resumed job g bodies old new before now journal.NoMemory refused = refused

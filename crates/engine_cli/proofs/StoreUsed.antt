@@ -22,7 +22,7 @@ use Rattle.stored_answers.specs.declared.runs.StoredEnd.TheVariants as end
 use Rattle.stored_answers.specs.declared.runs.StoredRun.{StoredRun}
 use Rattle.engine_cli.specs.Inner.Storing.{IsRunIntoStore, IsWhyNoStoredRun, IsWhyNotOnDisk, no_store_of}
 use Rattle.engine_cli.specs.JobRuns.{RunsOnStore}
-use Rattle.engine_cli.specs.JobStores.{KeepsGoing, KeepsImages, RefusesStore}
+use Rattle.engine_cli.specs.JobStores.{IsOtherStore, KeepsGoing, KeepsImages, RefusesStore}
 use Rattle.engine_cli.proofs.DisksLeft.{leaves-same}
 use Rattle.std.specs.Prelude.{◌×◌, ◌⊎◌}
 
@@ -49,7 +49,7 @@ module _ (old mid was last new : FilesState) (name : List ℕ) (file : FileNo) (
   why-at-end : (why : NoStore) → IsWhyNotOnDisk (IsTrue told) resumed (job_view input.job) input.graph (disk_past was own) (disk_past last again) was.disks.faults last.disks.faults why
       → IsWhyNoStoredRun told resumed name input old new why
   why-at-end (no_store.BadStore fault) refused =
-      at-end (λ p q. RefusesStore resumed (header_for (job_view input.job).fields input.graph) p.now.seen fault × KeepsImages p q) refused
+      at-end (λ p q. (RefusesStore resumed (header_for (job_view input.job).fields input.graph) p.now.seen fault × KeepsImages p q) ⊎ IsOtherStore (job_view input.job) input.graph p) refused
   why-at-end no_store.DiskFault refused = (rises refused.0, at-end (λ p q. KeepsImages p q) refused.1)
   why-at-end no_store.NoMemory refused = at-end (λ p q. KeepsImages p q ⊎ KeepsGoing (job_view input.job) input.graph p q) refused
 

@@ -29,6 +29,12 @@ pub record IsUsed (header : Header) (seen : List ℕ) (fault : StoreFault) : Typ
 abbrev pub RefusesStore : Bool → Header → List ℕ → StoreFault → Type 0
 RefusesStore resumed header seen fault = (read_store header seen ≡ Err fault) ⊎ ((resumed ≡ false) × IsUsed header seen fault)
 
+-- The store is none that calls leave: whatever a crash would have left is not a good one, wherever the graph is placed.
+abbrev pub IsOtherStore : JobSayings → DataGraph → DiskPast → Type 0
+IsOtherStore job g past =
+    (owner : ℕ → ℕ) → IsPlacement g job.fields.atoms job.fields.machines owner
+    → (front : List (List ℕ)) → AreGoodImages (shared_by job g owner) (header_for job.fields g) front past → ⊥
+
 -- a crash at any moment of the call left what one as it began would have left
 abbrev pub KeepsImages : DiskPast → DiskPast → Type 0
 KeepsImages old new = LeavesOnly old new (IsImage old.now)
@@ -53,6 +59,10 @@ OfStoredJob asked files file P =
 abbrev pub RefusesJobStore : Bool → JobVerb → FilesState → List ℕ → StoreFault → Type 0
 RefusesJobStore told asked old file fault =
     OfStoredJob asked old file (λ name job g. IfDisksTold told old (RefusesStore (is_resumed asked) (header_for job.fields g) (old.pasts name).now.seen fault))
+
+-- the job's store has its form, and is not a good one
+abbrev pub HasOtherStore : Bool → JobVerb → FilesState → List ℕ → Type 0
+HasOtherStore told asked old file = OfStoredJob asked old file (λ name job g. IfDisksTold told old (IsOtherStore job g (old.pasts name)))
 
 -- memory ran out, of a run that went on from the job's store
 abbrev pub RunsOutOnStore : Bool → JobVerb → FilesState → (List ℕ → DiskPast) → List ℕ → Type 0

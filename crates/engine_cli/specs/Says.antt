@@ -20,7 +20,7 @@ use Rattle.engine_cli.specs.declared.status.Status.{Status}
 use Rattle.engine_cli.specs.declared.status.Status.TheVariants.{Done, Usage, BadJob, BadGraph, BadAtoms, ReadFault, WriteFault, DiskFault, BadStore, BudgetSpent, SnapshotsFull, NoMemory}
 use Rattle.engine_cli.specs.Answer.{IsAnswer, IsValid, Printed}
 use Rattle.engine_cli.specs.JobRuns.{CallLists, MakesRun, no_lists}
-use Rattle.engine_cli.specs.JobStores.{KeepsAllImages, NamesStore, RefusesJobStore, RunsOutOnStore}
+use Rattle.engine_cli.specs.JobStores.{HasOtherStore, KeepsAllImages, NamesStore, RefusesJobStore, RunsOutOnStore}
 use Rattle.stored_answers.specs.declared.runs.StoredEnd.TheVariants as end
 
 -- The files, how many faults of `out` there were, and what it holds, as a call begins and as it ends.
@@ -91,7 +91,7 @@ Refuses told asked file old new (BadAtoms fault) = OfJob asked old file (Refuses
 Refuses told asked file old new ReadFault = Rose old.sources.faults new.sources.faults
 Refuses told asked file old new WriteFault = ⊥
 Refuses told asked file old new DiskFault = Rose old.disks.faults new.disks.faults × NamesStore asked old file × KeepsAllImages told old new.pasts
-Refuses told asked file old new (BadStore fault) = RefusesJobStore told asked old file fault × KeepsAllImages told old new.pasts
+Refuses told asked file old new (BadStore fault) = (RefusesJobStore told asked old file fault × KeepsAllImages told old new.pasts) ⊎ HasOtherStore told asked old file
 Refuses told asked file old new (BudgetSpent left) = ⊥
 Refuses told asked file old new (SnapshotsFull stored length) = ⊥
 Refuses told asked file old new NoMemory = KeepsAllImages told old new.pasts ⊎ RunsOutOnStore told asked old new.pasts file

@@ -52,6 +52,8 @@ pub fn run_stored<R: Wait, D: Disk, P: Program>(
     ensures entries { IfOk result (λ run. All (IsEntryOf graph.now) run.order.items) }
     ensures refused { IfErr result (IsWhyNoRun (IsTrue D.told) (D.past journal.old.disk) (D.past journal.new.disk) (D.faults journal.old.disk) (D.faults journal.new.disk)
         ((owner : ℕ → ℕ) → IsPlacement graph.now plan.run.atoms plan.run.machines owner →
+        (shared : Shared) → shared ≡ record { graph = graph.now; program = P.meaning program; owner = owner; failures = failures.now } → IsGoodStore shared journal.old.header (snapshots_in D.past journal.old) → ⊥)
+        ((owner : ℕ → ℕ) → IsPlacement graph.now plan.run.atoms plan.run.machines owner →
         (shared : Shared) → shared ≡ record { graph = graph.now; program = P.meaning program; owner = owner; failures = failures.now } → IsGoodStore shared journal.old.header (snapshots_in D.past journal.old) →
         (snapshots : List (List Entry)) × KeepsGood shared journal.old.header (snapshots_in D.past journal.old) snapshots (D.past journal.old.disk) (D.past journal.new.disk))) }
     ensures header { journal.new.header ≡ journal.old.header }

@@ -24,7 +24,7 @@ use Rattle.stored_answers.specs.declared.runs.StoredRun.{StoredRun}
 use Rattle.stored_calls.specs.Causes.{IsWhyNoRun}
 use Rattle.update_api.specs.Updates.{Update}
 use Rattle.engine_cli.specs.JobRuns.{IsStoredRun, RunsOnStore, Shared, records_size, snapshots_on, stored_order}
-use Rattle.engine_cli.specs.JobStores.{KeepsGoing, KeepsImages, RefusesStore}
+use Rattle.engine_cli.specs.JobStores.{IsOtherStore, KeepsGoing, KeepsImages, RefusesStore}
 
 -- what all attempts of a run of this program share
 abbrev pub shared_with : JobSayings → DataGraph → Update → (ℕ → ℕ) → Shared
@@ -43,28 +43,34 @@ IsKept job g p bodies old new =
     (owner : ℕ → ℕ) → IsPlacement g job.fields.atoms job.fields.machines owner → IsGoodStore (shared_with job g p owner) (header_for job.fields g) bodies →
     (snapshots : List (List Entry)) × KeepsGood (shared_with job g p owner) (header_for job.fields g) bodies snapshots old new
 
+-- a store with these snapshots is not a good one for the placed graph
+abbrev pub IsNotGood : JobSayings → DataGraph → Update → List (List ℕ) → Type 0
+IsNotGood job g p bodies =
+    (owner : ℕ → ℕ) → IsPlacement g job.fields.atoms job.fields.machines owner → IsGoodStore (shared_with job g p owner) (header_for job.fields g) bodies → ⊥
+
 -- why there is no run of this program
 abbrev pub IsWhyNotStored : Type 0 → JobSayings → DataGraph → Update → List (List ℕ) → DiskPast → DiskPast → ℕ → ℕ → JournalFault → Type 0
-IsWhyNotStored told job g p bodies old new before now fault = IsWhyNoRun told old new before now (IsKept job g p bodies old new) fault
+IsWhyNotStored told job g p bodies old new before now fault = IsWhyNoRun told old new before now (IsNotGood job g p bodies) (IsKept job g p bodies old new) fault
 
 -- the same of the job, from a store that may have to be new
 abbrev pub IsWhyNotOnJournal : Type 0 → Bool → JobSayings → DataGraph → Update → List (List ℕ) → DiskPast → DiskPast → ℕ → ℕ → NoStore → Type 0
 IsWhyNotOnJournal told resumed job g p bodies old new before now (no_store.BadStore fault) =
-    told → (resumed ≡ false) × (0 < length bodies) × (fault ≡ Used (length bodies)) × (new ≡ old)
+    told → ((resumed ≡ false) × (0 < length bodies) × (fault ≡ Used (length bodies)) × (new ≡ old)) ⊎ IsNotGood job g p bodies
 IsWhyNotOnJournal told resumed job g p bodies old new before now no_store.DiskFault = Rose before now × (told → new ≡ old)
 IsWhyNotOnJournal told resumed job g p bodies old new before now no_store.NoMemory = told → (new ≡ old) ⊎ IsKept job g p bodies old new
 
 -- the same, from what the disk has
 abbrev pub IsWhyNotOnDisk : Type 0 → Bool → JobSayings → DataGraph → DiskPast → DiskPast → ℕ → ℕ → NoStore → Type 0
 IsWhyNotOnDisk told resumed job g old new before now (no_store.BadStore fault) =
-    told → RefusesStore resumed (header_for job.fields g) old.now.seen fault × KeepsImages old new
+    told → (RefusesStore resumed (header_for job.fields g) old.now.seen fault × KeepsImages old new) ⊎ IsOtherStore job g old
 IsWhyNotOnDisk told resumed job g old new before now no_store.DiskFault = Rose before now × (told → KeepsImages old new)
 IsWhyNotOnDisk told resumed job g old new before now no_store.NoMemory = told → KeepsImages old new ⊎ KeepsGoing job g old new
 
 -- the same of the disk of this name
 abbrev pub IsWhyNoStoredRun : Bool → Bool → List ℕ → Input → FilesState → FilesState → NoStore → Type 0
 IsWhyNoStoredRun told resumed name input old new (no_store.BadStore fault) =
-    IfDisksTold told old (RefusesStore resumed (header_for (job_view input.job).fields input.graph) (old.pasts name).now.seen fault × KeepsImages (old.pasts name) (new.pasts name))
+    IfDisksTold told old ((RefusesStore resumed (header_for (job_view input.job).fields input.graph) (old.pasts name).now.seen fault × KeepsImages (old.pasts name) (new.pasts name))
+    ⊎ IsOtherStore (job_view input.job) input.graph (old.pasts name))
 IsWhyNoStoredRun told resumed name input old new no_store.DiskFault =
     Rose old.disks.faults new.disks.faults × IfDisksTold told old (KeepsImages (old.pasts name) (new.pasts name))
 IsWhyNoStoredRun told resumed name input old new no_store.NoMemory =
