@@ -14,6 +14,7 @@ pub mod StoreRuns
 pub mod StoreUsed
 pub mod Preparing
 pub mod RunsSay
+pub mod NothingDone
 pub mod Bounds
 pub mod EntriesInside
 pub mod OneGraph

@@ -36,7 +36,6 @@ use Rattle.engine_cli.specs.Status.{IsBeforeMaking, IsRefusedInput, status_of_no
 use Rattle.engine_cli.specs.StoreJobs.{HandsStore}
 use Rattle.engine_cli.proofs.DisksLeft.{leaves-same}
 use Rattle.engine_cli.proofs.NamesHanded.{hands-no-store, hands-store}
-use Rattle.std.specs.Prelude.{◌×◌}
 
 -- ---- what is read changes no disk
 
@@ -229,3 +228,12 @@ module _ (told : Bool) (asked : JobVerb) (file : List ℕ) (old mid new : FilesS
             let N : NoStore → Type 0 = λ w. Refuses told asked file old new (status_of_no_store w) in
             subst N (sym refused) (inl (same-images told old new.pasts (ap (λ (s : FilesState). s.pasts) used ∙ pasts)))
         go (Some name) named used refused = stored-refuses name cause named used refused
+
+-- why there is no run on the store that the job names
+pub none-on-store : (told : Bool) (asked : JobVerb) (resumed : Bool) (input : Input) (old new : FilesState) (store : Option (List ℕ)) (name opened : List ℕ) (cause : NoStore)
+    → store ≡ Some name → opened ≡ name → resumed ≡ is_resumed asked → IsWhyNoStoredRun told resumed opened input old new cause → IsWhyNoneMade told asked input old new store cause
+none-on-store told asked resumed input old new store name opened cause named spelled is why =
+    let S : Option (List ℕ) → Type 0 = λ s. IsWhyNoneMade told asked input old new s cause in
+    let N : List ℕ → Type 0 = λ n. IsWhyNoStoredRun told (is_resumed asked) n input old new cause in
+    let R : Bool → Type 0 = λ r. IsWhyNoStoredRun told r opened input old new cause in
+    subst S (sym named) (subst N spelled (subst R is why))

@@ -1,5 +1,5 @@
 -- What a run says at each place where it ends.
-use Rattle.std.proofs.Common.{◌≡◌, ◌≢◌, ◌⊎◌, inl, inr, ℕ, Bool, List, [], Option, None, Some, IfSome, Result, Ok, Err, take, refl, sym, ap, ◌∙◌, subst, ⊎_elim, arith}
+use Rattle.std.proofs.Common.{◌≡◌, ◌≢◌, ◌⊎◌, inl, inr, ℕ, Bool, IsTrue, List, [], Option, None, Some, IfSome, Result, Ok, Err, take, refl, sym, ap, ◌∙◌, subst, ⊎_elim, arith}
 use Rattle.std.specs.Prelude.{Contains}
 use Rattle.std.specs.declared.alloc.Global.{Global}
 use Rattle.std.specs.declared.vec.Vec.{Vec}
@@ -51,10 +51,10 @@ module _ (told : Bool) (asked : JobVerb) (old mid : FilesState) (file : List ℕ
   abbrev pub lists : CallLists
   lists = lists_of_run prepared.run
 
-  runs-now : RunsSo told asked old new job prepared.graph prepared.run job.fields.store
+  pub runs-now : RunsSo told asked old new job prepared.graph prepared.run job.fields.store
   runs-now = subst (λ (p : List ℕ → DiskPast). RunsSo told asked old p job prepared.graph prepared.run job.fields.store) (sym same) is.runs
 
-  makes : (ending : StoredEnd) → prepared.run.end ≡ ending → (vertices edges : List ℕ) → DescribeJobGraph job.fields vertices edges prepared.graph
+  abbrev pub makes : (ending : StoredEnd) → prepared.run.end ≡ ending → (vertices edges : List ℕ) → DescribeJobGraph job.fields vertices edges prepared.graph
       → MakesRun told asked old new job lists ending vertices edges
   makes ending ended vertices edges described =
       record { graph = prepared.graph; graph_is = described; start = is.start; run = prepared.run; lists_are = refl; ended = ended; runs = runs-now }

@@ -1,5 +1,5 @@
 -- What a run on its store is, over the opening of the store and what it does with it.
-use Rattle.std.proofs.Common.{◌≡◌, inl, inr, ℕ, ◌+◌, ◌≤◌, ◌<◌, ◌++◌, Bool, false, List, length, Result, Ok, Err, refl, sym, ap, ◌∙◌, subst, ⊎_elim, append_assoc, arith}
+use Rattle.std.proofs.Common.{◌≡◌, inl, inr, ℕ, ◌+◌, ◌≤◌, ◌<◌, ◌++◌, Bool, false, List, [], length, Result, Ok, Err, refl, sym, ap, ◌∙◌, subst, ⊎_elim, append_assoc, arith}
 use Rattle.std.specs.Prelude.{◌⊎◌}
 use Rattle.std.specs.Result.{result_unwrap_or}
 use Rattle.gl_base.specs.declared.entries.Entry.{Entry}
@@ -141,7 +141,7 @@ module _ (job : JobSayings) (g : DataGraph) (old mid new : DiskPast) (bodies : L
 pub not-on-disk : (told : Type 0) (resumed : Bool) (job : JobSayings) (g : DataGraph) (old mid new : DiskPast) (bodies : List (List ℕ)) (before between now : ℕ) (why : NoStore)
     → (told → IsImage old.now old.now.seen) → (told → StandsFor (header_for job.fields g) bodies old.now.seen) → (told → LeavesOnly old mid (IsImage old.now)) → before ≤ between
     → IsWhyNotOnJournal told resumed job g (update_of job.fields.algorithm job.fields.source) bodies mid new between now why → IsWhyNotOnDisk told resumed job g old new before now why
-not-on-disk told resumed job g old mid new bodies before between now (no_store.BadStore fault) seen stands opened later refused is =
+not-on-disk told resumed job g old mid new bodies before between now (no_store.BadStore fault) seen stands opened later refused = λ is.
     ⊎_elim
     (λ said. inl (inr (said.0, record { snapshots = bodies; stands = stands is; some = said.1; told = said.2 }), unchanged job g old mid new bodies (seen is) (stands is) (opened is) said.3))
     (λ not. inr (other-store job g old mid new bodies (seen is) (stands is) (opened is) not))
@@ -150,7 +150,7 @@ not-on-disk told resumed job g old mid new bodies before between now no_store.Di
   Rose-later before between now later refused.0,
   λ is. unchanged job g old mid new bodies (seen is) (stands is) (opened is) (refused.1 is),
 )
-not-on-disk told resumed job g old mid new bodies before between now no_store.NoMemory seen stands opened later refused is =
+not-on-disk told resumed job g old mid new bodies before between now no_store.NoMemory seen stands opened later refused = λ is.
     ⊎_elim (λ same. inl (unchanged job g old mid new bodies (seen is) (stands is) (opened is) same))
     (λ kept. inr (keeps-going job g old mid new bodies (seen is) (stands is) (opened is) kept)) (refused is)
 

@@ -14,7 +14,7 @@ use Rattle.job_config.specs.Jobs.{JobSayings}
 use Rattle.job_config.specs.Views.{job_view}
 use Rattle.job_files.specs.declared.inputs.Input.{Input}
 use Rattle.job_stores.specs.JobHeaders.{header_for}
-use Rattle.job_stores.specs.NewStores.{UsesDisk}
+use Rattle.job_stores.specs.NewStores.{IfDisksTold, UsesDisk}
 use Rattle.job_stores.specs.declared.making.NoStore.{NoStore}
 use Rattle.job_stores.specs.declared.making.NoStore.TheVariants as no_store
 use Rattle.job_stores.proofs.DisksUsed.{always-told, told-at-end}
@@ -24,12 +24,12 @@ use Rattle.engine_cli.specs.Inner.Storing.{IsRunIntoStore, IsWhyNoStoredRun, IsW
 use Rattle.engine_cli.specs.JobRuns.{RunsOnStore}
 use Rattle.engine_cli.specs.JobStores.{IsOtherStore, KeepsGoing, KeepsImages, RefusesStore}
 use Rattle.engine_cli.proofs.DisksLeft.{leaves-same}
-use Rattle.std.specs.Prelude.{◌×◌, ◌⊎◌}
+use Rattle.std.specs.Prelude.{◌⊎◌}
 
 -- The file was opened, and used as a disk of its own until the end.
 module _ (old mid was last new : FilesState) (name : List ℕ) (file : FileNo) (own again : ℕ) (opens : OpensDisk old mid name (Ok file)) (own_is : own ≡ file.0) (was_is : was ≡ mid)
     (uses : ChangesDisk own was last) (again_is : again ≡ own) (used : UsesDisk name old new) (new_is : new ≡ last) (told resumed : Bool) (input : Input) (first : old.disks.faults ≤ mid.disks.faults) where
-  at-end : (P : DiskPast → DiskPast → Type 0) → (IsTrue told → P (disk_past was own) (disk_past last again)) → _
+  at-end : (P : DiskPast → DiskPast → Type 0) → (IsTrue told → P (disk_past was own) (disk_past last again)) → IfDisksTold told old (P (old.pasts name) (new.pasts name))
   at-end P holds = told-at-end old mid was last new name file own again opens own_is was_is uses again_is used new_is told P holds
 
   rises : Rose was.disks.faults last.disks.faults → Rose old.disks.faults new.disks.faults

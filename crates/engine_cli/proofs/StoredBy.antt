@@ -1,6 +1,6 @@
 -- What the run of a program on an opened store says of the job.
 use Rattle.std.proofs.Common.{◌≡◌, inl, inr, ℕ, ◌+◌, ◌<◌, ◌≤◌, Bool, false, List, length, Result, Ok, Err, refl, sym, ap, ◌∙◌, subst, ⊎_elim, arith}
-use Rattle.std.specs.Prelude.{All, IfErr, IfOk, ◌×◌, ◌⊎◌}
+use Rattle.std.specs.Prelude.{All, IfErr, IfOk, ◌⊎◌}
 use Rattle.gl_base.specs.declared.entries.Entry.{Entry}
 use Rattle.gl_base.specs.declared.jobs.FailureAt.{FailureAt}
 use Rattle.gl_outside.specs.Disk.{DiskPast}
@@ -95,3 +95,8 @@ module _ (job : JobSayings) (g : DataGraph) (p : Update) (bodies : List (List �
   why-not-stored told before now (journal.Full stored length) refused = refused
   why-not-stored told before now journal.Failed refused = refused
   why-not-stored told before now journal.NoMemory refused = λ is. ⊎_elim (λ same. inl same) (λ keeps. inr (kept-by keeps)) (refused is)
+
+-- the same of another name of the program
+pub by-program : (r : Result StoredRun JournalFault) (told : Type 0) (job : JobSayings) (g : DataGraph) (p q : Update) (bodies : List (List ℕ)) (old new : DiskPast) (before now : ℕ) → p ≡ q
+    → IfErr r (IsWhyNotStored told job g p bodies old new before now) → IfErr r (IsWhyNotStored told job g q bodies old new before now)
+by-program r told job g p q bodies old new before now same refused = subst (λ (u : Update). IfErr r (IsWhyNotStored told job g u bodies old new before now)) same refused

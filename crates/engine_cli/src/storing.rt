@@ -8,6 +8,8 @@ ghost use Rattle.job_stores.specs.NewStores.{UsesDisk};
 ghost use Rattle.recovery.specs.Journals.{snapshots_in};
 ghost use Rattle.stored_answers.specs.declared.runs.StoredEnd.TheVariants.{DiskFault};
 ghost use Rattle.gl_outside.specs.Faults.{Rose};
+ghost use Rattle.gl_outside.specs.FilesState.{disk_past};
+ghost use Rattle.gl_outside.specs.Frames.{ChangesDisk};
 ghost use Rattle.whole_calls.specs.Following.{AreJobFailures};
 ghost use Rattle.engine_cli.specs.JobRuns.{RunsOnStore};
 ghost use Rattle.engine_cli.specs.Inner.Prepares.{IsPrintable, IsRunnable};
@@ -51,8 +53,37 @@ pub fn run_on_store<R: Wait, F: Files>(
         Ok(file) => file,
         Err(fault) => return Err(not_opened(fault)),
     };
-    let (made, _disk) = run_on_disk(rt, alloc, DiskOf::new(files, file), input, resumed);
+    let (made, disk) = run_on_file(rt, alloc, DiskOf::new(files, file), input, resumed);
+    put_away(disk);
     made
+}
+
+/// Ends the use of a file as a disk.
+fn put_away<F: Files>(disk: DiskOf<'_, F>)
+    ensures { disk.exit.0.now ≡ disk.entry.files.now }
+{
+    let DiskOf { files: _, file: _ } = disk;
+}
+
+/// Runs the job's algorithm on an open file, as `run_on_disk` does. The file is handed back.
+fn run_on_file<'a, R: Wait, F: Files>(
+    rt: &R,
+    alloc: Global,
+    disk: DiskOf<'a, F>,
+    input: &Input,
+    resumed: bool,
+) -> (Result<StoredRun, NoStore>, DiskOf<'a, F>)
+    requires { IsRunnable input.now }
+    ensures reference { result.1.files.ghost_name ≡ disk.entry.files.ghost_name }
+    ensures run { IsTrue F.disks_told → IfOk result.0 (RunsOnStore resumed (job_view input.now.job) input.now.graph (disk_past (F.state disk.entry.files.now) disk.entry.file.0) (disk_past (F.state result.1.files.now) result.1.file.0)) }
+    ensures fault { IfOk result.0 (λ run. run.end ≡ DiskFault → Rose (F.state disk.entry.files.now).disks.faults (F.state result.1.files.now).disks.faults) }
+    ensures printable { IfOk result.0 (IsPrintable input.now.graph) }
+    ensures refused { IfErr result.0 (IsWhyNotOnDisk (IsTrue F.disks_told) resumed (job_view input.now.job) input.now.graph (disk_past (F.state disk.entry.files.now) disk.entry.file.0) (disk_past (F.state result.1.files.now) result.1.file.0) (F.state disk.entry.files.now).disks.faults (F.state result.1.files.now).disks.faults) }
+    ensures file { result.1.file.0 ≡ disk.entry.file.0 }
+    ensures frame { ChangesDisk disk.entry.file.0 (F.state disk.entry.files.now) (F.state result.1.files.now) }
+    ensures later { (F.state disk.entry.files.now).disks.faults ≤ (F.state result.1.files.now).disks.faults }
+{
+    run_on_disk(rt, alloc, disk, input, resumed)
 }
 
 /// Opens the store on a disk, and runs the job's algorithm from it and into it. The disk is handed back.

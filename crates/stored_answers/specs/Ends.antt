@@ -1,6 +1,6 @@
 -- How a run with a store ends, told by its lists.
 use Rattle.std.specs.List.Sorted.{IsPermutation}
-use Rattle.std.specs.Prelude.{List, [], false, filter, length, ℕ, ◌*◌, ◌++◌, ◌+◌, ◌-◌, ◌/◌, ◌<◌, ◌≡◌, ◌≤◌, ◌⊎◌}
+use Rattle.std.specs.Prelude.{List, [], false, filter, length, ⊤, ℕ, ◌*◌, ◌++◌, ◌+◌, ◌-◌, ◌/◌, ◌<◌, ◌≡◌, ◌≤◌, ◌⊎◌}
 use Rattle.gl_base.specs.declared.entries.Entry.{Entry}
 use Rattle.attempts.specs.Entries.{is_update}
 use Rattle.call_answers.specs.Answers.{RunLists, Shared, last_order, made_by}

@@ -1,4 +1,3 @@
-use Rattle.std.proofs.Common.{absurd}
 use Rattle.std.proofs.lemmas.Result.{err_from_is_err_and}
 use Rattle.job_config.specs.Views.{job_view}
 use Rattle.engine_cli.proofs.JobFailures.{job-failures}
@@ -48,7 +47,7 @@ returns-in-Ok-clause-answer g c =
       atoms = c.in_ok-input.ensures.answer.1;
       graph = was.graph;
       start = was.start;
-      runs = runs-since g.F.Files.disks_told c.args.asked c.args.file.now old mid new frame job input.graph c.in-Ok.run job.fields.store made.runs;
+      runs = runs-since g.F.Files.disks_told c.args.asked c.args.file.now old mid new frame job input.graph c.in-Ok.run' job.fields.store made.runs;
       fault = λ is. rose-since g.F.Files.disks_told c.args.asked c.args.file.now old mid new frame (made.fault is);
       printable = c.in-Ok.ensures.printable;
       alone = λ none. alone-used g.F.Files.disks_told c.args.asked c.args.file.now old mid new frame job.fields.store c.in-Ok.ensures.used none;
