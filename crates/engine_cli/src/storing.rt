@@ -53,62 +53,47 @@ pub fn run_on_store<R: Wait, F: Files>(
         Ok(file) => file,
         Err(fault) => return Err(not_opened(fault)),
     };
-    let (made, disk) = run_on_file(rt, alloc, DiskOf::new(files, file), input, resumed);
-    put_away(disk);
+    let mut made = Err(NoStore::NoMemory);
+    let _disk = run_on_disk(
+        rt,
+        alloc,
+        DiskOf::new(files, file),
+        input,
+        resumed,
+        &mut made,
+    );
     made
 }
 
-/// Ends the use of a file as a disk.
-fn put_away<F: Files>(disk: DiskOf<'_, F>)
-    ensures { disk.exit.0.now ≡ disk.entry.files.now }
-{
-    let DiskOf { files: _, file: _ } = disk;
-}
-
-/// Runs the job's algorithm on an open file, as `run_on_disk` does. The file is handed back.
-fn run_on_file<'a, R: Wait, F: Files>(
-    rt: &R,
-    alloc: Global,
-    disk: DiskOf<'a, F>,
-    input: &Input,
-    resumed: bool,
-) -> (Result<StoredRun, NoStore>, DiskOf<'a, F>)
-    requires { IsRunnable input.now }
-    ensures reference { result.1.files.ghost_name ≡ disk.entry.files.ghost_name }
-    ensures run { IsTrue F.disks_told → IfOk result.0 (RunsOnStore resumed (job_view input.now.job) input.now.graph (disk_past (F.state disk.entry.files.now) disk.entry.file.0) (disk_past (F.state result.1.files.now) result.1.file.0)) }
-    ensures fault { IfOk result.0 (λ run. run.end ≡ DiskFault → Rose (F.state disk.entry.files.now).disks.faults (F.state result.1.files.now).disks.faults) }
-    ensures printable { IfOk result.0 (IsPrintable input.now.graph) }
-    ensures refused { IfErr result.0 (IsWhyNotOnDisk (IsTrue F.disks_told) resumed (job_view input.now.job) input.now.graph (disk_past (F.state disk.entry.files.now) disk.entry.file.0) (disk_past (F.state result.1.files.now) result.1.file.0) (F.state disk.entry.files.now).disks.faults (F.state result.1.files.now).disks.faults) }
-    ensures file { result.1.file.0 ≡ disk.entry.file.0 }
-    ensures frame { ChangesDisk disk.entry.file.0 (F.state disk.entry.files.now) (F.state result.1.files.now) }
-    ensures later { (F.state disk.entry.files.now).disks.faults ≤ (F.state result.1.files.now).disks.faults }
-{
-    run_on_disk(rt, alloc, disk, input, resumed)
-}
-
-/// Opens the store on a disk, and runs the job's algorithm from it and into it. The disk is handed back.
+/// Opens the store on a disk, and runs the job's algorithm from it and into it. `made` gets the run or why there is none, and the disk is
+/// handed back.
 fn run_on_disk<R: Wait, D: Disk>(
     rt: &R,
     alloc: Global,
     disk: D,
     input: &Input,
     resumed: bool,
-) -> (Result<StoredRun, NoStore>, D)
+    made: &mut Result<StoredRun, NoStore>,
+) -> D
     requires { IsRunnable input.now }
-    ensures run { IsTrue D.told → IfOk result.0 (RunsOnStore resumed (job_view input.now.job) input.now.graph (D.past disk) (D.past result.1)) }
-    ensures fault { IfOk result.0 (λ run. run.end ≡ DiskFault → Rose (D.faults disk) (D.faults result.1)) }
-    ensures printable { IfOk result.0 (IsPrintable input.now.graph) }
-    ensures refused { IfErr result.0 (IsWhyNotOnDisk (IsTrue D.told) resumed (job_view input.now.job) input.now.graph (D.past disk) (D.past result.1) (D.faults disk) (D.faults result.1)) }
-    ensures same { D.same disk result.1 }
-    ensures later { D.faults disk ≤ D.faults result.1 }
+    ensures run { IsTrue D.told → IfOk made.new (RunsOnStore resumed (job_view input.now.job) input.now.graph (D.past disk) (D.past result)) }
+    ensures fault { IfOk made.new (λ run. run.end ≡ DiskFault → Rose (D.faults disk) (D.faults result)) }
+    ensures printable { IfOk made.new (IsPrintable input.now.graph) }
+    ensures refused { IfErr made.new (IsWhyNotOnDisk (IsTrue D.told) resumed (job_view input.now.job) input.now.graph (D.past disk) (D.past result) (D.faults disk) (D.faults result)) }
+    ensures same { D.same disk result }
+    ensures later { D.faults disk ≤ D.faults result }
 {
     let header = header_of(&input.job, &input.graph);
-    let mut journal = match Journal::open(alloc, disk, &header) {
-        Ok(journal) => journal,
-        Err((fault, disk)) => return (Err(why_not_run(fault)), disk),
-    };
-    let made = run_on_journal(rt, alloc, input, &mut journal, resumed);
-    (made, journal.into_disk())
+    match Journal::open(alloc, disk, &header) {
+        Ok(mut journal) => {
+            *made = run_on_journal(rt, alloc, input, &mut journal, resumed);
+            journal.into_disk()
+        }
+        Err((fault, disk)) => {
+            *made = Err(why_not_run(fault));
+            disk
+        }
+    }
 }
 
 /// Runs the job's algorithm from an opened store and into it, which has no snapshots unless the run is resumed.
