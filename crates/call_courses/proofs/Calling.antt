@@ -1,14 +1,17 @@
 -- What a course makes is a call, and what its coordinator tells is so of the call.
 use Rattle.std.proofs.Common.{◌≡◌, ℕ, zero, suc, ◌+◌, ◌<◌, ◌≤◌, ◌^◌, ◌++◌, true, arith, inl, List, [], ◌∷◌, ap, ap₂, length, sym, subst, ◌∙◌}
-use Rattle.std.specs.Prelude.{Err, IfOk, IfSome, None, Ok, Option, Result, Some, slice_index_or}
+use Rattle.std.specs.Prelude.{Err, IfNone, IfOk, IfSome, None, Ok, Option, Result, Some, min, slice_index_or, ◌-◌}
 use Rattle.gl_base.specs.declared.numbers.MachineNo.{MachineNo}
 use Rattle.gl_base.specs.declared.refusals.Refused.{Refused}
 use Rattle.gl_base.specs.declared.snapshots.Record.{Record}
 use Rattle.gl_base.specs.declared.entries.Entry.{Entry}
 use Rattle.cluster_core.specs.Replays.{entries_of, is_of}
-use Rattle.snap_clusters.specs.Clusters.{InEachCluster}
+use Rattle.snap_clusters.specs.Clusters.{InEachCluster, StandsForSaving}
 use Rattle.snap_clusters.specs.Cuts.{RecordsCut, snapshot_due}
-use Rattle.snap_members.specs.Promises.{CanUpdate, OfEach}
+use Rattle.snap_clusters.specs.Events.{CanNotTakePlace}
+use Rattle.snap_clusters.specs.declared.events.Event.TheVariants as event
+use Rattle.snap_clusters.specs.declared.events.Local.TheVariants as local
+use Rattle.snap_members.specs.Promises.{CanUpdate, CanUpdateNone, OfEach}
 use Rattle.whole_calls.specs.Following.{has_reached, reaches}
 use Rattle.std.proofs.lemmas.List.Sums.{count_by-le-length}
 use Rattle.attempts.specs.EngineCalls.{EngineCall, first_ticket, made_of}
@@ -18,7 +21,7 @@ use Rattle.graph_core.specs.DataGraph.{size}
 use Rattle.cluster_whole.proofs.Wholeness.{is_exclusive}
 use Rattle.cluster_model.specs.Machines.{completed}
 use Rattle.call_courses.specs.Calls.{HasEndedCall, HasTaskLeft, MakesCall, OfTheCall}
-use Rattle.call_courses.specs.Courses.{CallOpening, Cluster, CourseView, HasCourse, InEachCourse, IsCourseNow, IsSnapSetting, Machine, Setting, first_setting, newest_setting}
+use Rattle.call_courses.specs.Courses.{CallOpening, Cluster, CourseView, InEachCourse, IsCourseNow, IsSnapSetting, Machine, Setting, first_setting, newest_setting}
 use Rattle.call_courses.proofs.Going.{setting_now}
 use Rattle.cluster_model.specs.Events as law
 use Rattle.cluster_model.specs.Leading.{RecordIsDue, SnapshotIsDue}
@@ -72,7 +75,7 @@ module _ {M : Type 0} (stands : Setting → ℕ → Machine → M → Type 0) (v
       ap₂ (λ (n k : ℕ). reaches v.failures a n (n + k)) done made_is
 
   -- how many updates a machine has completed
-  pub completed_is : (a : ℕ) → a < length v.now.machines.items → (before made : ℕ) → before ≡ slice_index_or v.done a 0 → made ≡ length (c.machine a).part.log → before + made ≡ completed (c.machine a)
+  completed_is : (a : ℕ) → a < length v.now.machines.items → (before made : ℕ) → before ≡ slice_index_or v.done a 0 → made ≡ length (c.machine a).part.log → before + made ≡ completed (c.machine a)
   completed_is a low before made before_is made_is =
       let done : before ≡ (c.machine a).done = before_is ∙ sym (is.done a (low_machine a low)) in
       ap₂ (λ (n k : ℕ). n + k) done made_is
@@ -81,13 +84,22 @@ module _ {M : Type 0} (stands : Setting → ℕ → Machine → M → Type 0) (v
   below_next done made first next left few is fits = omega arith
 
   -- they have tickets of their own
-  pub completed_fits : (a : ℕ) → completed (c.machine a) < 2 ^ 64
+  completed_fits : (a : ℕ) → completed (c.machine a) < 2 ^ 64
   completed_fits a =
       let one = makes_call in
       let made : List Entry = made_of one.0 in
       let few : completed (c.machine a) ≤ length made = subst (λ (n : ℕ). n ≤ length made) (sym (one.1.is.done a)) (count_by-le-length (is_of a) made) in
       let next : v.now.next ≡ first_ticket one.0 + length made = sym is.code.next ∙ one.1.is.next in
       below_next (completed (c.machine a)) (length made) (first_ticket one.0) v.now.next v.now.left few next is.code.few
+
+  no_more : (n : ℕ) → n < 2 ^ 64 → min n (2 ^ 64 - 1) ≡ n
+  no_more n fits = omega arith
+
+  -- so that no sum of them is cut off
+  pub count_is : (a : ℕ) → a < length v.now.machines.items → (before made : ℕ) → before ≡ slice_index_or v.done a 0 → made ≡ length (c.machine a).part.log → min (before + made) (2 ^ 64 - 1) ≡ completed (c.machine a)
+  count_is a low before made before_is made_is =
+      let sum : before + made ≡ completed (c.machine a) = completed_is a low before made before_is made_is in
+      no_more (before + made) (subst (λ (n : ℕ). n < 2 ^ 64) (sym sum) (completed_fits a)) ∙ sum
 
   -- a scope that is ready for its update has a task, also after the call's order
   module _ (s : ScopeId) (a : ℕ) (x : M) (it_is : InEachCluster stands v.now (λ st c. stands st a (c.machine a) x)) (can : CanUpdate stands x s) where
@@ -126,6 +138,9 @@ module _ {M : Type 0} (stands : Setting → ℕ → Machine → M → Type 0) (v
 
 -- ---- what the type shows of it
 
+one_ticket : 0 < 1
+one_ticket = omega arith
+
 module _ {M : Type 0} (stands : Setting → ℕ → Machine → M → Type 0) (v own : CourseView M) (view_is : v ≡ own) where
   -- what is so of each cluster is so in each course
   pub in_course : (holds : Setting → Cluster → Type 0) → InEachCluster stands v.now holds → InEachCourse stands own (λ st o events c. holds (newest_setting st o events) c)
@@ -149,32 +164,36 @@ module _ {M : Type 0} (stands : Setting → ℕ → Machine → M → Type 0) (v
   record_is (Ok made) all = λ st o events c is. record_first made st o events c is (in_course (λ st x. RecordsCut st x made) all st o events c is)
   record_is (Err e) all = tt
 
-  pub few_machines : HasCourse stands v → length v.now.machines.items < 65535
-  few_machines has =
-      let one = has.each has.setting has.opening has.opens in
-      subst (λ (n : ℕ). n < 65535) (sym one.2.code.many) one.2.code.small
-
   module _ (a : ℕ) (x : M) (it_is : InEachCluster stands v.now (λ st c. stands st a (c.machine a) x)) where
-    pub home_of : (r : Option ScopeId) (at : MachineNo) → at.0 ≡ a → HasCourse stands v → IfSome r (CanUpdate stands x) → IfSome r (λ s. s.home ≡ at)
-    home_of None at at_is has can = tt
-    home_of (Some s) at at_is has can =
-        let one = has.each has.setting has.opening has.opens in
-        let number : s.home.0 ≡ at.0 = is_home stands v has.setting has.opening one.0 one.1 one.2 s a x it_is can ∙ sym at_is in
+    pub home_of : (r : Option ScopeId) (at : MachineNo) → at.0 ≡ a → StandsForSaving stands v.now → IfSome r (CanUpdate stands x) → IfSome r (λ s. s.home ≡ at)
+    home_of None at at_is some can = tt
+    home_of (Some s) at at_is some can =
+        let number : s.home.0 ≡ at.0 = (can 0 some.0 a (some.1.machine a) some.2 (it_is some.0 some.1 some.2 some.3)).0 ∙ sym at_is in
         ap (λ (n : ℕ). let m : MachineNo = record { 0 = n } in m) number
+
+    pub flagged_of : (r : Option ScopeId) → IfSome r (CanUpdate stands x) → IfSome r (λ s. InEachCourse stands own (λ st o events c. (v : ℕ) × ((c.machine a).part.task v ≡ true)))
+    flagged_of None can = tt
+    flagged_of (Some s) can = λ st o events c is.
+        let may = may_here stands own st o events c is s a x (subst (λ (y : CourseView M). InEachCluster stands y.now (λ st c. stands st a (c.machine a) x)) view_is it_is) can in
+        (may.1.vertex, may.1.task)
+
+    -- where it has none, no update of it may take place
+    no_update : CanUpdateNone stands x → (s : ScopeId) → s.home.0 ≡ a → CanNotTakePlace stands v.now (event.Local (local.Update s))
+    no_update none s home st c setting of e is may =
+        let there : law.MayDo st c (law.Update s) = subst (law.MayDo st c) is may.1 in
+        let here : MayUpdate s (c.machine a).part c.left = subst (λ (k : ℕ). MayUpdate s (c.machine k).part c.left) home there.1 in
+        none s 0 st a (c.machine a) setting (it_is st c setting of)
+        (home, record { vertex = here.vertex; flight = here.flight; ready = here.ready; not_pending = here.not_pending; task = here.task; ticket = one_ticket })
+
+    pub none_of : (r : Option ScopeId) (at : MachineNo) → at.0 ≡ a → IfNone r (CanUpdateNone stands x) → IfNone r ((s : ScopeId) → s.home ≡ at → CanNotTakePlace stands own.now (event.Local (local.Update s)))
+    none_of None at at_is none = λ s home.
+        subst (λ (y : CourseView M). CanNotTakePlace stands y.now (event.Local (local.Update s))) view_is (no_update none s (ap (λ (m : MachineNo). m.0) home ∙ at_is))
+    none_of (Some s) at at_is none = tt
 
     pub task_of : (r : Option ScopeId) → IfSome r (CanUpdate stands x) → IfSome r (λ s. OfTheCall stands own (λ st o c call. HasTaskLeft st call))
     task_of None can = tt
     task_of (Some s) can = λ st o events c is call makes.
         task_left stands own st o events c is s a x (subst (λ (y : CourseView M). InEachCluster stands y.now (λ st c. stands st a (c.machine a) x)) view_is it_is) can call makes
-
--- what a machine has completed has tickets of its own
-module _ {M : Type 0} (stands : Setting → ℕ → Machine → M → Type 0) (v : CourseView M) where
-  pub sum_fits : HasCourse stands v → (a : ℕ) → a < length v.now.machines.items → (before made : ℕ) → before ≡ slice_index_or v.done a 0 →
-      InEachCourse stands v (λ st o events c. made ≡ length (c.machine a).part.log) → before + made < 2 ^ 64
-  sum_fits has a low before made before_is made_is =
-      let one = has.each has.setting has.opening has.opens in
-      subst (λ (n : ℕ). n < 2 ^ 64) (sym (completed_is stands v has.setting has.opening one.0 one.1 one.2 a low before made before_is (made_is has.setting has.opening one.0 one.1 one.2)))
-      (completed_fits stands v has.setting has.opening one.0 one.1 one.2 a)
 
 -- one more behind a list
 pub grown : (P : ℕ → ℕ → Type 0) (xs : List ℕ) (x : ℕ) → ((a : ℕ) → a < length xs → P a (slice_index_or xs a 0)) → P (length xs) x → (a : ℕ) → a < suc (length xs) → P a (slice_index_or (xs ++ x ∷ []) a 0)

@@ -12,10 +12,10 @@ use Rattle.cluster_records.specs.LineOfFour.{after_events}
 use Rattle.cluster_attempts.proofs.Joining.{done_kept}
 use Rattle.cluster_ending.proofs.Courses.{setting_same}
 use Rattle.cluster_whole.specs.Whole.{AreColoured, IsNoRecovery, setting_behind}
-use Rattle.call_courses.specs.Courses.{BaseView, CallOpening, CanGoBack, Cluster, CourseView, CourseGoesOn, GoesBackWith, HasCourse, HasGoneBack, InEachCourse, IsCourseNow, IsSavingClusterOf, IsSnapSetting, Machine, OpensCall, Parts, ArePassing, IsPassing, Setting, StartsCall, StartsSaving, StoreView, as_since, first_cluster, first_setting, newest_setting}
-use Rattle.call_courses.specs.Events.{CanHappenInCall, CanNotHappenInCall, HappensInCall, IsHeldBack, IsNoRecord, StaysThere, watched}
+use Rattle.call_courses.specs.Courses.{BaseView, CallOpening, Cluster, CourseView, CourseGoesOn, GoesBackWith, HasCourse, HasGoneBack, InEachCourse, IsCourseNow, IsSameAttempt, IsSavingClusterOf, IsSnapSetting, Machine, OpensCall, Parts, ArePassing, IsPassing, Setting, StartsCall, StartsSaving, StoreView, as_since, first_cluster, first_setting, newest_setting}
+use Rattle.call_courses.specs.Events.{CanHappenInCall, CanNotHappenInCall, HappensInCall, IsHeldBack, GoesOnBy, StaysThere, watched}
 use Rattle.snap_clusters.specs.Clusters.{GoesOnWith, StandsForSameSaving}
-use Rattle.snap_clusters.specs.Events.{CanTakePlace, CanNotTakePlace, IsNamedEvent, NamesItsMachines, TakesPlace}
+use Rattle.snap_clusters.specs.Events.{CanTakePlace, CanNotTakePlace, IsNamedEvent, IsNoStop, NamesItsMachines, TakesPlace}
 use Rattle.snap_clusters.specs.declared.events.Event.{Event}
 use Rattle.snap_clusters.specs.declared.events.Event.TheVariants as event
 use Rattle.snap_clusters.specs.declared.events.Lead.TheVariants as lead
@@ -62,7 +62,7 @@ named_other (event.Passage (passage.DeliverCall a)) e is = λ base so. absurd (c
 named_other (event.Passage (passage.SendReport a)) e is = λ base so. absurd (cc)
 named_other (event.Passage (passage.DeliverReport a)) e is = λ base so. absurd (cc)
 
-named_quiet : (what : Event) (e : law.Event) → IsNoRecord what → IsNamedEvent what e → e ≢ law.Record
+named_quiet : (what : Event) (e : law.Event) → GoesOnBy what → IsNamedEvent what e → e ≢ law.Record
 named_quiet (event.Local (local.Admit a)) e none is = λ so. let is_e = is.1 in absurd (cc)
 named_quiet (event.Local (local.Grant a x)) e none is = λ so. absurd (cc)
 named_quiet (event.Local (local.Update s)) e none is = λ so. absurd (cc)
@@ -72,7 +72,7 @@ named_quiet (event.Local (local.Fail a)) e none is = λ so. absurd (cc)
 named_quiet (event.Lead lead.Record) e none is = absurd none
 named_quiet (event.Lead lead.Begin) e none is = λ so. absurd (cc)
 named_quiet (event.Lead lead.Wave) e none is = λ so. absurd (cc)
-named_quiet (event.Lead lead.Stop) e none is = λ so. absurd (cc)
+named_quiet (event.Lead lead.Stop) e none is = absurd none
 named_quiet (event.Passage (passage.Send p q)) e none is = λ so. absurd (cc)
 named_quiet (event.Passage (passage.Deliver p q)) e none is = λ so. absurd (cc)
 named_quiet (event.Passage (passage.SendCall a)) e none is = λ so. absurd (cc)
@@ -142,43 +142,6 @@ module _ {M : Type 0} (stands : Setting → ℕ → Machine → M → Type 0) (o
         now = goes_on done st o events c is has.event (named_other what has.event has.is) has.may follows has.after;
       }
 
-  -- ---- the type's invariant
-
-  module _ (start : new.start ≡ old.start) where
-    opens_so : (st : Setting) (o : CallOpening) → OpensCall stands old.start old.failures st o → OpensCall stands new.start new.failures st o
-    opens_so st o opens = subst (λ (p : Parts M). OpensCall stands p new.failures st o) (sym start) (subst (λ (fs : List FailureAt). OpensCall stands old.start fs st o) (sym failures) opens)
-
-    opens_back : (st : Setting) (o : CallOpening) → OpensCall stands new.start new.failures st o → OpensCall stands old.start old.failures st o
-    opens_back st o opens = subst (λ (p : Parts M). OpensCall stands p old.failures st o) start (subst (λ (fs : List FailureAt). OpensCall stands new.start fs st o) failures opens)
-
-    -- there is a course from each opening
-    pub kept_on : length new.done ≡ length new.now.machines.items → HasCourse stands old → (what : Event) → HappensInCall stands old what new → CourseGoesOn stands (as_since new) new → HasCourse stands new
-    kept_on many has what all going =
-        record {
-          setting = has.setting;
-          opening = has.opening;
-          opens = opens_so has.setting has.opening has.opens;
-          each = λ st o opens.
-              let before = has.each st o (opens_back st o opens) in
-              let next = all st o before.0 before.1 before.2 in
-              (before.0 ++ next.event ∷ [], law.after_event (newest_setting st o before.0) before.1 next.event, next.now);
-          many = many;
-          goes_on = going;
-        }
-
-    pub kept_still : length new.done ≡ length new.now.machines.items → HasCourse stands old → StaysThere stands old new → CourseGoesOn stands (as_since new) new → HasCourse stands new
-    kept_still many has all going =
-        record {
-          setting = has.setting;
-          opening = has.opening;
-          opens = opens_so has.setting has.opening has.opens;
-          each = λ st o opens.
-              let before = has.each st o (opens_back st o opens) in
-              (before.0, before.1, all st o before.0 before.1 before.2);
-          many = many;
-          goes_on = going;
-        }
-
   -- as it was at that time, in both
   module _ (since : new.since ≡ old.since) (done : new.done ≡ old.done) where
     since_back : (st : Setting) (o : CallOpening) (events : List law.Event) (c : Cluster) → IsCourseNow stands (as_since new) st o events c → IsCourseNow stands (as_since old) st o events c
@@ -189,7 +152,7 @@ module _ {M : Type 0} (stands : Setting → ℕ → Machine → M → Type 0) (o
       done = λ a low. is.done a low ∙ ap (λ (ds : List ℕ). slice_index_or ds a 0) done;
     }
 
-    pub going_on_by : (what : Event) → IsNoRecord what → HasCourse stands old → HappensInCall stands old what new → CourseGoesOn stands (as_since new) new
+    pub going_on_by : (what : Event) → GoesOnBy what → HasCourse stands old → HappensInCall stands old what new → CourseGoesOn stands (as_since new) new
     going_on_by what none has all st o events c is =
         let before = has.goes_on st o events c (since_back st o events c is) in
         let next = all st o (events ++ before.0) before.1 before.3 in (
@@ -213,6 +176,10 @@ module _ {M : Type 0} (stands : Setting → ℕ → Machine → M → Type 0) (v
   pub going_from : CourseGoesOn stands (as_since v) v
   going_from st o events c is =
       ([], c, tt, subst (λ (es : List law.Event). IsCourseNow stands v st o es c) (sym (append-nil events)) (still_now st o events c is))
+
+  -- the cluster is remembered anew
+  pub kept_anew : length v.done ≡ length v.now.machines.items → HasCourse stands v
+  kept_anew many = record { many = many; goes_on = going_from }
 
 -- ---- what is held back
 
@@ -319,22 +286,11 @@ module _ {M : Type 0} (stands : Setting → ℕ → Machine → M → Type 0) (o
   unchanged_so (Ok u) still = tt
   unchanged_so (Err e) still = stays stands old new failures done still
 
-  module _ (start : new.start ≡ old.start) (many : length new.done ≡ length new.now.machines.items) (has : HasCourse stands old) where
-    -- the cluster as it was at that time stays, or it is remembered anew
-    pub kept_since : IsNoRecord what → new.since ≡ old.since → (r : Result (Unit {0}) Refused) → OnOk r (HappensInCall stands old what new) → OnErr r (StaysThere stands old new) → HasCourse stands new
-    kept_since none since (Ok u) all still =
-        kept_on stands old new failures start many has what all (going_on_by stands old new failures since done what none has all)
-    kept_since none since (Err e) all still =
-        kept_still stands old new failures start many has still (going_still stands old new failures since done has still)
-
-    pub kept_anew : new.since ≡ new.now → (r : Result (Unit {0}) Refused) → OnOk r (HappensInCall stands old what new) → OnErr r (StaysThere stands old new) → HasCourse stands new
-    kept_anew since (Ok u) all still = kept_on stands old new failures start many has what all (going_from stands new since)
-    kept_anew since (Err e) all still = kept_still stands old new failures start many has still (going_from stands new since)
-
--- where it stays, in all
-module _ {M : Type 0} (stands : Setting → ℕ → Machine → M → Type 0) (old new : CourseView M) (failures : new.failures ≡ old.failures) (done : new.done ≡ old.done) (now : new.now ≡ old.now) where
-  pub stays_so : StaysThere stands old new
-  stays_so = stays stands old new failures done (λ st c setting of. subst (λ (p : Parts M). IsSavingClusterOf stands st p c) (sym now) of)
+  -- the cluster as it was at that time stays
+  pub kept_since : length new.done ≡ length new.now.machines.items → HasCourse stands old → GoesOnBy what → new.since ≡ old.since → (r : Result (Unit {0}) Refused) →
+      OnOk r (HappensInCall stands old what new) → OnErr r (StaysThere stands old new) → HasCourse stands new
+  kept_since many has none since (Ok u) all still = record { many = many; goes_on = going_on_by stands old new failures since done what none has all }
+  kept_since many has none since (Err e) all still = record { many = many; goes_on = going_still stands old new failures since done has still }
 
 -- ---- where it begins
 
@@ -343,29 +299,6 @@ module _ {M : Type 0} (stands : Setting → ℕ → Machine → M → Type 0) (x
     (failures : List FailureAt) where
   pub opens_call : (st : Setting) (o : CallOpening) → StartsCall stands xs store next left failures st o → OpensCall stands p failures st o
   opens_call st o starts = record { setting = starts.starts.setting; opened = starts.opened; code = began st o.base o.first starts.starts }
-
-  module _ (done : List ℕ) (none : (a : ℕ) → slice_index_or done a 0 ≡ 0) where
-    abbrev view_first : CourseView M
-    view_first = record { start = p; failures = failures; done = done; since = p; now = p }
-
-    first_course : (st : Setting) (o : CallOpening) → OpensCall stands p failures st o → IsCourseNow stands view_first st o [] (first_cluster st o)
-    first_course st o opens = record {
-      setting = opens.setting;
-      course = record { is = opens.setting.is; coloured = subst (AreColoured st) (sym opens.setting.locks) tt; opened = opens.opened; course = refl; follows = tt };
-      code = opens.code;
-      done = λ a low. opens.opened.done a ∙ sym (none a);
-    }
-
-    pub has_first : (many : length done ≡ length p.machines.items) → (st : Setting) (o : CallOpening) → StartsCall stands xs store next left failures st o → HasCourse stands view_first
-    has_first many st o starts =
-        record {
-          setting = st;
-          opening = o;
-          opens = opens_call st o starts;
-          each = λ st o opens. ([], first_cluster st o, first_course st o opens);
-          many = many;
-          goes_on = going_from stands view_first refl;
-        }
 
 -- no machine has completed an update yet
 abbrev zeros : ℕ → List ℕ
@@ -407,23 +340,9 @@ module _ {M : Type 0} (stands : Setting → ℕ → Machine → M → Type 0) (v
         own_has : HasCourse stands own
         own_has = subst (HasCourse stands) view_is has
 
-        start_same : later_view.start ≡ own.start
-        start_same = ap (λ (x : CourseView M). x.start) view_is
-
-        pub kept_since_seen : IsNoRecord what → since ≡ v.since → HasCourse stands later_view
+        pub kept_since_seen : GoesOnBy what → since ≡ v.since → HasCourse stands later_view
         kept_since_seen none kept =
-            kept_since stands own later_view failures_same done_same what start_same (has.many ∙ sym many) own_has none (kept ∙ ap (λ (x : CourseView M). x.since) view_is) r (made_seen r takes) (unchanged_seen r same)
-
-        pub kept_anew_seen : since ≡ cluster → HasCourse stands later_view
-        kept_anew_seen anew =
-            kept_anew stands own later_view failures_same done_same what start_same (has.many ∙ sym many) own_has anew r (made_seen r takes) (unchanged_seen r same)
-
--- the cluster is remembered
-module _ {M : Type 0} (stands : Setting → ℕ → Machine → M → Type 0) (v : CourseView M) (has : HasCourse stands v) (since : Parts M) (is : since ≡ v.now) where
-  pub remembered : HasCourse stands (record v { since = since })
-  remembered =
-      let new : CourseView M = record v { since = since } in
-      kept_still stands v new refl refl has.many has (stays_so stands v new refl refl refl) (going_from stands new is)
+            kept_since stands own later_view failures_same done_same what (has.many ∙ sym many) own_has none (kept ∙ ap (λ (x : CourseView M). x.since) view_is) r (made_seen r takes) (unchanged_seen r same)
 
 -- where none is asked, none of them is held back
 pub record_free : {M : Type 0} (stands : Setting → ℕ → Machine → M → Type 0) (v : CourseView M) → InEachCourse stands v (IsHeldBack v.failures (event.Lead lead.Record) false)
@@ -477,34 +396,11 @@ module _ {M : Type 0} (stands : Setting → ℕ → Machine → M → Type 0) (o
   pub gone_back : HasGoneBack stands old xs store new
   gone_back st o events c base goes = back_now st o events c base goes
 
-  module _ (start : new.start ≡ old.start) (has : HasCourse stands old) (can : CanGoBack stands old xs store) where
-    pub kept_back : length new.done ≡ length new.now.machines.items → new.since ≡ new.now → HasCourse stands new
-    kept_back many since =
-        record {
-          setting = has.setting;
-          opening = has.opening;
-          opens = opens_so stands old new failures start has.setting has.opening has.opens;
-          each = λ st o opens.
-              let one = can st o (opens_back stands old new failures start st o opens) in
-              (one.0 ++ law.Recover one.2 ∷ [], law.recovers (newest_setting st o one.0) one.2 one.1, back_now st o one.0 one.1 one.2 one.3);
-          many = many;
-          goes_on = going_from stands new since;
-        }
-
--- one that goes back is enough for the cluster
-pub some_goes_on : {M : Type 0} (stands : Setting → ℕ → Machine → M → Type 0) (v : CourseView M) (xs : List M) (store : StoreView) → HasCourse stands v → CanGoBack stands v xs store →
-    (st : Setting) × (c : Cluster) × (base : BaseView) × GoesOnWith stands v.now xs store st c base
-some_goes_on stands v xs store has can =
-    let one = can has.setting has.opening has.opens in
-    (newest_setting has.setting has.opening one.0, one.1, one.2, record { stood = one.3.is.code; may = one.3.may; starts = one.3.starts })
-
 -- what the type shows of it
-module _ {M : Type 0} (stands : Setting → ℕ → Machine → M → Type 0) (v own : CourseView M) (view_is : v ≡ own) (xs : List M) (store : StoreView) (has : HasCourse stands v) (can : CanGoBack stands own xs store) where
-  can_inside : CanGoBack stands v xs store
-  can_inside = subst (λ (x : CourseView M). CanGoBack stands x xs store) (sym view_is) can
-
-  pub again_seen : (st : Setting) × (c : Cluster) × (base : BaseView) × GoesOnWith stands v.now xs store st c base
-  again_seen = some_goes_on stands v xs store has can_inside
+module _ {M : Type 0} (stands : Setting → ℕ → Machine → M → Type 0) (v own : CourseView M) (view_is : v ≡ own) (xs : List M) (store : StoreView) where
+  pub again_seen : (st : Setting) × (base : BaseView) × (before : Cluster) × StartsSaving stands xs store own.now.next own.now.left st base before →
+      (st : Setting) × (base : BaseView) × (before : Cluster) × StartsSaving stands xs store v.now.next v.now.left st base before
+  again_seen = subst (λ (x : CourseView M). (st : Setting) × (base : BaseView) × (before : Cluster) × StartsSaving stands xs store x.now.next x.now.left st base before) (sym view_is)
 
   module _ (counts : List ℕ) (since cluster : Parts M)
       (dones : (a : ℕ) → a < length own.now.machines.items → InEachCourse stands own (λ st o events c. slice_index_or counts a 0 ≡ completed (c.machine a)))
@@ -521,8 +417,36 @@ module _ {M : Type 0} (stands : Setting → ℕ → Machine → M → Type 0) (v
     pub gone_seen : HasGoneBack stands own xs store back_view
     gone_seen = subst (λ (x : CourseView M). HasGoneBack stands x xs store back_view) view_is gone_inside
 
-    pub kept_back_seen : length counts ≡ length cluster.machines.items → since ≡ cluster → HasCourse stands back_view
-    kept_back_seen many is = kept_back stands v back_view refl xs store dones_inside recovered refl has can_inside many is
+-- it goes on in the same attempt
+pub attempt_seen : {M : Type 0} (v own : CourseView M) → v ≡ own → (cluster : Parts M) → length cluster.machines.items ≡ length v.now.machines.items → cluster.stopped ≡ v.now.stopped → IsSameAttempt own (record v { now = cluster })
+attempt_seen v own is cluster many stopped = record {
+  start = ap (λ x. x.start) is;
+  failures = ap (λ x. x.failures) is;
+  done = ap (λ x. x.done) is;
+  since = ap (λ x. x.since) is;
+  many = many ∙ ap (λ x. length x.now.machines.items) is;
+  stopped = stopped ∙ ap (λ x. x.now.stopped) is;
+}
+
+-- and is remembered
+pub attempt_anew : {M : Type 0} (v own : CourseView M) → v ≡ own → (since cluster : Parts M) → length cluster.machines.items ≡ length v.now.machines.items → cluster.stopped ≡ v.now.stopped → since ≡ cluster →
+    IsSameAttempt (record own { since = cluster }) (record v { since = since; now = cluster })
+attempt_anew v own is since cluster many stopped anew = record {
+  start = ap (λ x. x.start) is;
+  failures = ap (λ x. x.failures) is;
+  done = ap (λ x. x.done) is;
+  since = anew;
+  many = many ∙ ap (λ x. length x.now.machines.items) is;
+  stopped = stopped ∙ ap (λ x. x.now.stopped) is;
+}
+
+pub no_stop : (what : Event) → GoesOnBy what → IsNoStop what
+no_stop (event.Local what) none = tt
+no_stop (event.Lead lead.Record) none = absurd none
+no_stop (event.Lead lead.Begin) none = tt
+no_stop (event.Lead lead.Wave) none = tt
+no_stop (event.Lead lead.Stop) none = absurd none
+no_stop (event.Passage what) none = tt
 
 -- it is where it was
 module _ {M : Type 0} (stands : Setting → ℕ → Machine → M → Type 0) (v own : CourseView M) (view_is : v ≡ own) (cluster : Parts M) (same : StandsForSameSaving stands v.now cluster) where
@@ -536,7 +460,7 @@ module _ {M : Type 0} (stands : Setting → ℕ → Machine → M → Type 0) (v
   stays_seen = subst (λ (x : CourseView M). StaysThere stands x same_view) view_is stays_inside
 
   pub kept_same_seen : HasCourse stands v → length cluster.machines.items ≡ length v.now.machines.items → HasCourse stands same_view
-  kept_same_seen has many = kept_still stands v same_view refl refl (has.many ∙ sym many) has stays_inside (going_still stands v same_view refl refl refl has stays_inside)
+  kept_same_seen has many = record { many = has.many ∙ sym many; goes_on = going_still stands v same_view refl refl refl has stays_inside }
 
 pub on_ok : {X E P Q : Type 0} (r : Result X E) → (P → Q) → OnOk r P → OnOk r Q
 on_ok (Ok x) to p = to p

@@ -76,22 +76,19 @@ CourseGoesOn stands old new = InEachCourse stands old (λ st o events c. (more :
 abbrev pub as_since : {M : Type 0} → CourseView M → CourseView M
 as_since v = record v { now = v.since }
 
--- From each opening events have led to where the cluster is, there is one, and the cluster has come of what it was at that time.
+-- There is a count for each machine, and each course to where the cluster was at that time has gone on to where it is.
 pub record HasCourse {M : Type 0} (stands : Setting → ℕ → Machine → M → Type 0) (v : CourseView M) : Type 0 where
-  pub setting : Setting
-  pub opening : CallOpening
-  pub opens : OpensCall stands v.start v.failures setting opening
-  pub each : (st : Setting) (o : CallOpening) → OpensCall stands v.start v.failures st o → (events : List law.Event) × (c : Cluster) × IsCourseNow stands v st o events c
   pub many : length v.done ≡ length v.now.machines.items
   pub goes_on : CourseGoesOn stands (as_since v) v
 
--- it is the same call and the same attempt, remembered at the same time, with as many machines
+-- it is the same call and the same attempt, remembered at the same time, with as many machines, and it has ended where the other has
 pub record IsSameAttempt {M : Type 0} (old new : CourseView M) : Type 0 where
   pub start : new.start ≡ old.start
   pub failures : new.failures ≡ old.failures
   pub done : new.done ≡ old.done
   pub since : new.since ≡ old.since
   pub many : length new.now.machines.items ≡ length old.now.machines.items
+  pub stopped : new.now.stopped ≡ old.now.stopped
 
 -- ---- where it goes back
 
@@ -101,11 +98,6 @@ pub record GoesBackWith {M : Type 0} (stands : Setting → ℕ → Machine → M
   pub may : law.MayOccur (newest_setting st o events) c (law.Recover base)
   pub follows : FollowsJob (newest_setting st o events) old.failures c (law.Recover base)
   pub starts : StartsSaving stands xs store old.now.next old.now.left (newest_setting st o events) base c
-
--- from each opening a course goes back so
-abbrev pub CanGoBack : {M : Type 0} → (Setting → ℕ → Machine → M → Type 0) → CourseView M → List M → StoreView → Type 0
-CanGoBack stands old xs store =
-    (st : Setting) (o : CallOpening) → OpensCall stands old.start old.failures st o → (events : List law.Event) × (c : Cluster) × (base : BaseView) × GoesBackWith stands old xs store st o events c base
 
 -- each that may has gone back
 abbrev pub HasGoneBack : {M : Type 0} → (Setting → ℕ → Machine → M → Type 0) → CourseView M → List M → StoreView → CourseView M → Type 0

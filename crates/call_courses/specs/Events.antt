@@ -54,7 +54,8 @@ pub record IsHeldBack (failures : List FailureAt) (what : Event) (answer : Bool)
 
 -- ---- which events these are
 
--- it acknowledges no snapshot
-abbrev pub IsNoRecord : Event → Type 0
-IsNoRecord (event.Lead lead.Record) = ⊥
-IsNoRecord _ = ⊤
+-- it acknowledges no snapshot, and doesn't end the run
+abbrev pub GoesOnBy : Event → Type 0
+GoesOnBy (event.Lead lead.Record) = ⊥
+GoesOnBy (event.Lead lead.Stop) = ⊥
+GoesOnBy _ = ⊤

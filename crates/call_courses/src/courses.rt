@@ -1,21 +1,21 @@
 //! The course of a call.
-ghost use Rattle.std.specs.Prelude.{[], ◌≡◌, ◌+◌, ◌^◌, ◌<◌, ◌≤◌, ℕ, length, slice_index_or, IfOk, IfSome, IsErrOf, OnErr, OnOk};
+ghost use Rattle.std.specs.Prelude.{[], ◌≡◌, ◌+◌, ◌^◌, ◌<◌, ◌≤◌, ℕ, length, slice_index_or, false, true, IfNone, IfOk, IfSome, IsErrOf, OnErr, OnOk};
 ghost use Rattle.attempts.specs.EngineCalls.{done_of, first_ticket, made_of};
 ghost use Rattle.call_courses.specs.Calls.{HasCall, HasEndedCall, HasTaskLeft, OfTheCall};
-ghost use Rattle.call_courses.specs.Courses.{CallOpening, CanGoBack, CourseGoesOn, HasCourse, HasGoneBack, InEachCourse, IsCourseNow, IsSameAttempt, OpensCall, Setting, StartsCall, as_since, first_cluster, newest_setting};
-ghost use Rattle.call_courses.specs.Events.{CanHappenInCall, CanNotHappenInCall, HappensInCall, IsHeldBack, IsNoRecord, StaysThere};
+ghost use Rattle.call_courses.specs.Courses.{BaseView, CallOpening, Cluster, CourseGoesOn, HasCourse, HasGoneBack, InEachCourse, IsCourseNow, IsSameAttempt, OpensCall, Setting, StartsCall, StartsSaving, as_since, first_cluster, newest_setting};
+ghost use Rattle.call_courses.specs.Events.{CanHappenInCall, CanNotHappenInCall, HappensInCall, IsHeldBack, GoesOnBy, StaysThere};
 ghost use Rattle.cluster_core.specs.Replays.{entries_of};
 ghost use Rattle.cluster_model.specs.Machines.{completed};
 ghost use Rattle.coord_core.specs.Calls.{IsDueOf, IsRecordFor};
 ghost use Rattle.coord_core.specs.Stores.{store_view};
 ghost use Rattle.snap_clusters.specs.Cuts.{snapshot_due};
-ghost use Rattle.snap_clusters.specs.Events.{NamesItsMachines};
+ghost use Rattle.snap_clusters.specs.Events.{CanNotTakePlace, CanTakePlace, IsReadyToAcknowledge, NamesItsMachines};
 ghost use Rattle.whole_calls.specs.Following.{has_reached};
 ghost use Rattle.whole_calls.specs.Saved.{MayFollow};
 
 use crate::failing::{is_count_reached, watched};
 use gl_base::{Entry, FailureAt, MachineNo, NoMemory, Record, Refused, ScopeId, Vertex};
-use snap_clusters::{Coordinator, Due, Event, Lead, SavingMachine, SnapCluster, Store};
+use snap_clusters::{Coordinator, Due, Event, Lead, Local, SavingMachine, SnapCluster, Store};
 use std::alloc::Global;
 use std::marker::Model;
 use std::snapshot::Snapshot;
@@ -23,7 +23,8 @@ use std::snapshot::Snapshot;
 /// A cluster in the course of a call that runs a job. Contracts see how it began, the failures that the job orders, how many updates
 /// each machine had completed as the newest attempt began, and the cluster as it was remembered and as it is now. Whatever happens in it
 /// follows the job: a machine that has reached the count of a failure makes no update and hears nothing of the coordinator until it
-/// fails, and no other machine fails. So what has happened makes a call, of which all laws of calls hold.
+/// fails, and no other machine fails. So what has happened since an opening of the law makes a call, of which all laws of calls hold. Each
+/// base may be one that another hand made: then the law may have no such opening, and what is said of each course says nothing.
 #[derive(Drop)]
 pub struct Course<M: SavingMachine> {
     cluster: SnapCluster<M>,
@@ -45,7 +46,7 @@ impl<M: SavingMachine> Model for Course<M> {
 
 impl<M: SavingMachine> Course<M> {
     /// A call opens: its machines begin their first attempt, each at its place, with this store. The first update gets the ticket `next`,
-    /// and there are `left` of them.
+    /// and there are `left` of them. Of the base only what the machines have of it is asked.
     pub fn open(
         alloc: Global,
         machines: Vec<M>,
@@ -54,13 +55,15 @@ impl<M: SavingMachine> Course<M> {
         left: u64,
         failures: Vec<FailureAt>,
     ) -> Result<Course<M>, NoMemory>
-        requires start { (st : Setting) × (o : CallOpening) × StartsCall M.stands machines.items (store_view store) next left failures.items st o }
+        requires start { (st : Setting) × (base : BaseView) × (before : Cluster) × StartsSaving M.stands machines.items (store_view store) next left st base before }
         requires many { length machines.items < 65535 }
         requires few { next + left < 2 ^ 64 }
         requires newest { store.newest + 1 < 2 ^ 32 }
-        requires length { store.length ≤ 1073741824 }
+        requires length { store.length < 2 ^ 32 }
         ensures failures { IfOk result (λ c. c.failures ≡ failures.items) }
         ensures first { IfOk result (λ c. c.now ≡ c.start) }
+        ensures machines { IfOk result (λ c. length c.now.machines.items ≡ length machines.items) }
+        ensures runs { IfOk result (λ c. c.now.stopped ≡ false) }
         // It is an opening of the law, in each setting in which the machines start.
         ensures opened { IfOk result (λ c. (st : Setting) (o : CallOpening) → StartsCall M.stands machines.items (store_view store) next left failures.items st o → OpensCall M.stands c.start c.failures st o) }
         // Nothing has happened yet.
@@ -79,10 +82,11 @@ impl<M: SavingMachine> Course<M> {
         })
     }
 
-    /// The event happens, where it may happen now and follows the job. It acknowledges no snapshot: that is done by `acknowledge`.
+    /// The event happens, where it may happen now and follows the job. It acknowledges no snapshot: that is done by `acknowledge`; and it
+    /// doesn't end the run.
     pub fn apply(&mut self, event: Event) -> Result<(), Refused>
         requires names { NamesItsMachines (length self.old.now.machines.items) event }
-        requires none { IsNoRecord event }
+        requires none { GoesOnBy event }
         ensures made { OnOk result (HappensInCall M.stands self.old event self.new) }
         ensures not_now { IsErrOf result Refused.NotNow → CanNotHappenInCall M.stands self.old event }
         ensures no_memory { IsErrOf result Refused.NoMemory → CanHappenInCall M.stands self.old event }
@@ -95,27 +99,27 @@ impl<M: SavingMachine> Course<M> {
         self.cluster.apply(event)
     }
 
-    /// The snapshot under way is acknowledged.
-    pub fn acknowledge(&mut self) -> Result<(), Refused>
-        ensures made { OnOk result (HappensInCall M.stands self.old (Event.Lead Lead.Record) self.new) }
-        ensures not_now { IsErrOf result Refused.NotNow → CanNotHappenInCall M.stands self.old (Event.Lead Lead.Record) }
-        ensures no_memory { IsErrOf result Refused.NoMemory → CanHappenInCall M.stands self.old (Event.Lead Lead.Record) }
-        ensures unchanged { OnErr result (StaysThere M.stands self.old self.new) }
+    /// The snapshot of this number, whose record was made, is acknowledged. It takes no memory.
+    pub fn acknowledge(&mut self, number: u32)
+        requires { IsReadyToAcknowledge self.old.now number }
+        ensures made { HappensInCall M.stands self.old (Event.Lead Lead.Record) self.new }
         ensures since { self.new.since ≡ self.new.now }
         ensures same { IsSameAttempt (record self.old { since = self.new.now }) self.new }
     {
-        let made = self.cluster.apply(Event::Lead(Lead::Record));
+        self.cluster.acknowledge(number);
         self.since = Snapshot::of(&self.cluster);
-        made
     }
 
-    /// All machines go back to a base: the call goes on with these machines, which begin its next attempt from it.
+    /// All machines go back to a base: the call goes on with these machines, which begin its next attempt from it. Of the base only what the
+    /// machines have of it is asked.
     pub fn recover(&mut self, alloc: Global, machines: Vec<M>, store: Store) -> Result<(), NoMemory>
-        requires again { CanGoBack M.stands self.old machines.items (store_view store) }
+        requires again { (st : Setting) × (base : BaseView) × (before : Cluster) × StartsSaving M.stands machines.items (store_view store) self.old.now.next self.old.now.left st base before }
+        requires many { length machines.items ≡ length self.old.now.machines.items }
         requires newest { store.newest + 1 < 2 ^ 32 }
-        requires length { store.length ≤ 1073741824 }
+        requires length { store.length < 2 ^ 32 }
         ensures recovered { OnOk result (HasGoneBack M.stands self.old machines.items (store_view store) self.new) }
         ensures since { OnOk result (self.new.since ≡ self.new.now) }
+        ensures runs { OnOk result (self.new.now.stopped ≡ false) }
         ensures unchanged { OnErr result (self.new ≡ self.old) }
         ensures same { (self.new.start ≡ self.old.start) × (self.new.failures ≡ self.old.failures) × (length self.new.now.machines.items ≡ length self.old.now.machines.items) }
     {
@@ -163,13 +167,14 @@ impl<M: SavingMachine> Course<M> {
         self.cluster.machine(m).log()
     }
 
-    /// How many updates a machine has completed in this call.
+    /// How many updates a machine has completed in this call. Each has a ticket of its own, so that they are fewer than 2^64.
     pub fn completed(&self, m: MachineNo) -> u64
         requires { m.0 < length self.now.now.machines.items }
         ensures count { InEachCourse M.stands self.now (λ st o events c. result ≡ completed (c.machine m.0)) }
         ensures made { OfTheCall M.stands self.now (λ st o c call. result ≡ done_of call m.0) }
     {
-        self.done[m.0 as usize] + self.log(m).len() as u64
+        let made = self.log(m).len() as u64;
+        self.done[m.0 as usize].saturating_add(made)
     }
 
     /// How many updates each machine has completed in this call.
@@ -185,11 +190,11 @@ impl<M: SavingMachine> Course<M> {
         Ok(counts)
     }
 
-    /// How many machines there are. In some setting the call opened, and each course from an opening makes a call.
+    /// How many machines there are. Each course from an opening makes a call.
     pub fn machines(&self) -> usize
         ensures count { result ≡ length self.now.now.machines.items }
         ensures small { result < 65535 }
-        ensures began { HasCourse M.stands self.now }
+        ensures course { HasCourse M.stands self.now }
         ensures call { HasCall M.stands self.now }
         // No snapshot was acknowledged since the cluster was remembered, and the attempt is the same.
         ensures since { CourseGoesOn M.stands (as_since self.now) self.now }
@@ -214,7 +219,22 @@ impl<M: SavingMachine> Course<M> {
         self.cluster.left()
     }
 
-    /// The record of the snapshot under way. It acknowledges nothing. `NotNow` comes exactly where `acknowledge` answers it.
+    /// The ticket of the next update.
+    pub fn next(&self) -> u64
+        ensures { InEachCourse M.stands self.now (λ st o events c. result ≡ c.next) }
+    {
+        self.cluster.next()
+    }
+
+    /// Whether the run has ended: nothing happens any more.
+    pub fn is_stopped(&self) -> bool
+        ensures { result ≡ self.now.now.stopped }
+    {
+        self.cluster.is_stopped()
+    }
+
+    /// The record of the snapshot under way. It acknowledges nothing: `acknowledge` does, for which there is room from then on. `NotNow` comes
+    /// exactly where the snapshot may not be acknowledged.
     pub fn record(&mut self, alloc: Global) -> Result<Record, Refused>
         ensures is { IfOk result (λ made. InEachCourse M.stands self.old (λ st o events c. IsRecordFor st (snapshot_due c.coordinator) made)) }
         ensures due { OnOk result (CanHappenInCall M.stands self.old (Event.Lead Lead.Record)) }
@@ -222,13 +242,16 @@ impl<M: SavingMachine> Course<M> {
         ensures no_memory { IsErrOf result Refused.NoMemory → CanHappenInCall M.stands self.old (Event.Lead Lead.Record) }
         ensures stays { StaysThere M.stands self.old self.new }
         ensures same { IsSameAttempt self.old self.new }
+        ensures ready { IfOk result (λ made. IsReadyToAcknowledge self.new.now made.number) }
     {
         self.cluster.record(alloc)
     }
 
-    /// A lock that may be granted at the machine, as the cluster names it.
+    /// A lock that may be granted at the machine; `None` exactly where none may be.
     pub fn next_grant(&mut self, at: MachineNo) -> Option<Vertex>
         requires { at.0 < length self.old.now.machines.items }
+        ensures some { IfSome result (λ x. CanTakePlace M.stands self.old.now (Event.Local (Local.Grant at x))) }
+        ensures none { IfNone result ((x : Vertex) → CanNotTakePlace M.stands self.old.now (Event.Local (Local.Grant at x))) }
         ensures stays { StaysThere M.stands self.old self.new }
         ensures same { IsSameAttempt self.old self.new }
     {
@@ -236,18 +259,23 @@ impl<M: SavingMachine> Course<M> {
     }
 
     /// A scope of the machine whose update may be made, but for a ticket that it may lack: its vertex is a task, also after the call's order.
+    /// Where it is `None` no update of the machine may be made.
     pub fn next_update(&self, at: MachineNo) -> Option<ScopeId>
         requires { at.0 < length self.now.now.machines.items }
         ensures home { IfSome result (λ s. s.home ≡ at) }
         ensures task { IfSome result (λ s. OfTheCall M.stands self.now (λ st o c call. HasTaskLeft st call)) }
+        ensures flagged { IfSome result (λ s. InEachCourse M.stands self.now (λ st o events c. (v : ℕ) × ((c.machine at.0).part.task v ≡ true))) }
+        ensures none { IfNone result ((s : ScopeId) → s.home ≡ at → CanNotTakePlace M.stands self.now.now (Event.Local (Local.Update s))) }
     {
         self.cluster.machine(at).next_update()
     }
 
-    /// A scope of the machine whose snapshot update may be made.
+    /// A scope of the machine whose snapshot update may be made; `None` exactly where there is none.
     pub fn next_mark(&self, at: MachineNo) -> Option<ScopeId>
         requires { at.0 < length self.now.now.machines.items }
-        ensures { IfSome result (λ s. s.home ≡ at) }
+        ensures home { IfSome result (λ s. s.home ≡ at) }
+        ensures some { IfSome result (λ s. CanTakePlace M.stands self.now.now (Event.Local (Local.Mark s))) }
+        ensures none { IfNone result ((s : ScopeId) → s.home ≡ at → CanNotTakePlace M.stands self.now.now (Event.Local (Local.Mark s))) }
     {
         self.cluster.next_mark(at)
     }

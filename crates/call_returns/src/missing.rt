@@ -28,7 +28,7 @@ pub fn missing_restarts(
 }
 
 /// The restarts of an order, in their turn.
-fn restarts_of(alloc: Global, order: &[Entry]) -> Result<Vec<Entry>, NoMemory>
+pub fn restarts_of(alloc: Global, order: &[Entry]) -> Result<Vec<Entry>, NoMemory>
     ensures { IfOk result (λ found. found.items ≡ filter is_restart order.now) }
 {
     let mut found = Vec::new(alloc);

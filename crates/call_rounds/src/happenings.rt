@@ -1,6 +1,6 @@
 //! Events that happen, or may not happen now.
 ghost use Rattle.std.specs.Prelude.{◌≡◌, length};
-ghost use Rattle.call_rounds.specs.Pauses.{IsNoRecord, IsSameAttempt, NamesItsMachines};
+ghost use Rattle.call_rounds.specs.Pauses.{GoesOnBy, IsSameAttempt, NamesItsMachines};
 
 use call_courses::{Course, Event, SavingMachine};
 use gl_base::{NoMemory, Refused};
@@ -11,7 +11,7 @@ pub(crate) fn happens<M: SavingMachine>(
     event: Event,
 ) -> Result<bool, NoMemory>
     requires names { NamesItsMachines (length course.old.now.machines.items) event }
-    requires none { IsNoRecord event }
+    requires none { GoesOnBy event }
     ensures { IsSameAttempt course.old course.new }
 {
     match course.apply(event) {
@@ -27,7 +27,7 @@ pub(crate) fn exhaust<M: SavingMachine>(
     event: Event,
 ) -> Result<bool, NoMemory>
     requires names { NamesItsMachines (length course.old.now.machines.items) event }
-    requires none { IsNoRecord event }
+    requires none { GoesOnBy event }
     ensures { IsSameAttempt course.old course.new }
 {
     for times in 0..u64::MAX {

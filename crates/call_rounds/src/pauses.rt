@@ -1,6 +1,6 @@
 //! Where the rounds of an attempt pause.
 ghost use Rattle.std.specs.Prelude.{IfNone, IfSome, IsTrue};
-ghost use Rattle.call_rounds.specs.Pauses.{HasTaskLeft, IsReachedAt, IsSpentNow, NoneReached, OfTheCall, PausesSo};
+ghost use Rattle.call_rounds.specs.Pauses.{HasFlaggedTask, HasTaskLeft, IsReachedAt, IsSpentNow, NoneReached, OfTheCall, PausesSo};
 
 use call_courses::{Course, Due, SavingMachine};
 use gl_base::MachineNo;
@@ -48,7 +48,8 @@ fn quiet_pause<M: SavingMachine>(course: &Course<M>) -> Option<Pause>
 
 /// Whether no ticket is left of the budget, and a task is.
 fn is_spent<M: SavingMachine>(course: &Course<M>) -> bool
-    ensures { IsTrue result → IsSpentNow M.stands course.now }
+    ensures spent { IsTrue result → IsSpentNow M.stands course.now }
+    ensures task { IsTrue result → HasFlaggedTask M.stands course.now }
 {
     if course.left() > 0 {
         return false;
@@ -72,7 +73,8 @@ fn first_reached<M: SavingMachine>(course: &Course<M>) -> Option<MachineNo>
 
 /// Whether a machine has a scope that is ready for its update, so that a task is left.
 fn has_task<M: SavingMachine>(course: &Course<M>) -> bool
-    ensures { IsTrue result → OfTheCall M.stands course.now (λ st o c call. HasTaskLeft st call) }
+    ensures left { IsTrue result → OfTheCall M.stands course.now (λ st o c call. HasTaskLeft st call) }
+    ensures here { IsTrue result → HasFlaggedTask M.stands course.now }
 {
     for m in 0..course.machines() {
         if let Some(_) = course.next_update(MachineNo(m as u16)) {

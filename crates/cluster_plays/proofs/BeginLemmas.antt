@@ -19,7 +19,8 @@ use Rattle.placed_graphs.specs.Weights.{atom_weight}
 use Rattle.placed_graphs.specs.declared.cutting.Placement.{Placement}
 use Rattle.seq_run.specs.States.{start_state}
 use Rattle.update_api.specs.Updates.{Update}
-use Rattle.cluster_plays.specs.Inner.Beginnings.{BeginsPlaced, IsFirstRun, IsPlaced}
+use Rattle.cluster_plays.specs.Inner.Beginnings.{BeginsPlaced, IsFirstRun}
+use Rattle.cluster_plays.specs.Plans.{IsPlaced}
 
 three_ok : {X E : Type 0} (r : Result X E) (P Q R S : X → Type 0) → ((x : X) → P x → Q x → R x → S x) → IfOk r P → IfOk r Q → IfOk r R → IfOk r S
 three_ok (Ok x) P Q R S then p q s = then x p q s

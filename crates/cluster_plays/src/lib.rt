@@ -3,4 +3,4 @@
 
 mod playing;
 
-pub use playing::run_program;
+pub use playing::{first_of, placement_of, run_program};

@@ -2,8 +2,8 @@
 ghost use Rattle.std.specs.Prelude.{◌≡◌, ℕ, ◌<◌, ◌≤◌, length, slice_index, IfOk};
 ghost use Rattle.graph_core.specs.DataGraph.{IsDataGraph};
 ghost use Rattle.placed_clusters.specs.Running.{IsBaseFor};
-ghost use Rattle.cluster_plays.specs.Inner.Beginnings.{BeginsPlaced, IsPlaced};
-ghost use Rattle.cluster_plays.specs.Plans.{CountsByMachine, IsInRange, RunsTo};
+ghost use Rattle.cluster_plays.specs.Inner.Beginnings.{BeginsPlaced};
+ghost use Rattle.cluster_plays.specs.Plans.{CountsByMachine, IsInRange, IsPlaced, RunsTo};
 
 use cluster_rounds::{End, drive};
 use cluster_step::Cluster;
@@ -73,7 +73,7 @@ fn cluster_of<P: Program>(
 }
 
 /// Where the plan places the graph. One machine has all of it, so it isn't cut.
-fn placement_of(alloc: Global, graph: &Graph, plan: RunPlan) -> Result<Placement, NoMemory>
+pub fn placement_of(alloc: Global, graph: &Graph, plan: RunPlan) -> Result<Placement, NoMemory>
     requires plan { IsInRange plan }
     ensures { IfOk result (IsPlaced graph.now plan) }
 {
@@ -105,7 +105,7 @@ fn whole_placement(alloc: Global, graph: &Graph, plan: RunPlan) -> Result<Placem
 }
 
 /// The vertex at which the machine that owns it begins: of those that start with the least number the first.
-fn first_of(graph: &Graph, base: &Base) -> Vertex
+pub fn first_of(graph: &Graph, base: &Base) -> Vertex
     requires { IsBaseFor graph.now base.now }
     ensures { IsDataGraph graph.now }
 {

@@ -35,7 +35,7 @@ none_kept machines few = record {
   apart = none_apart machines;
 }
 
-pub first_kept : (machines : ℕ) (store : StoreView) → machines < 65536 → store.newest + 1 < 2 ^ 32 → store.store_end ≤ 1073741824 → IsSavingKept (saved_before machines store)
+pub first_kept : (machines : ℕ) (store : StoreView) → machines < 65536 → store.newest + 1 < 2 ^ 32 → store.store_end < 2 ^ 32 → IsSavingKept (saved_before machines store)
 first_kept machines store few newest short = record {
   near = omega arith;
   few = newest;
@@ -101,14 +101,14 @@ none_entries come none = ap (λ (n : ℕ). entries_come n come) none
 pub acknowledged_kept : (s : SavingView) → IsSavingKept s → IsRecordDue s → HasRoomForRecord s → IsSavingKept (with_acknowledged s)
 acknowledged_kept s kept due room =
     let many : length (none_of (length s.come)) ≡ length s.come = many_none (length s.come) in
-    let short : s.store_end + saved_length s ≤ 1073741824 = room.short in
+    let within : s.store_end + saved_length s ≤ 1073741824 = room.short in
     let fits : 16 * s.entries ≤ s.store_end = kept.fits in
     record {
       near = omega arith;
       few = let near = kept.near in let few = room.few in omega arith;
       plain = λ _. refl;
       fits = omega arith;
-      short = short;
+      short = omega arith;
       machines = subst (λ (n : ℕ). n < 65536) (sym many) kept.machines;
       lone = λ none.
           let had : s.entries ≡ 0 = kept.lone (sym many ∙ none) in

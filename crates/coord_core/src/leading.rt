@@ -68,7 +68,7 @@ impl Coordinator {
     /// The same where snapshots are taken, behind the newest one of this store.
     pub fn with_store(alloc: Global, machines: u16, store: Store) -> Result<Coordinator, NoMemory>
         requires newest { store.newest + 1 < 2 ^ 32 }
-        requires length { store.length ≤ 1073741824 }
+        requires length { store.length < 2 ^ 32 }
         ensures { IfOk result (λ c. IsFirstWith machines (store_view store) c) }
     {
         let saving = Saving::with_store(alloc, machines, store)?;

@@ -88,7 +88,7 @@ impl Saving {
     /// An attempt begins, with the newest snapshot of this store.
     pub fn with_store(alloc: Global, machines: u16, store: Store) -> Result<Saving, NoMemory>
         requires newest { store.newest + 1 < 2 ^ 32 }
-        requires length { store.length ≤ 1073741824 }
+        requires length { store.length < 2 ^ 32 }
         ensures { IfOk result (λ s. s ≡ saved_before machines (store_view store)) }
     {
         Ok(Saving {

@@ -21,7 +21,7 @@ use Rattle.store_format.specs.declared.faults.StoreFault.{StoreFault}
 use Rattle.store_format.specs.declared.faults.StoreFault.TheVariants.{Used}
 use Rattle.store_format.specs.declared.header.Header.{Header}
 use Rattle.stored_answers.specs.Images.{HoldsGood, IsGoodStore, KeepsGood}
-use Rattle.stored_answers.specs.Ends.{EndsSo}
+use Rattle.stored_answers.specs.Ends.{RunEndsSo}
 use Rattle.stored_answers.specs.Runs.{IsStoredRun, Shared, lists_of}
 use Rattle.stored_answers.specs.declared.runs.StoredEnd.{StoredEnd}
 use Rattle.stored_answers.specs.declared.runs.StoredEnd.TheVariants as end
@@ -61,7 +61,7 @@ pub stored-results : (job : JobSayings) (g : DataGraph) (owner : ℕ → ℕ) (c
     → IsStoredRun (shared_by job g owner) job.fields.machines job.fields.window job.fields.budget count kept resumed snapshots run
     → run.end ≡ end.Finished → AreResults job.fields.algorithm job.fields.source g run.numbers.items
 stored-results job g owner count kept resumed snapshots run is start ran finished =
-    let E : StoredEnd → Type 0 = λ e. EndsSo (shared_by job g owner) job.fields.machines job.fields.window job.fields.budget kept snapshots ran.unanswered (lists_of run) e in
+    let E : StoredEnd → Type 0 = λ e. RunEndsSo (shared_by job g owner) job.fields.machines job.fields.window job.fields.budget kept snapshots ran.unanswered (lists_of run) e in
     let ends : E end.Finished = subst E finished ran.ends in
     results-of job.fields.algorithm job.fields.source g run.order.items run.numbers.items is start ran.is.in_turn.valid ran.numbers_are ends.finished
 

@@ -4,13 +4,14 @@ pub use Rattle.placed_graphs.specs.Beginnings.{IsBaseFor}
 pub use Rattle.placed_graphs.specs.Placed.{IsOwnedBy, placed_owner}
 pub use Rattle.snap_members.specs.Going.{IsSnapSetting}
 pub use Rattle.snap_savers.specs.Savers.{IsSaverOf, SaverView, Setting}
-use Rattle.std.specs.Prelude.{List, length, slice_index, slice_index_or, ℕ, ◌<◌, ◌≡◌}
+use Rattle.std.specs.Prelude.{All, List, length, slice_index, slice_index_or, ℕ, ◌<◌, ◌≡◌}
 use Rattle.cluster_core.specs.Recovering.{going_on}
 use Rattle.cluster_model.specs.Events.{recovers}
 use Rattle.gl_base.specs.declared.snapshots.Base.{Base}
 use Rattle.graph_core.specs.DataGraph.{DataGraph, size}
 use Rattle.seq_run.specs.Runs.{AreNumbers}
 use Rattle.update_api.specs.Updates.{Update}
+use Rattle.placed_savers.specs.declared.savers.Places.{Places}
 use Rattle.placed_savers.specs.declared.savers.SavingRun.{SavingRun}
 
 -- The cluster runs this program on this graph, with these owners of the vertices. Scopes take locks, and so many of one machine may be in
@@ -21,6 +22,17 @@ pub record IsSavingRunOf (g : DataGraph) (program : Update) (owner : ℕ → ℕ
   pub program_is : st.program ≡ program
   pub pipeline : st.pipeline ≡ run.pipeline
   pub window : st.window ≡ run.window
+
+-- Each vertex of the graph is in an atom, each atom on a machine, and there are so many machines.
+pub record ArePlacesOf (g : DataGraph) (machines : ℕ) (places : Places) : Type 0 where
+  pub each : length places.of.items ≡ size g
+  pub atoms : All (λ a. a.0 < length places.owner.items) places.of.items
+  pub owners : All (λ m. m.0 < places.run.machines) places.owner.items
+  pub many : places.run.machines ≡ machines
+
+-- the cluster runs this program on this graph, placed so
+abbrev pub IsRunAt : DataGraph → Update → Places → Setting → Type 0
+IsRunAt g program places st = IsSavingRunOf g program (placed_owner places.of.items places.owner.items) places.run st
 
 -- the base of the law has this one's number and numbers
 pub record IsBaseOf (st : Setting) (base : Base) (view : BaseView) : Type 0 where

@@ -6,4 +6,4 @@ mod machines;
 mod savers;
 
 pub use laws::attempts_can_begin;
-pub use savers::{SavingRun, placed_savers};
+pub use savers::{Places, SavingRun, placed_savers};

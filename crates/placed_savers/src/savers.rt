@@ -25,6 +25,14 @@ pub struct SavingRun {
     pub window: u32,
 }
 
+/// Where the vertices of a graph are, and how each attempt runs: the atom of each vertex, and the machine of each atom.
+#[derive(Debug, Drop)]
+pub struct Places {
+    pub of: Vec<AtomNo>,
+    pub owner: Vec<MachineNo>,
+    pub run: SavingRun,
+}
+
 /// The machines of an attempt that begins from this base, each at its place, where `of` says in which atom each vertex is, and `owner` on
 /// which machine each atom; and machine a admits its first scope with the serial `serials[a]`.
 pub fn placed_savers<P: Program>(

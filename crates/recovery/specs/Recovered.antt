@@ -1,5 +1,5 @@
 -- What a run goes on from.
-use Rattle.std.specs.Prelude.{◌≡◌, ◌⊎◌, ℕ, ◌<◌, List, [], length}
+use Rattle.std.specs.Prelude.{◌≡◌, ◌⊎◌, ℕ, ◌+◌, ◌^◌, ◌<◌, List, [], length}
 use Rattle.gl_base.specs.declared.snapshots.Base.{Base}
 use Rattle.store_format.specs.declared.header.Header.{Header}
 use Rattle.recovery.specs.Orders.{DataGraph, Update, size, start_state, AreNumbers}
@@ -17,6 +17,12 @@ pub record IsStartBase (g : DataGraph) (p : Update) (base : Base) : Type 0 where
 abbrev pub IsRecovered : DataGraph → Update → Header → List (List ℕ) → Base → Type 0
 IsRecovered g p header bodies base =
     ((length bodies ≡ 0) × IsStartBase g p base) ⊎ ((0 < length bodies) × IsLastSnapshot header bodies base)
+
+-- A base for this graph: it has a number for each vertex and each edge, and its own number fits where one more does.
+pub record FitsGraph (g : DataGraph) (base : Base) : Type 0 where
+  pub vertices : length base.values.items ≡ size g
+  pub edges : length base.edges.items ≡ length g.edges
+  pub number : base.number + 1 < 2 ^ 32
 
 -- the header is for a graph of so many vertices and edges
 pub record IsHeaderOf (g : DataGraph) (header : Header) : Type 0 where

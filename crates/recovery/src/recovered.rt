@@ -3,7 +3,7 @@ ghost use Rattle.std.specs.Prelude.{◌≡◌, ◌≤◌, false, IsTrue, IfOk, I
 ghost use Rattle.recovery.specs.Orders.{Shared};
 ghost use Rattle.recovery.specs.Journals.{snapshots_in, IsWhyNoLast};
 ghost use Rattle.recovery.specs.GoodStores.{IsGoodStore, IsGoodBase};
-ghost use Rattle.recovery.specs.Recovered.{IsStartBase, IsRecovered, IsHeaderOf};
+ghost use Rattle.recovery.specs.Recovered.{FitsGraph, IsStartBase, IsRecovered, IsHeaderOf};
 
 use gl_base::{Base, NoMemory};
 use gl_outside::Disk;
@@ -29,6 +29,9 @@ pub fn recover<D: Disk, P: Program>(
     ensures good { IsTrue D.told → (shared : Shared) → shared.graph ≡ graph.now → shared.program ≡ P.meaning program.now →
         IsHeaderOf graph.now journal.old.header → IsGoodStore shared journal.old.header (snapshots_in D.past journal.old) →
         IfOk result (IsGoodBase shared) }
+
+    // Whatever the disk holds: it has so many numbers.
+    ensures fits { IsHeaderOf graph.now journal.old.header → IfOk result (FitsGraph graph.now) }
 
     ensures well { IfOk result (λ base. (journal.old.failed ≡ false) × (journal.new.failed ≡ false)) }
     ensures refused { IfErr result (IsWhyNoLast (IsTrue D.told) journal.old.failed journal.new.failed (D.faults journal.old.disk) (D.faults journal.new.disk)) }

@@ -6,3 +6,5 @@ pub mod Leading
 pub mod Cutting
 pub mod Next
 pub mod Ordering
+pub mod Stopping
+pub mod Acknowledging

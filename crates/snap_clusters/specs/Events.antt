@@ -3,6 +3,7 @@ use Rattle.std.specs.Prelude.{Bool, IsErrOf, List, None, OnErr, OnOk, Option, Re
 use Rattle.gl_base.specs.declared.refusals.Refused.{Refused}
 use Rattle.gl_base.specs.declared.refusals.Refused.TheVariants.{NoMemory, NotNow}
 use Rattle.cluster_model.specs.Events as law
+use Rattle.coord_core.specs.Calls.{IsReadyToRecord}
 use Rattle.snap_clusters.specs.Clusters.{Cluster, IsSavingClusterOf, Machine, InEachCluster, Parts, Setting, StandsForSameSaving}
 use Rattle.snap_clusters.specs.declared.events.Event.{Event}
 use Rattle.snap_clusters.specs.declared.events.Event.TheVariants as event
@@ -63,6 +64,11 @@ NamesItsMachines n (event.Local what) = NamesLocal n what
 NamesItsMachines n (event.Lead what) = ⊤
 NamesItsMachines n (event.Passage what) = NamesPassage n what
 
+-- it doesn't end the run
+abbrev pub IsNoStop : Event → Type 0
+IsNoStop (event.Lead lead.Stop) = ⊥
+IsNoStop _ = ⊤
+
 -- the machine that acts in it
 abbrev pub acting_local : Local → ℕ
 acting_local (local.Admit a) = a.0
@@ -115,3 +121,10 @@ pub record AnswersEvent {M : Type 0} (stands : Setting → ℕ → Machine → M
   pub not_now : IsErrOf answer NotNow → CanNotTakePlace stands old what
   pub no_memory : IsErrOf answer NoMemory → CanTakePlace stands old what
   pub unchanged : OnErr answer (StandsForSameSaving stands old new)
+
+-- ---- an acknowledgement for which there is room
+
+-- The run goes on, and the snapshot of this number may be acknowledged, with room for the word of that to each machine.
+pub record IsReadyToAcknowledge {M : Type 0} (p : Parts M) (k : ℕ) : Type 0 where
+  pub runs : p.stopped ≡ false
+  pub ready : IsReadyToRecord p.coordinator k

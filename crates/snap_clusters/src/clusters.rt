@@ -8,7 +8,7 @@ ghost use Rattle.coord_core.specs.Calls.{IsDueOf};
 ghost use Rattle.coord_core.specs.Stores.{store_view};
 ghost use Rattle.snap_clusters.specs.Clusters.{BaseView, Cluster, GoesOnWith, IsSavingClusterOf, InEachCluster, Setting, StandsForSaving, StandsForSameSaving, StartsSaving};
 ghost use Rattle.snap_clusters.specs.Cuts.{IsSnapshotCut, RecordsCut};
-ghost use Rattle.snap_clusters.specs.Events.{CanTakePlace, CanNotTakePlace, TakesPlace, NamesItsMachines};
+ghost use Rattle.snap_clusters.specs.Events.{CanTakePlace, CanNotTakePlace, IsNoStop, IsReadyToAcknowledge, TakesPlace, NamesItsMachines};
 ghost use Rattle.snap_clusters.specs.Ordered.{HasOneOrder};
 ghost use Rattle.snap_members.specs.Promises.{HasFirst};
 
@@ -51,7 +51,7 @@ impl<M: SavingMachine> SnapCluster<M> {
         requires many { length machines.items < 65535 }
         requires few { next + left < 2 ^ 64 }
         requires newest { store.newest + 1 < 2 ^ 32 }
-        requires length { store.length ≤ 1073741824 }
+        requires length { store.length < 2 ^ 32 }
         // It is what the law begins with, whatever was before.
         ensures began { IfOk result (λ c. (st : Setting) (base : BaseView) (before : Cluster) → StartsSaving M.stands machines.items (store_view store) next left st base before →
             IsSavingClusterOf M.stands (going_on st base.numbers base.number) c (recovers st base before)) }
@@ -68,28 +68,32 @@ impl<M: SavingMachine> SnapCluster<M> {
         ensures no_memory { IsErrOf result Refused.NoMemory → CanTakePlace M.stands self.old event }
         ensures unchanged { OnErr result (StandsForSameSaving M.stands self.old self.new) }
         ensures machines { length self.new.machines.items ≡ length self.old.machines.items }
+        ensures stopped { IsNoStop event → self.new.stopped ≡ self.old.stopped }
     {
         self.parts.make(event)
     }
 
     /// All machines go back to a base: the cluster goes on with these machines, which begin an attempt from it, and with nothing on its way.
-    /// Tickets go on. It may be called where the law's Recover may occur, and these machines are what that makes of the machines.
+    /// Tickets go on. Of the base only what the machines have of it is asked: it may be one that another hand made. Where the law's Recover
+    /// may occur, and these machines are what that makes of the machines, the cluster goes on as the law says.
     pub fn recover(&mut self, alloc: Global, machines: Vec<M>, store: Store) -> Result<(), NoMemory>
-        requires again { (st : Setting) × (c : Cluster) × (base : BaseView) × GoesOnWith M.stands self.old machines.items (store_view store) st c base }
+        requires again { (st : Setting) × (base : BaseView) × (before : Cluster) × StartsSaving M.stands machines.items (store_view store) self.old.next self.old.left st base before }
+        requires many { length machines.items ≡ length self.old.machines.items }
         requires newest { store.newest + 1 < 2 ^ 32 }
-        requires length { store.length ≤ 1073741824 }
+        requires length { store.length < 2 ^ 32 }
         ensures recovered { OnOk result ((st : Setting) (c : Cluster) (base : BaseView) → GoesOnWith M.stands self.old machines.items (store_view store) st c base →
             IsSavingClusterOf M.stands (going_on st base.numbers base.number) self.new (recovers st base c)) }
         ensures unchanged { OnErr result (self.new ≡ self.old) }
         ensures machines { length self.new.machines.items ≡ length self.old.machines.items }
+        ensures runs { OnOk result (self.new.stopped ≡ false) }
     {
         let parts = first_parts(alloc, machines, store, self.parts.next, self.parts.left)?;
         self.parts = parts;
         Ok(())
     }
 
-    /// The record of the snapshot under way, for a store. It acknowledges nothing: the event of `Lead::Record` does. `NotNow` comes exactly
-    /// where that event may not happen. What the record has is a consistent cut.
+    /// The record of the snapshot under way, for a store. It acknowledges nothing: `acknowledge` does, for which there is room from then on.
+    /// `NotNow` comes exactly where the event of `Lead::Record` may not happen. What the record has is a consistent cut.
     pub fn record(&mut self, alloc: Global) -> Result<Record, Refused>
         ensures cut { IfOk result (λ made. InEachCluster M.stands self.old (λ st c. RecordsCut st c made)) }
         ensures due { OnOk result (CanTakePlace M.stands self.old (Event.Lead Lead.Record)) }
@@ -97,8 +101,20 @@ impl<M: SavingMachine> SnapCluster<M> {
         ensures no_memory { IsErrOf result Refused.NoMemory → CanTakePlace M.stands self.old (Event.Lead Lead.Record) }
         ensures same { StandsForSameSaving M.stands self.old self.new }
         ensures machines { length self.new.machines.items ≡ length self.old.machines.items }
+        ensures stopped { self.new.stopped ≡ self.old.stopped }
+        ensures ready { IfOk result (λ made. IsReadyToAcknowledge self.new made.number) }
     {
         self.parts.record(alloc)
+    }
+
+    /// The snapshot of this number, whose record was made, is acknowledged: the event of `Lead::Record` happens. It takes no memory.
+    pub fn acknowledge(&mut self, number: u32)
+        requires { IsReadyToAcknowledge self.old number }
+        ensures made { TakesPlace M.stands self.old (Event.Lead Lead.Record) self.new }
+        ensures machines { length self.new.machines.items ≡ length self.old.machines.items }
+        ensures stopped { self.new.stopped ≡ self.old.stopped }
+    {
+        self.parts.recorded(number);
     }
 
     /// How many snapshots are stored: the number of the newest acknowledged one. Each that was acknowledged in this attempt is a
@@ -134,9 +150,17 @@ impl<M: SavingMachine> SnapCluster<M> {
         self.parts.left
     }
 
+    /// Whether the run has ended: nothing happens any more.
+    pub fn is_stopped(&self) -> bool
+        ensures { result ≡ self.now.stopped }
+    {
+        self.parts.stopped
+    }
+
     /// How many machines there are.
     pub fn machines(&self) -> usize
-        ensures { result ≡ length self.now.machines.items }
+        ensures count { result ≡ length self.now.machines.items }
+        ensures small { result < 65535 }
     {
         self.parts.machines.len()
     }
@@ -146,6 +170,7 @@ impl<M: SavingMachine> SnapCluster<M> {
         requires { m.0 < length self.now.machines.items }
         ensures stands { slice_get self.now.machines.items m.0 ≡ Some result.now }
         ensures is { InEachCluster M.stands self.now (λ st c. M.stands st m.0 (c.machine m.0) result.now) }
+        ensures cluster { StandsForSaving M.stands self.now }
     {
         &self.parts.machines[m.0 as usize]
     }
@@ -182,6 +207,7 @@ impl<M: SavingMachine> SnapCluster<M> {
         ensures none { IfNone result ((x : Vertex) → CanNotTakePlace M.stands self.old (Event.Local (Local.Grant at x))) }
         ensures same { StandsForSameSaving M.stands self.old self.new }
         ensures machines { length self.new.machines.items ≡ length self.old.machines.items }
+        ensures stopped { self.new.stopped ≡ self.old.stopped }
     {
         self.parts.next_grant(at)
     }

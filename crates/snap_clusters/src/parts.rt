@@ -6,7 +6,7 @@ ghost use Rattle.cluster_step.specs.Inner.Writing.{HasLinkBetween};
 ghost use Rattle.coord_core.specs.Stores.{store_view};
 ghost use Rattle.snap_clusters.specs.Clusters.{BaseView, Cluster, InEachCluster, IsSavingClusterOf, Setting, StandsForSaving, StandsForSameSaving, StartsSaving};
 ghost use Rattle.snap_clusters.specs.Cuts.{RecordsCut};
-ghost use Rattle.snap_clusters.specs.Events.{AnswersEvent, CanNotTakePlace, CanTakePlace, NamesLocal, NamesItsMachines, NamesPassage, acting, acting_local, acting_passage, is_resting};
+ghost use Rattle.snap_clusters.specs.Events.{AnswersEvent, CanNotTakePlace, CanTakePlace, IsReadyToAcknowledge, TakesPlace, NamesLocal, NamesItsMachines, NamesPassage, acting, acting_local, acting_passage, is_resting};
 
 use crate::events::{Event, Lead, Local, Passage};
 use cluster_step::Links;
@@ -66,7 +66,7 @@ impl<M: SavingMachine> Parts<M> {
         }
     }
 
-    /// The record of the snapshot under way, where it may be acknowledged now.
+    /// The record of the snapshot under way, where it may be acknowledged now, with room for the word of that.
     pub(crate) fn record(&mut self, alloc: Global) -> Result<Record, Refused>
         ensures cut { IfOk result (λ made. InEachCluster M.stands self.old (λ st c. RecordsCut st c made)) }
         ensures due { OnOk result (CanTakePlace M.stands self.old (Event.Lead Lead.Record)) }
@@ -74,11 +74,22 @@ impl<M: SavingMachine> Parts<M> {
         ensures no_memory { IsErrOf result Refused.NoMemory → CanTakePlace M.stands self.old (Event.Lead Lead.Record) }
         ensures same { StandsForSameSaving M.stands self.old self.new }
         ensures machines { self.new.machines ≡ self.old.machines }
+        ensures ready { IfOk result (λ made. IsReadyToAcknowledge self.new made.number) }
     {
         if self.stopped {
             return Err(Refused::NotNow);
         }
         self.coordinator.record(alloc)
+    }
+
+    /// The snapshot of this number, whose record was made, is acknowledged. It takes no memory.
+    pub(crate) fn recorded(&mut self, number: u32)
+        requires { IsReadyToAcknowledge self.old number }
+        ensures made { TakesPlace M.stands self.old (Event.Lead Lead.Record) self.new }
+        ensures machines { self.new.machines ≡ self.old.machines }
+        ensures stopped { self.new.stopped ≡ self.old.stopped }
+    {
+        self.coordinator.recorded(number);
     }
 
     /// Whether nothing happens at the machine: the run has ended, or the machine has failed.
@@ -456,7 +467,7 @@ pub(crate) fn first_parts<M: SavingMachine>(
     requires many { length machines.items < 65535 }
     requires few { next + left < 2 ^ 64 }
     requires newest { store.newest + 1 < 2 ^ 32 }
-    requires length { store.length ≤ 1073741824 }
+    requires length { store.length < 2 ^ 32 }
     ensures began { IfOk result (λ p. (st : Setting) (base : BaseView) (before : Cluster) → StartsSaving M.stands machines.items (store_view store) next left st base before →
         IsSavingClusterOf M.stands (going_on st base.numbers base.number) p (recovers st base before)) }
     ensures machines { IfOk result (λ p. p.machines.items ≡ machines.items) }

@@ -3,3 +3,4 @@ pub mod AppendLemmas
 pub mod GateLemmas
 pub mod SurveyLemmas
 pub mod HeadLemmas
+pub mod CountLemmas

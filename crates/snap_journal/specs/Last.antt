@@ -1,5 +1,5 @@
 -- The last snapshot of a store.
-use Rattle.std.specs.Prelude.{◌≡◌, ℕ, ◌+◌, ◌<◌, Bool, true, false, List, [], ◌∷◌, length, Option, Some, None}
+use Rattle.std.specs.Prelude.{◌≡◌, ℕ, ◌+◌, ◌^◌, ◌<◌, Bool, true, false, List, [], ◌∷◌, length, Option, Some, None}
 use Rattle.gl_base.specs.declared.snapshots.Base.{Base}
 use Rattle.store_format.specs.declared.header.Header.{Header}
 use Rattle.snap_journal.specs.declared.faults.JournalFault.{JournalFault}
@@ -28,6 +28,12 @@ pub record IsLastSnapshot (header : Header) (bodies : List (List ℕ)) (base : B
 abbrev pub IsLast : Header → List (List ℕ) → Option Base → Type 0
 IsLast header bodies None = length bodies ≡ 0
 IsLast header bodies (Some base) = (0 < length bodies) × IsLastSnapshot header bodies base
+
+-- A base that was read for a header: it has a number for each vertex and each edge, and its own number fits where one more does.
+pub record FitsHeader (header : Header) (base : Base) : Type 0 where
+  pub vertices : length base.values.items ≡ header.n
+  pub edges : length base.edges.items ≡ header.m
+  pub number : base.number + 1 < 2 ^ 32
 
 -- Why no last snapshot was read. `old` and `new` tell whether an earlier call had found a fault of the disk, and whether one has now.
 -- Where a disk tells what it holds, its bytes are a store.

@@ -1,7 +1,7 @@
 //! The journal: snapshots on a disk, each whole on it before it is acknowledged.
 ghost use Rattle.std.specs.Prelude.{◌≡◌, ◌⊎◌, ℕ, ◌+◌, ◌^◌, ◌<◌, ◌≤◌, ◌++◌, List, [], ◌∷◌, true, false, Ok, Err, length, IsTrue, IfOk, IfErr, OnOk, OnErr, IsErr};
 ghost use Rattle.snap_journal.specs.Disks.{LeavesOnly};
-ghost use Rattle.snap_journal.specs.Formats.{IsBody, body_bytes, RecordFits, IsBeforeOrAfter};
+ghost use Rattle.snap_journal.specs.Formats.{IsBody, body_bytes, RecordFits, IsBeforeOrAfter, records_size, stored_order};
 ghost use Rattle.snap_journal.specs.Journals.{snapshots_in, AllStandFor};
 ghost use Rattle.snap_journal.specs.Answers.{IsFullFor, IsWhyNotAdded};
 ghost use Rattle.snap_journal.specs.Inner.Settled.{FollowsOn, body_between};
@@ -11,7 +11,7 @@ use gl_base::{MAX_SNAPSHOTS, MAX_STORE_BYTES, Record};
 use gl_outside::Disk;
 use std::alloc::Global;
 use std::marker::Model;
-use store_format::{Header, stored_bytes};
+use store_format::{Header, body_size, stored_bytes};
 
 /// A store on a disk, read and checked. Contracts see its disk, what it is for, how many snapshots and bytes it has, and whether
 /// an earlier call answered `DiskFault`: then it has to be opened again.
@@ -38,12 +38,36 @@ impl<D: Disk> Model for Journal<D> {
 }
 
 impl<D: Disk> Journal<D> {
-    /// How many snapshots are stored.
+    /// How many snapshots are stored. Whatever a crash now leaves has them.
     pub fn count(&self) -> u32
         ensures count { result ≡ self.now.count }
         ensures stored { IsTrue D.told → self.now.failed ≡ false → result ≡ length (snapshots_in D.past self.now) }
+        ensures durable { IsTrue D.told → self.now.failed ≡ false → AllStandFor self.now.header (snapshots_in D.past self.now) (D.past self.now.disk) }
     {
         self.count
+    }
+
+    /// What the store is for.
+    pub fn header(&self) -> Header
+        ensures { result ≡ self.now.header }
+    {
+        self.header
+    }
+
+    /// How many bytes the store has.
+    pub fn length(&self) -> u64
+        ensures length { result ≡ self.now.length }
+        ensures stored { IsTrue D.told → self.now.failed ≡ false → result ≡ 65 + records_size (snapshots_in D.past self.now) }
+    {
+        self.gate + 1
+    }
+
+    /// How many entries the order of the last snapshot has: by the store's length, since all else of a record has one size.
+    pub fn entries(&self) -> u64
+        ensures { IsTrue D.told → self.now.failed ≡ false → result ≡ length (stored_order (snapshots_in D.past self.now)) }
+    {
+        let apart = 64 + u128::from(self.count) * (9 + u128::from(body_size(&self.header, 0)));
+        (u128::from(self.gate).saturating_sub(apart) / 16) as u64
     }
 
     /// Hands the disk back.

@@ -1,9 +1,9 @@
 //! The last snapshot of a store.
-ghost use Rattle.std.specs.Prelude.{◌≡◌, ◌+◌, ◌^◌, ◌<◌, ◌≤◌, false, IsTrue, IfOk, IfErr};
+ghost use Rattle.std.specs.Prelude.{◌≡◌, ◌+◌, ◌^◌, ◌<◌, ◌≤◌, false, IsTrue, IfOk, IfErr, IfSome};
 ghost use Rattle.snap_journal.specs.Formats.{stored_in, HasSections};
 ghost use Rattle.snap_journal.specs.Journals.{snapshots_in};
 ghost use Rattle.snap_journal.specs.Answers.{IsWhyNotOpened};
-ghost use Rattle.snap_journal.specs.Last.{IsLast, IsWhyNoLast};
+ghost use Rattle.snap_journal.specs.Last.{FitsHeader, IsLast, IsWhyNoLast};
 ghost use Rattle.snap_journal.specs.Inner.Found.{IsFoundBase, is_disk_fault};
 
 use crate::opening::{Found, survey};
@@ -18,6 +18,7 @@ impl<D: Disk> Journal<D> {
     /// After `DiskFault` each later call is refused with `Failed`: open the store again.
     pub fn last(&mut self, alloc: Global) -> Result<Option<Base>, JournalFault>
         ensures last { IsTrue D.told → IfOk result (IsLast self.old.header (snapshots_in D.past self.old)) }
+        ensures fits { IfOk result (λ last. IfSome last (FitsHeader self.old.header)) }
         ensures well { IfOk result (λ last. (self.old.failed ≡ false) × (self.new.failed ≡ false)) }
         ensures refused { IfErr result (IsWhyNoLast (IsTrue D.told) self.old.failed self.new.failed (D.faults self.old.disk) (D.faults self.new.disk)) }
         ensures past { IsTrue D.told → D.past self.new.disk ≡ D.past self.old.disk }
@@ -55,6 +56,7 @@ fn read_last<D: Disk>(
     header: &Header,
 ) -> Result<Option<Base>, JournalFault>
     ensures last { IsTrue D.told → IfOk result (IsLast header.now (stored_in header.now (D.past disk.old).now.seen)) }
+    ensures fits { IfOk result (λ last. IfSome last (FitsHeader header.now)) }
     ensures fault { IfErr result (IsWhyNotOpened (IsTrue D.told) header.now (D.past disk.old).now.seen (D.faults disk.old) (D.faults disk.new)) }
     ensures past { IsTrue D.told → D.past disk.new ≡ D.past disk.old }
     ensures same { D.same disk.old disk.new }

@@ -50,6 +50,7 @@ pub fn survey<D: Disk>(
     ensures body { IsTrue D.told → IfOk result (λ found. found.body.items ≡ last_body (stored_in header.now (D.past disk.old).now.seen)) }
     ensures form { IfOk result (λ found. 0 < found.count → HasSections header.now found.body.items) }
     ensures within { IfOk result (λ found. found.gate + 1 < 2 ^ 64) }
+    ensures numbered { IfOk result (λ found. found.count + 1 < 2 ^ 32) }
     ensures fault { IfErr result (IsWhyNotOpened (IsTrue D.told) header.now (D.past disk.old).now.seen (D.faults disk.old) (D.faults disk.new)) }
     ensures past { IsTrue D.told → D.past disk.new ≡ D.past disk.old }
     ensures same { D.same disk.old disk.new }

@@ -40,9 +40,9 @@ NeedsMoreRoom shared machines window kept snapshots stored bytes order =
 
 -- What a run that ended so says by its lists, where these are the orders of the snapshots that it acknowledged, so many failures went
 -- unanswered, and its store had this order and so many bytes.
-abbrev pub EndsSo : Shared → ℕ → ℕ → ℕ → List Entry → List (List Entry) → ℕ → RunLists → StoredEnd → Type 0
-EndsSo shared machines window budget kept snapshots unanswered lists Finished = FinishesRun shared kept snapshots unanswered lists
-EndsSo shared machines window budget kept snapshots unanswered lists (Spent left) = SpendsRun shared budget left.0 unanswered lists
-EndsSo shared machines window budget kept snapshots unanswered lists (Full stored bytes) =
+abbrev pub RunEndsSo : Shared → ℕ → ℕ → ℕ → List Entry → List (List Entry) → ℕ → RunLists → StoredEnd → Type 0
+RunEndsSo shared machines window budget kept snapshots unanswered lists Finished = FinishesRun shared kept snapshots unanswered lists
+RunEndsSo shared machines window budget kept snapshots unanswered lists (Spent left) = SpendsRun shared budget left.0 unanswered lists
+RunEndsSo shared machines window budget kept snapshots unanswered lists (Full stored bytes) =
     (unanswered ≡ 0) × NeedsMoreRoom shared machines window kept snapshots stored bytes lists.order
-EndsSo shared machines window budget kept snapshots unanswered lists DiskFault = ⊤
+RunEndsSo shared machines window budget kept snapshots unanswered lists DiskFault = ⊤

@@ -24,8 +24,8 @@ pub record IsLineOf (shared : Shared) (number : ℕ) (order : List Entry) (line 
   pub fold : fold_in line ≡ fold_of (numbers_after shared order)
 
 -- these lines are those of the snapshots with these orders, of which the first has this number, and each the next
-abbrev pub AreLinesOf : Shared → ℕ → List (List Entry) → List SnapLine → Type 0
-AreLinesOf shared number [] [] = ⊤
-AreLinesOf shared number [] (line ∷ lines) = ⊥
-AreLinesOf shared number (order ∷ orders) [] = ⊥
-AreLinesOf shared number (order ∷ orders) (line ∷ lines) = IsLineOf shared number order line × AreLinesOf shared (suc number) orders lines
+abbrev pub AreSnapLines : Shared → ℕ → List (List Entry) → List SnapLine → Type 0
+AreSnapLines shared number [] [] = ⊤
+AreSnapLines shared number [] (line ∷ lines) = ⊥
+AreSnapLines shared number (order ∷ orders) [] = ⊥
+AreSnapLines shared number (order ∷ orders) (line ∷ lines) = IsLineOf shared number order line × AreSnapLines shared (suc number) orders lines

@@ -1,7 +1,7 @@
 -- What a run with a store is.
 pub use Rattle.call_answers.specs.Answers.{IsRunWithFailures, KeepsToWindow, RunLists, Shared}
-pub use Rattle.stored_answers.specs.Ends.{EndsSo}
-pub use Rattle.stored_answers.specs.Lines.{AreLinesOf}
+pub use Rattle.stored_answers.specs.Ends.{RunEndsSo}
+pub use Rattle.stored_answers.specs.Lines.{AreSnapLines}
 pub use Rattle.stored_answers.specs.declared.runs.StoredRun.{StoredRun}
 use Rattle.std.specs.Prelude.{Bool, List, suc, sum_by, ℕ, ◌≡◌, ◌≤◌}
 use Rattle.gl_base.specs.declared.entries.Entry.{Entry}
@@ -21,6 +21,6 @@ pub record IsStoredRun (shared : Shared) (machines window budget stored : ℕ) (
   pub is : IsRunWithFailures shared machines kept resumed unanswered (lists_of run)
   pub keeps : KeepsToWindow window kept snapshots (lists_of run)
   pub few : sum_by (λ count. count) run.done.items ≤ budget
-  pub lines : AreLinesOf shared (suc stored) snapshots run.snapshots.items
+  pub lines : AreSnapLines shared (suc stored) snapshots run.snapshots.items
   pub numbers_are : AreNumbers (size shared.graph) (replay shared.graph shared.program run.order.items).vertex run.numbers.items
-  pub ends : EndsSo shared machines window budget kept snapshots unanswered (lists_of run) run.end
+  pub ends : RunEndsSo shared machines window budget kept snapshots unanswered (lists_of run) run.end

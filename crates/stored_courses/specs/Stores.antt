@@ -2,11 +2,12 @@
 pub use Rattle.call_courses.specs.Courses.{CallOpening, Cluster, CourseGoesOn, CourseView, IsCourseNow, Machine, OpensCall, Setting, as_since, first_cluster, first_setting}
 pub use Rattle.stored_records.specs.Keeping.{IsGoodStore, IsRecordBehind, KeepsUp, fronts_in, recorded_in, stored_order}
 pub use Rattle.store_format.specs.declared.header.Header.{Header}
-use Rattle.std.specs.Prelude.{List, ℕ, ◌≡◌}
+use Rattle.std.specs.Prelude.{List, filter, length, ℕ, ◌*◌, ◌+◌, ◌≡◌}
 use Rattle.gl_base.specs.declared.entries.Entry.{Entry}
-use Rattle.gl_base.specs.declared.snapshots.Record.{Record}
+use Rattle.attempts.specs.Entries.{is_restart}
 use Rattle.cluster_model.specs.Events as law
-use Rattle.cluster_records.specs.Recorded.{snapshot_due}
+use Rattle.graph_core.specs.DataGraph.{size}
+use Rattle.recovery.specs.Journals.{records_size}
 use Rattle.whole_calls.specs.Lost.{AreLostIn}
 
 -- From this opening events have led to where the cluster is. With these the store, which had these snapshots as the call opened, has kept
@@ -18,18 +19,30 @@ pub record IsStoredCourse {M : Type 0} (stands : Setting → ℕ → Machine →
   pub keeps : KeepsUp st v.failures header start (fronts_in (first_setting st o) (first_cluster st o) events) (recorded_in (first_setting st o) (first_cluster st o) events) bodies
   pub taken : AreLostIn (first_setting st o) (first_cluster st o) events lost
 
--- so from each opening with the order of that store's last snapshot
-abbrev pub KeepsStore : {M : Type 0} → (Setting → ℕ → Machine → M → Type 0) → CourseView M → Header → List (List ℕ) → List (List ℕ) → List Entry → Type 0
-KeepsStore stands v header start bodies lost = (st : Setting) (o : CallOpening) → OpensCall stands v.start v.failures st o → o.kept ≡ stored_order start → IsStoredCourse stands v header start bodies lost st o
-
--- the record is that of the snapshot that is due, behind the store's last order, wherever a course has led
-abbrev pub IsDueBehind : {M : Type 0} → (Setting → ℕ → Machine → M → Type 0) → CourseView M → List (List ℕ) → Record → Type 0
-IsDueBehind stands v bodies made =
-    (st : Setting) (o : CallOpening) (events : List law.Event) (c : Cluster) → IsCourseNow stands v st o events c → IsRecordBehind st (stored_order bodies) c.base.order (snapshot_due c.coordinator) made
-
 -- it is the same call, remembered where the other is
 pub record IsRememberedAt {M : Type 0} (old new : CourseView M) : Type 0 where
   pub start : new.start ≡ old.start
   pub failures : new.failures ≡ old.failures
   pub done : new.done ≡ old.done
   pub since : new.since ≡ old.now
+
+-- ---- what is known of a store beside its snapshots
+
+-- the store is for these machines and this graph
+pub record IsStoreFor (st : Setting) (header : Header) : Type 0 where
+  pub machines : header.machines ≡ st.machines
+  pub n : header.n ≡ size st.graph
+  pub m : header.m ≡ length st.graph.edges
+
+-- From this opening, with the order of that store's last snapshot, a course has led here, with which a store for this setting has kept up. These
+-- are the restarts of its last order; the newest attempt began with this order, and these are its restarts. The coordinator knows how many
+-- snapshots the store has, and where it ends, with place for the restarts that it lacks.
+pub record IsKnownCourse {M : Type 0} (stands : Setting → ℕ → Machine → M → Type 0) (v : CourseView M) (header : Header) (start bodies : List (List ℕ)) (lost stored front order : List Entry) (st : Setting) (o : CallOpening) : Type 0 where
+  pub kept : o.kept ≡ stored_order start
+  pub was : IsStoredCourse stands v header start bodies lost st o
+  pub fits : IsStoreFor st header
+  pub stored_are : stored ≡ filter is_restart (stored_order bodies)
+  pub base : was.cluster.base.order ≡ order
+  pub front_are : front ≡ filter is_restart order
+  pub count : was.cluster.coordinator.acknowledged ≡ length bodies
+  pub place : was.cluster.coordinator.store_end + 16 * length stored ≡ 65 + records_size bodies + 16 * length front

@@ -3,4 +3,4 @@
 
 mod laws;
 
-pub use laws::stores_go_with_courses;
+pub use laws::{stores_go_with_courses, stores_stay_known};

@@ -1,3 +1,3 @@
 mod Sorting
 mod Saying
-mod Going
+pub mod Going

@@ -9,13 +9,6 @@ use Rattle.placed_graphs.specs.declared.cutting.Placement.{Placement}
 use Rattle.seq_run.specs.States.{start_state}
 use Rattle.update_api.specs.Updates.{Update}
 
--- each vertex is in an atom, each atom on a machine, and the graph is placed as the plan says
-pub record IsPlaced (g : DataGraph) (plan : RunPlan) (made : Placement) : Type 0 where
-  pub each : length made.of.items ≡ size g
-  pub atoms : All (λ a. a.0 < length made.owner.items) made.of.items
-  pub machines : All (λ m. m.0 < plan.machines) made.owner.items
-  pub placement : IsPlacement g plan.atoms plan.machines (placed_owner made.of.items made.owner.items)
-
 -- the program runs on the graph from the numbers that it starts with, and the graph is placed as the plan says
 pub record IsFirstRun (g : DataGraph) (p : Update) (plan : RunPlan) (st : Setting) : Type 0 where
   pub graph : st.graph ≡ g

@@ -9,7 +9,7 @@ pub record IsSavingKept (s : SavingView) : Type 0 where
   pub few : s.acknowledged + 1 < 2 ^ 32
   pub plain : s.stored ≡ false → s.acknowledged ≡ s.begun
   pub fits : 16 * s.entries ≤ s.store_end
-  pub short : s.store_end ≤ 1073741824
+  pub short : s.store_end < 2 ^ 32
   pub machines : length s.come < 65536
   pub lone : length s.come ≡ 0 → s.entries ≡ 0
   pub first : s.saved ≡ false → s.entries ≡ 0

@@ -6,6 +6,6 @@ use Rattle.call_rounds.proofs.pauses.is_spent.Goals as goal
 all_made : (made left budget : ℕ) → made + left ≡ budget → left ≤ 0 → made ≡ budget
 all_made made left budget is none = omega arith
 
-pub returns : goal.returns
-returns g c = λ yes st o events x is call makes.
-    (all_made (length (made_of call)) c.left.result o.first.left (c.left.ensures st o events x is call makes) c.if-left-gt0.false, c.has_task.ensures yes st o events x is call makes)
+pub returns-clause-spent : goal.returns-clause-spent
+returns-clause-spent g c = λ yes st o events x is call makes.
+    (all_made (length (made_of call)) c.left.result o.first.left (c.left.ensures st o events x is call makes) c.if-left-gt0.false, c.has_task.ensures.left yes st o events x is call makes)

@@ -31,4 +31,4 @@ returns-clause-each g c = λ a low.
     c.loop-m.invariant.each a (below g c a (subst (λ v. a < length v.now.machines.items) (sym c.self.view_is) low))
   where
     below : (g : given.Over) (c : goal.After-loop-m g) (a : ℕ) → a < length c.self.inside.cluster.machines.items → a < c.loop-m.m
-    below g c a low = omega (arith, c.machines-many.ensures, c.loop-m-test.false)
+    below g c a low = omega (arith, c.machines-many.ensures.count, c.loop-m-test.false)

@@ -2,7 +2,7 @@
 use Rattle.std.proofs.Common.{false, refl, subst}
 use Rattle.call_courses.specs.Courses.{InEachCourse}
 use Rattle.call_courses.specs.Events.{IsHeldBack}
-use Rattle.call_courses.proofs.Going.{can_seen, cannot_seen, kept_since_seen, made_seen, unchanged_seen}
+use Rattle.call_courses.proofs.Going.{attempt_seen, can_seen, cannot_seen, kept_since_seen, made_seen, no_stop, unchanged_seen}
 use Rattle.call_courses.proofs.courses.Course.apply.Given as given
 use Rattle.call_courses.proofs.courses.Course.apply.Goals as goal
 
@@ -26,3 +26,6 @@ returns-clause-no_memory g c is = can_seen g.M.SavingMachine.stands _ c.args.sel
 pub returns-clause-unchanged : goal.returns-clause-unchanged
 returns-clause-unchanged g c =
     unchanged_seen g.M.SavingMachine.stands _ c.args.self.now c.self.view_is c.self.inside.since.value c.apply.new.self c.args.event c.apply.result c.apply.ensures.unchanged
+
+pub returns-clause-same : goal.returns-clause-same
+returns-clause-same g c = attempt_seen _ c.args.self.now c.self.view_is c.apply.new.self c.apply.ensures.machines (c.apply.ensures.stopped (no_stop c.args.event c.requires.none))

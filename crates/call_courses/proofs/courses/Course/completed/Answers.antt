@@ -1,30 +1,22 @@
 -- What a machine had completed and what it has logged are what it has completed, and each has its own ticket.
-use Rattle.std.proofs.Common.{◌≡◌, ◌+◌, ◌<◌, ◌^◌, ◌∙◌, ap, arith, get_or, length, subst, sym}
+use Rattle.std.proofs.Common.{◌≡◌, ◌<◌, ◌∙◌, ap, get_or, length, subst, sym}
 use Rattle.std.proofs.lemmas.Grind.{get_or_default_zero}
-use Rattle.call_courses.specs.Courses.{HasCourse}
-use Rattle.call_courses.proofs.Calling.{completed_is, sum_fits}
+use Rattle.call_courses.proofs.Calling.{count_is}
 use Rattle.call_courses.proofs.courses.Course.completed.Given as given
 use Rattle.call_courses.proofs.courses.Course.completed.Goals as goal
 
-low : (g : given.Over) (c : goal.After-log g) → c.args.m.0 < length c.self.inside.done.items
+low : (g : given.Over) (c : goal.After-saturating_add g) → c.args.m.0 < length c.self.inside.done.items
 low g c = subst (λ n. c.args.m.0 < n) (sym c.self.invariant.many) (subst (λ v. c.args.m.0 < length v.now.machines.items) (sym c.self.view_is) c.requires)
 
-before_is : (g : given.Over) (c : goal.After-log g) → c.index.result.now ≡ get_or c.args.self.now.done c.args.m.0 0
+before_is : (g : given.Over) (c : goal.After-saturating_add g) → c.index.result.now ≡ get_or c.args.self.now.done c.args.m.0 0
 before_is g c = c.index.ensures ∙ get_or_default_zero c.self.inside.done.items c.args.m.0 c.index.result.now (low g c) ∙ ap (λ v. get_or v.done c.args.m.0 0) c.self.view_is
-
-pub overflow_add-result : goal.overflow_add-result
-overflow_add-result g c =
-    let fits : c.index.result.now + length c.log.result.now < 2 ^ 64 =
-    sum_fits g.M.SavingMachine.stands c.args.self.now (subst (HasCourse g.M.SavingMachine.stands) c.self.view_is c.self.invariant) c.args.m.0 c.requires c.index.result.now (length c.log.result.now) (before_is g c)
-    (λ st o events x is. ap length (c.log.ensures.log st o events x is))
-    in
-    omega arith
 
 pub returns-clause-count : goal.returns-clause-count
 returns-clause-count g c = λ st o events x is.
-    completed_is g.M.SavingMachine.stands c.args.self.now st o events x is c.args.m.0 c.requires c.index.result.now (length c.log.result.now) (before_is g c) (ap length (c.log.ensures.log st o events x is))
+    c.saturating_add.ensures ∙ count_is g.M.SavingMachine.stands c.args.self.now st o events x is c.args.m.0 c.requires c.index.result.now (length c.log.result.now) (before_is g c) (ap length (c.log.ensures.log st o events x is))
 
 pub returns-clause-made : goal.returns-clause-made
 returns-clause-made g c = λ st o events x is call makes.
-    completed_is g.M.SavingMachine.stands c.args.self.now st o events x is c.args.m.0 c.requires c.index.result.now (length c.log.result.now) (before_is g c) (ap length (c.log.ensures.log st o events x is))
+    c.saturating_add.ensures
+    ∙ count_is g.M.SavingMachine.stands c.args.self.now st o events x is c.args.m.0 c.requires c.index.result.now (length c.log.result.now) (before_is g c) (ap length (c.log.ensures.log st o events x is))
     ∙ makes.is.done c.args.m.0

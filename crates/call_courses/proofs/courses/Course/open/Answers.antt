@@ -1,8 +1,8 @@
 -- The call opens, and nothing has happened yet.
 use Rattle.std.proofs.Common.{◌≡◌, ◌∙◌, ap, length, subst, sym, rules}
 use Rattle.std.specs.Prelude.{replicate, slice_index_or}
-use Rattle.call_courses.specs.Courses.{HasCourse, OpensCall}
-use Rattle.call_courses.proofs.Going.{begun_now, has_first, none_done, opens_call}
+use Rattle.call_courses.specs.Courses.{OpensCall}
+use Rattle.call_courses.proofs.Going.{begun_now, kept_anew, none_done, opens_call}
 use Rattle.coord_core.specs.Stores.{store_view}
 use Rattle.call_courses.proofs.courses.Course.open.Given as given
 use Rattle.call_courses.proofs.courses.Course.open.Goals as goal
@@ -15,14 +15,19 @@ zeros g c = c.in_ok-done.ensures.items_if_clones_equal (λ y is. is)
 
 pub invariant_of-result : goal.invariant_of-result
 invariant_of-result g c =
-    let begins = c.requires.start in
-    let opens = opens_call g.M.SavingMachine.stands c.args.machines.items (store_view c.args.store) c.args.next c.args.left c.in_ok-cluster.cluster c.in_ok-cluster.ensures.began c.args.failures.items begins.0 begins.1 begins.2 in
-    let first =
-    has_first g.M.SavingMachine.stands c.args.machines.items (store_view c.args.store) c.args.next c.args.left c.in_ok-cluster.cluster c.in_ok-cluster.ensures.began c.args.failures.items c.in_ok-done.done.items
-    (λ a. ap (λ xs. slice_index_or xs a 0) (zeros g c) ∙ none_done c.len.result a) (length_is g c ∙ begins.2.starts.many ∙ sym opens.code.many) begins.0 begins.1 begins.2
-    in
-    subst (λ p. HasCourse g.M.SavingMachine.stands (record { start = p; failures = c.args.failures.items; done = c.in_ok-done.done.items; since = c.of-since.result.value; now = c.in_ok-cluster.cluster })) (sym c.of-start.ensures)
-    (subst (λ p. HasCourse g.M.SavingMachine.stands (record { start = c.in_ok-cluster.cluster; failures = c.args.failures.items; done = c.in_ok-done.done.items; since = p; now = c.in_ok-cluster.cluster })) (sym c.of-since.ensures) first)
+    let start = c.requires.start in
+    let first = c.in_ok-cluster.ensures.began start.0 start.1 start.2 start.3 in
+    kept_anew g.M.SavingMachine.stands _ c.of-since.ensures (length_is g c ∙ start.3.many ∙ sym first.many)
+
+pub returns-clause-machines : goal.returns-clause-machines
+returns-clause-machines g c =
+    let start = c.requires.start in
+    (c.in_ok-cluster.ensures.began start.0 start.1 start.2 start.3).many ∙ sym start.3.many
+
+pub returns-clause-runs : goal.returns-clause-runs
+returns-clause-runs g c =
+    let start = c.requires.start in
+    sym (c.in_ok-cluster.ensures.began start.0 start.1 start.2 start.3).stopped
 
 pub returns-clause-opened : goal.returns-clause-opened
 returns-clause-opened g c = λ st o starts.

@@ -2,7 +2,7 @@
 use Rattle.snap_clusters.specs.declared.events.Event.TheVariants.{Lead}
 use Rattle.snap_clusters.specs.declared.events.Lead.TheVariants.{Record}
 use Rattle.call_courses.proofs.Calling.{record_is}
-use Rattle.call_courses.proofs.Going.{can_seen, cannot_seen, kept_same_seen, on_ok, record_free, stays_seen}
+use Rattle.call_courses.proofs.Going.{attempt_seen, can_seen, cannot_seen, kept_same_seen, on_ok, record_free, stays_seen}
 use Rattle.call_courses.proofs.courses.Course.record.Goals as goal
 
 pub invariant_of-self : goal.invariant_of-self
@@ -23,3 +23,6 @@ returns-clause-no_memory g c is = can_seen g.M.SavingMachine.stands _ c.args.sel
 
 pub returns-clause-stays : goal.returns-clause-stays
 returns-clause-stays g c = stays_seen g.M.SavingMachine.stands _ c.args.self.now c.self.view_is c.record.new.self c.record.ensures.same
+
+pub returns-clause-same : goal.returns-clause-same
+returns-clause-same g c = attempt_seen _ c.args.self.now c.self.view_is c.record.new.self c.record.ensures.machines c.record.ensures.stopped

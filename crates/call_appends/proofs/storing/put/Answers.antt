@@ -1,0 +1,20 @@
+-- As the journal answers.
+use Rattle.snap_journal.specs.Journals.{snapshots_in}
+use Rattle.call_appends.proofs.Images.{leaves_more}
+use Rattle.call_appends.proofs.Putting.{fault_is, with_record}
+use Rattle.call_appends.proofs.storing.put.Goals as goal
+
+pub append_fault-requires : goal.append_fault-requires
+append_fault-requires g c =
+    let j = c.args.journal.now in
+    fault_is j c.append.new.self (g.D.Disk.faults j.disk) (g.D.Disk.faults c.append.new.self.disk) c.args.made.now c.requires.well c.in-Err.fault c.in-Err.ensures.refused
+
+pub returns-in-Ok-clause-any_moment : goal.returns-in-Ok-clause-any_moment
+returns-in-Ok-clause-any_moment g c = λ told.
+    let j = c.args.journal.now in
+    leaves_more (g.D.Disk.past j.disk) (g.D.Disk.past c.append.new.self.disk) _ _ (with_record j.header j.count (snapshots_in g.D.Disk.past j) c.args.made.now c.requires.form) (c.in-Ok.ensures.any_moment told c.requires.well)
+
+pub returns-in-Err-clause-any_moment : goal.returns-in-Err-clause-any_moment
+returns-in-Err-clause-any_moment g c = λ told.
+    let j = c.args.journal.now in
+    leaves_more (g.D.Disk.past j.disk) (g.D.Disk.past c.append.new.self.disk) _ _ (with_record j.header j.count (snapshots_in g.D.Disk.past j) c.args.made.now c.requires.form) (c.in-Err.ensures.any_moment told c.requires.well)

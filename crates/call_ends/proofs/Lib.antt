@@ -1,0 +1,4 @@
+pub mod EndLemmas
+pub mod GatherLemmas
+pub mod RoomLemmas
+pub mod SaverLemmas

@@ -1,0 +1,3 @@
+pub mod Gathered
+pub mod Ends
+pub mod Inner

@@ -1,0 +1,4 @@
+pub mod CourseLemmas
+pub mod StartLemmas
+pub mod TicketLemmas
+pub mod TicketSteps

@@ -1,0 +1,3 @@
+pub mod OnlyOnce
+pub mod InCalls
+pub mod WorkedEdge
