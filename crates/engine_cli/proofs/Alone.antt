@@ -1,11 +1,9 @@
 -- A run without a store.
-use Rattle.std.proofs.Common.{◌≡◌, ℕ, List, Option, None, refl, sym, subst}
+use Rattle.std.proofs.Common.{◌≡◌, ℕ, List, Option, sym, subst}
 use Rattle.std.specs.Prelude.{MatchOption}
 use Rattle.gl_base.specs.declared.entries.Entry.{Entry}
 use Rattle.gl_base.specs.declared.numbers.Vertex.{Vertex}
-use Rattle.gl_outside.specs.Faults.{Rose}
-use Rattle.gl_outside.specs.FilesState.{FilesState}
-use Rattle.graph_core.specs.DataGraph.{DataGraph, IsDataGraph, size}
+use Rattle.graph_core.specs.DataGraph.{DataGraph, IsDataGraph}
 use Rattle.job_config.specs.Fields.{JobFields}
 use Rattle.job_files.specs.JobTexts.{HasStart}
 use Rattle.job_runs.specs.declared.runs.Run.{Run}

@@ -3,7 +3,6 @@ use Rattle.std.proofs.Common.{◌≡◌, inr, ℕ, ◌≤◌, List, ⊎_elim, su
 use Rattle.gl_outside.specs.Disk.{DiskPast, IsImage, LeavesOnly, clock}
 use Rattle.gl_outside.proofs.Disks.{started}
 use Rattle.engine_cli.specs.JobStores.{KeepsImages}
-use Rattle.std.specs.Prelude.{◌⊎◌}
 use Rattle.std.proofs.Common.{inl}
 
 -- what they leave has more too

@@ -1,11 +1,11 @@
 -- The failures of a job that was read are those that a job may order.
-use Rattle.std.proofs.Common.{◌≡◌, ◌≢◌, ◌<◌, ◌≤◌, ◌==◌, ◌&&◌, ◌||◌, Bool, true, false, ℕ, nat_le, nat_lt, List, [], ◌∷◌, ◌++◌, length, Option, None, Some, cond, refl, sym, ap, ◌∙◌, subst, append_assoc, ⊎_elim, ◌⊎◌, arith}
+use Rattle.std.proofs.Common.{◌≡◌, ◌≢◌, ◌<◌, ◌≤◌, ◌==◌, ◌&&◌, ◌||◌, Bool, true, false, ℕ, nat_le, nat_lt, List, [], ◌∷◌, ◌++◌, length, None, Some, cond, refl, sym, ◌∙◌, subst, append_assoc, ⊎_elim, arith}
 use Rattle.std.specs.List.{AllByRecursion, list_any}
 use Rattle.std.proofs.lemmas.Bool.{cases_lt, eq-eqb, leb-false}
 use Rattle.std.proofs.lemmas.List.Folds.{list_any-append}
 use Rattle.gl_base.specs.declared.jobs.FailureAt.{FailureAt}
 use Rattle.job_config.specs.Failures.{first_faulty, is_faulty, same_failure}
-use Rattle.whole_calls.specs.Following.{AreDifferent, AreJobFailures}
+use Rattle.whole_calls.specs.Following.{AreJobFailures}
 
 false-or-false : (a b : Bool) → (a || b) ≡ false → (a ≡ false) × (b ≡ false)
 false-or-false true b e = absurd (differ e)
@@ -55,8 +55,7 @@ apart machines before f behind (g ∷ fs) none =
     let sound = sound-of machines (before ++ f ∷ behind) g parts.0 in
     let any : list_any (same_failure g) (f ∷ behind) ≡ false =
     (false-or-false (list_any (same_failure g) before) (list_any (same_failure g) (f ∷ behind)) (sym (list_any-append (same_failure g) before (f ∷ behind)) ∙ sound.new)).1 in
-    let here : same_failure g f ≡ false = (false-or-false (same_failure g f) (list_any (same_failure g) behind) any).0 in
-    (
+    let here : same_failure g f ≡ false = (false-or-false (same_failure g f) (list_any (same_failure g) behind) any).0 in (
       λ same. true-is-not-false (same_itself f) (subst (λ (h : FailureAt). same_failure h f ≡ false) (sym same) here),
       apart machines before f (behind ++ g ∷ []) fs (subst (λ (l : List FailureAt). first_faulty machines l fs ≡ None) (append_assoc before (f ∷ behind) (g ∷ [])) parts.1),
     )

@@ -1,6 +1,5 @@
 -- A call for which memory ran out before it did anything.
-use Rattle.std.proofs.Common.{◌≡◌, inl, inr, ◌≤◌, ◌<◌, ℕ, Bool, List, [], length, refl, arith}
-use Rattle.gl_outside.specs.FilesState.{FilesState}
+use Rattle.std.proofs.Common.{◌≡◌, inl, inr, ◌<◌, ℕ, Bool, List, length, refl, arith}
 use Rattle.job_words.specs.declared.words.Words.{Words}
 use Rattle.job_words.specs.declared.words.Words.TheVariants.{Run, Resume, Make, Cut, Init}
 use Rattle.job_files.specs.declared.jobs.JobVerb.{JobVerb}
@@ -38,26 +37,30 @@ none-done told (Make prefix plan) at tells ended status lists =
     let S : Status → Type 0 = λ s. IsMaking prefix plan at.files at.files s in
     (subst S (sym status) (record { says = tt; vertices = inl refl; edges = inl refl; writes = writes-nothing _ at.files; complete = λ sound. tt }), lists)
 none-done told (Cut file) at tells ended status lists =
-    let S : Status → Type 0 = λ s. IsCutting file at.files at.files s in
-    (subst S (sym status) (record {
-      says = tt;
-      fronts = inl refl;
-      sources = (0, AppendsNames-nil at.files.sources.names);
-      sinks = hands-no-name verb.Cut at.files at.files file refl;
-      early = λ early. absurd early;
-      others = λ name apart. refl;
-      complete = λ input no_read no_write. tt;
-    }), lists)
+    let S : Status → Type 0 = λ s. IsCutting file at.files at.files s in (
+      subst S (sym status) (record {
+        says = tt;
+        fronts = inl refl;
+        sources = (0, AppendsNames-nil at.files.sources.names);
+        sinks = hands-no-name verb.Cut at.files at.files file refl;
+        early = λ early. absurd early;
+        others = λ name apart. refl;
+        complete = λ input no_read no_write. tt;
+      }),
+      lists,
+    )
 none-done told (Init file) at tells ended status lists =
-    let S : Status → Type 0 = λ s. IsInit told file at.files at.files s in
-    (subst S (sym status) (record {
-      says = refl;
-      kept = λ name. always-told told at.files (0 < length (at.files.pasts name).now.seen → at.files.pasts name ≡ at.files.pasts name) (λ filled. refl);
-      sources = (0, AppendsNames-nil at.files.sources.names);
-      disks = hands-no-store verb.Init at.files at.files file refl;
-      frame = refl;
-      early = λ early. absurd early;
-      others = λ name apart. refl;
-      later = omega arith;
-      complete = λ input empty no_read no_disk. tt;
-    }), lists)
+    let S : Status → Type 0 = λ s. IsInit told file at.files at.files s in (
+      subst S (sym status) (record {
+        says = refl;
+        kept = λ name. always-told told at.files (0 < length (at.files.pasts name).now.seen → at.files.pasts name ≡ at.files.pasts name) (λ filled. refl);
+        sources = (0, AppendsNames-nil at.files.sources.names);
+        disks = hands-no-store verb.Init at.files at.files file refl;
+        frame = refl;
+        early = λ early. absurd early;
+        others = λ name apart. refl;
+        later = omega arith;
+        complete = λ input empty no_read no_disk. tt;
+      }),
+      lists,
+    )

@@ -1,5 +1,5 @@
 -- What running a job says over what was read before.
-use Rattle.std.proofs.Common.{◌≡◌, ◌≢◌, inl, inr, ℕ, ◌≤◌, Bool, true, false, IsTrue, is_some, List, [], ◌∷◌, Option, None, Some, IfSome, Result, Ok, Err, refl, sym, ap, ◌∙◌, subst, ⊎_elim, arith}
+use Rattle.std.proofs.Common.{◌≡◌, inl, inr, ℕ, ◌≤◌, Bool, true, false, IsTrue, is_some, List, [], ◌∷◌, Option, None, Some, IfSome, Result, Err, refl, sym, ap, ◌∙◌, subst, ⊎_elim, arith}
 use Rattle.std.specs.Prelude.{bytes_eq, ◌⊎◌}
 use Rattle.std.proofs.lemmas.Slice.Eq.{bytes_eq-Decides}
 use Rattle.gl_outside.specs.Disk.{DiskPast}
@@ -10,9 +10,8 @@ use Rattle.gl_outside.specs.Inner.Laws.{decide, differs}
 use Rattle.graph_core.specs.DataGraph.{DataGraph}
 use Rattle.job_config.specs.Jobs.{JobSayings}
 use Rattle.job_config.specs.Views.{job_view}
-use Rattle.job_files.specs.Atoms.{OfGraph}
 use Rattle.job_files.specs.Inputs.{IsInputFrom, IsRunInput, RefusesEarly}
-use Rattle.job_files.specs.JobTexts.{OfTexts, SaysJob}
+use Rattle.job_files.specs.JobTexts.{SaysJob}
 use Rattle.job_files.specs.NamesRead.{HandsForRun, names_of}
 use Rattle.job_files.specs.declared.inputs.Input.{Input}
 use Rattle.job_files.specs.declared.inputs.NoInput.{NoInput}
@@ -29,11 +28,10 @@ use Rattle.whole_files.specs.FilesUsed.{HandsOver}
 use Rattle.engine_cli.specs.Inner.Prepares.{ChangesInput, IsWhyNoneMade, UsesNamed}
 use Rattle.engine_cli.specs.Inner.Storing.{IsWhyNoStoredRun}
 use Rattle.engine_cli.specs.JobRuns.{RunsOnStore, RunsSo, is_resumed}
-use Rattle.engine_cli.specs.JobStores.{IsOtherStore, KeepsAllImages, KeepsGoing, KeepsImages, LeavesDisks, NamesStore, OfStoredJob, RefusesStore, UsesStore}
+use Rattle.engine_cli.specs.JobStores.{IsOtherStore, KeepsAllImages, KeepsGoing, KeepsImages, NamesStore, OfStoredJob, RefusesStore, UsesStore}
 use Rattle.engine_cli.specs.NamesWritten.{order_names}
 use Rattle.engine_cli.specs.Says.{Refuses}
 use Rattle.engine_cli.specs.Status.{IsBeforeMaking, IsRefusedInput, status_of_no_input, status_of_no_store}
-use Rattle.engine_cli.specs.StoreJobs.{HandsStore}
 use Rattle.engine_cli.proofs.DisksLeft.{leaves-same}
 use Rattle.engine_cli.proofs.NamesHanded.{hands-no-store, hands-store}
 

@@ -1,5 +1,5 @@
 -- What a run says at each place where it ends.
-use Rattle.std.proofs.Common.{◌≡◌, ◌≢◌, ◌⊎◌, inl, inr, ℕ, Bool, IsTrue, List, [], Option, None, Some, IfSome, Result, Ok, Err, take, refl, sym, ap, ◌∙◌, subst, ⊎_elim, arith}
+use Rattle.std.proofs.Common.{◌≡◌, ◌⊎◌, inl, inr, ℕ, Bool, IsTrue, List, Option, None, Some, IfSome, Ok, Err, take, refl, sym, ap, ◌∙◌, subst, ⊎_elim, arith}
 use Rattle.std.specs.Prelude.{Contains}
 use Rattle.std.specs.declared.alloc.Global.{Global}
 use Rattle.std.specs.declared.vec.Vec.{Vec}
@@ -28,14 +28,13 @@ use Rattle.engine_cli.specs.declared.status.Status.TheVariants.{Done, Usage, Bad
 use Rattle.engine_cli.specs.Answer.{IsAnswer, Printed}
 use Rattle.engine_cli.specs.Inner.Prepares.{ChangesInput, IsOfRun, IsPreparedFrom, unfinished_status}
 use Rattle.engine_cli.specs.Inner.Printing.{Prints, printed_of}
-use Rattle.engine_cli.specs.JobRuns.{CallLists, MakesRun, RunsOnStore, RunsSo, is_resumed, lists_of_run, no_lists}
+use Rattle.engine_cli.specs.JobRuns.{CallLists, MakesRun, RunsOnStore, RunsSo, is_resumed, lists_of_run}
 use Rattle.engine_cli.specs.JobStores.{KeepsAllImages, KeepsGoing, RunsOutOnStore, UsesStore}
 use Rattle.engine_cli.specs.NamesWritten.{names_for, order_names}
-use Rattle.engine_cli.specs.Says.{EndsRun, FailsAtOrder, FailsAtOut, LeavesOrder, Moment, PrintsAnswer, Refuses, Says, SaysOfRun}
+use Rattle.engine_cli.specs.Says.{EndsRun, FailsAtOrder, FailsAtOut, LeavesOrder, Moment, PrintsAnswer, Says, SaysOfRun}
 use Rattle.engine_cli.specs.Status.{IsBeforeMaking, IsBeforeWriting, IsRefusedInput}
 use Rattle.engine_cli.specs.StoreJobs.{HandsStore}
 use Rattle.engine_cli.specs.Verbs.{IsRun}
-use Rattle.job_files.specs.Atoms.{OfGraph}
 use Rattle.job_files.proofs.InputsRead.{of-graph}
 use Rattle.job_stores.specs.NewStores.{IfDisksTold}
 use Rattle.engine_cli.proofs.NamesHanded.{hands-no-name, hands-written-names}

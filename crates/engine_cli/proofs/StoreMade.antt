@@ -3,8 +3,6 @@ use Rattle.std.proofs.Common.{◌≡◌, ◌<◌, ℕ, Bool, false, IsTrue, is_s
 use Rattle.gl_outside.specs.Disk.{DiskPast}
 use Rattle.gl_outside.specs.Faults.{Rose}
 use Rattle.gl_outside.specs.FilesState.{FilesState, Opened}
-use Rattle.graph_core.specs.DataGraph.{DataGraph}
-use Rattle.job_config.specs.Fields.{JobFields}
 use Rattle.job_config.specs.Jobs.{JobSayings}
 use Rattle.job_config.specs.Views.{job_view}
 use Rattle.store_format.specs.declared.faults.StoreFault.{StoreFault}

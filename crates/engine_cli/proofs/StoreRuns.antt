@@ -1,10 +1,8 @@
 -- What a run on its store is, over the opening of the store and what it does with it.
-use Rattle.std.proofs.Common.{◌≡◌, inl, inr, ℕ, ◌+◌, ◌≤◌, ◌<◌, ◌++◌, Bool, false, List, [], length, Result, Ok, Err, refl, sym, ap, ◌∙◌, subst, ⊎_elim, append_assoc, arith}
-use Rattle.std.specs.Prelude.{◌⊎◌}
+use Rattle.std.proofs.Common.{◌≡◌, inl, inr, ℕ, ◌≤◌, ◌++◌, Bool, false, List, [], length, Result, Ok, sym, ap, ◌∙◌, subst, ⊎_elim, append_assoc}
 use Rattle.std.specs.Result.{result_unwrap_or}
 use Rattle.gl_base.specs.declared.entries.Entry.{Entry}
 use Rattle.gl_outside.specs.Disk.{DiskPast, IsImage, LeavesOnly}
-use Rattle.gl_outside.specs.Faults.{Rose}
 use Rattle.gl_outside.proofs.Fronts.{Rose-later}
 use Rattle.graph_core.specs.DataGraph.{DataGraph, IsDataGraph}
 use Rattle.job_config.specs.Jobs.{JobSayings}
@@ -12,13 +10,11 @@ use Rattle.job_files.specs.JobTexts.{HasStart}
 use Rattle.job_stores.specs.JobHeaders.{header_for}
 use Rattle.job_stores.specs.declared.making.NoStore.{NoStore}
 use Rattle.job_stores.specs.declared.making.NoStore.TheVariants as no_store
-use Rattle.seq_run.specs.Orders.{IsFinished}
 use Rattle.snap_journal.specs.Answers.{IsWhyNotOpened}
 use Rattle.snap_journal.specs.declared.faults.JournalFault.{JournalFault}
 use Rattle.snap_journal.specs.declared.faults.JournalFault.TheVariants as journal
-use Rattle.store_format.specs.Stores.{StandsFor, read_store, stored_in}
+use Rattle.store_format.specs.Stores.{StandsFor, stored_in}
 use Rattle.store_format.specs.declared.faults.StoreFault.{StoreFault}
-use Rattle.store_format.specs.declared.faults.StoreFault.TheVariants.{Used}
 use Rattle.store_format.specs.declared.header.Header.{Header}
 use Rattle.stored_answers.specs.Images.{HoldsGood, IsGoodStore, KeepsGood}
 use Rattle.stored_answers.specs.Ends.{RunEndsSo}
@@ -29,9 +25,9 @@ use Rattle.stored_answers.specs.declared.runs.StoredRun.{StoredRun}
 use Rattle.update_api.specs.Updates.{Update}
 use Rattle.engine_cli.specs.Inner.Storing.{IsKept, IsNotGood, IsRunFrom, IsWhyNotOnDisk, IsWhyNotOnJournal, IsWhyNotStored, no_store_of_journal}
 use Rattle.engine_cli.specs.JobRuns.{AreGoodImages, GoesOnFrom, KeepsStore, RunsOnStore, shared_by, snapshots_on}
-use Rattle.engine_cli.specs.JobStores.{IsOtherStore, IsUsed, KeepsGoing, KeepsImages, RefusesStore}
+use Rattle.engine_cli.specs.JobStores.{IsOtherStore, KeepsGoing, KeepsImages}
 use Rattle.engine_cli.specs.Plays.{AreResults, update_of}
-use Rattle.engine_cli.proofs.DisksLeft.{leaves-more, leaves-same, leaves-twice}
+use Rattle.engine_cli.proofs.DisksLeft.{leaves-more, leaves-twice}
 use Rattle.engine_cli.proofs.Results.{results-of}
 
 -- bytes stand for one list of snapshots

@@ -9,8 +9,6 @@ use Rattle.gl_outside.specs.declared.files.FileNo.{FileNo}
 use Rattle.gl_outside.specs.declared.files.OpenFault.{OpenFault}
 use Rattle.gl_outside.specs.declared.files.OpenFault.TheVariants as open_fault
 use Rattle.gl_outside.proofs.Fronts.{Rose-later}
-use Rattle.graph_core.specs.DataGraph.{DataGraph}
-use Rattle.job_config.specs.Jobs.{JobSayings}
 use Rattle.job_config.specs.Views.{job_view}
 use Rattle.job_files.specs.declared.inputs.Input.{Input}
 use Rattle.job_stores.specs.JobHeaders.{header_for}

@@ -85,7 +85,9 @@ fn refused(job: &Job, verb: JobVerb) -> Option<JobFault>
 {
     match verb {
         JobVerb::Cut if job.atoms_at.is_none() => Some(JobFault::Missing(Key::AtomsAt)),
-        JobVerb::Resume | JobVerb::Init if job.store.is_none() => Some(JobFault::Missing(Key::Store)),
+        JobVerb::Resume | JobVerb::Init if job.store.is_none() => Some(JobFault::Missing(
+            Key::Store,
+        )),
         JobVerb::Init => None,
         _ => match not_built(job) {
             None => None,

@@ -73,7 +73,11 @@ fn store_of(alloc: Global, header: &[u8], snapshots: u64) -> Result<Vec<u8>, NoM
 
 /// Adds a number in so many bytes, eight at most, the highest first.
 fn add_number(bytes: &mut Vec<u8>, number: u64, size: usize) -> Result<(), NoMemory> {
-    for byte in number.to_be_bytes().into_iter().skip(8usize.saturating_sub(size)) {
+    for byte in number
+        .to_be_bytes()
+        .into_iter()
+        .skip(8usize.saturating_sub(size))
+    {
         bytes.push(byte)?;
     }
     Ok(())
@@ -85,7 +89,10 @@ fn resumed<R: Abort + Wait>(rt: &R, alloc: Global, header: &[u8]) -> Result<(), 
     let mut files = files_with(alloc, Vec::from_slice(alloc, &full)?)?;
     let (ended, note) = called(rt, alloc, "resume", &mut files)?;
     assert_eq!(rt; ended.status.number(), 10);
-    assert_eq!(rt; note.bytes(), b"snapshots full: 4096 stored, 167985 bytes\n".as_slice());
+    assert_eq!(rt;
+        note.bytes(),
+        b"snapshots full: 4096 stored, 167985 bytes\n".as_slice()
+    );
     assert_eq!(rt; files.disk_bytes("s"), full.as_slice());
 
     let before = store_of(alloc, header, MOST - 1)?;

@@ -1,4 +1,4 @@
-use Rattle.std.proofs.Common.{◌≡◌, IsTrue, List, ℕ, subst}
+use Rattle.std.proofs.Common.{IsTrue, subst}
 use Rattle.job_config.specs.Views.{job_view}
 use Rattle.job_stores.specs.JobHeaders.{header_for}
 use Rattle.recovery.specs.Journals.{snapshots_in}
