@@ -1,4 +1,4 @@
-use Rattle.std.proofs.Common.{inl, Ok, Err, List, Option, ℕ, subst, arith}
+use Rattle.std.proofs.Common.{inl, Ok, Err, subst}
 use Rattle.std.proofs.lemmas.Result.{err_from_is_err_and}
 use Rattle.gl_outside.proofs.Opening.{ChangesSources-trans}
 use Rattle.whole_files.specs.FilesUsed.{HandsOver}
