@@ -176,12 +176,13 @@ fn play_turn<R: Wait>(
     if turns.then.is_none() {
         return compare(alloc, scene, &left, &turns.wants, differences);
     }
+    let Left { files, .. } = left;
     let step = Step::new(alloc, Vec::new(alloc), Vec::new(alloc));
     let after = Scene {
         step: &step,
         names: scene.names,
         disks: scene.disks,
-        files: &left.files,
+        files: &files,
     };
     let last = make_call(rt, alloc, &after, &turns.then, None)?;
     compare(alloc, &after, &last, &turns.wants, differences)
