@@ -1,12 +1,10 @@
 -- What `cut` leaves at each place where it ends.
-use Rattle.std.proofs.Common.{◌≡◌, ◌+◌, ◌⊎◌, inl, inr, ℕ, List, Option, Some, Ok, Err, refl, sym, ap, ◌∙◌, subst, ⊎_elim}
+use Rattle.std.proofs.Common.{◌≡◌, ◌+◌, ◌⊎◌, inl, inr, ℕ, List, Option, Some, Err, sym, ap, ◌∙◌, subst, ⊎_elim}
 use Rattle.std.specs.Prelude.{Contains}
 use Rattle.gl_outside.specs.Faults.{Rose}
 use Rattle.gl_outside.specs.FilesState.{FilesState, Opened, Written}
-use Rattle.graph_core.specs.DataGraph.{DataGraph}
 use Rattle.made_graphs.specs.declared.making.Writing.{Writing}
 use Rattle.made_graphs.specs.declared.making.Writing.TheVariants as out
-use Rattle.job_config.specs.Jobs.{JobSayings}
 use Rattle.job_config.specs.Views.{job_view}
 use Rattle.job_words.specs.declared.words.Words.{Words}
 use Rattle.job_words.specs.declared.words.Words.TheVariants.{Cut}
@@ -21,7 +19,6 @@ use Rattle.job_files.specs.declared.inputs.NoInput.{NoInput}
 use Rattle.job_files.specs.declared.inputs.NoInput.TheVariants as why
 use Rattle.job_files.specs.declared.jobs.JobVerb.TheVariants as verb
 use Rattle.job_files.specs.Inputs.{IsInput, IsInputFrom}
-use Rattle.job_files.specs.JobTexts.{OfJob}
 use Rattle.job_files.specs.NamesRead.{names_of}
 use Rattle.job_files.proofs.InputsRead.{of-graph}
 use Rattle.engine_cli.specs.CutJobs.{Cuts, LeavesCutFronts, OfCutJob}

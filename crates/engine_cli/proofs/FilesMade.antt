@@ -15,7 +15,7 @@ use Rattle.engine_cli.specs.Made.{Makes}
 use Rattle.engine_cli.specs.Status.{IsDoneOrNoMemory, status_of_writing}
 use Rattle.engine_cli.specs.Verbs.{IsMaking}
 use Rattle.engine_cli.specs.declared.status.Status.{Status}
-use Rattle.engine_cli.specs.declared.status.Status.TheVariants.{Done, Usage, BadJob, BadGraph, BadAtoms, ReadFault, WriteFault, DiskFault, BadStore, BudgetSpent, NoMemory}
+use Rattle.engine_cli.specs.declared.status.Status.TheVariants.{Done, Usage, BadJob, BadGraph, BadAtoms, ReadFault, WriteFault, DiskFault, BadStore, BudgetSpent, SnapshotsFull, NoMemory}
 use Rattle.made_graphs.specs.declared.making.Writing.TheVariants as out
 
 -- making files comes to an end where no count rose
@@ -31,6 +31,7 @@ made-done plan prefix old new WriteFault makes sound = sound makes
 made-done plan prefix old new DiskFault makes sound = makes
 made-done plan prefix old new (BadStore fault) makes sound = makes
 made-done plan prefix old new (BudgetSpent left) makes sound = makes
+made-done plan prefix old new (SnapshotsFull stored length) makes sound = makes
 made-done plan prefix old new NoMemory makes sound = tt
 
 -- what making both files says by its status

@@ -6,7 +6,15 @@ pub mod CutMade
 pub mod StoreMade
 pub mod PlansInRange
 pub mod Results
+pub mod Alone
+pub mod JobFailures
+pub mod DisksLeft
+pub mod StoredBy
+pub mod StoreRuns
+pub mod StoreUsed
+pub mod Preparing
 pub mod RunsSay
+pub mod NothingDone
 pub mod Bounds
 pub mod EntriesInside
 pub mod OneGraph

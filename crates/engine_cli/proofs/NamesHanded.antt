@@ -1,5 +1,5 @@
 -- The names of the files that are written for a verb, handed on at most.
-use Rattle.std.proofs.Common.{◌≡◌, ℕ, List, [], ◌∷◌, Option, None, Some, Result, Ok, IfSome, sym, subst}
+use Rattle.std.proofs.Common.{◌≡◌, ℕ, List, [], Option, None, Some, Result, Ok, IfSome, sym, subst}
 use Rattle.gl_base.specs.declared.job_faults.JobFault.{JobFault}
 use Rattle.gl_outside.specs.FilesState.{FilesState}
 use Rattle.gl_outside.specs.Names.{AppendsNames}
@@ -9,7 +9,6 @@ use Rattle.whole_files.proofs.NamesHanded.{AppendsNames-nil}
 use Rattle.job_files.specs.BuiltJobs.{job_for}
 use Rattle.job_files.specs.JobTexts.{SaysJob}
 use Rattle.job_files.specs.declared.jobs.JobVerb.{JobVerb}
-use Rattle.job_files.specs.declared.jobs.JobVerb.TheVariants.{Init}
 use Rattle.engine_cli.specs.NamesWritten.{HandsWritten, names_for, order_names, written_for}
 use Rattle.engine_cli.specs.StoreJobs.{HandsStore, store_names}
 
@@ -32,19 +31,19 @@ hands-no-name verb old new file same = go (old.contents file)
     go (Some bytes) = (0, subst (λ (n : Option (List (List ℕ))). AppendsNames old.sinks.names n []) (sym same) (AppendsNames-nil old.sinks.names))
 
 -- the name of the store was handed on at most
-pub hands-store : (old new : FilesState) (file : List ℕ) (job : JobSayings) → SaysJob Init old file job
-    → HandsOver old.disks.names new.disks.names (order_names job.fields.store) → HandsStore old new file
-hands-store old new file job says hands = go old.sources.names (old.contents file) says
+pub hands-store : (asked : JobVerb) (old new : FilesState) (file : List ℕ) (job : JobSayings) → SaysJob asked old file job
+    → HandsOver old.disks.names new.disks.names (order_names job.fields.store) → HandsStore asked old new file
+hands-store asked old new file job says hands = go old.sources.names (old.contents file) says
   where
-    go : (a : Option (List (List ℕ))) (text : Option (List ℕ)) → OfRead a text (λ bytes. job_for Init bytes ≡ Ok job)
-        → IfSome text (λ bytes. HandsOver old.disks.names new.disks.names (store_names (job_for Init bytes)))
+    go : (a : Option (List (List ℕ))) (text : Option (List ℕ)) → OfRead a text (λ bytes. job_for asked bytes ≡ Ok job)
+        → IfSome text (λ bytes. HandsOver old.disks.names new.disks.names (store_names (job_for asked bytes)))
     go a None is = tt
     go a (Some bytes) is = subst (λ (r : Result JobSayings JobFault). HandsOver old.disks.names new.disks.names (store_names r)) (sym is) hands
 
 -- no name was
-pub hands-no-store : (old new : FilesState) (file : List ℕ) → new.disks.names ≡ old.disks.names → HandsStore old new file
-hands-no-store old new file same = go (old.contents file)
+pub hands-no-store : (asked : JobVerb) (old new : FilesState) (file : List ℕ) → new.disks.names ≡ old.disks.names → HandsStore asked old new file
+hands-no-store asked old new file same = go (old.contents file)
   where
-    go : (text : Option (List ℕ)) → IfSome text (λ bytes. HandsOver old.disks.names new.disks.names (store_names (job_for Init bytes)))
+    go : (text : Option (List ℕ)) → IfSome text (λ bytes. HandsOver old.disks.names new.disks.names (store_names (job_for asked bytes)))
     go None = tt
     go (Some bytes) = (0, subst (λ (n : Option (List (List ℕ))). AppendsNames old.disks.names n []) (sym same) (AppendsNames-nil old.disks.names))

@@ -4,7 +4,7 @@ use Rattle.gl_base.specs.declared.entries.Entry.{Entry}
 use Rattle.gl_base.specs.declared.entries.Entry.TheVariants.{Go}
 use Rattle.gl_base.specs.declared.numbers.Vertex.{Vertex}
 use Rattle.graph_core.specs.DataGraph.{DataGraph, IsDataGraph}
-use Rattle.seq_run.specs.Orders.{IsValidOrder}
+use Rattle.seq_run.specs.Orders.{IsFinished, IsValidOrder}
 use Rattle.std.specs.List.Sorted.{IsPermutation}
 use Rattle.gl_base.specs.declared.job_faults.JobFault.{JobFault}
 use Rattle.gl_base.specs.declared.text_faults.TextFault.{TextFault}
@@ -21,18 +21,26 @@ use Rattle.whole_files.specs.AtomNames.{index_name}
 use Rattle.job_files.specs.declared.jobs.JobVerb.{JobVerb}
 use Rattle.job_files.specs.Atoms.{FindsInAtoms, HasAtoms, OfGraph, RefusesAtoms, atom_files, atoms_fault, given_bytes}
 use Rattle.engine_cli.specs.Says.{IsReadable}
-use Rattle.engine_cli.specs.declared.status.Status.TheVariants.{Done, Usage, BadJob, BadGraph, BadAtoms, ReadFault, WriteFault, DiskFault, BadStore, BudgetSpent, NoMemory}
+use Rattle.engine_cli.specs.declared.status.Status.TheVariants.{Done, Usage, BadJob, BadGraph, BadAtoms, ReadFault, WriteFault, DiskFault, BadStore, BudgetSpent, SnapshotsFull, NoMemory}
 use Rattle.engine_cli.specs.Status.{IsDoneOrNoMemory}
-use Rattle.job_files.specs.JobTexts.{LacksSource, RefusesEdges, is_weighted, OfJob, OfTexts, RefusesSource, RefusesTexts, DescribeJobGraph, RefusesJob}
-use Rattle.engine_cli.specs.Answer.{IsValid, SpendsBudget}
-use Rattle.engine_cli.specs.Plays.{update_of}
-use Rattle.engine_cli.specs.Says.{Moment, Says, IsSound}
+use Rattle.job_files.specs.JobTexts.{LacksSource, RefusesEdges, is_weighted, OfJob, OfSaid, OfTexts, RefusesSource, RefusesTexts, DescribeJobGraph, RefusesJob}
+use Rattle.engine_cli.specs.Answer.{IsValid}
+use Rattle.engine_cli.specs.JobRuns.{CallLists, IsEndAlone, MakesRun, RunsAlone, RunsSo, is_resumed, left_at}
+use Rattle.engine_cli.specs.JobStores.{IsOtherStore, RefusesStore}
+use Rattle.engine_cli.specs.Plays.{IsSpent, update_of}
+use Rattle.gl_outside.specs.Disk.{DiskPast}
+use Rattle.job_stores.specs.JobHeaders.{header_for}
+use Rattle.job_stores.specs.NewStores.{IfDisksTold}
+use Rattle.std.specs.Prelude.{MatchOption}
+use Rattle.stored_answers.specs.declared.runs.StoredEnd.{StoredEnd}
+use Rattle.stored_answers.specs.declared.runs.StoredEnd.TheVariants as end
+use Rattle.stored_answers.specs.declared.runs.StoredEnd.TheVariants.{Spent}
+use Rattle.engine_cli.specs.Says.{IsSound, Moment, Refuses, Says, SaysOfRun}
 use Rattle.whole_files.specs.FilesUsed.{OfRead}
 use Rattle.whole_files.proofs.TextsRead.{OfRead-bytes}
 use Rattle.engine_cli.proofs.Bounds.{bound-of, one-more, since-one-more}
 use Rattle.job_files.proofs.SortedOnce.{sorted_once}
 use Rattle.job_files.specs.BuiltJobs.{job_for}
-use Rattle.job_files.specs.declared.jobs.JobVerb.TheVariants as verb
 
 -- a text that lists identifiers has no fault
 lists_no_fault : (bytes : List ℕ) (ids : List ℕ) (fault : TextFault) → ListsIds bytes ids → vertices_of bytes ≡ Err fault → ⊥
@@ -51,15 +59,17 @@ one_list bytes a b p q =
     same_ok : {x y : List ℕ} → Ok x ≡ (let r : Result (List ℕ) TextFault = Ok y in r) → x ≡ y
     same_ok e = cc
 
--- the job of a fact is the job that the file says
-pub of_job : (asked : JobVerb) (files : FilesState) (file : List ℕ) (P : JobFields → Type 0) → (input : IsReadable asked files file) → OfJob asked files file P → P input.job.fields
-of_job asked files file P input h =
+-- what is said of the job that the file says is said of this one
+pub of_said : (asked : JobVerb) (files : FilesState) (file : List ℕ) (P : JobSayings → Type 0) → (input : IsReadable asked files file) → OfSaid asked files file P → P input.job
+of_said asked files file P input h =
     let told : job_for asked input.bytes ≡ Ok h.0 = OfRead-bytes files.sources.names (files.contents file) input.bytes (λ bytes. job_for asked bytes ≡ Ok h.0) input.bytes_told h.1 in
-    let Q : JobSayings → Type 0 = λ job. P job.fields in
-    subst Q (same_ok h.0 input.job (sym told ∙ input.job_is)) h.2
+    subst P (same_ok h.0 input.job (sym told ∙ input.job_is)) h.2
   where
     same_ok : (x y : JobSayings) → Ok x ≡ (let r : Result JobSayings JobFault = Ok y in r) → x ≡ y
     same_ok x y e = cc
+
+pub of_job : (asked : JobVerb) (files : FilesState) (file : List ℕ) (P : JobFields → Type 0) → (input : IsReadable asked files file) → OfJob asked files file P → P input.job.fields
+of_job asked files file P input h = of_said asked files file (λ job. P job.fields) input h
 
 -- a fact of the job's texts is a fact of their bytes
 pub of_texts : (asked : JobVerb) (files : FilesState) (file : List ℕ) (P : List ℕ → List ℕ → Type 0) → (input : IsReadable asked files file)
@@ -119,12 +129,12 @@ no_bad_graph asked files file fault input says =
     (of_job asked files file (RefusesTexts files fault) input says)
 
 -- nor its atoms, where they have no fault
-no_bad_atoms : (file : List ℕ) (before now : Moment) (fault : AtomsFault) → IsSound file before now → OfJob verb.Run before.files file (RefusesAtoms before.files fault) → ⊥
-no_bad_atoms file before now fault sound says =
+no_bad_atoms : (asked : JobVerb) (file : List ℕ) (before now : Moment) (fault : AtomsFault) → IsSound asked file before now → OfJob asked before.files file (RefusesAtoms before.files fault) → ⊥
+no_bad_atoms asked file before now fault sound says =
     let input = sound.input in
     let files : FilesState = before.files in
-    let at = of_job verb.Run files file (RefusesAtoms files fault) input says in
-    let found = of_texts verb.Run files file (OfGraph input.job.fields (λ g. FindsInAtoms files at.0 g (Some fault))) input at.2 in
+    let at = of_job asked files file (RefusesAtoms files fault) input says in
+    let found = of_texts asked files file (OfGraph input.job.fields (λ g. FindsInAtoms files at.0 g (Some fault))) input at.2 in
     let none = sound.atoms at.0 found.0 at.1 found.1 in
     let finds : atoms_fault found.0 (given_bytes files (index_name at.0)) (atom_files files at.0) ≡ Some fault = told files.sources.names none.0 _ found.3 in
     none_is_no_fault (sym none.1 ∙ finds)
@@ -139,33 +149,114 @@ no_bad_atoms file before now fault sound says =
     none_is_no_fault : {f : AtomsFault} → None ≡ Some f → ⊥
     none_is_no_fault e = cc
 
--- a budget of at least the step bound is not spent
-unspent : (job : JobFields) (left : Vertex) (order : List Entry) (vertices edges : List ℕ) → ((g : DataGraph) → DescribeJobGraph job vertices edges g → step_bound g job.algorithm ≤ job.budget)
-    → SpendsBudget job left order vertices edges → ⊥
-unspent job left order vertices edges enough bad =
-    let p = update_of job.algorithm job.source in
-    let is : IsDataGraph bad.graph = bad.graph_is.graph.graph in
-    let next : Entry = Go (record { 0 = 0 }) left 0 in
-    let longer : IsValidOrder bad.graph p (order ++ next ∷ []) = one-more bad.graph p order left bad.play.valid bad.spent.task in
-    let few = bound-of job.algorithm job.source bad.graph (order ++ next ∷ []) is bad.start longer in
-    omega (arith, few, bad.spent.spent, enough bad.graph bad.graph_is, since-one-more order left bad.play.tickets)
+-- the run of a job that names no store is one without a store
+alone : (told : Bool) (asked : JobVerb) (old : FilesState) (new : List ℕ → DiskPast) (job : JobSayings) (lists : CallLists) (ending : StoredEnd) (vertices edges : List ℕ)
+    → (made : MakesRun told asked old new job lists ending vertices edges) → job.fields.store ≡ None → RunsAlone job.fields made.graph made.run
+alone told asked old new job lists ending vertices edges made none =
+    subst (λ (s : Option (List ℕ)). RunsSo told asked old new job made.graph made.run s) none made.runs
 
--- what a valid job and valid texts come to
-pub sound_is_done : (file : List ℕ) (report : Bool) (before now : Moment) (tells : List ℕ → Type 0) (order : List Entry) (status : Status)
-    → Says file report before now tells order status → IsSound file before now → IsDoneOrNoMemory status
-sound_is_done file report before now tells order Done says sound = tt
-sound_is_done file report before now tells order (Usage fault) says sound = says
-sound_is_done file report before now tells order (BadJob fault) says sound = no_bad_job verb.Run before.files file fault sound.input says.1
-sound_is_done file report before now tells order (BadGraph fault) says sound = no_bad_graph verb.Run before.files file fault sound.input says.1
-sound_is_done file report before now tells order (BadAtoms fault) says sound = no_bad_atoms file before now fault sound says.1
-sound_is_done file report before now tells order ReadFault says sound = sound.no_read_fault says.1
-sound_is_done file report before now tells order WriteFault says sound =
+-- so it ends as such a run does
+ends_alone : (told : Bool) (asked : JobVerb) (old : FilesState) (new : List ℕ → DiskPast) (job : JobSayings) (lists : CallLists) (ending : StoredEnd) (vertices edges : List ℕ)
+    → MakesRun told asked old new job lists ending vertices edges → job.fields.store ≡ None → IsEndAlone ending
+ends_alone told asked old new job lists ending vertices edges made none =
+    subst IsEndAlone made.ended (alone told asked old new job lists ending vertices edges made none).ended
+
+-- a budget of at least the step bound is not spent
+unspent : (told : Bool) (asked : JobVerb) (old : FilesState) (new : List ℕ → DiskPast) (job : JobSayings) (lists : CallLists) (left : Vertex) (vertices edges : List ℕ)
+    → job.fields.store ≡ None → ((g : DataGraph) → DescribeJobGraph job.fields vertices edges g → step_bound g job.fields.algorithm ≤ job.fields.budget)
+    → MakesRun told asked old new job lists (Spent left) vertices edges → ⊥
+unspent told asked old new job lists left vertices edges none enough made =
+    let g = made.graph in
+    let p = update_of job.fields.algorithm job.fields.source in
+    let order = made.run.order.items in
+    let was = alone told asked old new job lists (Spent left) vertices edges made none in
+    let is : IsDataGraph g = made.graph_is.graph.graph in
+    let ends : StoredEnd → Type 0 = λ e. MatchOption (left_at e) (IsFinished g p order) (IsSpent g p job.fields.budget order) in
+    let spent : IsSpent g p job.fields.budget order left = subst ends made.ended was.runs.ended in
+    let next : Entry = Go (record { 0 = 0 }) left 0 in
+    let longer : IsValidOrder g p (order ++ next ∷ []) = one-more g p order left was.runs.play.valid spent.task in
+    let few = bound-of job.fields.algorithm job.fields.source g (order ++ next ∷ []) is made.start longer in
+    omega (arith, few, spent.spent, enough g made.graph_is, since-one-more order left was.runs.play.tickets)
+
+-- a job that names no store names none
+no_store : (name : List ℕ) (store : Option (List ℕ)) → store ≡ None → store ≡ Some name → ⊥
+no_store name store none some = none_is_some (sym none ∙ some)
+  where
+    none_is_some : {n : List ℕ} → None ≡ Some n → ⊥
+    none_is_some e = cc
+
+unnamed : (store : Option (List ℕ)) → store ≡ None → IsTrue (is_some store) → ⊥
+unnamed store none some = absurd (is_no_truth (subst (λ (s : Option (List ℕ)). IsTrue (is_some s)) none some))
+  where
+    is_no_truth : IsTrue false → ⊥
+    is_no_truth e = cc
+
+-- what a valid job without a store and valid texts come to, where a run was made
+run_is_done : (told : Bool) (asked : JobVerb) (file : List ℕ) (report : Bool) (before now : Moment) (tells : List ℕ → Type 0) (lists : CallLists) (status : Status)
+    → SaysOfRun told asked file report before now tells lists status → IsSound asked file before now → IsDoneOrNoMemory status
+run_is_done told asked file report before now tells lists Done says sound = tt
+run_is_done told asked file report before now tells lists (Usage fault) says sound = says
+run_is_done told asked file report before now tells lists (BadJob fault) says sound = says
+run_is_done told asked file report before now tells lists (BadGraph fault) says sound = says
+run_is_done told asked file report before now tells lists (BadAtoms fault) says sound = says
+run_is_done told asked file report before now tells lists ReadFault says sound = says
+run_is_done told asked file report before now tells lists WriteFault says sound =
     ⊎_elim (λ first. sound.no_write_fault first.rose) (λ second. sound.no_fault_of_out second.rose) says.1.2.0
-sound_is_done file report before now tells order DiskFault says sound = says
-sound_is_done file report before now tells order (BadStore fault) says sound = says
-sound_is_done file report before now tells order (BudgetSpent left) says sound =
+run_is_done told asked file report before now tells lists DiskFault says sound =
     let input = sound.input in
-    let spends = of_job verb.Run before.files file (λ job. HasAtoms before.files job × OfTexts before.files job (SpendsBudget job left order)) input says in
-    unspent input.job.fields left order input.vertices input.edges sound.enough
-    (of_texts verb.Run before.files file (SpendsBudget input.job.fields left order) input spends.1)
-sound_is_done file report before now tells order NoMemory says sound = tt
+    let old : FilesState = before.files in
+    let new : List ℕ → DiskPast = now.files.pasts in
+    let made = of_said asked old file (λ job. HasAtoms old job.fields × OfTexts old job.fields (MakesRun told asked old new job lists end.DiskFault)) input says.1 in
+    ends_alone told asked old new input.job lists end.DiskFault input.vertices input.edges (of_texts asked old file (MakesRun told asked old new input.job lists end.DiskFault) input made.1) sound.alone
+run_is_done told asked file report before now tells lists (BadStore fault) says sound = says
+run_is_done told asked file report before now tells lists (BudgetSpent left) says sound =
+    let input = sound.input in
+    let old : FilesState = before.files in
+    let new : List ℕ → DiskPast = now.files.pasts in
+    let made = of_said asked old file (λ job. HasAtoms old job.fields × OfTexts old job.fields (MakesRun told asked old new job lists (Spent left))) input says in
+    unspent told asked old new input.job lists left input.vertices input.edges sound.alone sound.enough (of_texts asked old file (MakesRun told asked old new input.job lists (Spent left)) input made.1)
+run_is_done told asked file report before now tells lists (SnapshotsFull stored length) says sound =
+    let input = sound.input in
+    let old : FilesState = before.files in
+    let new : List ℕ → DiskPast = now.files.pasts in
+    let made = of_said asked old file (λ job. HasAtoms old job.fields × OfTexts old job.fields (MakesRun told asked old new job lists (end.Full stored length))) input says in
+    ends_alone told asked old new input.job lists (end.Full stored length) input.vertices input.edges
+    (of_texts asked old file (MakesRun told asked old new input.job lists (end.Full stored length)) input made.1) sound.alone
+run_is_done told asked file report before now tells lists NoMemory says sound = tt
+
+-- it is not refused
+not_refused : (told : Bool) (asked : JobVerb) (file : List ℕ) (before now : Moment) (status : Status)
+    → Refuses told asked file before.files now.files status → IsSound asked file before now → IsDoneOrNoMemory status
+not_refused told asked file before now Done says sound = tt
+not_refused told asked file before now (Usage fault) says sound = says
+not_refused told asked file before now (BadJob fault) says sound = no_bad_job asked before.files file fault sound.input says
+not_refused told asked file before now (BadGraph fault) says sound = no_bad_graph asked before.files file fault sound.input says
+not_refused told asked file before now (BadAtoms fault) says sound = no_bad_atoms asked file before now fault sound says
+not_refused told asked file before now ReadFault says sound = sound.no_read_fault says
+not_refused told asked file before now WriteFault says sound = says
+not_refused told asked file before now DiskFault says sound =
+    unnamed sound.input.job.fields.store sound.alone (of_job asked before.files file (λ job. IsTrue (is_some job.store)) sound.input says.1)
+not_refused told asked file before now (BadStore fault) says sound =
+    let old : FilesState = before.files in
+    let named = of_said asked old file
+    (λ job. (name : List ℕ) × (job.fields.store ≡ Some name) × OfTexts old job.fields (OfGraph job.fields (λ g. IfDisksTold told old (RefusesStore (is_resumed asked) (header_for job.fields g) (old.pasts name).now.seen fault))))
+    sound.input in
+    let other = of_said asked old file
+    (λ job. (name : List ℕ) × (job.fields.store ≡ Some name) × OfTexts old job.fields (OfGraph job.fields (λ g. IfDisksTold told old (IsOtherStore job g (old.pasts name)))))
+    sound.input in
+    ⊎_elim
+    (λ refused. let at = named refused.0 in no_store at.0 sound.input.job.fields.store sound.alone at.1)
+    (λ is. let at = other is in no_store at.0 sound.input.job.fields.store sound.alone at.1)
+    says
+not_refused told asked file before now (BudgetSpent left) says sound = says
+not_refused told asked file before now (SnapshotsFull stored length) says sound = says
+not_refused told asked file before now NoMemory says sound = tt
+
+-- so it is done, or there was not enough memory
+pub sound_is_done : (told : Bool) (asked : JobVerb) (file : List ℕ) (report : Bool) (before now : Moment) (tells : List ℕ → Type 0) (lists : CallLists) (status : Status)
+    → Says told asked file report before now tells lists status → IsSound asked file before now → IsDoneOrNoMemory status
+sound_is_done told asked file report before now tells lists status says sound =
+    ⊎_elim
+    (λ made. run_is_done told asked file report before now tells lists status made sound)
+    (λ refused. not_refused told asked file before now status refused.1 sound)
+    says

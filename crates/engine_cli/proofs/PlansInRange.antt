@@ -16,7 +16,7 @@ use Rattle.gl_base.specs.Results.{and_then}
 use Rattle.job_words.specs.Meanings.{has_option, plan_in_range, make_words, meaning_of, most_edges, option_number, plan_of, option_weight}
 use Rattle.gl_base.specs.Texts.{Text}
 use Rattle.job_words.specs.WordForms.{word_forms, first_unformed}
-use Rattle.job_words.specs.declared.words.Words.TheVariants.{Run, Make, Cut, Init}
+use Rattle.job_words.specs.declared.words.Words.TheVariants.{Run, Resume, Make, Cut, Init}
 
 no_fault_ok : {X : Type 0} → {f : UsageFault} → {x : X} → Err f ≡ Ok x → ⊥
 no_fault_ok e = cc
@@ -79,24 +79,27 @@ make_words-in-ranges prefix name (Err f) plan e = absurd (no_fault_ok e)
 
 meaning-in-ranges : (s : Sayings) (name : Text) (plan : MakePlan) → meaning_of s ≡ Ok (Make name plan) → IsPlanInRange plan
 meaning-in-ranges s name plan e =
-    by_tests (bytes_eq s.verb (codes "run")) (bytes_eq s.verb (codes "make")) (bytes_eq s.verb (codes "cut")) (bytes_eq s.verb (codes "init")) (has_option s) s.report (s.report || has_option s) e
+    by_tests (bytes_eq s.verb (codes "run")) (bytes_eq s.verb (codes "resume")) (bytes_eq s.verb (codes "make")) (bytes_eq s.verb (codes "cut")) (bytes_eq s.verb (codes "init")) (has_option s) s.report (s.report || has_option s) e
   where
-    by_tests : (a b k i c d f : Bool)
+    by_tests : (a r b k i c d f : Bool)
         → cond a (cond c (Err fault.NotHere) (Ok (Run s.file s.report)))
+        (cond r (cond c (Err fault.NotHere) (Ok (Resume s.file s.report)))
         (cond b (cond d (Err fault.NotHere) (make_words s.file (plan_of s.number s.vertices s.edges s.weight)))
         (cond k (cond f (Err fault.NotHere) (Ok (Cut s.file)))
-        (cond i (cond f (Err fault.NotHere) (Ok (Init s.file))) (Err fault.Verb)))) ≡ Ok (Make name plan)
+        (cond i (cond f (Err fault.NotHere) (Ok (Init s.file))) (Err fault.Verb))))) ≡ Ok (Make name plan)
         → IsPlanInRange plan
-    by_tests true b k i true d f e = absurd (no_fault_ok e)
-    by_tests true b k i false d f e = absurd cc
-    by_tests false true k i c true f e = absurd (no_fault_ok e)
-    by_tests false true k i c false f e =
+    by_tests true r b k i true d f e = absurd (no_fault_ok e)
+    by_tests true r b k i false d f e = absurd cc
+    by_tests false true b k i true d f e = absurd (no_fault_ok e)
+    by_tests false true b k i false d f e = absurd cc
+    by_tests false false true k i c true f e = absurd (no_fault_ok e)
+    by_tests false false true k i c false f e =
         plan-in-ranges s.number s.vertices s.edges s.weight plan (make_words-in-ranges s.file name (plan_of s.number s.vertices s.edges s.weight) plan e)
-    by_tests false false true i c d true e = absurd (no_fault_ok e)
-    by_tests false false true i c d false e = absurd cc
-    by_tests false false false true c d true e = absurd (no_fault_ok e)
-    by_tests false false false true c d false e = absurd cc
-    by_tests false false false false c d f e = absurd (no_fault_ok e)
+    by_tests false false false true i c d true e = absurd (no_fault_ok e)
+    by_tests false false false true i c d false e = absurd cc
+    by_tests false false false false true c d true e = absurd (no_fault_ok e)
+    by_tests false false false false true c d false e = absurd cc
+    by_tests false false false false false c d f e = absurd (no_fault_ok e)
 
 -- the plan of a command line is in its ranges
 pub asked-in-ranges : (words : List Text) (name : Text) (plan : MakePlan) → command_line_of words ≡ Ok (Make name plan) → IsPlanInRange plan

@@ -3,8 +3,6 @@ use Rattle.std.proofs.Common.{◌≡◌, ◌<◌, ℕ, Bool, false, IsTrue, is_s
 use Rattle.gl_outside.specs.Disk.{DiskPast}
 use Rattle.gl_outside.specs.Faults.{Rose}
 use Rattle.gl_outside.specs.FilesState.{FilesState, Opened}
-use Rattle.graph_core.specs.DataGraph.{DataGraph}
-use Rattle.job_config.specs.Fields.{JobFields}
 use Rattle.job_config.specs.Jobs.{JobSayings}
 use Rattle.job_config.specs.Views.{job_view}
 use Rattle.store_format.specs.declared.faults.StoreFault.{StoreFault}
@@ -59,7 +57,7 @@ init-unread told old new file cause is read =
       says = unread-says told old new file cause is pasts;
       kept = λ name. always-told told old (0 < length (old.pasts name).now.seen → new.pasts name ≡ old.pasts name) (λ filled. ap (λ (p : List ℕ → DiskPast). p name) pasts);
       sources = read.handed;
-      disks = hands-no-store old new file (ap (λ (s : FilesState). s.disks.names) read.frame);
+      disks = hands-no-store verb.Init old new file (ap (λ (s : FilesState). s.disks.names) read.frame);
       frame = read.frame ∙ ap (λ (s : FilesState). record old { sources = new.sources; pasts = s.pasts; disks = s.disks }) (sym read.frame);
       early = λ early. read.frame;
       others = λ name apart. ap (λ (p : List ℕ → DiskPast). p name) pasts;
@@ -119,7 +117,7 @@ module _ (told : Bool) (old mid new : FilesState) (file : List ℕ) (input : Inp
         says = says;
         kept = λ other. since (λ p. 0 < length (p other).now.seen → new.pasts other ≡ p other) (kept other);
         sources = subst (λ (s : Opened (Option (List ℕ))). HandsOver old.sources.names s.names (names_of verb.Init old file)) (sym sources) read.handed;
-        disks = hands-store old new file job is.job (subst (λ (l : List (List ℕ)). HandsOver old.disks.names new.disks.names l) (sym names) handed);
+        disks = hands-store verb.Init old new file job is.job (subst (λ (l : List (List ℕ)). HandsOver old.disks.names new.disks.names l) (sym names) handed);
         frame = used.frame ∙ ap (λ (s : FilesState). record s { pasts = new.pasts; disks = new.disks }) read.frame
             ∙ ap (λ (s : Opened (Option (List ℕ))). record old { sources = s; pasts = new.pasts; disks = new.disks }) (sym sources);
         early = λ early. absurd (late early);

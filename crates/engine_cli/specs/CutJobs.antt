@@ -8,7 +8,7 @@ use Rattle.graph_files.specs.Cuts.{OfCut}
 use Rattle.job_files.specs.Atoms.{OfGraph}
 use Rattle.job_files.specs.JobTexts.{OfJob, OfTexts, RefusesJob, RefusesTexts}
 use Rattle.engine_cli.specs.declared.status.Status.{Status}
-use Rattle.engine_cli.specs.declared.status.Status.TheVariants.{Done, Usage, BadJob, BadGraph, BadAtoms, ReadFault, WriteFault, DiskFault, BadStore, BudgetSpent, NoMemory}
+use Rattle.engine_cli.specs.declared.status.Status.TheVariants.{Done, Usage, BadJob, BadGraph, BadAtoms, ReadFault, WriteFault, DiskFault, BadStore, BudgetSpent, SnapshotsFull, NoMemory}
 use Rattle.job_files.specs.declared.jobs.JobVerb.TheVariants as verb
 
 -- this holds of the job's prefix, of its number of atoms, and of the files of the cut of its graph
@@ -29,6 +29,7 @@ Cuts file old new WriteFault = Rose old.sinks.faults new.sinks.faults
 Cuts file old new DiskFault = ⊥
 Cuts file old new (BadStore fault) = ⊥
 Cuts file old new (BudgetSpent left) = ⊥
+Cuts file old new (SnapshotsFull stored length) = ⊥
 Cuts file old new NoMemory = ⊤
 
 -- no name gives anything else, or each file of the cut gives what it gave, or a front of its bytes

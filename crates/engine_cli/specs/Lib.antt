@@ -4,7 +4,8 @@ pub mod Status
 pub mod NamesWritten
 pub mod CutJobs
 pub mod StoreJobs
-pub mod Ended
+pub mod JobStores
+pub mod JobRuns
 pub mod Plays
 pub mod Notes
 pub mod Made

@@ -7,18 +7,19 @@ use Rattle.gl_outside.specs.FilesState.{FilesState}
 use Rattle.job_words.specs.CommandLine.{IsCommandLine}
 use Rattle.gl_base.specs.Texts.{Text}
 use Rattle.job_words.specs.declared.words.Words.{Words}
-use Rattle.job_words.specs.declared.words.Words.TheVariants.{Run, Make, Cut, Init}
+use Rattle.job_words.specs.declared.words.Words.TheVariants.{Run, Resume, Make, Cut, Init}
 use Rattle.engine_cli.specs.declared.status.Status.{Status}
-use Rattle.engine_cli.specs.declared.status.Status.TheVariants.{Done, Usage, BadJob, BadGraph, BadAtoms, ReadFault, WriteFault, DiskFault, BadStore, BudgetSpent, NoMemory}
+use Rattle.engine_cli.specs.declared.status.Status.TheVariants.{Done, Usage, BadJob, BadGraph, BadAtoms, ReadFault, WriteFault, DiskFault, BadStore, BudgetSpent, SnapshotsFull, NoMemory}
 use Rattle.graph_files.specs.Made.{vertices_name, edges_name, LeavesText}
 
 -- a command line that some words are
 abbrev pub IsAsked : Words → Type 0
 IsAsked asked = (words : List Text) × IsCommandLine words asked
 
--- a verb that does its work on files alone, as all but `run` do
+-- a verb that does its work on files alone, as all but `run` and `resume` do
 abbrev pub IsOfFiles : Words → Type 0
 IsOfFiles (Run file report) = ⊥
+IsOfFiles (Resume file report) = ⊥
 IsOfFiles (Make prefix plan) = ⊤
 IsOfFiles (Cut file) = ⊤
 IsOfFiles (Init file) = ⊤
@@ -36,4 +37,5 @@ Makes plan prefix old new WriteFault = Rose old.sinks.faults new.sinks.faults
 Makes plan prefix old new DiskFault = ⊥
 Makes plan prefix old new (BadStore fault) = ⊥
 Makes plan prefix old new (BudgetSpent left) = ⊥
+Makes plan prefix old new (SnapshotsFull stored length) = ⊥
 Makes plan prefix old new NoMemory = ⊤

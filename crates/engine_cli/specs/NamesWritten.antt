@@ -9,7 +9,7 @@ use Rattle.whole_files.specs.FilesUsed.{HandsOver}
 use Rattle.job_files.specs.BuiltJobs.{job_for}
 use Rattle.job_files.specs.JobTexts.{OfJob}
 use Rattle.job_files.specs.declared.jobs.JobVerb.{JobVerb}
-use Rattle.job_files.specs.declared.jobs.JobVerb.TheVariants.{Run, Cut, Init}
+use Rattle.job_files.specs.declared.jobs.JobVerb.TheVariants.{Run, Resume, Cut, Init}
 
 -- a name, or none
 abbrev pub order_names : Option (List ℕ) → List (List ℕ)
@@ -21,9 +21,10 @@ abbrev pub names_at : Option (List ℕ) → ℕ → List (List ℕ)
 names_at None atoms = []
 names_at (Some prefix) atoms = cut_names prefix atoms
 
--- the files that a verb writes: `run` that of the order, `cut` the index and the atoms, and `init` none but its store
+-- the files that a verb writes besides a store: `run` and `resume` that of the order, `cut` the index and the atoms, and `init` none
 abbrev pub names_for : JobVerb → JobFields → List (List ℕ)
 names_for Run job = order_names job.order
+names_for Resume job = order_names job.order
 names_for Cut job = names_at job.atoms_at job.atoms
 names_for Init job = []
 

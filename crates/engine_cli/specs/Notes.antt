@@ -10,7 +10,7 @@ use Rattle.gl_base.specs.declared.text_faults.TextFault.{TextFault}
 use Rattle.gl_outside.specs.Faults.{Rose}
 use Rattle.store_format.specs.declared.faults.StoreFault.{StoreFault}
 use Rattle.engine_cli.specs.declared.status.Status.{Status}
-use Rattle.engine_cli.specs.declared.status.Status.TheVariants.{Done, Usage, BadJob, BadGraph, BadAtoms, ReadFault, WriteFault, DiskFault, BadStore, BudgetSpent, NoMemory}
+use Rattle.engine_cli.specs.declared.status.Status.TheVariants.{Done, Usage, BadJob, BadGraph, BadAtoms, ReadFault, WriteFault, DiskFault, BadStore, BudgetSpent, SnapshotsFull, NoMemory}
 use Rattle.gl_outside.specs.Fronts.{AppendsFront}
 use Rattle.gl_base.specs.declared.atoms.AtomsKind.TheVariants as kind
 use Rattle.store_format.specs.declared.faults.StoreFault.TheVariants as store
@@ -60,6 +60,10 @@ store_note (store.Program kept given) = codes "store: other program\n"
 store_note (store.Used count) = joined (codes "store: used " ∷ decimal count ∷ codes "\n" ∷ [])
 store_note (store.NotEmpty length) = joined (codes "store: not empty " ∷ decimal length ∷ codes "\n" ∷ [])
 
+-- what is told of a store that has no room: how many snapshots and bytes it has
+abbrev pub full_note : ℕ → ℕ → List ℕ
+full_note stored length = joined (codes "snapshots full: " ∷ decimal stored ∷ codes " stored, " ∷ decimal length ∷ codes " bytes\n" ∷ [])
+
 -- the verbs and their words
 abbrev pub usage : List ℕ
 usage = codes "usage: glab run|resume|init|cut JOB\nusage: glab make PREFIX --number N --vertices N --edges N [--weight N]\n"
@@ -76,6 +80,7 @@ note_of WriteFault = codes "write fault\n"
 note_of DiskFault = codes "disk fault\n"
 note_of (BadStore fault) = store_note fault
 note_of (BudgetSpent left) = codes "budget spent\n"
+note_of (SnapshotsFull stored length) = full_note stored length
 note_of NoMemory = codes "out of memory\n"
 
 -- the whole text was appended, or a front of it where the sink failed

@@ -1,24 +1,27 @@
--- What each status of a run says: of the job's file and the texts, of the counts of faults, of the order's file, and of
+-- What each status of a run says: of the job's file and the texts, of the counts of faults, of the store, of the order's file, and of
 -- what `out` gained.
-use Rattle.std.specs.Prelude.{◌≡◌, ◌⊎◌, ◌≤◌, ℕ, Bool, IsTrue, is_some, List, [], Option, None, Some, Ok, IfSome, take}
+use Rattle.std.specs.Prelude.{◌≡◌, ◌⊎◌, ◌≤◌, ℕ, Bool, IsTrue, is_some, List, Option, None, Some, Ok, IfSome, take}
 use Rattle.std.specs.Io.KnownBytes.{Appends}
-use Rattle.gl_base.specs.declared.entries.Entry.{Entry}
+use Rattle.gl_outside.specs.Disk.{DiskPast}
 use Rattle.gl_outside.specs.Faults.{Rose}
 use Rattle.gl_outside.specs.FilesState.{FilesState}
 use Rattle.gl_outside.specs.Fronts.{AppendsFront}
-use Rattle.job_config.specs.Jobs.{JobSayings}
-use Rattle.engine_cli.specs.declared.status.Status.{Status}
-use Rattle.engine_cli.specs.declared.status.Status.TheVariants.{Done, Usage, BadJob, BadGraph, BadAtoms, ReadFault, WriteFault, DiskFault, BadStore, BudgetSpent, NoMemory}
-use Rattle.engine_cli.specs.Answer.{IsAnswer, Printed, IsValid, SpendsBudget}
-use Rattle.whole_files.specs.Leaves.{KeepsOrGives}
 use Rattle.graph_core.specs.DataGraph.{DataGraph}
+use Rattle.job_config.specs.Jobs.{JobSayings}
 use Rattle.seq_run.specs.StepBound.{step_bound}
+use Rattle.stored_answers.specs.declared.runs.StoredEnd.{StoredEnd}
 use Rattle.whole_files.specs.AtomNames.{index_name}
+use Rattle.whole_files.specs.Leaves.{KeepsOrGives}
 use Rattle.job_files.specs.Atoms.{HasAtoms, RefusesAtoms, atom_files, atoms_fault, given_bytes}
-use Rattle.job_files.specs.JobTexts.{DescribeJobGraph, OfJob, OfTexts, RefusesTexts, RefusesJob}
-use Rattle.job_files.specs.declared.jobs.JobVerb.{JobVerb}
 use Rattle.job_files.specs.BuiltJobs.{job_for}
-use Rattle.job_files.specs.declared.jobs.JobVerb.TheVariants as verb
+use Rattle.job_files.specs.JobTexts.{DescribeJobGraph, OfJob, OfSaid, OfTexts, RefusesTexts, RefusesJob}
+use Rattle.job_files.specs.declared.jobs.JobVerb.{JobVerb}
+use Rattle.engine_cli.specs.declared.status.Status.{Status}
+use Rattle.engine_cli.specs.declared.status.Status.TheVariants.{Done, Usage, BadJob, BadGraph, BadAtoms, ReadFault, WriteFault, DiskFault, BadStore, BudgetSpent, SnapshotsFull, NoMemory}
+use Rattle.engine_cli.specs.Answer.{IsAnswer, IsValid, Printed}
+use Rattle.engine_cli.specs.JobRuns.{CallLists, MakesRun, no_lists}
+use Rattle.engine_cli.specs.JobStores.{HasOtherStore, KeepsAllImages, NamesStore, RefusesJobStore, RunsOutOnStore}
+use Rattle.stored_answers.specs.declared.runs.StoredEnd.TheVariants as end
 
 -- The files, how many faults of `out` there were, and what it holds, as a call begins and as it ends.
 pub record Moment : Type 0 where
@@ -29,12 +32,16 @@ pub record Moment : Type 0 where
 abbrev pub moment : FilesState → ℕ → Option (List ℕ) → Moment
 moment files faults held = record { files = files; faults = faults; held = held }
 
--- the texts are what a run prints that left no task, where its updates have this order, and this holds of the job's name
--- for the order's file and of them
-abbrev pub PrintsAnswer : FilesState → List ℕ → Bool → List Entry → (Option (List ℕ) → Printed → Type 0) → Type 0
-PrintsAnswer files file report order holds =
+-- the texts are what a run prints that left no task and has these lists, and this holds of the job's name for the order's file and of them
+abbrev pub PrintsAnswer : Bool → JobVerb → FilesState → (List ℕ → DiskPast) → List ℕ → Bool → CallLists → (Option (List ℕ) → Printed → Type 0) → Type 0
+PrintsAnswer told asked old new file report lists holds =
     (printed : Printed)
-    × OfJob verb.Run files file (λ job. holds job.order printed × HasAtoms files job × OfTexts files job (λ vertices edges. IsAnswer job report vertices edges printed order))
+    × OfSaid asked old file (λ job. holds job.fields.order printed × HasAtoms old job.fields × OfTexts old job.fields (IsAnswer told asked old new job report lists printed))
+
+-- a run of the job was made that ended so, and has these lists
+abbrev pub EndsRun : Bool → JobVerb → FilesState → (List ℕ → DiskPast) → List ℕ → CallLists → StoredEnd → Type 0
+EndsRun told asked old new file lists ending =
+    OfSaid asked old file (λ job. HasAtoms old job.fields × OfTexts old job.fields (MakesRun told asked old new job lists ending))
 
 -- the order's file, if one is named, has these lines, where names are told
 abbrev pub LeavesOrder : Option (List ℕ) → Moment → Moment → List ℕ → Type 0
@@ -55,23 +62,44 @@ pub record FailsAtOut (order : Option (List ℕ)) (before now : Moment) (printed
   pub front : AppendsFront before.held now.held printed.answer
   pub ordered : LeavesOrder order before now printed.lines
 
--- What a run says by its status, where `tells` holds of what is reported. `order` is the order of its updates where it was
--- made, and else no update counts.
-abbrev pub Says : List ℕ → Bool → Moment → Moment → (List ℕ → Type 0) → List Entry → Status → Type 0
-Says file report before now tells order Done =
-    PrintsAnswer before.files file report order
+-- What a call says by its status that made a run, where `tells` holds of what is reported.
+abbrev pub SaysOfRun : Bool → JobVerb → List ℕ → Bool → Moment → Moment → (List ℕ → Type 0) → CallLists → Status → Type 0
+SaysOfRun told asked file report before now tells lists Done =
+    PrintsAnswer told asked before.files now.files.pasts file report lists
     (λ name printed. Appends before.held now.held printed.answer × tells printed.report × LeavesOrder name before now printed.lines)
-Says file report before now tells order (Usage fault) = ⊥
-Says file report before now tells order (BadJob fault) = (order ≡ []) × RefusesJob verb.Run before.files file fault
-Says file report before now tells order (BadGraph fault) = (order ≡ []) × OfJob verb.Run before.files file (RefusesTexts before.files fault)
-Says file report before now tells order (BadAtoms fault) = (order ≡ []) × OfJob verb.Run before.files file (RefusesAtoms before.files fault)
-Says file report before now tells order ReadFault = (order ≡ []) × Rose before.files.sources.faults now.files.sources.faults
-Says file report before now tells order WriteFault =
-    PrintsAnswer before.files file report order (λ name printed. FailsAtOrder name before now printed ⊎ FailsAtOut name before now printed)
-Says file report before now tells order DiskFault = ⊥
-Says file report before now tells order (BadStore fault) = ⊥
-Says file report before now tells order (BudgetSpent left) = OfJob verb.Run before.files file (λ job. HasAtoms before.files job × OfTexts before.files job (SpendsBudget job left order))
-Says file report before now tells order NoMemory = order ≡ []
+SaysOfRun told asked file report before now tells lists (Usage fault) = ⊥
+SaysOfRun told asked file report before now tells lists (BadJob fault) = ⊥
+SaysOfRun told asked file report before now tells lists (BadGraph fault) = ⊥
+SaysOfRun told asked file report before now tells lists (BadAtoms fault) = ⊥
+SaysOfRun told asked file report before now tells lists ReadFault = ⊥
+SaysOfRun told asked file report before now tells lists WriteFault =
+    PrintsAnswer told asked before.files now.files.pasts file report lists (λ name printed. FailsAtOrder name before now printed ⊎ FailsAtOut name before now printed)
+SaysOfRun told asked file report before now tells lists DiskFault =
+    Rose before.files.disks.faults now.files.disks.faults × EndsRun told asked before.files now.files.pasts file lists end.DiskFault
+SaysOfRun told asked file report before now tells lists (BadStore fault) = ⊥
+SaysOfRun told asked file report before now tells lists (BudgetSpent left) = EndsRun told asked before.files now.files.pasts file lists (end.Spent left)
+SaysOfRun told asked file report before now tells lists (SnapshotsFull stored length) = EndsRun told asked before.files now.files.pasts file lists (end.Full stored length)
+SaysOfRun told asked file report before now tells lists NoMemory = ⊥
+
+-- Why no run was made, by the status of the call, or that memory ran out.
+abbrev pub Refuses : Bool → JobVerb → List ℕ → FilesState → FilesState → Status → Type 0
+Refuses told asked file old new Done = ⊥
+Refuses told asked file old new (Usage fault) = ⊥
+Refuses told asked file old new (BadJob fault) = RefusesJob asked old file fault
+Refuses told asked file old new (BadGraph fault) = OfJob asked old file (RefusesTexts old fault)
+Refuses told asked file old new (BadAtoms fault) = OfJob asked old file (RefusesAtoms old fault)
+Refuses told asked file old new ReadFault = Rose old.sources.faults new.sources.faults
+Refuses told asked file old new WriteFault = ⊥
+Refuses told asked file old new DiskFault = Rose old.disks.faults new.disks.faults × NamesStore asked old file × KeepsAllImages told old new.pasts
+Refuses told asked file old new (BadStore fault) = (RefusesJobStore told asked old file fault × KeepsAllImages told old new.pasts) ⊎ HasOtherStore told asked old file
+Refuses told asked file old new (BudgetSpent left) = ⊥
+Refuses told asked file old new (SnapshotsFull stored length) = ⊥
+Refuses told asked file old new NoMemory = KeepsAllImages told old new.pasts ⊎ RunsOutOnStore told asked old new.pasts file
+
+-- What a call says by its status: what it says of the run that it made; or why it made none or ran out of memory, and then it leaves no lists.
+abbrev pub Says : Bool → JobVerb → List ℕ → Bool → Moment → Moment → (List ℕ → Type 0) → CallLists → Status → Type 0
+Says told asked file report before now tells lists status =
+    SaysOfRun told asked file report before now tells lists status ⊎ ((lists ≡ no_lists) × Refuses told asked file before.files now.files status)
 
 -- The job's file and both texts are told and valid.
 pub record IsReadable (asked : JobVerb) (files : FilesState) (file : List ℕ) : Type 0 where
@@ -85,10 +113,11 @@ pub record IsReadable (asked : JobVerb) (files : FilesState) (file : List ℕ) :
   pub edges_told : files.contents job.fields.edges ≡ Some edges
   pub valid : IsValid job.fields vertices edges
 
--- Input of a run that is told and valid: the budget is no less than the step bound, and the atoms, where the job names them,
+-- Input of a run without a store that is told and valid: the budget is no less than the step bound, and the atoms, where the job names them,
 -- are told and have no fault. No count rose.
-pub record IsSound (file : List ℕ) (before now : Moment) : Type 0 where
-  pub input : IsReadable verb.Run before.files file
+pub record IsSound (asked : JobVerb) (file : List ℕ) (before now : Moment) : Type 0 where
+  pub input : IsReadable asked before.files file
+  pub alone : input.job.fields.store ≡ None
   pub enough : (g : DataGraph) → DescribeJobGraph input.job.fields input.vertices input.edges g → step_bound g input.job.fields.algorithm ≤ input.job.fields.budget
   pub atoms : (prefix : List ℕ) (g : DataGraph) → input.job.fields.atoms_at ≡ Some prefix → DescribeJobGraph input.job.fields input.vertices input.edges g
       → IsTrue (is_some before.files.sources.names) × (atoms_fault g (given_bytes before.files (index_name prefix)) (atom_files before.files prefix) ≡ None)

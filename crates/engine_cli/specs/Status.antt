@@ -4,7 +4,7 @@ use Rattle.made_graphs.specs.declared.making.Writing.{Writing}
 use Rattle.job_files.specs.declared.inputs.NoInput.{NoInput}
 use Rattle.job_stores.specs.declared.making.NoStore.{NoStore}
 use Rattle.engine_cli.specs.declared.status.Status.{Status}
-use Rattle.engine_cli.specs.declared.status.Status.TheVariants.{Done, Usage, BadJob, BadGraph, BadAtoms, ReadFault, WriteFault, DiskFault, BadStore, BudgetSpent, NoMemory}
+use Rattle.engine_cli.specs.declared.status.Status.TheVariants.{Done, Usage, BadJob, BadGraph, BadAtoms, ReadFault, WriteFault, DiskFault, BadStore, BudgetSpent, SnapshotsFull, NoMemory}
 use Rattle.made_graphs.specs.declared.making.Writing.TheVariants as out
 use Rattle.job_files.specs.declared.inputs.NoInput.TheVariants as why
 use Rattle.job_stores.specs.declared.making.NoStore.TheVariants as no_store
@@ -21,6 +21,7 @@ exit_number WriteFault = 6
 exit_number DiskFault = 7
 exit_number (BadStore fault) = 8
 exit_number (BudgetSpent left) = 9
+exit_number (SnapshotsFull stored length) = 10
 exit_number NoMemory = 11
 
 -- the statuses at which nothing was written
@@ -35,9 +36,10 @@ IsBeforeWriting WriteFault = ⊥
 IsBeforeWriting DiskFault = ⊤
 IsBeforeWriting (BadStore fault) = ⊤
 IsBeforeWriting (BudgetSpent left) = ⊤
+IsBeforeWriting (SnapshotsFull stored length) = ⊤
 IsBeforeWriting NoMemory = ⊤
 
--- the statuses at which no file and no store was begun
+-- the statuses at which no file was begun and no store was opened
 abbrev pub IsBeforeMaking : Status → Type 0
 IsBeforeMaking Done = ⊥
 IsBeforeMaking (Usage fault) = ⊤
@@ -48,7 +50,8 @@ IsBeforeMaking ReadFault = ⊤
 IsBeforeMaking WriteFault = ⊥
 IsBeforeMaking DiskFault = ⊥
 IsBeforeMaking (BadStore fault) = ⊥
-IsBeforeMaking (BudgetSpent left) = ⊤
+IsBeforeMaking (BudgetSpent left) = ⊥
+IsBeforeMaking (SnapshotsFull stored length) = ⊥
 IsBeforeMaking NoMemory = ⊥
 
 -- the statuses at which the job or its graph was refused, and no atom was read
@@ -63,6 +66,7 @@ IsRefusedInput WriteFault = ⊥
 IsRefusedInput DiskFault = ⊥
 IsRefusedInput (BadStore fault) = ⊥
 IsRefusedInput (BudgetSpent left) = ⊥
+IsRefusedInput (SnapshotsFull stored length) = ⊥
 IsRefusedInput NoMemory = ⊥
 
 -- the statuses that valid words and texts come to where nothing failed
@@ -77,6 +81,7 @@ IsDoneOrNoMemory WriteFault = ⊥
 IsDoneOrNoMemory DiskFault = ⊥
 IsDoneOrNoMemory (BadStore fault) = ⊥
 IsDoneOrNoMemory (BudgetSpent left) = ⊥
+IsDoneOrNoMemory (SnapshotsFull stored length) = ⊥
 IsDoneOrNoMemory NoMemory = ⊤
 
 -- a call that was refused
@@ -91,6 +96,7 @@ IsRefusal WriteFault = ⊤
 IsRefusal DiskFault = ⊤
 IsRefusal (BadStore fault) = ⊤
 IsRefusal (BudgetSpent left) = ⊤
+IsRefusal (SnapshotsFull stored length) = ⊤
 IsRefusal NoMemory = ⊤
 
 -- what a call ends with that read no job or graph
@@ -106,7 +112,7 @@ abbrev pub status_of_writing : Writing → Status
 status_of_writing out.WriteFault = WriteFault
 status_of_writing out.NoMemory = NoMemory
 
--- what a call ends with that made no store
+-- what a call ends with for which there is no store
 abbrev pub status_of_no_store : NoStore → Status
 status_of_no_store (no_store.BadStore fault) = BadStore fault
 status_of_no_store no_store.DiskFault = DiskFault

@@ -1,4 +1,4 @@
--- What `init` leaves of the job's store.
+-- What `init` leaves of the job's store, and which disks verbs open.
 use Rattle.std.specs.Prelude.{◌≡◌, ℕ, Bool, IsTrue, is_some, List, [], length, Some, Result, Ok, Err, IfSome}
 use Rattle.gl_base.specs.declared.job_faults.JobFault.{JobFault}
 use Rattle.gl_outside.specs.Faults.{Rose}
@@ -14,7 +14,8 @@ use Rattle.job_stores.specs.JobHeaders.{header_for}
 use Rattle.job_stores.specs.NewStores.{HasBytes, IfDisksTold, IsNewStore}
 use Rattle.engine_cli.specs.NamesWritten.{order_names}
 use Rattle.engine_cli.specs.declared.status.Status.{Status}
-use Rattle.engine_cli.specs.declared.status.Status.TheVariants.{Done, Usage, BadJob, BadGraph, BadAtoms, ReadFault, WriteFault, DiskFault, BadStore, BudgetSpent, NoMemory}
+use Rattle.engine_cli.specs.declared.status.Status.TheVariants.{Done, Usage, BadJob, BadGraph, BadAtoms, ReadFault, WriteFault, DiskFault, BadStore, BudgetSpent, SnapshotsFull, NoMemory}
+use Rattle.job_files.specs.declared.jobs.JobVerb.{JobVerb}
 use Rattle.job_files.specs.declared.jobs.JobVerb.TheVariants as verb
 
 -- this holds of the name of the job's store, and of what a store of the job on its graph is for
@@ -35,6 +36,7 @@ MakesStore told file old new WriteFault = ⊥
 MakesStore told file old new DiskFault = Rose old.disks.faults new.disks.faults
 MakesStore told file old new (BadStore fault) = OfStoreJob old file (λ name header. IfDisksTold told old (HasBytes (old.pasts name) fault))
 MakesStore told file old new (BudgetSpent left) = ⊥
+MakesStore told file old new (SnapshotsFull stored length) = ⊥
 MakesStore told file old new NoMemory = new.pasts ≡ old.pasts
 
 -- the store's name, if these bytes are a job
@@ -43,12 +45,12 @@ store_names (Ok job) = order_names job.fields.store
 store_names (Err fault) = []
 
 -- the name that was handed to the open of disks is at most that of the job's store
-abbrev pub HandsStore : FilesState → FilesState → List ℕ → Type 0
-HandsStore old new file = IfSome (old.contents file) (λ bytes. HandsOver old.disks.names new.disks.names (store_names (job_for verb.Init bytes)))
+abbrev pub HandsStore : JobVerb → FilesState → FilesState → List ℕ → Type 0
+HandsStore asked old new file = IfSome (old.contents file) (λ bytes. HandsOver old.disks.names new.disks.names (store_names (job_for asked bytes)))
 
 -- the job's store has this name
-abbrev pub IsStoreName : FilesState → List ℕ → List ℕ → Type 0
-IsStoreName files file name = OfJob verb.Init files file (λ job. job.store ≡ Some name)
+abbrev pub IsStoreName : JobVerb → FilesState → List ℕ → List ℕ → Type 0
+IsStoreName asked files file name = OfJob asked files file (λ job. job.store ≡ Some name)
 
 -- It is told what disks hold and which names they have, and the job's store has no bytes.
 pub record HasEmptyStore (told : Bool) (files : FilesState) (job : JobFields) : Type 0 where

@@ -18,7 +18,7 @@ use job_stores::{header_of, make_store};
 use job_words::Words;
 use std::alloc::Global;
 
-/// Does what a command line asks whose verb is not `run`, as `engine` does it, and writes nothing to `out`. `make`
+/// Does what a command line asks whose verb is neither `run` nor `resume`, as `engine` does it, and writes nothing to `out`. `make`
 /// writes the vertex text and the edge text of the plan's graph to the files PREFIX.v and PREFIX.e. `cut` reads the job and
 /// the graph that it names, cuts the graph into as many atoms as the job has, and writes the index and each atom to the files
 /// PREFIX.index, PREFIX.0.atom, PREFIX.1.atom, .. at the job's prefix for atoms. Where one of these two is refused each of its files is
@@ -47,7 +47,7 @@ pub fn files_only<F: Files, K: Sink, N: Sink>(
     ensures same_note { N.same note.old note.new }
 {
     match words {
-        Words::Run { .. } => refuse(note, Status::Usage(UsageFault::Verb)),
+        Words::Run { .. } | Words::Resume { .. } => refuse(note, Status::Usage(UsageFault::Verb)),
         Words::Make { prefix, plan } => match make_files(alloc, files, prefix.as_str(), plan) {
             Ok(()) => Status::Done,
             Err(why) => refuse(note, why.into()),

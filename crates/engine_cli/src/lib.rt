@@ -8,9 +8,11 @@ mod playing;
 mod printing;
 mod running;
 mod status;
+mod storing;
 mod top;
 
-pub use ended::{Ended, SnapLine};
+pub use ended::Ended;
 pub use file_verbs::files_only;
 pub use status::Status;
+pub use stored_answers::SnapLine;
 pub use top::engine;

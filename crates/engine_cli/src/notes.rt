@@ -2,7 +2,7 @@
 ghost use Rattle.std.specs.Prelude.{◌≡◌, ◌≤◌, [], ◌∷◌, codes, decimal, map};
 ghost use Rattle.gl_base.specs.declared.job_faults.JobFault.TheVariants.{OutOfRange};
 ghost use Rattle.store_format.specs.declared.faults.StoreFault.TheVariants.{Machines};
-ghost use Rattle.engine_cli.specs.Notes.{WritesNote, atoms_kind_name, atoms_note, graph_note, job_note, note_of, joined, store_note};
+ghost use Rattle.engine_cli.specs.Notes.{WritesNote, atoms_kind_name, atoms_note, full_note, graph_note, job_note, note_of, joined, store_note};
 ghost use Rattle.engine_cli.specs.Inner.Writes.{WritesAll};
 ghost use Rattle.gl_base.specs.FaultNames.{key_name};
 
@@ -44,6 +44,7 @@ fn tell<N: Sink>(note: &mut N, status: &Status) -> Result<(), Failed>
         Status::DiskFault => write_text(note, "disk fault\n"),
         Status::BadStore(fault) => tell_store(note, fault),
         Status::BudgetSpent { .. } => write_text(note, "budget spent\n"),
+        Status::SnapshotsFull { stored, length } => tell_full(note, *stored, *length),
         Status::NoMemory => write_text(note, "out of memory\n"),
     }
 }
@@ -144,6 +145,22 @@ fn tell_store<N: Sink>(note: &mut N, fault: &StoreFault) -> Result<(), Failed>
         StoreFault::Used(count) => tell_number(note, "store: used ", *count as u64),
         StoreFault::NotEmpty(length) => tell_number(note, "store: not empty ", *length),
     }
+}
+
+/// Writes how many snapshots and bytes a store has that has no room.
+fn tell_full<N: Sink>(note: &mut N, stored: u32, length: u64) -> Result<(), Failed>
+    ensures note { WritesAll result (full_note stored length) (N.held note.old) (N.held note.new) (N.faults note.old) (N.faults note.new) }
+    ensures later { N.faults note.old ≤ N.faults note.new }
+    ensures same { N.same note.old note.new }
+{
+    let mut first = Buffer::new();
+    let mut second = Buffer::new();
+    let stored = first.format(stored);
+    let length = second.format(length);
+    write_texts(
+        note,
+        &["snapshots full: ", stored, " stored, ", length, " bytes\n"],
+    )
 }
 
 /// Writes a text and a number.

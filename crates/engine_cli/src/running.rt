@@ -1,33 +1,34 @@
 //! Runs the job in a file.
-ghost use Rattle.std.specs.Prelude.{◌≡◌, ℕ, ◌≤◌, [], false, List};
+ghost use Rattle.std.specs.Prelude.{◌≡◌, ℕ, ◌≤◌, [], false, List, IfErr, IfOk};
 ghost use Rattle.gl_outside.specs.Frames.{ChangesSources};
-ghost use Rattle.job_files.specs.Inputs.{RefusesEarly};
-ghost use Rattle.job_files.specs.NamesRead.{HandsForRun};
-ghost use Rattle.engine_cli.specs.Inner.Prepares.{IsPrepared};
+ghost use Rattle.job_files.specs.NamesRead.{HandsForRun, names_of};
+ghost use Rattle.whole_files.specs.FilesUsed.{HandsOver};
+ghost use Rattle.engine_cli.specs.Inner.Prepares.{ChangesInput, IsMadeRun, IsOfRun, IsPrepared, IsPrintable, IsRunnable, IsWhyNoneMade, UsesNamed, unfinished_status};
+ghost use Rattle.engine_cli.specs.JobRuns.{is_resumed, lists_of_call, lists_of_run, no_lists};
+ghost use Rattle.engine_cli.specs.JobStores.{UsesStore};
 ghost use Rattle.engine_cli.specs.Says.{moment};
-ghost use Rattle.engine_cli.specs.Status.{IsBeforeWriting};
+ghost use Rattle.engine_cli.specs.Status.{IsBeforeMaking, IsBeforeWriting, IsRefusedInput};
 ghost use Rattle.engine_cli.specs.Verbs.{IsRun};
 
-use crate::Status;
-use crate::playing::run_on;
+use crate::playing::run_alone;
 use crate::printing::print_run;
-use gl_base::{Entry, Job, NoMemory};
+use crate::storing::run_on_store;
+use crate::{Ended, Status};
+use gl_base::{Job, NoMemory};
 use gl_outside::{Files, Sink};
 use graph_core::Graph;
-use job_files::{Input, NoInput, read_run_input};
-use job_runs::Run;
+use job_files::{Input, JobVerb, read_run_input};
+use job_stores::NoStore;
 use made_graphs::Writing;
 use std::alloc::Global;
 use std::sync::Wait;
+use stored_answers::{StoredEnd, StoredRun};
 
-/// How a run ended: its status, what is to be reported of it, and where it was made the order of its updates and how many
-/// each machine made.
+/// How a run ended, what it leaves, and what is to be reported of it.
 #[derive(Drop)]
 pub struct RunEnd {
-    pub status: Status,
+    pub ended: Ended,
     pub report: Vec<u8>,
-    pub order: Vec<Entry>,
-    pub done: Vec<u64>,
 }
 
 /// A run that was made, with its job and its graph.
@@ -35,35 +36,37 @@ pub struct RunEnd {
 pub struct Prepared {
     pub job: Job,
     pub graph: Graph,
-    pub run: Run,
+    pub run: StoredRun,
 }
 
-/// Reads the job and its graph, runs the job's algorithm, and writes the order of its updates and the numbers of the
-/// vertices.
+/// Reads the job and its graph, runs the job's algorithm, from the job's store and into it where it names one, and writes the order of
+/// its updates and the numbers of the vertices.
 pub fn run_job<R: Wait, F: Files, K: Sink>(
     rt: &R,
     alloc: Global,
+    asked: JobVerb,
     file: &str,
     is_reported: bool,
     files: &mut F,
     out: &mut K,
 ) -> RunEnd
-    ensures run { IsRun file.now is_reported (moment (F.state files.old) (K.faults out.old) (K.held out.old))
+    requires { IsOfRun asked }
+    ensures run { IsRun F.disks_told asked file.now is_reported (moment (F.state files.old) (K.faults out.old) (K.held out.old))
         (moment (F.state files.new) (K.faults out.new) (K.held out.new))
-        (λ report. result.report.items ≡ report) result.order.items result.done.items result.status }
+        (λ report. result.report.items ≡ report) (lists_of_call result.ended) result.ended.status }
     ensures quiet { is_reported ≡ false → result.report.items ≡ [] }
-    ensures untouched { IsBeforeWriting result.status → out.new ≡ out.old }
+    ensures untouched { IsBeforeWriting result.ended.status → out.new ≡ out.old }
     ensures reads { (F.state files.old).sources.faults ≤ (F.state files.new).sources.faults }
     ensures writes { (F.state files.old).sinks.faults ≤ (F.state files.new).sinks.faults }
     ensures faults { K.faults out.old ≤ K.faults out.new }
     ensures same { K.same out.old out.new }
 {
-    let prepared = match prepare(rt, alloc, file, files) {
+    let prepared = match prepare(rt, alloc, asked, file, files) {
         Ok(prepared) => prepared,
-        Err(why) => return refused(alloc, why.into()),
+        Err(status) => return refused(alloc, status),
     };
-    if let Some(left) = prepared.run.left {
-        return ended(Status::BudgetSpent { left }, Vec::new(alloc), prepared);
+    if let Some(status) = unfinished(prepared.run.end) {
+        return ended(status, Vec::new(alloc), prepared);
     }
     match print_run(alloc, files, out, &prepared, is_reported) {
         Ok(report) => ended(Status::Done, report, prepared),
@@ -76,49 +79,120 @@ pub fn run_job<R: Wait, F: Files, K: Sink>(
 fn prepare<R: Wait, F: Files>(
     rt: &R,
     alloc: Global,
+    asked: JobVerb,
     file: &str,
     files: &mut F,
-) -> Result<Prepared, NoInput>
-    ensures answer { IsPrepared (F.state files.old) (F.state files.new).sources.faults file.now result }
-    ensures frame { ChangesSources (F.state files.old) (F.state files.new) }
-    ensures handed { HandsForRun (F.state files.old) (F.state files.new) file.now }
-    ensures refused { RefusesEarly file.now (F.state files.old) (F.state files.new) result }
+) -> Result<Prepared, Status>
+    ensures answer { IsPrepared F.disks_told asked (F.state files.old) (F.state files.new) file.now result }
+    ensures frame { ChangesInput (F.state files.old) (F.state files.new) }
+    ensures early { IfErr result (λ status. IsBeforeMaking status → ChangesSources (F.state files.old) (F.state files.new)) }
+    ensures handed { HandsForRun asked (F.state files.old) (F.state files.new) file.now }
+    ensures refused { IfErr result (λ status. IsRefusedInput status → HandsOver (F.state files.old).sources.names (F.state files.new).sources.names (names_of asked (F.state files.old) file.now)) }
+    ensures used { UsesStore asked file.now (F.state files.old) (F.state files.new) }
     ensures later { (F.state files.old).sources.faults ≤ (F.state files.new).sources.faults }
 {
-    let Input { job, graph } = read_run_input(alloc, files, file)?;
-    match run_on(rt, alloc, &graph, &job) {
-        Ok(run) => Ok(Prepared { job, graph, run }),
-        Err(NoMemory) => Err(NoInput::NoMemory),
+    let input = read_run_input(alloc, files, file, asked)?;
+    match run_input(rt, alloc, asked, files, &input) {
+        Ok(run) => Ok(Prepared {
+            job: input.job,
+            graph: input.graph,
+            run,
+        }),
+        Err(why) => Err(why.into()),
+    }
+}
+
+/// Runs the job's algorithm, on its store where the job names one.
+fn run_input<R: Wait, F: Files>(
+    rt: &R,
+    alloc: Global,
+    asked: JobVerb,
+    files: &mut F,
+    input: &Input,
+) -> Result<StoredRun, NoStore>
+    requires { IsRunnable input.now }
+    ensures made { IfOk result (IsMadeRun F.disks_told asked input.now (F.state files.old) (F.state files.new)) }
+    ensures printable { IfOk result (IsPrintable input.now.graph) }
+    ensures refused { IfErr result (IsWhyNoneMade F.disks_told asked input.now (F.state files.old) (F.state files.new) input.now.job.store) }
+    ensures used { UsesNamed input.now.job.store (F.state files.old) (F.state files.new) }
+{
+    match &input.job.store {
+        None => match run_alone(rt, alloc, &input.graph, &input.job) {
+            Ok(run) => Ok(run),
+            Err(NoMemory) => Err(NoStore::NoMemory),
+        },
+        Some(name) => {
+            let resumed = is_resumed(asked);
+            run_on_store(rt, alloc, files, name.as_str(), input, resumed)
+        }
+    }
+}
+
+/// Whether the verb goes on from what the store has.
+fn is_resumed(asked: JobVerb) -> bool
+    ensures { result ≡ is_resumed asked }
+{
+    match asked {
+        JobVerb::Resume => true,
+        JobVerb::Run | JobVerb::Cut | JobVerb::Init => false,
+    }
+}
+
+/// The status of a run that left a task.
+fn unfinished(end: StoredEnd) -> Option<Status>
+    ensures { result ≡ unfinished_status end }
+{
+    match end {
+        StoredEnd::Finished => None,
+        StoredEnd::Spent(left) => Some(Status::BudgetSpent { left }),
+        StoredEnd::Full { stored, length } => Some(Status::SnapshotsFull { stored, length }),
+        StoredEnd::DiskFault => Some(Status::DiskFault),
     }
 }
 
 /// The end of a run that was made, with what is to be told of it.
 fn ended(status: Status, report: Vec<u8>, prepared: Prepared) -> RunEnd
-    ensures status { result.status ≡ status }
+    ensures status { result.ended.status ≡ status }
     ensures report { result.report.items ≡ report.items }
-    ensures order { result.order.items ≡ prepared.run.order.items }
-    ensures done { result.done.items ≡ prepared.run.done.items }
+    ensures lists { lists_of_call result.ended ≡ lists_of_run prepared.run }
 {
     let Prepared { run, .. } = prepared;
     RunEnd {
-        status,
+        ended: Ended {
+            status,
+            order: run.order,
+            lost: run.lost,
+            done: run.done,
+            fired: run.fired,
+            snapshots: run.snapshots,
+        },
         report,
-        order: run.order,
-        done: run.done,
     }
 }
 
 /// The end of a run that was refused before it was made, or that left nothing.
 fn refused(alloc: Global, status: Status) -> RunEnd
-    ensures status { result.status ≡ status }
+    ensures status { result.ended.status ≡ status }
     ensures report { result.report.items ≡ [] }
-    ensures order { result.order.items ≡ [] }
-    ensures done { result.done.items ≡ [] }
+    ensures lists { lists_of_call result.ended ≡ no_lists }
 {
     RunEnd {
-        status,
+        ended: no_run(alloc, status),
         report: Vec::new(alloc),
+    }
+}
+
+/// What a call leaves that ended so and made no run.
+pub fn no_run(alloc: Global, status: Status) -> Ended
+    ensures status { result.status ≡ status }
+    ensures none { lists_of_call result ≡ no_lists }
+{
+    Ended {
+        status,
         order: Vec::new(alloc),
+        lost: Vec::new(alloc),
         done: Vec::new(alloc),
+        fired: Vec::new(alloc),
+        snapshots: Vec::new(alloc),
     }
 }

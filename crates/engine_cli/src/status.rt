@@ -29,10 +29,12 @@ pub enum Status {
     WriteFault,
     /// The store could not be read or written.
     DiskFault,
-    /// The store is refused: `init` makes none of a file that has bytes.
+    /// The store is refused: its bytes are none of one for the job and its graph, `run` finds snapshots in it, or `init` bytes in its file.
     BadStore(StoreFault),
     /// So many updates were made as the job's budget has, and this vertex is a task all the same.
     BudgetSpent { left: Vertex },
+    /// A snapshot is needed, and the store, which has so many snapshots and bytes, has no room for it.
+    SnapshotsFull { stored: u32, length: u64 },
     /// There was not enough memory.
     NoMemory,
 }
@@ -55,6 +57,7 @@ impl Status {
             Status::DiskFault => 7,
             Status::BadStore(_) => 8,
             Status::BudgetSpent { .. } => 9,
+            Status::SnapshotsFull { .. } => 10,
             Status::NoMemory => 11,
         }
     }

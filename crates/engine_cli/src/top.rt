@@ -9,14 +9,16 @@ ghost use Rattle.engine_cli.specs.Status.{IsBeforeWriting, IsRefusal};
 ghost use Rattle.engine_cli.specs.Made.{IsAsked, IsOfFiles};
 ghost use Rattle.engine_cli.specs.Notes.{WritesNote, note_of};
 ghost use Rattle.engine_cli.specs.Says.{moment};
-ghost use Rattle.engine_cli.specs.Ended.{AreNone, HasNoLosses};
+ghost use Rattle.engine_cli.specs.Inner.Prepares.{IsOfRun};
+ghost use Rattle.engine_cli.specs.JobRuns.{lists_of_call, no_lists};
 ghost use Rattle.engine_cli.specs.Verbs.{IsCall, IsQuiet, IsRun};
 
 use crate::file_verbs::files_only;
 use crate::notes::refuse;
-use crate::running::{RunEnd, run_job};
+use crate::running::{RunEnd, no_run, run_job};
 use crate::{Ended, Status};
 use gl_outside::{Files, Gate, Sink, write_all};
+use job_files::JobVerb;
 use job_words::{Words, WordsReading, read_words};
 use std::alloc::Global;
 use std::sync::Wait;
@@ -29,14 +31,16 @@ use std::sync::Wait;
 /// of the updates, that is written before `out`. With `--report` the report goes to `note`. `make PREFIX ..` writes a graph
 /// to the files PREFIX.v and PREFIX.e. `cut JOB` cuts the job's graph into atoms and writes the index and the atoms at the job's
 /// prefix for them; where `run`'s job has such a prefix, the files there are looked at before the run. `init JOB` makes the job's
-/// store, a file without snapshots; no verb uses it yet.
+/// store, a file without snapshots. Where `run`'s job names a store, that is to have no snapshots; the run puts snapshots into it as it goes on, and
+/// where a machine fails that the job lets fail, all machines go back to the last one. `resume JOB` does the same as `run`, and goes on from the last
+/// snapshot that the store has.
 ///
 /// The words are refused first, then the job's file, what it says, a key that the verb needs, what it asks for that is not
-/// built, the vertex file, the edge file, a source that is no vertex, the index and the atoms, the store, and a run whose budget is spent;
+/// built, the vertex file, the edge file, a source that is no vertex, the index and the atoms, the store, and a run that left a task;
 /// then the order's file and `out` are written, and last one line to `note` for every status but `Done`. A fault of `note` is passed over. `gate` is not passed yet.
 ///
-/// `order` holds the updates of the run and `done` how many of them each machine made, where the status is `Done`, `WriteFault` or
-/// `BudgetSpent`; the other lists are empty. A run on several machines goes on until its end is seen, and no clause says that it is.
+/// The lists tell of the run where one was made: at `Done`, `WriteFault`, `BudgetSpent`, `SnapshotsFull`, and at `DiskFault` where that came in the
+/// run. Else they are empty. A run on several machines goes on until its end is seen, and no clause says that it is.
 pub fn engine<R: Wait, F: Files, K: Sink, N: Sink, G: Gate + Sync>(
     rt: &R,
     alloc: Global,
@@ -57,7 +61,7 @@ pub fn engine<R: Wait, F: Files, K: Sink, N: Sink, G: Gate + Sync>(
     // Other words.
     ensures usage { (fault : UsageFault) → command_line_of (texts words.now) ≡ Err fault →
         ((result.status ≡ Usage fault) ⊎ (result.status ≡ NoMemory)) × (files.new ≡ files.old) × (out.new ≡ out.old)
-        × AreNone result.order.items result.done.items }
+        × (lists_of_call result ≡ no_lists) }
 
     // What is told of a refusal, and of work that has nothing to tell.
     ensures note { IsRefusal result.status → WritesNote (note_of result.status) (N.held note.old) (N.held note.new) (N.faults note.old) (N.faults note.new) }
@@ -71,7 +75,6 @@ pub fn engine<R: Wait, F: Files, K: Sink, N: Sink, G: Gate + Sync>(
     ensures same { K.same out.old out.new }
     ensures notes { N.faults note.old ≤ N.faults note.new }
     ensures same_note { N.same note.old note.new }
-    ensures lists { HasNoLosses result }
 {
     match read_words(alloc, words) {
         Ok(asked) => do_command(rt, alloc, &asked, files, out, note),
@@ -103,12 +106,22 @@ fn do_command<R: Wait, F: Files, K: Sink, N: Sink>(
     ensures same { K.same out.old out.new }
     ensures notes { N.faults note.old ≤ N.faults note.new }
     ensures same_note { N.same note.old note.new }
-    ensures lists { HasNoLosses result }
 {
     match asked {
         Words::Run { file, report } => run_file(
             rt,
             alloc,
+            JobVerb::Run,
+            file.as_str(),
+            *report,
+            files,
+            out,
+            note,
+        ),
+        Words::Resume { file, report } => run_file(
+            rt,
+            alloc,
+            JobVerb::Resume,
             file.as_str(),
             *report,
             files,
@@ -125,15 +138,17 @@ fn do_command<R: Wait, F: Files, K: Sink, N: Sink>(
 fn run_file<R: Wait, F: Files, K: Sink, N: Sink>(
     rt: &R,
     alloc: Global,
+    asked: JobVerb,
     file: &str,
     is_reported: bool,
     files: &mut F,
     out: &mut K,
     note: &mut N,
 ) -> Ended
-    ensures run { IsRun file.now is_reported (moment (F.state files.old) (K.faults out.old) (K.held out.old))
+    requires { IsOfRun asked }
+    ensures run { IsRun F.disks_told asked file.now is_reported (moment (F.state files.old) (K.faults out.old) (K.held out.old))
         (moment (F.state files.new) (K.faults out.new) (K.held out.new))
-        (λ report. WritesNote report (N.held note.old) (N.held note.new) (N.faults note.old) (N.faults note.new)) result.order.items result.done.items result.status }
+        (λ report. WritesNote report (N.held note.old) (N.held note.new) (N.faults note.old) (N.faults note.new)) (lists_of_call result) result.status }
     ensures note { IsRefusal result.status → WritesNote (note_of result.status) (N.held note.old) (N.held note.new) (N.faults note.old) (N.faults note.new) }
     ensures quiet { is_reported ≡ false → result.status ≡ Done → note.new ≡ note.old }
     ensures untouched { IsBeforeWriting result.status → out.new ≡ out.old }
@@ -143,14 +158,16 @@ fn run_file<R: Wait, F: Files, K: Sink, N: Sink>(
     ensures same { K.same out.old out.new }
     ensures notes { N.faults note.old ≤ N.faults note.new }
     ensures same_note { N.same note.old note.new }
-    ensures lists { HasNoLosses result }
 {
-    let RunEnd {
+    let RunEnd { ended, report } = run_job(rt, alloc, asked, file, is_reported, files, out);
+    let Ended {
         status,
-        report,
         order,
+        lost,
         done,
-    } = run_job(rt, alloc, file, is_reported, files, out);
+        fired,
+        snapshots,
+    } = ended;
     let status = match status {
         Status::Done => tell_report(note, &report),
         status => refuse(note, status),
@@ -158,10 +175,10 @@ fn run_file<R: Wait, F: Files, K: Sink, N: Sink>(
     Ended {
         status,
         order,
-        lost: Vec::new(alloc),
+        lost,
         done,
-        fired: Vec::new(alloc),
-        snapshots: Vec::new(alloc),
+        fired,
+        snapshots,
     }
 }
 
@@ -177,20 +194,4 @@ fn tell_report<N: Sink>(note: &mut N, report: &[u8]) -> Status
         let _ = write_all(note, report);
     }
     Status::Done
-}
-
-/// What a call leaves that ended so and made no run.
-fn no_run(alloc: Global, status: Status) -> Ended
-    ensures status { result.status ≡ status }
-    ensures none { AreNone result.order.items result.done.items }
-    ensures lists { HasNoLosses result }
-{
-    Ended {
-        status,
-        order: Vec::new(alloc),
-        lost: Vec::new(alloc),
-        done: Vec::new(alloc),
-        fired: Vec::new(alloc),
-        snapshots: Vec::new(alloc),
-    }
 }

@@ -1,6 +1,5 @@
 -- What reading the files of atoms answers, at each place where it ends.
-use Rattle.std.proofs.Common.{◌≡◌, ◌≤◌, ◌<◌, ◌+◌, ◌-◌, ◌++◌, ℕ, zero, suc, List, [], ◌∷◌, length, get_or, take, Option, None, Some, Result, Ok, Err, IfSome, cond, refl, sym, ap, ◌∙◌, subst, ⊎_elim, arith}
-use Rattle.std.specs.Prelude.{slice_get}
+use Rattle.std.proofs.Common.{◌≡◌, ◌≤◌, ◌<◌, ◌+◌, ◌-◌, ◌++◌, ℕ, suc, List, [], ◌∷◌, length, get_or, Option, None, Some, Result, Ok, Err, IfSome, cond, sym, ap, ◌∙◌, subst, ⊎_elim, arith}
 use Rattle.std.specs.Option.{option_map_or, option_or}
 use Rattle.std.specs.declared.alloc.Global.{Global}
 use Rattle.std.specs.declared.vec.Vec.{Vec}
@@ -16,13 +15,10 @@ use Rattle.gl_outside.specs.FilesState.{FilesState}
 use Rattle.gl_outside.specs.Frames.{ChangesSources}
 use Rattle.gl_outside.specs.Names.{AppendsNames}
 use Rattle.gl_outside.proofs.Fronts.{Rose-later}
-use Rattle.graph_core.specs.DataGraph.{DataGraph}
 use Rattle.atom_file.specs.Faults.{atom_fault}
 use Rattle.atom_file.specs.declared.faults.AtomFault.{AtomFault}
 use Rattle.atom_gather.specs.Files.{atom_file_at, form_fault, form_of}
-use Rattle.atom_gather.specs.Gathered.{gather_fault}
-use Rattle.atom_gather.specs.IndexForm.{atoms_in, index_fault}
-use Rattle.whole_files.specs.AtomNames.{atom_name, index_name}
+use Rattle.whole_files.specs.AtomNames.{atom_name}
 use Rattle.whole_files.specs.FilesRead.{IsFront, ReadsFront}
 use Rattle.whole_files.specs.FilesUsed.{OfRead}
 use Rattle.whole_files.specs.declared.reading.NotRead.{NotRead}
@@ -30,10 +26,9 @@ use Rattle.whole_files.specs.declared.reading.NotRead.TheVariants as file
 use Rattle.whole_files.proofs.FilesCreated.{gives-before}
 use Rattle.job_files.specs.declared.inputs.NoInput.{NoInput}
 use Rattle.job_files.specs.declared.inputs.NoInput.TheVariants as why
-use Rattle.job_files.specs.Atoms.{FindsInAtoms, atom_files, atom_form, atom_forms, atoms_fault, bytes_or_none, given_bytes, index_form, long_or}
-use Rattle.job_files.specs.Inner.AtomsRead.{FindsFault, HaveAtoms, OfGiven, TakesAtom, TakesAtoms, TakesFile}
+use Rattle.job_files.specs.Atoms.{atom_files, atom_form, atom_forms, bytes_or_none, given_bytes, long_or}
+use Rattle.job_files.specs.Inner.AtomsRead.{HaveAtoms, OfGiven, TakesAtom, TakesAtoms, TakesFile}
 use Rattle.job_files.specs.Inner.Causes.{no_input_of_file}
-use Rattle.job_files.proofs.SameFiles.{gather-same}
 
 abbrev pub too-long : ℕ → AtomsFault
 too-long number = record { file = number; kind = TooLong; at = MAX_ATOM_BYTES }

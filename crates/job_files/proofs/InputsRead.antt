@@ -22,7 +22,6 @@ use Rattle.job_files.specs.declared.inputs.Input.{Input}
 use Rattle.job_files.specs.declared.inputs.NoInput.{NoInput}
 use Rattle.job_files.specs.declared.inputs.NoInput.TheVariants as why
 use Rattle.job_files.specs.declared.jobs.JobVerb.{JobVerb}
-use Rattle.job_files.specs.declared.jobs.JobVerb.TheVariants as verb
 use Rattle.job_files.specs.declared.jobs.NoJob.{NoJob}
 use Rattle.job_files.specs.declared.jobs.NoJob.TheVariants as no_job
 use Rattle.job_files.specs.Atoms.{FindsInAtoms, OfGraph}
@@ -83,12 +82,12 @@ no-input-source asked files now file job g source says texts lacks = inr (
 )
 
 -- What is read of a run that has no atoms, or none that are looked at.
-pub run-unread : (files : FilesState) (now : ℕ) (file : List ℕ) (cause : NoInput) → IsInput verb.Run files now file (Err cause) → IsRunInput files now file (Err cause)
-run-unread files now file (why.BadJob fault) is = is
-run-unread files now file (why.BadGraph fault) is = is
-run-unread files now file (why.BadAtoms fault) is = absurd is
-run-unread files now file why.ReadFault is = is
-run-unread files now file why.NoMemory is = tt
+pub run-unread : (asked : JobVerb) (files : FilesState) (now : ℕ) (file : List ℕ) (cause : NoInput) → IsInput asked files now file (Err cause) → IsRunInput asked files now file (Err cause)
+run-unread asked files now file (why.BadJob fault) is = is
+run-unread asked files now file (why.BadGraph fault) is = is
+run-unread asked files now file (why.BadAtoms fault) is = absurd is
+run-unread asked files now file why.ReadFault is = is
+run-unread asked files now file why.NoMemory is = tt
 
 -- what holds of the atoms holds beside the texts of the graph
 pub of-graph : (files : FilesState) (job : JobFields) (g : DataGraph) (P : DataGraph → Type 0) → OfTexts files job (λ vertices edges. DescribeJobGraph job vertices edges g)
@@ -101,23 +100,23 @@ of-graph files job g P texts start p =
 named-atoms : (files : FilesState) (now : ℕ) (g : DataGraph) (named : Option (List ℕ)) (prefix : List ℕ) → named ≡ Some prefix → TakesNamedAtoms named files now g (Ok tt) → FindsInAtoms files prefix g None
 named-atoms files now g named prefix is takes = subst (λ (o : Option (List ℕ)). TakesNamedAtoms o files now g (Ok tt)) is takes
 
-pub run-read : (files : FilesState) (now : ℕ) (file : List ℕ) (input : Input) → IsInputFrom verb.Run files file input → TakesNamedAtoms input.job.atoms_at files now input.graph (Ok tt)
-    → IsRunInput files now file (Ok input)
-run-read files now file input is takes = (
+pub run-read : (asked : JobVerb) (files : FilesState) (now : ℕ) (file : List ℕ) (input : Input) → IsInputFrom asked files file input → TakesNamedAtoms input.job.atoms_at files now input.graph (Ok tt)
+    → IsRunInput asked files now file (Ok input)
+run-read asked files now file input is takes = (
   is,
   λ prefix named. of-graph files (job_view input.job).fields input.graph (λ g. FindsInAtoms files prefix g None) is.texts is.start
       (named-atoms files now input.graph input.job.atoms_at prefix named takes),
 )
 
 -- they are refused, or were not read
-pub run-refused : (files : FilesState) (now : ℕ) (file : List ℕ) (input : Input) (cause : NoInput) → IsInputFrom verb.Run files file input → TakesNamedAtoms input.job.atoms_at files now input.graph (Err cause)
-    → IsRunInput files now file (Err cause)
-run-refused files now file input cause is takes = go input.job.atoms_at refl takes
+pub run-refused : (asked : JobVerb) (files : FilesState) (now : ℕ) (file : List ℕ) (input : Input) (cause : NoInput) → IsInputFrom asked files file input → TakesNamedAtoms input.job.atoms_at files now input.graph (Err cause)
+    → IsRunInput asked files now file (Err cause)
+run-refused asked files now file input cause is takes = go input.job.atoms_at refl takes
   where
     job : JobSayings
     job = job_view input.job
 
-    refused : (prefix : List ℕ) (cause : NoInput) → input.job.atoms_at ≡ Some prefix → LooksAtAtoms files now prefix input.graph (Err cause) → IsRunInput files now file (Err cause)
+    refused : (prefix : List ℕ) (cause : NoInput) → input.job.atoms_at ≡ Some prefix → LooksAtAtoms files now prefix input.graph (Err cause) → IsRunInput asked files now file (Err cause)
     refused prefix (why.BadJob fault) named looks = absurd looks
     refused prefix (why.BadGraph fault) named looks = absurd looks
     refused prefix (why.BadAtoms fault) named looks =
@@ -128,7 +127,7 @@ run-refused files now file input cause is takes = go input.job.atoms_at refl tak
     no_error : {A : Type 0} → {x : A} → {why : NoInput} → Err why ≡ Ok x → ⊥
     no_error e = cc
 
-    go : (named : Option (List ℕ)) → input.job.atoms_at ≡ named → TakesNamedAtoms named files now input.graph (Err cause) → IsRunInput files now file (Err cause)
+    go : (named : Option (List ℕ)) → input.job.atoms_at ≡ named → TakesNamedAtoms named files now input.graph (Err cause) → IsRunInput asked files now file (Err cause)
     go None named takes = absurd (no_error takes)
     go (Some prefix) named takes = refused prefix cause named takes
 
@@ -141,15 +140,15 @@ hands-nothing : (a b c : Option (List (List ℕ))) (xs : List (List ℕ)) → Ap
 hands-nothing a b c xs first then = subst (HandsOver a c) (append-nil xs) (hands-behind a b c xs [] first then)
 
 -- the names of a run's files, where its atoms were looked at, if it has a prefix
-pub hands-for-run : (old mid new : FilesState) (file : List ℕ) (input : Input) → IsInputFrom verb.Run old file input
-    → AppendsNames old.sources.names mid.sources.names (names_of verb.Run old file) → HandsOver mid.sources.names new.sources.names (named_atoms old input.job.atoms_at) → HandsForRun old new file
-hands-for-run old mid new file input is first then = go input.job.atoms_at refl then
+pub hands-for-run : (asked : JobVerb) (old mid new : FilesState) (file : List ℕ) (input : Input) → IsInputFrom asked old file input
+    → AppendsNames old.sources.names mid.sources.names (names_of asked old file) → HandsOver mid.sources.names new.sources.names (named_atoms old input.job.atoms_at) → HandsForRun asked old new file
+hands-for-run asked old mid new file input is first then = go input.job.atoms_at refl then
   where
     job : JobSayings
     job = job_view input.job
 
-    go : (named : Option (List ℕ)) → input.job.atoms_at ≡ named → HandsOver mid.sources.names new.sources.names (named_atoms old named) → HandsForRun old new file
-    go None named then = inl (hands-nothing old.sources.names mid.sources.names new.sources.names (names_of verb.Run old file) first then)
+    go : (named : Option (List ℕ)) → input.job.atoms_at ≡ named → HandsOver mid.sources.names new.sources.names (named_atoms old named) → HandsForRun asked old new file
+    go None named then = inl (hands-nothing old.sources.names mid.sources.names new.sources.names (names_of asked old file) first then)
     go (Some prefix) named then = inr (
       job,
       is.job,
@@ -157,23 +156,23 @@ hands-for-run old mid new file input is first then = go input.job.atoms_at refl 
         prefix,
         named,
         of-graph old job.fields input.graph (λ g. ⊤) is.texts is.start tt,
-        hands-behind old.sources.names mid.sources.names new.sources.names (names_of verb.Run old file) (atoms_names old prefix) first then,
+        hands-behind old.sources.names mid.sources.names new.sources.names (names_of asked old file) (atoms_names old prefix) first then,
       ),
     )
 
 -- the job or its graph was refused
-pub refuses-early : (old new : FilesState) (now : ℕ) (file : List ℕ) (cause : NoInput) → HandsOver old.sources.names new.sources.names (names_of verb.Run old file)
-    → RefusesEarly file old new (let r : Result Input NoInput = Err cause in r)
-refuses-early old new now file (why.BadJob fault) hands = hands
-refuses-early old new now file (why.BadGraph fault) hands = hands
-refuses-early old new now file (why.BadAtoms fault) hands = tt
-refuses-early old new now file why.ReadFault hands = tt
-refuses-early old new now file why.NoMemory hands = tt
+pub refuses-early : (asked : JobVerb) (old new : FilesState) (now : ℕ) (file : List ℕ) (cause : NoInput) → HandsOver old.sources.names new.sources.names (names_of asked old file)
+    → RefusesEarly asked file old new (let r : Result Input NoInput = Err cause in r)
+refuses-early asked old new now file (why.BadJob fault) hands = hands
+refuses-early asked old new now file (why.BadGraph fault) hands = hands
+refuses-early asked old new now file (why.BadAtoms fault) hands = tt
+refuses-early asked old new now file why.ReadFault hands = tt
+refuses-early asked old new now file why.NoMemory hands = tt
 
 -- the atoms were refused, which is told of nothing else
-pub refuses-late : (files old new : FilesState) (now : ℕ) (file : List ℕ) (g : DataGraph) (named : Option (List ℕ)) (cause : NoInput) → TakesNamedAtoms named files now g (Err cause)
-    → RefusesEarly file old new (let r : Result Input NoInput = Err cause in r)
-refuses-late files old new now file g named (why.BadJob fault) takes = absurd (none named takes)
+pub refuses-late : (asked : JobVerb) (files old new : FilesState) (now : ℕ) (file : List ℕ) (g : DataGraph) (named : Option (List ℕ)) (cause : NoInput) → TakesNamedAtoms named files now g (Err cause)
+    → RefusesEarly asked file old new (let r : Result Input NoInput = Err cause in r)
+refuses-late asked files old new now file g named (why.BadJob fault) takes = absurd (none named takes)
   where
     no_error : {x : Unit {0}} → {cause : NoInput} → Err cause ≡ Ok x → ⊥
     no_error e = cc
@@ -181,7 +180,7 @@ refuses-late files old new now file g named (why.BadJob fault) takes = absurd (n
     none : (named : Option (List ℕ)) → TakesNamedAtoms named files now g (Err (why.BadJob fault)) → ⊥
     none None takes = no_error takes
     none (Some prefix) takes = takes
-refuses-late files old new now file g named (why.BadGraph fault) takes = absurd (none named takes)
+refuses-late asked files old new now file g named (why.BadGraph fault) takes = absurd (none named takes)
   where
     no_error : {x : Unit {0}} → {cause : NoInput} → Err cause ≡ Ok x → ⊥
     no_error e = cc
@@ -189,6 +188,6 @@ refuses-late files old new now file g named (why.BadGraph fault) takes = absurd 
     none : (named : Option (List ℕ)) → TakesNamedAtoms named files now g (Err (why.BadGraph fault)) → ⊥
     none None takes = no_error takes
     none (Some prefix) takes = takes
-refuses-late files old new now file g named (why.BadAtoms fault) takes = tt
-refuses-late files old new now file g named why.ReadFault takes = tt
-refuses-late files old new now file g named why.NoMemory takes = tt
+refuses-late asked files old new now file g named (why.BadAtoms fault) takes = tt
+refuses-late asked files old new now file g named why.ReadFault takes = tt
+refuses-late asked files old new now file g named why.NoMemory takes = tt

@@ -61,7 +61,7 @@ job-not-doable verb files now name bytes job fault front is refused =
 pub job-ready : (verb : JobVerb) (files : FilesState) (now : ℕ) (name bytes : List ℕ) (job : Job) → OfText files name (λ t. IsFront MAX_JOB_BYTES t bytes)
     → job_of bytes ≡ Ok (job_view job) → IsInRanges (job_view job) → doable verb (job_view job) ≡ Ok (job_view job) → TakesJob verb files now name (Ok job)
 job-ready verb files now name bytes job front is ranges ready = (
-  record { doable = ready; numbers = ranges.numbers },
+  record { doable = ready; numbers = ranges.numbers; failures = ranges.failures },
   OfRead-map files.sources.names (files.contents name) (λ t. IsFront MAX_JOB_BYTES t bytes) (λ t. job_for verb t ≡ Ok (job_view job))
       (λ t f. ap (λ (r : Result JobSayings JobFault). and_then r (doable verb)) (front-job t bytes f ∙ is) ∙ ready) front,
 )

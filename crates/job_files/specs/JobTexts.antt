@@ -48,9 +48,13 @@ HasStart Colours source g = Unit {0}
 abbrev pub SaysJob : JobVerb → FilesState → List ℕ → JobSayings → Type 0
 SaysJob verb files file job = OfText files file (λ bytes. job_for verb bytes ≡ Ok job)
 
--- this holds of the job that the file says
+-- this holds of all that the job says, which the file says
+abbrev pub OfSaid : JobVerb → FilesState → List ℕ → (JobSayings → Type 0) → Type 0
+OfSaid verb files file P = (job : JobSayings) × SaysJob verb files file job × P job
+
+-- this holds of the values of that job
 abbrev pub OfJob : JobVerb → FilesState → List ℕ → (JobFields → Type 0) → Type 0
-OfJob verb files file P = (job : JobSayings) × SaysJob verb files file job × P job.fields
+OfJob verb files file P = OfSaid verb files file (λ job. P job.fields)
 
 -- this holds of the job's two texts, which were read
 abbrev pub OfTexts : FilesState → JobFields → (List ℕ → List ℕ → Type 0) → Type 0

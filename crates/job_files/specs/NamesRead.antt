@@ -8,7 +8,6 @@ use Rattle.graph_text.specs.Vertices.{vertices_of}
 use Rattle.job_config.specs.Fields.{JobFields}
 use Rattle.job_config.specs.Jobs.{JobSayings}
 use Rattle.job_files.specs.declared.jobs.JobVerb.{JobVerb}
-use Rattle.job_files.specs.declared.jobs.JobVerb.TheVariants.{Run}
 use Rattle.atom_gather.specs.IndexForm.{atoms_in}
 use Rattle.whole_files.specs.AtomNames.{atom_name, index_name}
 use Rattle.whole_files.specs.FilesUsed.{HandsOver}
@@ -60,8 +59,8 @@ atoms_names files prefix = index_name prefix ∷ first_names (atom_name prefix) 
 
 -- The names of files that are read for a run are at most the job's file and those of its graph, in turn; and where the job
 -- names a prefix, and the graph has no fault, those of the atoms there behind them.
-abbrev pub HandsForRun : FilesState → FilesState → List ℕ → Type 0
-HandsForRun old new file =
-    HandsOver old.sources.names new.sources.names (names_of Run old file)
-    ⊎ OfJob Run old file (λ job. (prefix : List ℕ) × (job.atoms_at ≡ Some prefix) × OfTexts old job (OfGraph job (λ g. ⊤))
-    × HandsOver old.sources.names new.sources.names (names_of Run old file ++ atoms_names old prefix))
+abbrev pub HandsForRun : JobVerb → FilesState → FilesState → List ℕ → Type 0
+HandsForRun verb old new file =
+    HandsOver old.sources.names new.sources.names (names_of verb old file)
+    ⊎ OfJob verb old file (λ job. (prefix : List ℕ) × (job.atoms_at ≡ Some prefix) × OfTexts old job (OfGraph job (λ g. ⊤))
+    × HandsOver old.sources.names new.sources.names (names_of verb old file ++ atoms_names old prefix))

@@ -111,14 +111,19 @@ pub fn read_input<F: Files>(
 /// Reads the job in the file of this name and the graph that it names, as `read_input` does, and then, where the job names
 /// a prefix of atoms, the index there and the atoms of its number. They are refused where they are not those of the graph
 /// under any assignment of its vertices.
-pub fn read_run_input<F: Files>(alloc: Global, files: &mut F, file: &str) -> Result<Input, NoInput>
-    ensures answer { IsRunInput (F.state files.old) (F.state files.new).sources.faults file.now result }
+pub fn read_run_input<F: Files>(
+    alloc: Global,
+    files: &mut F,
+    file: &str,
+    verb: JobVerb,
+) -> Result<Input, NoInput>
+    ensures answer { IsRunInput verb (F.state files.old) (F.state files.new).sources.faults file.now result }
     ensures frame { ChangesSources (F.state files.old) (F.state files.new) }
-    ensures handed { HandsForRun (F.state files.old) (F.state files.new) file.now }
-    ensures refused { RefusesEarly file.now (F.state files.old) (F.state files.new) result }
+    ensures handed { HandsForRun verb (F.state files.old) (F.state files.new) file.now }
+    ensures refused { RefusesEarly verb file.now (F.state files.old) (F.state files.new) result }
     ensures later { (F.state files.old).sources.faults ≤ (F.state files.new).sources.faults }
 {
-    let input = read_input(alloc, files, file, JobVerb::Run)?;
+    let input = read_input(alloc, files, file, verb)?;
     match check_named(alloc, files, &input) {
         Ok(()) => Ok(input),
         Err(why) => Err(why),

@@ -18,6 +18,8 @@ use whole_files::{NotRead, front_of};
 pub enum JobVerb {
     /// Runs the job's algorithm. It needs no key of its own.
     Run,
+    /// Goes on with a run from the job's store. It needs the store's name.
+    Resume,
     /// Cuts the job's graph into atoms. It needs the name for their files.
     Cut,
     /// Makes the job's store. It needs the store's name, and can do each job that has one.
@@ -83,7 +85,9 @@ fn refused(job: &Job, verb: JobVerb) -> Option<JobFault>
 {
     match verb {
         JobVerb::Cut if job.atoms_at.is_none() => Some(JobFault::Missing(Key::AtomsAt)),
-        JobVerb::Init if job.store.is_none() => Some(JobFault::Missing(Key::Store)),
+        JobVerb::Resume | JobVerb::Init if job.store.is_none() => Some(JobFault::Missing(
+            Key::Store,
+        )),
         JobVerb::Init => None,
         _ => match not_built(job) {
             None => None,
@@ -99,10 +103,7 @@ fn not_built(job: &Job) -> Option<Key>
     if job.engine != EngineKind::Locking {
         return Some(Key::Engine);
     }
-    if job.store.is_some() {
-        return Some(Key::Store);
-    }
-    if !job.failures.is_empty() {
+    if job.store.is_none() && !job.failures.is_empty() {
         return Some(Key::Failures);
     }
     None

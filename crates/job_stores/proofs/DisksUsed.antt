@@ -151,7 +151,7 @@ module _ (old mid was last new : FilesState) (name : List ℕ) (file : FileNo) (
   last_past : disk_past last again ≡ disk_past last file.0
   last_past = ap (disk_past last) (again_is ∙ own_is)
 
-  told-at-end : (told : Bool) (P : DiskPast → DiskPast → Type 0) → (IsTrue told → P (disk_past was own) (disk_past last again)) → IfDisksTold told old (P (old.pasts name) (new.pasts name))
+  pub told-at-end : (told : Bool) (P : DiskPast → DiskPast → Type 0) → (IsTrue told → P (disk_past was own) (disk_past last again)) → IfDisksTold told old (P (old.pasts name) (new.pasts name))
   told-at-end told P holds =
       let A : DiskPast → Type 0 = λ p. P p (disk_past last again) in
       let E : FilesState → Type 0 = λ s. IfDisksTold told old (P (old.pasts name) (s.pasts name)) in

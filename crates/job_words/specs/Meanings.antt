@@ -12,7 +12,7 @@ use Rattle.gl_base.specs.declared.usage_faults.Opt.TheVariants as opt
 use Rattle.gl_base.specs.declared.usage_faults.UsageFault.{UsageFault}
 use Rattle.gl_base.specs.declared.usage_faults.UsageFault.TheVariants as fault
 use Rattle.job_words.specs.declared.words.Words.{Words}
-use Rattle.job_words.specs.declared.words.Words.TheVariants.{Run, Make, Cut, Init}
+use Rattle.job_words.specs.declared.words.Words.TheVariants.{Run, Resume, Make, Cut, Init}
 use Rattle.job_words.specs.Lines.{Sayings}
 use Rattle.gl_base.specs.Results.{and_then}
 use Rattle.gl_base.specs.Texts.{Text}
@@ -63,6 +63,8 @@ has_option s = is_some s.number || (is_some s.vertices || (is_some s.edges || is
 abbrev pub meaning_of : Sayings → Result Words UsageFault
 meaning_of s = if bytes_eq s.verb (codes "run")
     then (if has_option s then Err fault.NotHere else Ok (Run s.file s.report))
+    else (if bytes_eq s.verb (codes "resume")
+    then (if has_option s then Err fault.NotHere else Ok (Resume s.file s.report))
     else (if bytes_eq s.verb (codes "make")
     then (if s.report then Err fault.NotHere
     else make_words s.file (plan_of s.number s.vertices s.edges s.weight))
@@ -70,4 +72,4 @@ meaning_of s = if bytes_eq s.verb (codes "run")
     then (if s.report || has_option s then Err fault.NotHere else Ok (Cut s.file))
     else (if bytes_eq s.verb (codes "init")
     then (if s.report || has_option s then Err fault.NotHere else Ok (Init s.file))
-    else Err fault.Verb)))
+    else Err fault.Verb))))

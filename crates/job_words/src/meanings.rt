@@ -109,6 +109,11 @@ pub fn read_meaning(alloc: Global, line: &Line) -> Result<Words, WordsReading>
             file: own_name(alloc, line.file)?,
             report: line.report,
         }),
+        "resume" if line.has_option() => Err(WordsReading::Fault(UsageFault::NotHere)),
+        "resume" => Ok(Words::Resume {
+            file: own_name(alloc, line.file)?,
+            report: line.report,
+        }),
         "make" if line.report => Err(WordsReading::Fault(UsageFault::NotHere)),
         "make" => {
             let plan = read_plan(line).map_err(WordsReading::Fault)?;

@@ -15,6 +15,8 @@ use std::alloc::Global;
 pub enum Words {
     /// Run the job in `file`, and tell how it went where `report` is set.
     Run { file: Name, report: bool },
+    /// Go on with the run of the job in `file` from its store, and tell how it went where `report` is set.
+    Resume { file: Name, report: bool },
     /// Make a graph by `plan`, in the files whose names begin with `prefix`.
     Make { prefix: Name, plan: MakePlan },
     /// Cut the graph of the job in `file` into atoms.

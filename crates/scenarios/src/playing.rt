@@ -1,7 +1,7 @@
 //! The calls of a scenario.
 use crate::comparing::compare;
 use crate::parts::Part;
-use crate::scenario::{Calls, Fault, Scenario, Step, Want};
+use crate::scenario::{Calls, Fault, Scenario, Step, Turns, Want};
 use engine_cli::{Ended, engine};
 use gl_outside::{MemFiles, MemSink, OpenGate};
 use std::alloc::{AllocError, Global};
@@ -151,16 +151,41 @@ fn play_step<R: Wait>(
         let calls = turns.calls;
         for place in 0..turns.count {
             let number = place.saturating_add(1);
-            let left = make_call(rt, alloc, scene, Some(Fault { calls, number }))?;
-            compare(alloc, scene, &left, &turns.wants, differences)?;
+            let fault = Fault { calls, number };
+            play_turn(rt, alloc, scene, turns, fault, differences)?;
         }
         let number = turns.count.saturating_add(1);
         fault = Some(Fault { calls, number });
     }
-    let left = make_call(rt, alloc, scene, fault)?;
+    let left = make_call(rt, alloc, scene, &scene.step.words, fault)?;
     compare(alloc, scene, &left, &scene.step.wants, differences)?;
     let Left { files, .. } = left;
     Ok(files)
+}
+
+/// Makes the call of a step in which one call fails, and the call behind it, if there is one.
+fn play_turn<R: Wait>(
+    rt: &R,
+    alloc: Global,
+    scene: &Scene<'_>,
+    turns: &Turns<'_>,
+    fault: Fault,
+    differences: &mut Vec<String>,
+) -> Result<(), AllocError> {
+    let left = make_call(rt, alloc, scene, &scene.step.words, Some(fault))?;
+    if turns.then.is_none() {
+        return compare(alloc, scene, &left, &turns.wants, differences);
+    }
+    let Left { files, .. } = left;
+    let step = Step::new(alloc, Vec::new(alloc), Vec::new(alloc));
+    let after = Scene {
+        step: &step,
+        names: scene.names,
+        disks: scene.disks,
+        files: &files,
+    };
+    let last = make_call(rt, alloc, &after, &turns.then, None)?;
+    compare(alloc, &after, &last, &turns.wants, differences)
 }
 
 /// Makes a call, where one more call may fail.
@@ -168,6 +193,7 @@ fn make_call<R: Wait>(
     rt: &R,
     alloc: Global,
     scene: &Scene<'_>,
+    words: &Option<Vec<String>>,
     fault: Option<Fault>,
 ) -> Result<Left, AllocError> {
     let step = scene.step;
@@ -186,7 +212,7 @@ fn make_call<R: Wait>(
         numbers(alloc, &faults, Calls::Note)?,
         step.room_of_note,
     );
-    let words = match &step.words {
+    let words = match words {
         Some(words) if words.len() < TOO_MANY_WORDS => words.as_slice(),
         _ => &[],
     };
@@ -210,12 +236,23 @@ fn numbers(alloc: Global, faults: &[Fault], calls: Calls) -> Result<Vec<u64>, Al
     Ok(numbers)
 }
 
+/// How many calls on disks are made before all fail.
+fn calls_before_stop(faults: &[Fault]) -> u64 {
+    let mut least = u64::MAX;
+    for fault in faults {
+        if fault.calls == Calls::Stop {
+            least = least.min(fault.number.saturating_sub(1));
+        }
+    }
+    least
+}
+
 /// The files and disks that are there.
 fn files_of(alloc: Global, scene: &Scene<'_>, faults: &[Fault]) -> Result<MemFiles, AllocError> {
     let reads = numbers(alloc, faults, Calls::Reads)?;
     let writes = numbers(alloc, faults, Calls::Writes)?;
     let disks = numbers(alloc, faults, Calls::Disks)?;
-    let mut files = MemFiles::new(alloc, reads, writes, disks, u64::MAX);
+    let mut files = MemFiles::new(alloc, reads, writes, disks, calls_before_stop(faults));
     for name in scene.names {
         if let Some(bytes) = scene.bytes(name) {
             let Ok(()) = files.put(name, Vec::from_slice(alloc, bytes)?) else {

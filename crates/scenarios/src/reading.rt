@@ -158,6 +158,15 @@ fn add_section<'a>(
             called(steps)?.turns = Some(turns);
             Ok(())
         }
+        "then" => {
+            no_text(section)?;
+            let words = words_of(alloc, section.said)?;
+            match &mut called(steps)?.turns {
+                Some(turns) => turns.then = Some(words),
+                None => return Err(Trouble::Malformed("no call fails in turn")),
+            }
+            Ok(())
+        }
         _ => {
             let want = want_of(section)?;
             called(steps)?.wants_mut().push(want)?;
@@ -261,9 +270,9 @@ fn set_room(step: &mut Step<'_>, said: &str) -> Result<(), Trouble> {
     match calls {
         Calls::Out => step.room_of_out = room,
         Calls::Note => step.room_of_note = room,
-        Calls::Reads | Calls::Writes | Calls::Disks => return Err(Trouble::Malformed(
-            "files have room",
-        )),
+        Calls::Reads | Calls::Writes | Calls::Disks | Calls::Stop => {
+            return Err(Trouble::Malformed("files have room"));
+        }
     }
     Ok(())
 }
@@ -275,6 +284,7 @@ fn turns_of<'a>(alloc: Global, section: &Section<'a>) -> Result<Turns<'a>, Troub
     Ok(Turns {
         calls,
         count,
+        then: None,
         wants: Vec::new(alloc),
     })
 }
@@ -287,6 +297,7 @@ fn want_of<'a>(section: &'a Section<'a>) -> Result<Want<'a>, Trouble> {
         (None, "gone") => (Part::File(section.said), Wanted::Missing),
         (None, "any") => (Part::File(section.said), Wanted::Anything),
         (None, "holds") => (Part::Disk(section.said), Wanted::Bytes(&section.text)),
+        (None, "any-disk") => (Part::Disk(section.said), Wanted::Anything),
         _ => return Err(Trouble::Malformed("no such word")),
     };
     if let Wanted::Missing | Wanted::Anything = wanted {

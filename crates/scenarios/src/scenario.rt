@@ -48,6 +48,8 @@ pub enum Calls {
     Reads,
     Writes,
     Disks,
+    /// Those on disks, of which all fail from the number on.
+    Stop,
     Out,
     Note,
 }
@@ -59,11 +61,13 @@ pub struct Fault {
     pub number: u64,
 }
 
-/// So many runs, in which the first call fails, then the second, and so on, and what each has to leave.
+/// So many runs, in which the first call fails, then the second, and so on, and what each has to leave, or where words are given a
+/// call of these behind it.
 #[derive(Drop)]
 pub struct Turns<'a> {
     pub calls: Calls,
     pub count: u64,
+    pub then: Option<Vec<String>>,
     pub wants: Vec<Want<'a>>,
 }
 
@@ -88,6 +92,7 @@ impl Calls {
             "reads" => Some(Calls::Reads),
             "writes" => Some(Calls::Writes),
             "disks" => Some(Calls::Disks),
+            "stop" => Some(Calls::Stop),
             "out" => Some(Calls::Out),
             "note" => Some(Calls::Note),
             _ => None,

@@ -1,32 +1,100 @@
 -- What reading a job and its graph and running it answers.
-use Rattle.std.specs.Prelude.{ℕ, List, ⊤, Result, Ok, Err}
+use Rattle.std.specs.Prelude.{◌≡◌, ℕ, Bool, All, List, [], length, ⊤, Option, None, Some, Result, Ok, Err}
 use Rattle.gl_outside.specs.Faults.{Rose}
 use Rattle.gl_outside.specs.FilesState.{FilesState}
-use Rattle.graph_core.specs.DataGraph.{IsDataGraph}
+use Rattle.graph_core.specs.DataGraph.{DataGraph, IsDataGraph, size}
+use Rattle.job_config.specs.Ranges.{HasNumbers}
 use Rattle.job_config.specs.Views.{job_view}
-use Rattle.job_files.specs.declared.inputs.NoInput.{NoInput}
-use Rattle.job_files.specs.Atoms.{HasAtoms, RefusesAtoms}
-use Rattle.job_files.specs.JobTexts.{DescribeJobGraph, HasStart, OfJob, OfTexts, RefusesJob, RefusesTexts, SaysJob}
-use Rattle.engine_cli.specs.declared.running.Prepared.{Prepared}
-use Rattle.engine_cli.specs.Plays.{CountsByMachine, RunsTo, update_of}
-use Rattle.job_files.specs.declared.inputs.NoInput.TheVariants as why
+use Rattle.job_files.specs.Atoms.{HasAtoms}
+use Rattle.job_files.specs.JobTexts.{DescribeJobGraph, HasStart, OfTexts, SaysJob}
+use Rattle.job_files.specs.declared.inputs.Input.{Input}
+use Rattle.job_files.specs.declared.jobs.JobVerb.{JobVerb}
 use Rattle.job_files.specs.declared.jobs.JobVerb.TheVariants as verb
+use Rattle.job_runs.specs.declared.runs.Run.{Run}
+use Rattle.job_stores.specs.NewStores.{UsesDisk}
+use Rattle.job_stores.specs.declared.making.NoStore.{NoStore}
+use Rattle.job_stores.specs.declared.making.NoStore.TheVariants as no_store
+use Rattle.order_text.specs.Orders.{IsEntryOf}
+use Rattle.stored_answers.specs.declared.runs.StoredEnd.{StoredEnd}
+use Rattle.stored_answers.specs.declared.runs.StoredEnd.TheVariants as end
+use Rattle.stored_answers.specs.declared.runs.StoredRun.{StoredRun}
+use Rattle.whole_calls.specs.Following.{AreJobFailures}
+use Rattle.engine_cli.specs.declared.running.Prepared.{Prepared}
+use Rattle.engine_cli.specs.declared.status.Status.{Status}
+use Rattle.engine_cli.specs.declared.status.Status.TheVariants.{BudgetSpent, DiskFault, SnapshotsFull}
+use Rattle.engine_cli.specs.Inner.Storing.{IsWhyNoStoredRun}
+use Rattle.engine_cli.specs.JobRuns.{IsEndAlone, RunsSo, is_resumed, left_at}
+use Rattle.engine_cli.specs.Says.{Refuses}
 
--- the job is that of the file, the graph is that of its two texts, and the run is one of the job's algorithm on it
-pub record IsPreparedFrom (files : FilesState) (file : List ℕ) (prepared : Prepared) : Type 0 where
-  pub job : SaysJob verb.Run files file (job_view prepared.job)
-  pub texts : OfTexts files (job_view prepared.job).fields (λ vertices edges. DescribeJobGraph (job_view prepared.job).fields vertices edges prepared.graph)
-  pub atoms : HasAtoms files (job_view prepared.job).fields
+-- a verb that runs a job
+abbrev pub IsOfRun : JobVerb → Type 0
+IsOfRun verb.Run = ⊤
+IsOfRun verb.Resume = ⊤
+IsOfRun verb.Cut = ⊥
+IsOfRun verb.Init = ⊥
+
+-- The job's numbers and failures are those that a job may have, and its source is there.
+pub record IsRunnable (input : Input) : Type 0 where
+  pub numbers : HasNumbers (job_view input.job).fields
+  pub failures : AreJobFailures input.job.machines input.job.failures.items
+  pub graph : IsDataGraph input.graph
+  pub start : HasStart input.job.algorithm input.job.source input.graph
+
+-- there is a number for each vertex, and each update is of one
+pub record IsPrintable (g : DataGraph) (run : StoredRun) : Type 0 where
+  pub numbers : length run.numbers.items ≡ size g
+  pub entries : All (IsEntryOf g) run.order.items
+
+-- the run is this one, and lost no update and took no snapshot
+pub record IsRunAlone (was : Run) (run : StoredRun) : Type 0 where
+  pub order : run.order.items ≡ was.order.items
+  pub numbers : run.numbers.items ≡ was.numbers.items
+  pub done : run.done.items ≡ was.done.items
+  pub left : left_at run.end ≡ was.left
+  pub ended : IsEndAlone run.end
+  pub lost : run.lost.items ≡ []
+  pub fired : run.fired.items ≡ []
+  pub snapshots : run.snapshots.items ≡ []
+
+-- it is one of the job, and ended by a fault of the disk only where there was one
+pub record IsMadeRun (told : Bool) (asked : JobVerb) (input : Input) (old new : FilesState) (run : StoredRun) : Type 0 where
+  pub runs : RunsSo told asked old new.pasts (job_view input.job) input.graph run input.job.store
+  pub fault : run.end ≡ end.DiskFault → Rose old.disks.faults new.disks.faults
+
+-- why none was made, without a store or with this one
+abbrev pub IsWhyNoneMade : Bool → JobVerb → Input → FilesState → FilesState → Option (List ℕ) → NoStore → Type 0
+IsWhyNoneMade told asked input old new None why = why ≡ no_store.NoMemory
+IsWhyNoneMade told asked input old new (Some name) why = IsWhyNoStoredRun told (is_resumed asked) name input old new why
+
+-- nothing changed, or what the use of this disk changes
+abbrev pub UsesNamed : Option (List ℕ) → FilesState → FilesState → Type 0
+UsesNamed None old new = new ≡ old
+UsesNamed (Some name) old new = UsesDisk name old new
+
+-- the job is that of the file, the graph is that of its two texts, and the run is one of the job on it; without a store no disk changed
+pub record IsPreparedFrom (told : Bool) (asked : JobVerb) (old new : FilesState) (file : List ℕ) (prepared : Prepared) : Type 0 where
+  pub job : SaysJob asked old file (job_view prepared.job)
+  pub texts : OfTexts old (job_view prepared.job).fields (λ vertices edges. DescribeJobGraph (job_view prepared.job).fields vertices edges prepared.graph)
+  pub atoms : HasAtoms old (job_view prepared.job).fields
   pub graph : IsDataGraph prepared.graph
   pub start : HasStart prepared.job.algorithm prepared.job.source prepared.graph
-  pub run : RunsTo prepared.graph (update_of prepared.job.algorithm prepared.job.source) prepared.job.atoms prepared.job.machines prepared.job.budget prepared.run.order.items prepared.run.numbers.items prepared.run.left
-  pub counts : CountsByMachine prepared.job.machines prepared.run.order.items prepared.run.done.items
+  pub runs : RunsSo told asked old new.pasts (job_view prepared.job) prepared.graph prepared.run prepared.job.store
+  pub fault : prepared.run.end ≡ end.DiskFault → Rose old.disks.faults new.disks.faults
+  pub printable : IsPrintable prepared.graph prepared.run
+  pub alone : prepared.job.store ≡ None → new.pasts ≡ old.pasts
 
 -- a run that was made; or why none was
-abbrev pub IsPrepared : FilesState → ℕ → List ℕ → Result Prepared NoInput → Type 0
-IsPrepared files now file (Ok prepared) = IsPreparedFrom files file prepared
-IsPrepared files now file (Err (why.BadJob fault)) = RefusesJob verb.Run files file fault
-IsPrepared files now file (Err (why.BadGraph fault)) = OfJob verb.Run files file (RefusesTexts files fault)
-IsPrepared files now file (Err (why.BadAtoms fault)) = OfJob verb.Run files file (RefusesAtoms files fault)
-IsPrepared files now file (Err why.ReadFault) = Rose files.sources.faults now
-IsPrepared files now file (Err why.NoMemory) = ⊤
+abbrev pub IsPrepared : Bool → JobVerb → FilesState → FilesState → List ℕ → Result Prepared Status → Type 0
+IsPrepared told asked old new file (Ok prepared) = IsPreparedFrom told asked old new file prepared
+IsPrepared told asked old new file (Err status) = Refuses told asked file old new status
+
+-- at most what is read changed, and disks
+abbrev pub ChangesInput : FilesState → FilesState → Type 0
+ChangesInput old new = new ≡ record old { sources = new.sources; pasts = new.pasts; disks = new.disks }
+
+-- the status of a run that left a task
+abbrev pub unfinished_status : StoredEnd → Option Status
+unfinished_status end.Finished = None
+unfinished_status (end.Spent left) = Some (BudgetSpent left)
+unfinished_status (end.Full stored length) = Some (SnapshotsFull stored length)
+unfinished_status end.DiskFault = Some DiskFault

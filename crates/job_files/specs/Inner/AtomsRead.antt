@@ -8,7 +8,6 @@ use Rattle.gl_outside.specs.Faults.{Rose}
 use Rattle.gl_outside.specs.FilesState.{FilesState}
 use Rattle.graph_core.specs.DataGraph.{DataGraph}
 use Rattle.atom_gather.specs.Files.{atom_file_at}
-use Rattle.whole_files.specs.AtomNames.{atom_name}
 use Rattle.job_files.specs.declared.inputs.NoInput.{NoInput}
 use Rattle.job_files.specs.declared.inputs.NoInput.TheVariants as why
 use Rattle.job_files.specs.Atoms.{FindsInAtoms, atom_files, atom_form, atom_forms, given_bytes, long_or}

@@ -1,6 +1,5 @@
-use Rattle.std.proofs.Common.{◌≡◌, Some, sym, ap, ◌∙◌, subst}
+use Rattle.std.proofs.Common.{◌≡◌, Some, sym, ap, ◌∙◌}
 use Rattle.std.proofs.Common.{List, ℕ}
-use Rattle.whole_files.specs.AtomNames.{cut_names}
 use Rattle.engine_cli.proofs.CutMade.{cut-done, cut-failed, cut-unread}
 use Rattle.engine_cli.proofs.file_verbs.cut_job.Goals as goal
 

@@ -24,7 +24,7 @@ returns-in-Err-clause-make g c prefix plan is =
     let old = g.F.Files.state c.args.files.now in
     let new = g.F.Files.state c.make_files.new.files in
     let made = c.in-Err.ensures in
-    let status : c.refuse-in-Err.result ≡ status_of_writing c.in-Err.why = search rules in
+    let status : c.refuse.result ≡ status_of_writing c.in-Err.why = search rules in
     let M : Status → Type 0 = Makes c.in-Make.plan c.as_str.result.now old new in
-    making-asked c.args.words.now c.in-Make.prefix prefix c.in-Make.plan plan c.as_str.result.now old new c.refuse-in-Err.result c.in-Make.is is c.as_str.ensures
-    (is-making c.as_str.result.now c.in-Make.plan old new c.refuse-in-Err.result (subst M (sym status) (makes-of c.in-Make.plan c.as_str.result.now old new c.in-Err.why made.fault)) made.vertices made.edges made.wrote)
+    making-asked c.args.words.now c.in-Make.prefix prefix c.in-Make.plan plan c.as_str.result.now old new c.refuse.result c.in-Make.is is c.as_str.ensures
+    (is-making c.as_str.result.now c.in-Make.plan old new c.refuse.result (subst M (sym status) (makes-of c.in-Make.plan c.as_str.result.now old new c.in-Err.why made.fault)) made.vertices made.edges made.wrote)

@@ -14,3 +14,6 @@ returns-in-DiskFault-clause-note g c = rw c.in-DiskFault.is c.write_text-in-Disk
 
 pub returns-in-BadStore-clause-note : goal.returns-in-BadStore-clause-note
 returns-in-BadStore-clause-note g c = rw c.in-BadStore.is c.tell_store.ensures.note
+
+pub returns-in-SnapshotsFull-clause-note : goal.returns-in-SnapshotsFull-clause-note
+returns-in-SnapshotsFull-clause-note g c = rw c.in-SnapshotsFull.is c.tell_full.ensures.note

@@ -1,10 +1,11 @@
-use Rattle.std.proofs.Common.{subst}
+use Rattle.std.proofs.Common.{subst, ◌∙◌}
 use Rattle.job_words.specs.WordForms.{texts}
 use Rattle.job_words.specs.declared.words.Words.{Words}
 use Rattle.engine_cli.specs.Made.{IsOfFiles}
 use Rattle.engine_cli.specs.Notes.{WritesNote}
 use Rattle.engine_cli.specs.Says.{moment}
 use Rattle.engine_cli.specs.Verbs.{IsCall, IsQuiet}
+use Rattle.engine_cli.proofs.NothingDone.{none-done}
 use Rattle.engine_cli.proofs.OneCommand.{one_command}
 use Rattle.engine_cli.proofs.top.engine.Goals as goal
 
@@ -23,3 +24,8 @@ returns-in-Ok-clause-files_only g c asked is of_files =
 pub returns-in-Ok-clause-quiet : goal.returns-in-Ok-clause-quiet
 returns-in-Ok-clause-quiet g c asked is quiet done =
     c.do_command.ensures.quiet (subst IsQuiet (one_command (texts c.args.words.now) asked c.in-Ok.asked is c.in-Ok.ensures.asked) quiet) done
+
+pub returns-in-Err-NoMemory-clause-verb : goal.returns-in-Err-NoMemory-clause-verb
+returns-in-Err-NoMemory-clause-verb g c asked is =
+    none-done g.F.Files.disks_told asked (moment (g.F.Files.state c.args.files.now) (g.K.Sink.faults c.args.out.now) (g.K.Sink.held c.args.out.now)) _ c.no_run-in-Err-NoMemory.result
+    (c.no_run-in-Err-NoMemory.ensures.status ∙ c.refuse-in-Err-NoMemory.ensures.status) c.no_run-in-Err-NoMemory.ensures.none

@@ -1,5 +1,4 @@
-use Rattle.std.proofs.Common.{◌≡◌, ◌+◌, Ok, Err, rules}
-use Rattle.std.proofs.lemmas.Result.{err_from_is_err_and}
+use Rattle.std.proofs.Common.{◌≡◌, ◌+◌, Ok, rules}
 use Rattle.whole_files.specs.AtomNames.{atom_name}
 use Rattle.job_files.proofs.AtomsTaken.{atom-unformed, file-renamed}
 use Rattle.job_files.proofs.atoms.read_atom.Goals as goal

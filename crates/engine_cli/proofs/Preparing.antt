@@ -1,0 +1,237 @@
+-- What running a job says over what was read before.
+use Rattle.std.proofs.Common.{◌≡◌, inl, inr, ℕ, ◌≤◌, Bool, true, false, IsTrue, is_some, List, [], ◌∷◌, Option, None, Some, IfSome, Result, Err, refl, sym, ap, ◌∙◌, subst, ⊎_elim, arith}
+use Rattle.std.specs.Prelude.{bytes_eq, ◌⊎◌}
+use Rattle.std.proofs.lemmas.Slice.Eq.{bytes_eq-Decides}
+use Rattle.gl_outside.specs.Disk.{DiskPast}
+use Rattle.gl_outside.specs.Faults.{Rose}
+use Rattle.gl_outside.specs.FilesState.{FilesState, Opened}
+use Rattle.gl_outside.specs.Frames.{ChangesSources}
+use Rattle.gl_outside.specs.Inner.Laws.{decide, differs}
+use Rattle.graph_core.specs.DataGraph.{DataGraph}
+use Rattle.job_config.specs.Jobs.{JobSayings}
+use Rattle.job_config.specs.Views.{job_view}
+use Rattle.job_files.specs.Inputs.{IsInputFrom, IsRunInput, RefusesEarly}
+use Rattle.job_files.specs.JobTexts.{SaysJob}
+use Rattle.job_files.specs.NamesRead.{HandsForRun, names_of}
+use Rattle.job_files.specs.declared.inputs.Input.{Input}
+use Rattle.job_files.specs.declared.inputs.NoInput.{NoInput}
+use Rattle.job_files.specs.declared.inputs.NoInput.TheVariants as why
+use Rattle.job_files.specs.declared.jobs.JobVerb.{JobVerb}
+use Rattle.job_files.proofs.InputsRead.{of-graph}
+use Rattle.job_stores.specs.JobHeaders.{header_for}
+use Rattle.job_stores.specs.NewStores.{IfDisksTold, UsesDisk}
+use Rattle.job_stores.specs.declared.making.NoStore.{NoStore}
+use Rattle.job_stores.specs.declared.making.NoStore.TheVariants as no_store
+use Rattle.job_stores.proofs.DisksUsed.{always-told}
+use Rattle.stored_answers.specs.declared.runs.StoredRun.{StoredRun}
+use Rattle.whole_files.specs.FilesUsed.{HandsOver}
+use Rattle.engine_cli.specs.Inner.Prepares.{ChangesInput, IsWhyNoneMade, UsesNamed}
+use Rattle.engine_cli.specs.Inner.Storing.{IsWhyNoStoredRun}
+use Rattle.engine_cli.specs.JobRuns.{RunsOnStore, RunsSo, is_resumed}
+use Rattle.engine_cli.specs.JobStores.{IsOtherStore, KeepsAllImages, KeepsGoing, KeepsImages, NamesStore, OfStoredJob, RefusesStore, UsesStore}
+use Rattle.engine_cli.specs.NamesWritten.{order_names}
+use Rattle.engine_cli.specs.Says.{Refuses}
+use Rattle.engine_cli.specs.Status.{IsBeforeMaking, IsRefusedInput, status_of_no_input, status_of_no_store}
+use Rattle.engine_cli.proofs.DisksLeft.{leaves-same}
+use Rattle.engine_cli.proofs.NamesHanded.{hands-no-store, hands-store}
+
+-- ---- what is read changes no disk
+
+pub sources-input : (old new : FilesState) → ChangesSources old new → ChangesInput old new
+sources-input old new frame = frame ∙ ap (λ (s : FilesState). record old { sources = new.sources; pasts = s.pasts; disks = s.disks }) (sym frame)
+
+pub store-unused : (asked : JobVerb) (file : List ℕ) (old new : FilesState) → ChangesSources old new → UsesStore asked file old new
+store-unused asked file old new frame =
+    let pasts = ap (λ (s : FilesState). s.pasts) frame in
+    record {
+      handed = hands-no-store asked old new file (ap (λ (s : FilesState). s.disks.names) frame);
+      others = λ name apart. ap (λ (p : List ℕ → DiskPast). p name) pasts;
+      unless = inl (record { pasts = pasts; disks = ap (λ (s : FilesState). s.disks) frame });
+      later = omega (arith, ap (λ (s : FilesState). s.disks.faults) frame);
+    }
+
+-- every disk is left as it was
+pub same-images : (told : Bool) (old : FilesState) (new : List ℕ → DiskPast) → new ≡ old.pasts → KeepsAllImages told old new
+same-images told old new same name =
+    always-told told old (KeepsImages (old.pasts name) (new name)) (leaves-same (old.pasts name) (new name) (ap (λ (p : List ℕ → DiskPast). p name) same))
+
+-- why nothing was read
+pub input-refuses : (told : Bool) (asked : JobVerb) (file : List ℕ) (old new : FilesState) (cause : NoInput) → IsRunInput asked old new.sources.faults file (Err cause) → ChangesSources old new
+    → Refuses told asked file old new (status_of_no_input cause)
+input-refuses told asked file old new (why.BadJob fault) is frame = is
+input-refuses told asked file old new (why.BadGraph fault) is frame = is
+input-refuses told asked file old new (why.BadAtoms fault) is frame = is
+input-refuses told asked file old new why.ReadFault is frame = is
+input-refuses told asked file old new why.NoMemory is frame = inl (same-images told old new.pasts (ap (λ (s : FilesState). s.pasts) frame))
+
+-- the names of files that were read, where it is the job or its graph that is refused
+pub input-names : (asked : JobVerb) (file : List ℕ) (old new : FilesState) (cause : NoInput) → RefusesEarly asked file old new (let r : Result Input NoInput = Err cause in r)
+    → IsRefusedInput (status_of_no_input cause) → HandsOver old.sources.names new.sources.names (names_of asked old file)
+input-names asked file old new (why.BadJob fault) hands refused = hands
+input-names asked file old new (why.BadGraph fault) hands refused = hands
+input-names asked file old new (why.BadAtoms fault) hands refused = absurd refused
+input-names asked file old new why.ReadFault hands refused = absurd refused
+input-names asked file old new why.NoMemory hands refused = absurd refused
+
+-- what is refused for its store was not refused before it was opened
+pub store-late : (cause : NoStore) → (IsBeforeMaking (status_of_no_store cause) → ⊥) × (IsRefusedInput (status_of_no_store cause) → ⊥)
+store-late (no_store.BadStore fault) = (λ early. early, λ refused. refused)
+store-late no_store.DiskFault = (λ early. early, λ refused. refused)
+store-late no_store.NoMemory = (λ early. early, λ refused. refused)
+
+-- ---- the job was read, and its store used, if it names one
+
+module _ (told : Bool) (asked : JobVerb) (file : List ℕ) (old mid new : FilesState) (frame : ChangesSources old mid) where
+  disks : mid.disks ≡ old.disks
+  disks = ap (λ (s : FilesState). s.disks) frame
+
+  pasts : mid.pasts ≡ old.pasts
+  pasts = ap (λ (s : FilesState). s.pasts) frame
+
+  -- what is said of disks before the run is said of them as the call began
+  since : (Q : (List ℕ → DiskPast) → Type 0) → IfDisksTold told mid (Q mid.pasts) → IfDisksTold told old (Q old.pasts)
+  since Q holds =
+      let D : Opened (Option (List ℕ)) → Type 0 = λ d. IfSome d.names (λ n. IsTrue told → Q mid.pasts) in
+      let P : (List ℕ → DiskPast) → Type 0 = λ p. IfSome old.disks.names (λ n. IsTrue told → Q p) in
+      subst P pasts (subst D disks holds)
+
+  pub runs-since : (job : JobSayings) (g : DataGraph) (run : StoredRun) (store : Option (List ℕ)) → RunsSo told asked mid new.pasts job g run store → RunsSo told asked old new.pasts job g run store
+  runs-since job g run None runs = runs
+  runs-since job g run (Some name) runs = since (λ p. RunsOnStore (is_resumed asked) job g (p name) (new.pasts name) run) runs
+
+  pub rose-since : Rose mid.disks.faults new.disks.faults → Rose old.disks.faults new.disks.faults
+  rose-since rose = subst (λ (d : Opened (Option (List ℕ))). Rose d.faults new.disks.faults) disks rose
+
+  -- what the use of the store changes
+  pub input-used : (store : Option (List ℕ)) → UsesNamed store mid new → ChangesInput old new
+  input-used None used = sources-input old new (subst (λ (s : FilesState). ChangesSources old s) (sym used) frame)
+  input-used (Some name) used =
+      used.frame ∙ ap (λ (s : FilesState). record s { pasts = new.pasts; disks = new.disks }) frame
+      ∙ ap (λ (s : Opened (Option (List ℕ))). record old { sources = s; pasts = new.pasts; disks = new.disks }) (sym (ap (λ (s : FilesState). s.sources) used.frame))
+
+  pub alone-used : (store : Option (List ℕ)) → UsesNamed store mid new → store ≡ None → new.pasts ≡ old.pasts
+  alone-used None used none = ap (λ (s : FilesState). s.pasts) used ∙ pasts
+  alone-used (Some name) used none = absurd (some_is_none none)
+    where
+      some_is_none : {n : List ℕ} → Some n ≡ None → ⊥
+      some_is_none e = cc
+
+  sources : (store : Option (List ℕ)) → UsesNamed store mid new → new.sources ≡ mid.sources
+  sources None used = ap (λ (s : FilesState). s.sources) used
+  sources (Some name) used = ap (λ (s : FilesState). s.sources) used.frame
+
+  pub handed-used : (store : Option (List ℕ)) → UsesNamed store mid new → HandsForRun asked old mid file → HandsForRun asked old new file
+  handed-used store used handed = subst (λ (s : Opened (Option (List ℕ))). HandsForRun asked old (record mid { sources = s }) file) (sym (sources store used)) handed
+
+  pub reads-used : (store : Option (List ℕ)) → UsesNamed store mid new → old.sources.faults ≤ mid.sources.faults → old.sources.faults ≤ new.sources.faults
+  reads-used store used later = subst (λ (s : Opened (Option (List ℕ))). old.sources.faults ≤ s.faults) (sym (sources store used)) later
+
+  pub store-used : (job : JobSayings) → SaysJob asked old file job → UsesNamed job.fields.store mid new → UsesStore asked file old new
+  store-used job says used = go job.fields.store refl used
+    where
+      go : (store : Option (List ℕ)) → job.fields.store ≡ store → UsesNamed store mid new → UsesStore asked file old new
+      go None is used = store-unused asked file old new (subst (λ (s : FilesState). ChangesSources old s) (sym used) frame)
+      go (Some name) is used =
+          let names : order_names job.fields.store ≡ name ∷ [] = ap order_names is in
+          let handed : HandsOver old.disks.names new.disks.names (name ∷ []) = subst (λ (d : Opened (Option (List ℕ))). HandsOver d.names new.disks.names (name ∷ [])) disks used.handed in
+          let some : IsTrue (is_some job.fields.store) = subst (λ (s : Option (List ℕ)). IsTrue (is_some s)) (sym is) refl in
+          record {
+            handed = hands-store asked old new file job says (subst (λ (l : List (List ℕ)). HandsOver old.disks.names new.disks.names l) (sym names) handed);
+            others = λ other apart. used.others other (λ e. apart (job, says, is ∙ ap (λ (n : List ℕ). Some n) (sym e))) ∙ ap (λ (p : List ℕ → DiskPast). p other) pasts;
+            unless = inr (job, says, some);
+            later = omega (arith, ap (λ (s : FilesState). s.disks.faults) frame, used.later);
+          }
+
+  -- where the disk of one name is left as it was, all are
+  all-images : (name : List ℕ) → UsesDisk name mid new → IfDisksTold told old (KeepsImages (old.pasts name) (new.pasts name)) → KeepsAllImages told old new.pasts
+  all-images name used kept other = ⊎_elim same apart (decide (bytes_eq other name))
+    where
+      same : bytes_eq other name ≡ true → IfDisksTold told old (KeepsImages (old.pasts other) (new.pasts other))
+      same is =
+          let K : List ℕ → Type 0 = λ n. IfDisksTold told old (KeepsImages (old.pasts n) (new.pasts n)) in
+          subst K (sym ((bytes_eq-Decides other name).0 is)) kept
+
+      apart : bytes_eq other name ≡ false → IfDisksTold told old (KeepsImages (old.pasts other) (new.pasts other))
+      apart isnt =
+          let stays : new.pasts other ≡ old.pasts other = used.others other (λ e. differs isnt ((bytes_eq-Decides other name).1 e)) ∙ ap (λ (p : List ℕ → DiskPast). p other) pasts in
+          always-told told old (KeepsImages (old.pasts other) (new.pasts other)) (leaves-same (old.pasts other) (new.pasts other) stays)
+
+  -- one of two facts is said of disks, or the other is
+  either : (A B : Type 0) → IfDisksTold told old (A ⊎ B) → IfDisksTold told old A ⊎ IfDisksTold told old B
+  either A B holds = go old.disks.names told holds
+    where
+      no_truth : IsTrue false → ⊥
+      no_truth e = cc
+
+      go : (names : Option (List (List ℕ))) (told : Bool) → IfSome names (λ n. IsTrue told → A ⊎ B) → IfSome names (λ n. IsTrue told → A) ⊎ IfSome names (λ n. IsTrue told → B)
+      go None told holds = inl tt
+      go (Some n) false holds = inl (λ is. absurd (no_truth is))
+      go (Some n) true holds = ⊎_elim (λ a. inl (λ is. a)) (λ b. inr (λ is. b)) (holds refl)
+
+  -- and-ed facts, one by one
+  both-first : (A B : Type 0) → IfDisksTold told old (A × B) → IfDisksTold told old A
+  both-first A B holds = go old.disks.names holds
+    where
+      go : (names : Option (List (List ℕ))) → IfSome names (λ n. IsTrue told → A × B) → IfSome names (λ n. IsTrue told → A)
+      go None holds = tt
+      go (Some n) holds = λ is. (holds is).0
+
+  both-second : (A B : Type 0) → IfDisksTold told old (A × B) → IfDisksTold told old B
+  both-second A B holds = go old.disks.names holds
+    where
+      go : (names : Option (List (List ℕ))) → IfSome names (λ n. IsTrue told → A × B) → IfSome names (λ n. IsTrue told → B)
+      go None holds = tt
+      go (Some n) holds = λ is. (holds is).1
+
+  module _ (input : Input) (is : IsInputFrom asked old file input) where
+    abbrev pub job : JobSayings
+    job = job_view input.job
+
+    -- what holds of the job's store holds of the one that the file names
+    of-store : (name : List ℕ) → job.fields.store ≡ Some name → (P : List ℕ → JobSayings → DataGraph → Type 0) → P name job input.graph → OfStoredJob asked old file P
+    of-store name named P p = (job, is.job, (name, named, of-graph old job.fields input.graph (λ g. P name job g) is.texts is.start p))
+
+    names-store : (name : List ℕ) → job.fields.store ≡ Some name → NamesStore asked old file
+    names-store name named = (job, is.job, subst (λ (s : Option (List ℕ)). IsTrue (is_some s)) (sym named) refl)
+
+    -- no run was made on it
+    stored-refuses : (name : List ℕ) (cause : NoStore) → job.fields.store ≡ Some name → UsesDisk name mid new → IsWhyNoStoredRun told (is_resumed asked) name input mid new cause
+        → Refuses told asked file old new (status_of_no_store cause)
+    stored-refuses name (no_store.BadStore fault) named used refused =
+        let R : DiskPast → Type 0 = λ p. RefusesStore (is_resumed asked) (header_for job.fields input.graph) p.now.seen fault in
+        let K = KeepsImages (old.pasts name) (new.pasts name) in
+        let said = since (λ p. (R (p name) × KeepsImages (p name) (new.pasts name)) ⊎ IsOtherStore job input.graph (p name)) refused in
+        ⊎_elim
+        (λ refuses.
+        inl (
+          of-store name named (λ n j g. IfDisksTold told old (RefusesStore (is_resumed asked) (header_for j.fields g) (old.pasts n).now.seen fault)) (both-first (R (old.pasts name)) K refuses),
+          all-images name used (both-second (R (old.pasts name)) K refuses),
+        ))
+        (λ other. inr (of-store name named (λ n j g. IfDisksTold told old (IsOtherStore j g (old.pasts n))) other))
+        (either (R (old.pasts name) × K) (IsOtherStore job input.graph (old.pasts name)) said)
+    stored-refuses name no_store.DiskFault named used refused =
+        (rose-since refused.0, names-store name named, all-images name used (since (λ p. KeepsImages (p name) (new.pasts name)) refused.1))
+    stored-refuses name no_store.NoMemory named used refused =
+        let said = since (λ p. KeepsImages (p name) (new.pasts name) ⊎ KeepsGoing job input.graph (p name) (new.pasts name)) refused in
+        ⊎_elim
+        (λ kept. inl (all-images name used kept))
+        (λ going. inr (of-store name named (λ n j g. IfDisksTold told old (KeepsGoing j g (old.pasts n) (new.pasts n))) going))
+        (either (KeepsImages (old.pasts name) (new.pasts name)) (KeepsGoing job input.graph (old.pasts name) (new.pasts name)) said)
+
+    pub none-made : (cause : NoStore) → UsesNamed job.fields.store mid new → IsWhyNoneMade told asked input mid new job.fields.store cause → Refuses told asked file old new (status_of_no_store cause)
+    none-made cause used refused = go job.fields.store refl used refused
+      where
+        go : (store : Option (List ℕ)) → job.fields.store ≡ store → UsesNamed store mid new → IsWhyNoneMade told asked input mid new store cause → Refuses told asked file old new (status_of_no_store cause)
+        go None named used refused =
+            let N : NoStore → Type 0 = λ w. Refuses told asked file old new (status_of_no_store w) in
+            subst N (sym refused) (inl (same-images told old new.pasts (ap (λ (s : FilesState). s.pasts) used ∙ pasts)))
+        go (Some name) named used refused = stored-refuses name cause named used refused
+
+-- why there is no run on the store that the job names
+pub none-on-store : (told : Bool) (asked : JobVerb) (resumed : Bool) (input : Input) (old new : FilesState) (store : Option (List ℕ)) (name opened : List ℕ) (cause : NoStore)
+    → store ≡ Some name → opened ≡ name → resumed ≡ is_resumed asked → IsWhyNoStoredRun told resumed opened input old new cause → IsWhyNoneMade told asked input old new store cause
+none-on-store told asked resumed input old new store name opened cause named spelled is why =
+    let S : Option (List ℕ) → Type 0 = λ s. IsWhyNoneMade told asked input old new s cause in
+    let N : List ℕ → Type 0 = λ n. IsWhyNoStoredRun told (is_resumed asked) n input old new cause in
+    let R : Bool → Type 0 = λ r. IsWhyNoStoredRun told r opened input old new cause in
+    subst S (sym named) (subst N spelled (subst R is why))

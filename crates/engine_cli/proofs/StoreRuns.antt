@@ -1,0 +1,170 @@
+-- What a run on its store is, over the opening of the store and what it does with it.
+use Rattle.std.proofs.Common.{◌≡◌, inl, inr, ℕ, ◌≤◌, ◌++◌, Bool, false, List, [], length, Result, Ok, sym, ap, ◌∙◌, subst, ⊎_elim, append_assoc}
+use Rattle.std.specs.Result.{result_unwrap_or}
+use Rattle.gl_base.specs.declared.entries.Entry.{Entry}
+use Rattle.gl_outside.specs.Disk.{DiskPast, IsImage, LeavesOnly}
+use Rattle.gl_outside.proofs.Fronts.{Rose-later}
+use Rattle.graph_core.specs.DataGraph.{DataGraph, IsDataGraph}
+use Rattle.job_config.specs.Jobs.{JobSayings}
+use Rattle.job_files.specs.JobTexts.{HasStart}
+use Rattle.job_stores.specs.JobHeaders.{header_for}
+use Rattle.job_stores.specs.declared.making.NoStore.{NoStore}
+use Rattle.job_stores.specs.declared.making.NoStore.TheVariants as no_store
+use Rattle.snap_journal.specs.Answers.{IsWhyNotOpened}
+use Rattle.snap_journal.specs.declared.faults.JournalFault.{JournalFault}
+use Rattle.snap_journal.specs.declared.faults.JournalFault.TheVariants as journal
+use Rattle.store_format.specs.Stores.{StandsFor, stored_in}
+use Rattle.store_format.specs.declared.faults.StoreFault.{StoreFault}
+use Rattle.store_format.specs.declared.header.Header.{Header}
+use Rattle.stored_answers.specs.Images.{HoldsGood, IsGoodStore, KeepsGood}
+use Rattle.stored_answers.specs.Ends.{RunEndsSo}
+use Rattle.stored_answers.specs.Runs.{IsStoredRun, Shared, lists_of}
+use Rattle.stored_answers.specs.declared.runs.StoredEnd.{StoredEnd}
+use Rattle.stored_answers.specs.declared.runs.StoredEnd.TheVariants as end
+use Rattle.stored_answers.specs.declared.runs.StoredRun.{StoredRun}
+use Rattle.update_api.specs.Updates.{Update}
+use Rattle.engine_cli.specs.Inner.Storing.{IsKept, IsNotGood, IsRunFrom, IsWhyNotOnDisk, IsWhyNotOnJournal, IsWhyNotStored, no_store_of_journal}
+use Rattle.engine_cli.specs.JobRuns.{AreGoodImages, GoesOnFrom, KeepsStore, RunsOnStore, shared_by, snapshots_on}
+use Rattle.engine_cli.specs.JobStores.{IsOtherStore, KeepsGoing, KeepsImages}
+use Rattle.engine_cli.specs.Plays.{AreResults, update_of}
+use Rattle.engine_cli.proofs.DisksLeft.{leaves-more, leaves-twice}
+use Rattle.engine_cli.proofs.Results.{results-of}
+
+-- bytes stand for one list of snapshots
+pub one_store : (header : Header) (bytes : List ℕ) (a b : List (List ℕ)) → StandsFor header a bytes → StandsFor header b bytes → a ≡ b
+one_store header bytes a b p q = same_ok (sym p ∙ q)
+  where
+    same_ok : {x y : List (List ℕ)} → Ok x ≡ (let r : Result (List (List ℕ)) StoreFault = Ok y in r) → x ≡ y
+    same_ok e = cc
+
+-- and these are the ones that they have
+pub stands_are : (header : Header) (bytes : List ℕ) (bodies : List (List ℕ)) → StandsFor header bodies bytes → stored_in header bytes ≡ bodies
+stands_are header bytes bodies stands = ap (λ (r : Result (List (List ℕ)) StoreFault). result_unwrap_or r []) stands
+
+-- a good store that begins with more begins with less
+good-front : (shared : Shared) (header : Header) (front behind : List (List ℕ)) (image : List ℕ) → HoldsGood shared header (front ++ behind) image → HoldsGood shared header front image
+good-front shared header front behind image holds =
+    let same : front ++ (behind ++ holds.behind) ≡ (front ++ behind) ++ holds.behind = sym (append_assoc front behind holds.behind) in
+    record {
+      behind = behind ++ holds.behind;
+      stands = subst (λ (b : List (List ℕ)). StandsFor header b image) (sym same) holds.stands;
+      good = subst (IsGoodStore shared header) (sym same) holds.good;
+    }
+
+-- a run that finished has the results of its algorithm
+pub stored-results : (job : JobSayings) (g : DataGraph) (owner : ℕ → ℕ) (count : ℕ) (kept : List Entry) (resumed : Bool) (snapshots : List (List Entry)) (run : StoredRun)
+    → IsDataGraph g → HasStart job.fields.algorithm job.fields.source g
+    → IsStoredRun (shared_by job g owner) job.fields.machines job.fields.window job.fields.budget count kept resumed snapshots run
+    → run.end ≡ end.Finished → AreResults job.fields.algorithm job.fields.source g run.numbers.items
+stored-results job g owner count kept resumed snapshots run is start ran finished =
+    let E : StoredEnd → Type 0 = λ e. RunEndsSo (shared_by job g owner) job.fields.machines job.fields.window job.fields.budget kept snapshots ran.unanswered (lists_of run) e in
+    let ends : E end.Finished = subst E finished ran.ends in
+    results-of job.fields.algorithm job.fields.source g run.order.items run.numbers.items is start ran.is.in_turn.valid ran.numbers_are ends.finished
+
+-- The store was opened, on a disk that reads as it did, and whatever a crash left of it as the call began was left since.
+module _ (job : JobSayings) (g : DataGraph) (old mid new : DiskPast) (bodies : List (List ℕ)) (seen : IsImage old.now old.now.seen) (stands : StandsFor (header_for job.fields g) bodies old.now.seen)
+    (opened : LeavesOnly old mid (IsImage old.now)) where
+  abbrev pub header : Header
+  header = header_for job.fields g
+
+  -- the snapshots that it was found to have begin with those of every image, and are a good store
+  front-opened : (shared : Shared) (front : List (List ℕ)) → AreGoodImages shared header front old
+      → (behind : List (List ℕ)) × (bodies ≡ front ++ behind) × IsGoodStore shared header bodies
+  front-opened shared front good =
+      let holds : HoldsGood shared header front old.now.seen = good old.now.seen seen in
+      let same : bodies ≡ front ++ holds.behind = one_store header old.now.seen bodies (front ++ holds.behind) stands holds.stands in
+      (holds.behind, same, subst (IsGoodStore shared header) (sym same) holds.good)
+
+  -- what the opening and the run leave together
+  keeps-store : (shared : Shared) (front : List (List ℕ)) (snapshots : List (List Entry)) → AreGoodImages shared header front old
+      → KeepsGood shared header bodies snapshots mid new → KeepsStore shared header front bodies snapshots old new
+  keeps-store shared front snapshots good keeps =
+      let found = front-opened shared front good in
+      let H : List (List ℕ) → List ℕ → Type 0 = λ b image. HoldsGood shared header b image in
+      record {
+        added = keeps.added;
+        orders = keeps.orders;
+        any_moment = leaves-twice old mid new (H front) (leaves-more old mid (IsImage old.now) (H front) good opened)
+            (leaves-more mid new (H bodies) (H front)
+            (λ image holds. good-front shared header front found.0 image (subst (λ (b : List (List ℕ)). HoldsGood shared header b image) found.1 holds)) keeps.any_moment);
+        at_end = keeps.at_end;
+      }
+
+  abbrev pub program : Update
+  program = update_of job.fields.algorithm job.fields.source
+
+  -- the run is one on its store
+  pub runs-on-store : (resumed : Bool) (run : StoredRun) → IsDataGraph g → HasStart job.fields.algorithm job.fields.source g → (resumed ≡ false → length bodies ≡ 0)
+      → IsRunFrom job g program resumed (length bodies) bodies mid new run → RunsOnStore resumed job g old new run
+  runs-on-store resumed run is start fresh from =
+      let same : bodies ≡ snapshots_on job g old = sym (stands_are header old.now.seen bodies stands) in
+      record {
+        stands = subst (λ (b : List (List ℕ)). StandsFor header b old.now.seen) same stands;
+        fresh = subst (λ (b : List (List ℕ)). resumed ≡ false → length b ≡ 0) same fresh;
+        goes_on = λ owner placed front good.
+            let shared = shared_by job g owner in
+            let found = front-opened shared front good in
+            let went = from.goes_on owner placed found.2 in
+            let G : List (List ℕ) → Type 0 = λ b. GoesOnFrom job shared resumed header front b old new run in
+            subst G same (record {
+              snapshots = went.0;
+              is = went.1;
+              keeps = keeps-store shared front went.0 good went.2;
+              results = stored-results job g owner _ _ resumed went.0 run is start went.1;
+            });
+        full = from.full;
+      }
+
+  -- memory ran out
+  keeps-going : IsKept job g program bodies mid new → KeepsGoing job g old new
+  keeps-going kept owner placed front good =
+      let same : bodies ≡ snapshots_on job g old = sym (stands_are header old.now.seen bodies stands) in
+      let shared = shared_by job g owner in
+      let found = front-opened shared front good in
+      let went = kept owner placed found.2 in
+      let K : List (List ℕ) → Type 0 = λ b. KeepsStore shared header front b went.0 old new in
+      (went.0, subst K same (keeps-store shared front went.0 good went.1))
+
+  -- the store is none that calls leave
+  other-store : IsNotGood job g program bodies → IsOtherStore job g old
+  other-store not owner placed front good = not owner placed (front-opened (shared_by job g owner) front good).2
+
+  -- a disk that the run left as it was opened
+  unchanged : new ≡ mid → KeepsImages old new
+  unchanged same = subst (λ (p : DiskPast). KeepsImages old p) (sym same) opened
+
+-- why there is no run, where the store was opened
+pub not-on-disk : (told : Type 0) (resumed : Bool) (job : JobSayings) (g : DataGraph) (old mid new : DiskPast) (bodies : List (List ℕ)) (before between now : ℕ) (why : NoStore)
+    → (told → IsImage old.now old.now.seen) → (told → StandsFor (header_for job.fields g) bodies old.now.seen) → (told → LeavesOnly old mid (IsImage old.now)) → before ≤ between
+    → IsWhyNotOnJournal told resumed job g (update_of job.fields.algorithm job.fields.source) bodies mid new between now why → IsWhyNotOnDisk told resumed job g old new before now why
+not-on-disk told resumed job g old mid new bodies before between now (no_store.BadStore fault) seen stands opened later refused = λ is.
+    ⊎_elim
+    (λ said. inl (inr (said.0, record { snapshots = bodies; stands = stands is; some = said.1; told = said.2 }), unchanged job g old mid new bodies (seen is) (stands is) (opened is) said.3))
+    (λ not. inr (other-store job g old mid new bodies (seen is) (stands is) (opened is) not))
+    (refused is)
+not-on-disk told resumed job g old mid new bodies before between now no_store.DiskFault seen stands opened later refused = (
+  Rose-later before between now later refused.0,
+  λ is. unchanged job g old mid new bodies (seen is) (stands is) (opened is) (refused.1 is),
+)
+not-on-disk told resumed job g old mid new bodies before between now no_store.NoMemory seen stands opened later refused = λ is.
+    ⊎_elim (λ same. inl (unchanged job g old mid new bodies (seen is) (stands is) (opened is) same))
+    (λ kept. inr (keeps-going job g old mid new bodies (seen is) (stands is) (opened is) kept)) (refused is)
+
+-- why there is none, where it was not
+pub not-opened : (told : Type 0) (resumed : Bool) (job : JobSayings) (g : DataGraph) (old new : DiskPast) (before now : ℕ) (fault : JournalFault)
+    → IsWhyNotOpened told (header_for job.fields g) old.now.seen before now fault → (told → LeavesOnly old new (IsImage old.now)) → IsWhyNotOnDisk told resumed job g old new before now (no_store_of_journal fault)
+not-opened told resumed job g old new before now journal.DiskFault refused left = (refused, left)
+not-opened told resumed job g old new before now (journal.BadStore fault) refused left = λ is. inl (inl (refused is), left is)
+not-opened told resumed job g old new before now (journal.Full stored length) refused left = absurd refused
+not-opened told resumed job g old new before now journal.Failed refused left = absurd refused
+not-opened told resumed job g old new before now journal.NoMemory refused left = λ is. inl (left is)
+
+-- why there is none, where the run could not begin or wanted memory
+pub not-stored : (told : Type 0) (resumed : Bool) (job : JobSayings) (g : DataGraph) (bodies : List (List ℕ)) (old new : DiskPast) (before now : ℕ) (fault : JournalFault)
+    → IsWhyNotStored told job g (update_of job.fields.algorithm job.fields.source) bodies old new before now fault
+    → IsWhyNotOnJournal told resumed job g (update_of job.fields.algorithm job.fields.source) bodies old new before now (no_store_of_journal fault)
+not-stored told resumed job g bodies old new before now journal.DiskFault refused = refused
+not-stored told resumed job g bodies old new before now (journal.BadStore fault) refused = λ is. inr (refused is)
+not-stored told resumed job g bodies old new before now (journal.Full stored length) refused = absurd refused
+not-stored told resumed job g bodies old new before now journal.Failed refused = absurd refused
+not-stored told resumed job g bodies old new before now journal.NoMemory refused = refused

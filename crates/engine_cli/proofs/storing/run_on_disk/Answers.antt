@@ -1,0 +1,42 @@
+use Rattle.std.proofs.Common.{IsTrue, subst}
+use Rattle.job_config.specs.Views.{job_view}
+use Rattle.job_stores.specs.JobHeaders.{header_for}
+use Rattle.recovery.specs.Journals.{snapshots_in}
+use Rattle.store_format.specs.Stores.{StandsFor}
+use Rattle.store_format.specs.declared.header.Header.{Header}
+use Rattle.engine_cli.proofs.StoredBy.{IfErr-map, IfOk-two}
+use Rattle.engine_cli.proofs.StoreRuns.{not-on-disk, runs-on-store}
+use Rattle.engine_cli.proofs.storing.run_on_disk.Goals as goal
+
+pub returns-in-Ok-clause-run : goal.returns-in-Ok-clause-run
+returns-in-Ok-clause-run g c told =
+    let job = job_view c.args.input.now.job in
+    let graph = c.args.input.now.graph in
+    let old = g.D.Disk.past c.args.disk in
+    let bodies = snapshots_in g.D.Disk.past c.in-Ok.journal in
+    let stands : StandsFor (header_for job.fields graph) bodies old.now.seen = subst (λ (h : Header). StandsFor h bodies old.now.seen) c.header_of-header.ensures.header (c.in-Ok.ensures.stands told) in
+    rw c.into_disk.ensures
+    (IfOk-two c.run_on_journal.result _ _ _
+    (λ run fresh from.
+    runs-on-store job graph old (g.D.Disk.past c.in-Ok.journal.disk) (g.D.Disk.past c.run_on_journal.new.journal.disk) bodies (g.met.D.Disk.reads_an_image c.args.disk told) stands (c.in-Ok.ensures.any_moment told)
+    c.args.resumed run c.requires.graph c.requires.start fresh from)
+    (c.run_on_journal.ensures.fresh told) (c.run_on_journal.ensures.run told))
+
+pub returns-in-Ok-clause-refused : goal.returns-in-Ok-clause-refused
+returns-in-Ok-clause-refused g c =
+    let job = job_view c.args.input.now.job in
+    let graph = c.args.input.now.graph in
+    let old = g.D.Disk.past c.args.disk in
+    let bodies = snapshots_in g.D.Disk.past c.in-Ok.journal in
+    let T : Type 0 = IsTrue g.D.Disk.told in
+    let stands : T → StandsFor (header_for job.fields graph) bodies old.now.seen =
+    λ told. subst (λ (h : Header). StandsFor h bodies old.now.seen) c.header_of-header.ensures.header (c.in-Ok.ensures.stands told) in
+    rw c.into_disk.ensures
+    (IfErr-map c.run_on_journal.result _ _
+    (λ why refused.
+    not-on-disk T c.args.resumed job graph old (g.D.Disk.past c.in-Ok.journal.disk) (g.D.Disk.past c.run_on_journal.new.journal.disk) bodies (g.D.Disk.faults c.args.disk) (g.D.Disk.faults c.in-Ok.journal.disk) _ why
+    (λ told. g.met.D.Disk.reads_an_image c.args.disk told) stands (λ told. c.in-Ok.ensures.any_moment told) c.in-Ok.ensures.later refused)
+    c.run_on_journal.ensures.refused)
+
+pub returns-in-Ok-clause-same : goal.returns-in-Ok-clause-same
+returns-in-Ok-clause-same g c = rw c.into_disk.ensures (g.met.D.Disk.same_trans _ _ _ c.in-Ok.ensures.same c.run_on_journal.ensures.same)

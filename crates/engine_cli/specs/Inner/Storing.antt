@@ -1,0 +1,95 @@
+-- What running a job on its store answers, at each of its steps.
+use Rattle.std.specs.Prelude.{◌≡◌, ◌⊎◌, ◌+◌, ◌<◌, ℕ, Bool, false, List, length}
+use Rattle.gl_base.specs.declared.entries.Entry.{Entry}
+use Rattle.gl_outside.specs.Disk.{DiskPast}
+use Rattle.gl_outside.specs.Faults.{Rose}
+use Rattle.gl_outside.specs.FilesState.{FilesState}
+use Rattle.gl_outside.specs.declared.files.OpenFault.{OpenFault}
+use Rattle.gl_outside.specs.declared.files.OpenFault.TheVariants as open_fault
+use Rattle.graph_core.specs.DataGraph.{DataGraph}
+use Rattle.job_config.specs.Jobs.{JobSayings}
+use Rattle.job_config.specs.Views.{job_view}
+use Rattle.job_files.specs.declared.inputs.Input.{Input}
+use Rattle.job_runs.specs.Plays.{IsPlacement}
+use Rattle.job_stores.specs.JobHeaders.{header_for}
+use Rattle.job_stores.specs.NewStores.{IfDisksTold}
+use Rattle.job_stores.specs.declared.making.NoStore.{NoStore}
+use Rattle.job_stores.specs.declared.making.NoStore.TheVariants as no_store
+use Rattle.snap_journal.specs.declared.faults.JournalFault.{JournalFault}
+use Rattle.snap_journal.specs.declared.faults.JournalFault.TheVariants as journal
+use Rattle.store_format.specs.declared.faults.StoreFault.TheVariants.{Used}
+use Rattle.stored_answers.specs.Images.{IsGoodStore, KeepsGood}
+use Rattle.stored_answers.specs.declared.runs.StoredEnd.TheVariants as end
+use Rattle.stored_answers.specs.declared.runs.StoredRun.{StoredRun}
+use Rattle.stored_calls.specs.Causes.{IsWhyNoRun}
+use Rattle.update_api.specs.Updates.{Update}
+use Rattle.engine_cli.specs.JobRuns.{IsStoredRun, RunsOnStore, Shared, records_size, snapshots_on, stored_order}
+use Rattle.engine_cli.specs.JobStores.{IsOtherStore, KeepsGoing, KeepsImages, RefusesStore}
+
+-- what all attempts of a run of this program share
+abbrev pub shared_with : JobSayings → DataGraph → Update → (ℕ → ℕ) → Shared
+shared_with job g p owner = record { graph = g; program = p; owner = owner; failures = job.failures }
+
+-- A run of this program from an opened store with these snapshots, which are so many. From one that is good for the placed graph it is one that goes on from it.
+pub record IsRunFrom (job : JobSayings) (g : DataGraph) (p : Update) (resumed : Bool) (count : ℕ) (bodies : List (List ℕ)) (old new : DiskPast) (run : StoredRun) : Type 0 where
+  pub goes_on : (owner : ℕ → ℕ) → IsPlacement g job.fields.atoms job.fields.machines owner → IsGoodStore (shared_with job g p owner) (header_for job.fields g) bodies →
+      (snapshots : List (List Entry)) × IsStoredRun (shared_with job g p owner) job.fields.machines job.fields.window job.fields.budget count (stored_order bodies) resumed snapshots run
+      × KeepsGood (shared_with job g p owner) (header_for job.fields g) bodies snapshots old new
+  pub full : (stored bytes : ℕ) → run.end ≡ end.Full stored bytes → (stored ≡ length (snapshots_on job g new)) × (bytes ≡ 65 + records_size (snapshots_on job g new))
+
+-- a good store with these snapshots may have got others, and keeps what it had
+abbrev pub IsKept : JobSayings → DataGraph → Update → List (List ℕ) → DiskPast → DiskPast → Type 0
+IsKept job g p bodies old new =
+    (owner : ℕ → ℕ) → IsPlacement g job.fields.atoms job.fields.machines owner → IsGoodStore (shared_with job g p owner) (header_for job.fields g) bodies →
+    (snapshots : List (List Entry)) × KeepsGood (shared_with job g p owner) (header_for job.fields g) bodies snapshots old new
+
+-- a store with these snapshots is not a good one for the placed graph
+abbrev pub IsNotGood : JobSayings → DataGraph → Update → List (List ℕ) → Type 0
+IsNotGood job g p bodies =
+    (owner : ℕ → ℕ) → IsPlacement g job.fields.atoms job.fields.machines owner → IsGoodStore (shared_with job g p owner) (header_for job.fields g) bodies → ⊥
+
+-- why there is no run of this program
+abbrev pub IsWhyNotStored : Type 0 → JobSayings → DataGraph → Update → List (List ℕ) → DiskPast → DiskPast → ℕ → ℕ → JournalFault → Type 0
+IsWhyNotStored told job g p bodies old new before now fault = IsWhyNoRun told old new before now (IsNotGood job g p bodies) (IsKept job g p bodies old new) fault
+
+-- the same of the job, from a store that may have to be new
+abbrev pub IsWhyNotOnJournal : Type 0 → Bool → JobSayings → DataGraph → Update → List (List ℕ) → DiskPast → DiskPast → ℕ → ℕ → NoStore → Type 0
+IsWhyNotOnJournal told resumed job g p bodies old new before now (no_store.BadStore fault) =
+    told → ((resumed ≡ false) × (0 < length bodies) × (fault ≡ Used (length bodies)) × (new ≡ old)) ⊎ IsNotGood job g p bodies
+IsWhyNotOnJournal told resumed job g p bodies old new before now no_store.DiskFault = Rose before now × (told → new ≡ old)
+IsWhyNotOnJournal told resumed job g p bodies old new before now no_store.NoMemory = told → (new ≡ old) ⊎ IsKept job g p bodies old new
+
+-- the same, from what the disk has
+abbrev pub IsWhyNotOnDisk : Type 0 → Bool → JobSayings → DataGraph → DiskPast → DiskPast → ℕ → ℕ → NoStore → Type 0
+IsWhyNotOnDisk told resumed job g old new before now (no_store.BadStore fault) =
+    told → (RefusesStore resumed (header_for job.fields g) old.now.seen fault × KeepsImages old new) ⊎ IsOtherStore job g old
+IsWhyNotOnDisk told resumed job g old new before now no_store.DiskFault = Rose before now × (told → KeepsImages old new)
+IsWhyNotOnDisk told resumed job g old new before now no_store.NoMemory = told → KeepsImages old new ⊎ KeepsGoing job g old new
+
+-- the same of the disk of this name
+abbrev pub IsWhyNoStoredRun : Bool → Bool → List ℕ → Input → FilesState → FilesState → NoStore → Type 0
+IsWhyNoStoredRun told resumed name input old new (no_store.BadStore fault) =
+    IfDisksTold told old ((RefusesStore resumed (header_for (job_view input.job).fields input.graph) (old.pasts name).now.seen fault × KeepsImages (old.pasts name) (new.pasts name))
+    ⊎ IsOtherStore (job_view input.job) input.graph (old.pasts name))
+IsWhyNoStoredRun told resumed name input old new no_store.DiskFault =
+    Rose old.disks.faults new.disks.faults × IfDisksTold told old (KeepsImages (old.pasts name) (new.pasts name))
+IsWhyNoStoredRun told resumed name input old new no_store.NoMemory =
+    IfDisksTold told old (KeepsImages (old.pasts name) (new.pasts name) ⊎ KeepsGoing (job_view input.job) input.graph (old.pasts name) (new.pasts name))
+
+-- the run is one of the job on the disk of this name, and ended by a fault of the disk only where there was one
+pub record IsRunIntoStore (told resumed : Bool) (name : List ℕ) (input : Input) (old new : FilesState) (run : StoredRun) : Type 0 where
+  pub runs : IfDisksTold told old (RunsOnStore resumed (job_view input.job) input.graph (old.pasts name) (new.pasts name) run)
+  pub fault : run.end ≡ end.DiskFault → Rose old.disks.faults new.disks.faults
+
+-- a store was not opened whose file was not
+abbrev pub no_store_of : OpenFault → NoStore
+no_store_of open_fault.Failed = no_store.DiskFault
+no_store_of open_fault.NoMemory = no_store.NoMemory
+
+-- a store could not be used; one that is open is not full before the run
+abbrev pub no_store_of_journal : JournalFault → NoStore
+no_store_of_journal journal.DiskFault = no_store.DiskFault
+no_store_of_journal (journal.BadStore fault) = no_store.BadStore fault
+no_store_of_journal (journal.Full stored length) = no_store.DiskFault
+no_store_of_journal journal.Failed = no_store.DiskFault
+no_store_of_journal journal.NoMemory = no_store.NoMemory

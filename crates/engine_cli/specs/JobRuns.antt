@@ -1,0 +1,141 @@
+-- Runs of a job: without a store, and on the one that it names.
+pub use Rattle.recovery.specs.Journals.{records_size, stored_in, stored_order}
+pub use Rattle.stored_answers.specs.Images.{HoldsGood, orders_behind}
+pub use Rattle.stored_answers.specs.Runs.{IsStoredRun, Shared}
+use Rattle.std.specs.Prelude.{◌≡◌, ◌+◌, ◌++◌, ℕ, Bool, true, false, List, [], length, ⊤, Option, None, Some}
+use Rattle.gl_base.specs.declared.entries.Entry.{Entry}
+use Rattle.gl_base.specs.declared.numbers.Vertex.{Vertex}
+use Rattle.gl_outside.specs.Disk.{DiskPast, IsImage, LeavesOnly}
+use Rattle.gl_outside.specs.FilesState.{FilesState}
+use Rattle.graph_core.specs.DataGraph.{DataGraph}
+use Rattle.job_config.specs.Fields.{JobFields}
+use Rattle.job_config.specs.Jobs.{JobSayings}
+use Rattle.job_files.specs.JobTexts.{DescribeJobGraph, HasStart}
+use Rattle.job_files.specs.declared.jobs.JobVerb.{JobVerb}
+use Rattle.job_files.specs.declared.jobs.JobVerb.TheVariants as verb
+use Rattle.job_runs.specs.Plays.{IsPlacement}
+use Rattle.job_stores.specs.JobHeaders.{header_for}
+use Rattle.job_stores.specs.NewStores.{IfDisksTold}
+use Rattle.store_format.specs.Stores.{StandsFor}
+use Rattle.store_format.specs.declared.header.Header.{Header}
+use Rattle.stored_answers.specs.declared.runs.SnapLine.{SnapLine}
+use Rattle.stored_answers.specs.declared.runs.StoredEnd.{StoredEnd}
+use Rattle.stored_answers.specs.declared.runs.StoredEnd.TheVariants.{DiskFault, Finished, Full, Spent}
+use Rattle.stored_answers.specs.declared.runs.StoredRun.{StoredRun}
+use Rattle.engine_cli.specs.declared.ended.Ended.{Ended}
+use Rattle.engine_cli.specs.Plays.{AreResults, CountsByMachine, RunsTo, update_of}
+
+-- ---- what a call leaves of its run
+
+-- The lists: the order of its updates, those that recoveries took away, how many updates each machine made, the places of the failures that
+-- fired, and the snapshots that were acknowledged.
+pub record CallLists : Type 0 where
+  pub order : List Entry
+  pub lost : List Entry
+  pub done : List ℕ
+  pub fired : List ℕ
+  pub snapshots : List SnapLine
+
+-- all of them are empty
+abbrev pub no_lists : CallLists
+no_lists = record { order = []; lost = []; done = []; fired = []; snapshots = [] }
+
+abbrev pub lists_of_run : StoredRun → CallLists
+lists_of_run run = record { order = run.order.items; lost = run.lost.items; done = run.done.items; fired = run.fired.items; snapshots = run.snapshots.items }
+
+abbrev pub lists_of_call : Ended → CallLists
+lists_of_call ended = record { order = ended.order.items; lost = ended.lost.items; done = ended.done.items; fired = ended.fired.items; snapshots = ended.snapshots.items }
+
+-- ---- without a store
+
+-- the vertex that is left, if one is
+abbrev pub left_at : StoredEnd → Option Vertex
+left_at Finished = None
+left_at (Spent left) = Some left
+left_at (Full stored bytes) = None
+left_at DiskFault = None
+
+-- without a store a run ends as it leaves no task, or as its budget is spent
+abbrev pub IsEndAlone : StoredEnd → Type 0
+IsEndAlone Finished = ⊤
+IsEndAlone (Spent left) = ⊤
+IsEndAlone (Full stored bytes) = ⊥
+IsEndAlone DiskFault = ⊥
+
+-- A run without a store. Its updates are counted by machine, no update is lost, no failure fires and no snapshot is taken; and where it left no
+-- task, the numbers are what the algorithm is to find.
+pub record RunsAlone (job : JobFields) (g : DataGraph) (run : StoredRun) : Type 0 where
+  pub runs : RunsTo g (update_of job.algorithm job.source) job.atoms job.machines job.budget run.order.items run.numbers.items (left_at run.end)
+  pub ended : IsEndAlone run.end
+  pub counts : CountsByMachine job.machines run.order.items run.done.items
+  pub lost : run.lost.items ≡ []
+  pub fired : run.fired.items ≡ []
+  pub snapshots : run.snapshots.items ≡ []
+  pub results : run.end ≡ Finished → AreResults job.algorithm job.source g run.numbers.items
+
+-- ---- on a store
+
+-- what all attempts of a run of the job share, where the vertices have these owners
+abbrev pub shared_by : JobSayings → DataGraph → (ℕ → ℕ) → Shared
+shared_by job g owner =
+    record { graph = g; program = update_of job.fields.algorithm job.fields.source; owner = owner; failures = job.failures }
+
+-- whatever a crash would leave of the disk is a good store that begins with these snapshots
+abbrev pub AreGoodImages : Shared → Header → List (List ℕ) → DiskPast → Type 0
+AreGoodImages shared header front past = (image : List ℕ) → IsImage past.now image → HoldsGood shared header front image
+
+-- The store was found to have some snapshots as it was opened, and got others, whose orders are these. Whatever a crash left at any moment
+-- of the call is a good store that begins with the front ones; and whatever one leaves as the call has ended has the opened ones and the others.
+pub record KeepsStore (shared : Shared) (header : Header) (front opened : List (List ℕ)) (snapshots : List (List Entry)) (old new : DiskPast) : Type 0 where
+  pub added : List (List ℕ)
+  pub orders : orders_behind (stored_order opened) added ≡ snapshots
+  pub any_moment : LeavesOnly old new (HoldsGood shared header front)
+  pub at_end : (image : List ℕ) → IsImage new.now image → HoldsGood shared header (opened ++ added) image
+
+-- A run that goes on from a store of the opened snapshots, resumed or not: it is one with failures that keeps to the window and ends as it says,
+-- and the store keeps all that it had. Where it left no task, the numbers are what the algorithm is to find.
+pub record GoesOnFrom (job : JobSayings) (shared : Shared) (resumed : Bool) (header : Header) (front opened : List (List ℕ)) (old new : DiskPast) (run : StoredRun) : Type 0 where
+  pub snapshots : List (List Entry)
+  pub is : IsStoredRun shared job.fields.machines job.fields.window job.fields.budget (length opened) (stored_order opened) resumed snapshots run
+  pub keeps : KeepsStore shared header front opened snapshots old new
+  pub results : run.end ≡ Finished → AreResults job.fields.algorithm job.fields.source shared.graph run.numbers.items
+
+-- the snapshots that the store of a job on this graph has by what its disk reads
+abbrev pub snapshots_on : JobSayings → DataGraph → DiskPast → List (List ℕ)
+snapshots_on job g past = stored_in (header_for job.fields g) past.now.seen
+
+-- A run of the job on its store. The bytes are those of a store for it, and those of one without snapshots unless the run is resumed. Where
+-- whatever a crash would have left as the call began is a good store, for the graph as it is placed, that begins with some snapshots, it is a run that
+-- goes on from the store. If it ended as the store has no room, that has so many snapshots and bytes.
+pub record RunsOnStore (resumed : Bool) (job : JobSayings) (g : DataGraph) (old new : DiskPast) (run : StoredRun) : Type 0 where
+  pub stands : StandsFor (header_for job.fields g) (snapshots_on job g old) old.now.seen
+  pub fresh : resumed ≡ false → length (snapshots_on job g old) ≡ 0
+  pub goes_on : (owner : ℕ → ℕ) → IsPlacement g job.fields.atoms job.fields.machines owner
+      → (front : List (List ℕ)) → AreGoodImages (shared_by job g owner) (header_for job.fields g) front old
+      → GoesOnFrom job (shared_by job g owner) resumed (header_for job.fields g) front (snapshots_on job g old) old new run
+  pub full : (stored bytes : ℕ) → run.end ≡ Full stored bytes → (stored ≡ length (snapshots_on job g new)) × (bytes ≡ 65 + records_size (snapshots_on job g new))
+
+-- ---- either way
+
+-- `resume` goes on from what the store has, and `run` begins with a store that has none
+abbrev pub is_resumed : JobVerb → Bool
+is_resumed verb.Run = false
+is_resumed verb.Resume = true
+is_resumed verb.Cut = false
+is_resumed verb.Init = false
+
+-- The run is one of the job on this graph, where the job names this store, if any, and `told` says whether it is told what disks hold. `new` is what
+-- disks hold as it has ended.
+abbrev pub RunsSo : Bool → JobVerb → FilesState → (List ℕ → DiskPast) → JobSayings → DataGraph → StoredRun → Option (List ℕ) → Type 0
+RunsSo told asked old new job g run None = RunsAlone job.fields g run
+RunsSo told asked old new job g run (Some name) = IfDisksTold told old (RunsOnStore (is_resumed asked) job g (old.pasts name) (new name) run)
+
+-- The two texts tell a graph, this run of the job was made on it and ended so, and its lists are those that the call leaves.
+pub record MakesRun (told : Bool) (asked : JobVerb) (old : FilesState) (new : List ℕ → DiskPast) (job : JobSayings) (lists : CallLists) (end : StoredEnd) (vertices edges : List ℕ) : Type 0 where
+  pub graph : DataGraph
+  pub graph_is : DescribeJobGraph job.fields vertices edges graph
+  pub start : HasStart job.fields.algorithm job.fields.source graph
+  pub run : StoredRun
+  pub lists_are : lists ≡ lists_of_run run
+  pub ended : run.end ≡ end
+  pub runs : RunsSo told asked old new job graph run job.fields.store

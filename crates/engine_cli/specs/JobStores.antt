@@ -1,0 +1,85 @@
+-- What a run finds and leaves of the job's store where none is made, or memory ran out.
+use Rattle.std.specs.Prelude.{◌≡◌, ◌⊎◌, ◌<◌, ◌≤◌, ℕ, Bool, IsTrue, is_some, false, List, length, Some, Err}
+use Rattle.gl_base.specs.declared.entries.Entry.{Entry}
+use Rattle.gl_outside.specs.Disk.{DiskPast, IsImage, LeavesOnly}
+use Rattle.gl_outside.specs.FilesState.{FilesState}
+use Rattle.graph_core.specs.DataGraph.{DataGraph}
+use Rattle.job_config.specs.Jobs.{JobSayings}
+use Rattle.job_files.specs.Atoms.{OfGraph}
+use Rattle.job_files.specs.JobTexts.{OfJob, OfSaid, OfTexts}
+use Rattle.job_files.specs.declared.jobs.JobVerb.{JobVerb}
+use Rattle.job_runs.specs.Plays.{IsPlacement}
+use Rattle.job_stores.specs.JobHeaders.{header_for}
+use Rattle.job_stores.specs.NewStores.{IfDisksTold}
+use Rattle.store_format.specs.Stores.{StandsFor, read_store}
+use Rattle.store_format.specs.declared.faults.StoreFault.{StoreFault}
+use Rattle.store_format.specs.declared.faults.StoreFault.TheVariants.{Used}
+use Rattle.store_format.specs.declared.header.Header.{Header}
+use Rattle.engine_cli.specs.JobRuns.{AreGoodImages, KeepsStore, is_resumed, shared_by, snapshots_on}
+use Rattle.engine_cli.specs.StoreJobs.{HandsStore, IsStoreName}
+
+-- the bytes are those of a store that has snapshots, and the fault tells how many
+pub record IsUsed (header : Header) (seen : List ℕ) (fault : StoreFault) : Type 0 where
+  pub snapshots : List (List ℕ)
+  pub stands : StandsFor header snapshots seen
+  pub some : 0 < length snapshots
+  pub told : fault ≡ Used (length snapshots)
+
+-- why the store is refused: it has this first fault, or it has snapshots and the run is not resumed
+abbrev pub RefusesStore : Bool → Header → List ℕ → StoreFault → Type 0
+RefusesStore resumed header seen fault = (read_store header seen ≡ Err fault) ⊎ ((resumed ≡ false) × IsUsed header seen fault)
+
+-- The store is none that calls leave: whatever a crash would have left is not a good one, wherever the graph is placed.
+abbrev pub IsOtherStore : JobSayings → DataGraph → DiskPast → Type 0
+IsOtherStore job g past =
+    (owner : ℕ → ℕ) → IsPlacement g job.fields.atoms job.fields.machines owner
+    → (front : List (List ℕ)) → AreGoodImages (shared_by job g owner) (header_for job.fields g) front past → ⊥
+
+-- a crash at any moment of the call left what one as it began would have left
+abbrev pub KeepsImages : DiskPast → DiskPast → Type 0
+KeepsImages old new = LeavesOnly old new (IsImage old.now)
+
+-- where it is told what disks hold, this is so of each disk
+abbrev pub KeepsAllImages : Bool → FilesState → (List ℕ → DiskPast) → Type 0
+KeepsAllImages told old new = (name : List ℕ) → IfDisksTold told old (KeepsImages (old.pasts name) (new name))
+
+-- A run that went on from a good store wanted memory: it may have got snapshots, and the store keeps all that it had.
+abbrev pub KeepsGoing : JobSayings → DataGraph → DiskPast → DiskPast → Type 0
+KeepsGoing job g old new =
+    (owner : ℕ → ℕ) → IsPlacement g job.fields.atoms job.fields.machines owner
+    → (front : List (List ℕ)) → AreGoodImages (shared_by job g owner) (header_for job.fields g) front old
+    → (snapshots : List (List Entry)) × KeepsStore (shared_by job g owner) (header_for job.fields g) front (snapshots_on job g old) snapshots old new
+
+-- this holds of the name of the job's store, and of all that the job says and its graph
+abbrev pub OfStoredJob : JobVerb → FilesState → List ℕ → (List ℕ → JobSayings → DataGraph → Type 0) → Type 0
+OfStoredJob asked files file P =
+    OfSaid asked files file (λ job. (name : List ℕ) × (job.fields.store ≡ Some name) × OfTexts files job.fields (OfGraph job.fields (λ g. P name job g)))
+
+-- the job's store is refused
+abbrev pub RefusesJobStore : Bool → JobVerb → FilesState → List ℕ → StoreFault → Type 0
+RefusesJobStore told asked old file fault =
+    OfStoredJob asked old file (λ name job g. IfDisksTold told old (RefusesStore (is_resumed asked) (header_for job.fields g) (old.pasts name).now.seen fault))
+
+-- the job's store has its form, and is not a good one
+abbrev pub HasOtherStore : Bool → JobVerb → FilesState → List ℕ → Type 0
+HasOtherStore told asked old file = OfStoredJob asked old file (λ name job g. IfDisksTold told old (IsOtherStore job g (old.pasts name)))
+
+-- memory ran out, of a run that went on from the job's store
+abbrev pub RunsOutOnStore : Bool → JobVerb → FilesState → (List ℕ → DiskPast) → List ℕ → Type 0
+RunsOutOnStore told asked old new file = OfStoredJob asked old file (λ name job g. IfDisksTold told old (KeepsGoing job g (old.pasts name) (new name)))
+
+-- the job names a store
+abbrev pub NamesStore : JobVerb → FilesState → List ℕ → Type 0
+NamesStore asked files file = OfJob asked files file (λ job. IsTrue (is_some job.store))
+
+-- no disk was opened, and none changed
+pub record LeavesDisks (old new : FilesState) : Type 0 where
+  pub pasts : new.pasts ≡ old.pasts
+  pub disks : new.disks ≡ old.disks
+
+-- The job's store alone was opened as a disk, and no other disk changed. Where the job names none, no disk was opened.
+pub record UsesStore (asked : JobVerb) (file : List ℕ) (old new : FilesState) : Type 0 where
+  pub handed : HandsStore asked old new file
+  pub others : (name : List ℕ) → (IsStoreName asked old file name → ⊥) → new.pasts name ≡ old.pasts name
+  pub unless : LeavesDisks old new ⊎ NamesStore asked old file
+  pub later : old.disks.faults ≤ new.disks.faults

@@ -1,0 +1,232 @@
+//! Runs the job's algorithm on its graph, from the job's store and into it.
+ghost use Rattle.std.specs.Prelude.{◌≡◌, ◌≤◌, IfErr, IfOk, IsTrue, false, length};
+ghost use Rattle.job_config.specs.Ranges.{HasNumbers};
+ghost use Rattle.job_config.specs.Views.{job_view};
+ghost use Rattle.job_files.specs.JobTexts.{HasStart};
+ghost use Rattle.job_stores.specs.JobHeaders.{header_for};
+ghost use Rattle.job_stores.specs.NewStores.{UsesDisk};
+ghost use Rattle.recovery.specs.Journals.{snapshots_in};
+ghost use Rattle.stored_answers.specs.declared.runs.StoredEnd.TheVariants.{DiskFault};
+ghost use Rattle.gl_outside.specs.Faults.{Rose};
+ghost use Rattle.gl_outside.specs.FilesState.{disk_past};
+ghost use Rattle.gl_outside.specs.Frames.{ChangesDisk};
+ghost use Rattle.whole_calls.specs.Following.{AreJobFailures};
+ghost use Rattle.engine_cli.specs.JobRuns.{RunsOnStore};
+ghost use Rattle.engine_cli.specs.Inner.Prepares.{IsPrintable, IsRunnable};
+ghost use Rattle.engine_cli.specs.Inner.Storing.{IsRunFrom, IsRunIntoStore, IsWhyNoStoredRun, IsWhyNotOnDisk, IsWhyNotOnJournal, IsWhyNotStored, no_store_of, no_store_of_journal};
+ghost use Rattle.engine_cli.specs.Plays.{update_of};
+
+use crate::playing::{plan_of, source_of};
+use gl_base::{Algorithm, Job};
+use gl_outside::{Disk, DiskOf, Files, OpenFault};
+use graph_core::Graph;
+use job_files::Input;
+use job_stores::{NoStore, header_of};
+use prog_colours::Colours;
+use prog_labels::{Components, Levels};
+use prog_paths::Paths;
+use snap_journal::{Journal, JournalFault};
+use std::alloc::Global;
+use std::sync::Wait;
+use store_format::StoreFault;
+use stored_answers::{StoredPlan, StoredRun};
+use stored_calls::run_stored;
+use update_api::Program;
+
+/// Opens the job's store in the file of this name, and runs the job's algorithm from it and into it. `BadStore` comes where its bytes are
+/// none of a store for this job and graph, and, unless the run is resumed, by `Used` where it has snapshots.
+pub fn run_on_store<R: Wait, F: Files>(
+    rt: &R,
+    alloc: Global,
+    files: &mut F,
+    name: &str,
+    input: &Input,
+    resumed: bool,
+) -> Result<StoredRun, NoStore>
+    requires { IsRunnable input.now }
+    ensures run { IfOk result (IsRunIntoStore F.disks_told resumed name.now input.now (F.state files.old) (F.state files.new)) }
+    ensures refused { IfErr result (IsWhyNoStoredRun F.disks_told resumed name.now input.now (F.state files.old) (F.state files.new)) }
+    ensures printable { IfOk result (IsPrintable input.now.graph) }
+    ensures used { UsesDisk name.now (F.state files.old) (F.state files.new) }
+{
+    let file = match files.open_disk(name) {
+        Ok(file) => file,
+        Err(fault) => return Err(not_opened(fault)),
+    };
+    let mut made = Err(NoStore::NoMemory);
+    let _disk = run_on_disk(
+        rt,
+        alloc,
+        DiskOf::new(files, file),
+        input,
+        resumed,
+        &mut made,
+    );
+    made
+}
+
+/// Opens the store on a disk, and runs the job's algorithm from it and into it. `made` gets the run or why there is none, and the disk is
+/// handed back.
+fn run_on_disk<R: Wait, D: Disk>(
+    rt: &R,
+    alloc: Global,
+    disk: D,
+    input: &Input,
+    resumed: bool,
+    made: &mut Result<StoredRun, NoStore>,
+) -> D
+    requires { IsRunnable input.now }
+    ensures run { IsTrue D.told → IfOk made.new (RunsOnStore resumed (job_view input.now.job) input.now.graph (D.past disk) (D.past result)) }
+    ensures fault { IfOk made.new (λ run. run.end ≡ DiskFault → Rose (D.faults disk) (D.faults result)) }
+    ensures printable { IfOk made.new (IsPrintable input.now.graph) }
+    ensures refused { IfErr made.new (IsWhyNotOnDisk (IsTrue D.told) resumed (job_view input.now.job) input.now.graph (D.past disk) (D.past result) (D.faults disk) (D.faults result)) }
+    ensures same { D.same disk result }
+    ensures later { D.faults disk ≤ D.faults result }
+{
+    let header = header_of(&input.job, &input.graph);
+    match Journal::open(alloc, disk, &header) {
+        Ok(mut journal) => {
+            *made = run_on_journal(rt, alloc, input, &mut journal, resumed);
+            journal.into_disk()
+        }
+        Err((fault, disk)) => {
+            *made = Err(why_not_run(fault));
+            disk
+        }
+    }
+}
+
+/// Runs the job's algorithm from an opened store and into it, which has no snapshots unless the run is resumed.
+fn run_on_journal<R: Wait, D: Disk>(
+    rt: &R,
+    alloc: Global,
+    input: &Input,
+    journal: &mut Journal<D>,
+    resumed: bool,
+) -> Result<StoredRun, NoStore>
+    requires input { IsRunnable input.now }
+    requires header { journal.old.header ≡ header_for (job_view input.now.job).fields input.now.graph }
+    requires well { journal.old.failed ≡ false }
+    ensures fresh { IsTrue D.told → IfOk result (λ run. resumed ≡ false → length (snapshots_in D.past journal.old) ≡ 0) }
+    ensures run { IsTrue D.told → IfOk result (IsRunFrom (job_view input.now.job) input.now.graph (update_of input.now.job.algorithm input.now.job.source) resumed
+        (length (snapshots_in D.past journal.old)) (snapshots_in D.past journal.old) (D.past journal.old.disk) (D.past journal.new.disk)) }
+    ensures fault { IfOk result (λ run. run.end ≡ DiskFault → Rose (D.faults journal.old.disk) (D.faults journal.new.disk)) }
+    ensures printable { IfOk result (IsPrintable input.now.graph) }
+    ensures refused { IfErr result (IsWhyNotOnJournal (IsTrue D.told) resumed (job_view input.now.job) input.now.graph (update_of input.now.job.algorithm input.now.job.source)
+        (snapshots_in D.past journal.old) (D.past journal.old.disk) (D.past journal.new.disk) (D.faults journal.old.disk) (D.faults journal.new.disk)) }
+    ensures same { D.same journal.old.disk journal.new.disk }
+    ensures later { D.faults journal.old.disk ≤ D.faults journal.new.disk }
+{
+    let count = journal.count();
+    if !resumed && count > 0 {
+        return Err(NoStore::BadStore(StoreFault::Used(count)));
+    }
+    match run_stored_on(rt, alloc, &input.graph, &input.job, journal, resumed) {
+        Ok(run) => Ok(run),
+        Err(fault) => Err(why_not_run(fault)),
+    }
+}
+
+/// Runs the job's algorithm by its program.
+fn run_stored_on<R: Wait, D: Disk>(
+    rt: &R,
+    alloc: Global,
+    graph: &Graph,
+    job: &Job,
+    journal: &mut Journal<D>,
+    resumed: bool,
+) -> Result<StoredRun, JournalFault>
+    requires start { HasStart job.now.algorithm job.now.source graph.now }
+    requires numbers { HasNumbers (job_view job.now).fields }
+    requires failures { AreJobFailures job.now.machines job.now.failures.items }
+    requires header { journal.old.header ≡ header_for (job_view job.now).fields graph.now }
+    requires fresh { resumed ≡ false → journal.old.count ≡ 0 }
+    requires well { journal.old.failed ≡ false }
+    ensures run { IsTrue D.told → IfOk result (IsRunFrom (job_view job.now) graph.now (update_of job.now.algorithm job.now.source) resumed
+        journal.old.count (snapshots_in D.past journal.old) (D.past journal.old.disk) (D.past journal.new.disk)) }
+    ensures fault { IfOk result (λ run. run.end ≡ DiskFault → Rose (D.faults journal.old.disk) (D.faults journal.new.disk)) }
+    ensures printable { IfOk result (IsPrintable graph.now) }
+    ensures refused { IfErr result (IsWhyNotStored (IsTrue D.told) (job_view job.now) graph.now (update_of job.now.algorithm job.now.source)
+        (snapshots_in D.past journal.old) (D.past journal.old.disk) (D.past journal.new.disk) (D.faults journal.old.disk) (D.faults journal.new.disk)) }
+    ensures same { D.same journal.old.disk journal.new.disk }
+    ensures later { D.faults journal.old.disk ≤ D.faults journal.new.disk }
+{
+    match job.algorithm {
+        Algorithm::Levels => {
+            let source = source_of(job);
+            run_stored_by(rt, alloc, graph, Levels { source }, job, journal, resumed)
+        }
+        Algorithm::Components => {
+            run_stored_by(rt, alloc, graph, Components, job, journal, resumed)
+        }
+        Algorithm::Paths => {
+            let source = source_of(job);
+            run_stored_by(rt, alloc, graph, Paths { source }, job, journal, resumed)
+        }
+        Algorithm::Colours => run_stored_by(rt, alloc, graph, Colours, job, journal, resumed),
+    }
+}
+
+/// Runs a program by the numbers of the job and its failures.
+fn run_stored_by<R: Wait, D: Disk, P: Program>(
+    rt: &R,
+    alloc: Global,
+    graph: &Graph,
+    program: P,
+    job: &Job,
+    journal: &mut Journal<D>,
+    resumed: bool,
+) -> Result<StoredRun, JournalFault>
+    requires start { HasStart job.now.algorithm job.now.source graph.now }
+    requires numbers { HasNumbers (job_view job.now).fields }
+    requires failures { AreJobFailures job.now.machines job.now.failures.items }
+    requires header { journal.old.header ≡ header_for (job_view job.now).fields graph.now }
+    requires fresh { resumed ≡ false → journal.old.count ≡ 0 }
+    requires well { journal.old.failed ≡ false }
+    ensures run { IsTrue D.told → IfOk result (IsRunFrom (job_view job.now) graph.now (P.meaning program) resumed
+        journal.old.count (snapshots_in D.past journal.old) (D.past journal.old.disk) (D.past journal.new.disk)) }
+    ensures fault { IfOk result (λ run. run.end ≡ DiskFault → Rose (D.faults journal.old.disk) (D.faults journal.new.disk)) }
+    ensures printable { IfOk result (IsPrintable graph.now) }
+    ensures refused { IfErr result (IsWhyNotStored (IsTrue D.told) (job_view job.now) graph.now (P.meaning program)
+        (snapshots_in D.past journal.old) (D.past journal.old.disk) (D.past journal.new.disk) (D.faults journal.old.disk) (D.faults journal.new.disk)) }
+    ensures same { D.same journal.old.disk journal.new.disk }
+    ensures later { D.faults journal.old.disk ≤ D.faults journal.new.disk }
+{
+    let plan = StoredPlan {
+        run: plan_of(job),
+        window: job.window,
+    };
+    run_stored(
+        rt,
+        alloc,
+        graph,
+        program,
+        plan,
+        &job.failures,
+        journal,
+        resumed,
+    )
+}
+
+/// Why there is no run where the store's file was not opened.
+fn not_opened(fault: OpenFault) -> NoStore
+    ensures { result ≡ no_store_of fault }
+{
+    match fault {
+        OpenFault::Failed => NoStore::DiskFault,
+        OpenFault::NoMemory => NoStore::NoMemory,
+    }
+}
+
+/// Why there is no run where the store could not be used.
+fn why_not_run(fault: JournalFault) -> NoStore
+    ensures { result ≡ no_store_of_journal fault }
+{
+    match fault {
+        JournalFault::BadStore(fault) => NoStore::BadStore(fault),
+        JournalFault::DiskFault | JournalFault::Failed | JournalFault::Full { .. } => {
+            NoStore::DiskFault
+        }
+        JournalFault::NoMemory => NoStore::NoMemory,
+    }
+}
