@@ -139,6 +139,7 @@ fn run_stored_on<R: Wait, D: Disk>(
     requires start { HasStart job.now.algorithm job.now.source graph.now }
     requires numbers { HasNumbers (job_view job.now).fields }
     requires failures { AreJobFailures job.now.machines job.now.failures.items }
+    requires few { length job.now.failures.items ≤ 64 }
     requires header { journal.old.header ≡ header_for (job_view job.now).fields graph.now }
     requires fresh { resumed ≡ false → journal.old.count ≡ 0 }
     requires well { journal.old.failed ≡ false }
@@ -180,6 +181,7 @@ fn run_stored_by<R: Wait, D: Disk, P: Program>(
     requires start { HasStart job.now.algorithm job.now.source graph.now }
     requires numbers { HasNumbers (job_view job.now).fields }
     requires failures { AreJobFailures job.now.machines job.now.failures.items }
+    requires few { length job.now.failures.items ≤ 64 }
     requires header { journal.old.header ≡ header_for (job_view job.now).fields graph.now }
     requires fresh { resumed ≡ false → journal.old.count ≡ 0 }
     requires well { journal.old.failed ≡ false }
@@ -196,7 +198,7 @@ fn run_stored_by<R: Wait, D: Disk, P: Program>(
         run: plan_of(job),
         window: job.window,
     };
-    run_stored(
+    let run = run_stored(
         rt,
         alloc,
         graph,
@@ -205,7 +207,11 @@ fn run_stored_by<R: Wait, D: Disk, P: Program>(
         &job.failures,
         journal,
         resumed,
-    )
+    );
+    // The readers tell how many snapshots and bytes the store has now.
+    let _stored = journal.count();
+    let _long = journal.length();
+    run
 }
 
 /// Why there is no run where the store's file was not opened.

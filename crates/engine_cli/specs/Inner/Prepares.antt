@@ -37,6 +37,7 @@ IsOfRun verb.Init = ⊥
 pub record IsRunnable (input : Input) : Type 0 where
   pub numbers : HasNumbers (job_view input.job).fields
   pub failures : AreJobFailures input.job.machines input.job.failures.items
+  pub few : length input.job.failures.items ≤ 64
   pub graph : IsDataGraph input.graph
   pub start : HasStart input.job.algorithm input.job.source input.graph
 
