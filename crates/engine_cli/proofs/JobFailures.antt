@@ -77,3 +77,16 @@ failures-behind machines earlier (f ∷ fs) none =
 
 pub job-failures : (machines : ℕ) (failures : List FailureAt) → first_faulty machines [] failures ≡ None → AreJobFailures machines failures
 job-failures machines failures none = failures-behind machines [] failures none
+
+-- where none is faulty there are at most 64
+few-behind : (machines : ℕ) (earlier fs : List FailureAt) → length earlier ≤ 64 → first_faulty machines earlier fs ≡ None → length earlier + length fs ≤ 64
+few-behind machines earlier [] few none = omega (arith, few)
+few-behind machines earlier (f ∷ fs) few none =
+    let parts = first-of machines earlier f fs none in
+    let room : length earlier < 64 = leb-false 64 (length earlier) (false-or-false (nat_le 64 (length earlier)) _ parts.0).0 in
+    let longer : length (earlier ++ f ∷ []) ≡ length earlier + 1 = length_append earlier (f ∷ []) in
+    let rest = few-behind machines (earlier ++ f ∷ []) fs (omega (arith, room, longer)) parts.1 in
+    omega (arith, rest, longer)
+
+pub few-failures : (machines : ℕ) (failures : List FailureAt) → first_faulty machines [] failures ≡ None → length failures ≤ 64
+few-failures machines failures none = few-behind machines [] failures (omega (arith)) none

@@ -1,24 +1,28 @@
 -- What the run of a program on an opened store says of the job.
-use Rattle.std.proofs.Common.{◌≡◌, inl, inr, ℕ, ◌+◌, Bool, List, length, Result, Ok, Err, refl, ◌∙◌, subst, ⊎_elim}
+use Rattle.std.proofs.Common.{◌≡◌, inl, inr, ℕ, ◌+◌, Bool, List, length, Result, Ok, Err, refl, sym, ◌∙◌, subst, ⊎_elim}
 use Rattle.std.specs.Prelude.{All, IfErr, IfOk}
 use Rattle.gl_base.specs.declared.entries.Entry.{Entry}
 use Rattle.gl_base.specs.declared.jobs.FailureAt.{FailureAt}
 use Rattle.gl_outside.specs.Disk.{DiskPast}
+use Rattle.gl_outside.specs.Faults.{Rose}
 use Rattle.graph_core.specs.DataGraph.{DataGraph, size}
 use Rattle.job_config.specs.Jobs.{JobSayings}
 use Rattle.job_runs.specs.Plays.{IsPlacement}
 use Rattle.job_runs.specs.declared.runs.RunPlan.{RunPlan}
 use Rattle.job_stores.specs.JobHeaders.{header_for}
 use Rattle.order_text.specs.Orders.{IsEntryOf}
-use Rattle.recovery.specs.Journals.{records_size, stored_in, stored_order}
+use Rattle.recovery.specs.Journals.{JournalState, records_size, snapshots_in, stored_in, stored_order}
 use Rattle.snap_journal.specs.declared.faults.JournalFault.{JournalFault}
 use Rattle.snap_journal.specs.declared.faults.JournalFault.TheVariants as journal
+use Rattle.store_format.specs.declared.faults.StoreFault.{StoreFault}
 use Rattle.store_format.specs.declared.header.Header.{Header}
 use Rattle.stored_answers.specs.Images.{IsGoodStore, KeepsGood}
-use Rattle.stored_answers.specs.Runs.{IsStoredRun, Shared}
+use Rattle.stored_answers.specs.Runs.{IsStoredRun}
+use Rattle.stored_answers.specs.declared.runs.StoredEnd.{StoredEnd}
 use Rattle.stored_answers.specs.declared.runs.StoredEnd.TheVariants as end
 use Rattle.stored_answers.specs.declared.runs.StoredRun.{StoredRun}
-use Rattle.stored_calls.specs.Causes.{IsWhyNoRun}
+use Rattle.stored_calls.specs.Calls.{EndsBy}
+use Rattle.stored_calls.specs.Runs.{IsWhyNoRun, owned_shared}
 use Rattle.update_api.specs.Updates.{Update}
 use Rattle.engine_cli.specs.Inner.Prepares.{IsPrintable}
 use Rattle.engine_cli.specs.Inner.Storing.{IsKept, IsNotGood, IsRunFrom, IsWhyNotStored, shared_with}
@@ -35,6 +39,10 @@ pub IfErr-map : {T E : Type 0} (r : Result T E) (P Q : E → Type 0) → ((e : E
 IfErr-map (Ok x) P Q step p = tt
 IfErr-map (Err e) P Q step p = step e p
 
+pub IfErr-two : {T E : Type 0} (r : Result T E) (P Q R : E → Type 0) → ((e : E) → P e → Q e → R e) → IfErr r P → IfErr r Q → IfErr r R
+IfErr-two (Ok x) P Q R step p q = tt
+IfErr-two (Err e) P Q R step p q = step e p q
+
 pub printable-of : {E : Type 0} (r : Result StoredRun E) (g : DataGraph) → IfOk r (λ run. length run.numbers.items ≡ size g) → IfOk r (λ run. All (IsEntryOf g) run.order.items) → IfOk r (IsPrintable g)
 printable-of r g numbers entries =
     IfOk-two r (λ run. length run.numbers.items ≡ size g) (λ run. All (IsEntryOf g) run.order.items) (IsPrintable g) (λ run n e. record { numbers = n; entries = e }) numbers entries
@@ -44,22 +52,55 @@ printable-of r g numbers entries =
 -- what is said of a program's run by this plan, with these failures, on a store for this header
 abbrev pub GoesBy : DataGraph → Update → ℕ → Bool → ℕ → List (List ℕ) → DiskPast → DiskPast → StoredRun → RunPlan → List FailureAt → Header → Type 0
 GoesBy g p window resumed count bodies old new run plan failures header =
-    (owner : ℕ → ℕ) → IsPlacement g plan.atoms plan.machines owner → (shared : Shared) → shared ≡ record { graph = g; program = p; owner = owner; failures = failures } → IsGoodStore shared header bodies →
-    (snapshots : List (List Entry)) × IsStoredRun shared plan.machines window plan.budget count (stored_order bodies) resumed snapshots run × KeepsGood shared header bodies snapshots old new
+    (owner : ℕ → ℕ) → IsPlacement g plan.atoms plan.machines owner → IsGoodStore (owned_shared g p owner failures) header bodies →
+    (snapshots : List (List Entry)) × IsStoredRun (owned_shared g p owner failures) plan.machines window plan.budget count (stored_order bodies) resumed snapshots run
+    × KeepsGood (owned_shared g p owner failures) header bodies snapshots old new
 
 abbrev pub KeepsBy : DataGraph → Update → List (List ℕ) → DiskPast → DiskPast → RunPlan → List FailureAt → Header → Type 0
 KeepsBy g p bodies old new plan failures header =
-    (owner : ℕ → ℕ) → IsPlacement g plan.atoms plan.machines owner → (shared : Shared) → shared ≡ record { graph = g; program = p; owner = owner; failures = failures } → IsGoodStore shared header bodies →
-    (snapshots : List (List Entry)) × KeepsGood shared header bodies snapshots old new
+    (owner : ℕ → ℕ) → IsPlacement g plan.atoms plan.machines owner → IsGoodStore (owned_shared g p owner failures) header bodies →
+    (snapshots : List (List Entry)) × KeepsGood (owned_shared g p owner failures) header bodies snapshots old new
 
 abbrev pub NotGoodBy : DataGraph → Update → List (List ℕ) → RunPlan → List FailureAt → Header → Type 0
 NotGoodBy g p bodies plan failures header =
-    (owner : ℕ → ℕ) → IsPlacement g plan.atoms plan.machines owner → (shared : Shared) → shared ≡ record { graph = g; program = p; owner = owner; failures = failures } → IsGoodStore shared header bodies → ⊥
+    (owner : ℕ → ℕ) → IsPlacement g plan.atoms plan.machines owner → IsGoodStore (owned_shared g p owner failures) header bodies → ⊥
 
 -- how many snapshots and bytes a full store has
-abbrev pub FullBy : Header → DiskPast → StoredRun → Type 0
-FullBy header new run =
-    (stored bytes : ℕ) → run.end ≡ end.Full stored bytes → (stored ≡ length (stored_in header new.now.seen)) × (bytes ≡ 65 + records_size (stored_in header new.now.seen))
+abbrev pub FullBy : Header → DiskPast → StoredEnd → Type 0
+FullBy header new how =
+    (stored bytes : ℕ) → how ≡ end.Full stored bytes → (stored ≡ length (stored_in header new.now.seen)) × (bytes ≡ 65 + records_size (stored_in header new.now.seen))
+
+-- what a journal that did not fail tells of what it has
+module _ {D : Type 0} (past : D → DiskPast) (told : Type 0) (journal : JournalState D) (count long before now : ℕ)
+    (count_is : count ≡ journal.count) (counted : told → journal.failed ≡ false → count ≡ length (snapshots_in past journal))
+    (long_is : long ≡ journal.length) (measured : told → journal.failed ≡ false → long ≡ 65 + records_size (snapshots_in past journal)) where
+  pub full-by : told → (how : StoredEnd) → EndsBy journal before now how → FullBy journal.header (past journal.disk) how
+  full-by is (end.Full s b) by stored bytes same =
+      let both = same_full same in (
+        sym both.0 ∙ by.1.0 ∙ sym count_is ∙ counted is by.0,
+        sym both.1 ∙ by.1.1 ∙ sym long_is ∙ measured is by.0,
+      )
+    where
+      same_full : end.Full s b ≡ end.Full stored bytes → (s ≡ stored) × (b ≡ bytes)
+      same_full e = (cc, cc)
+  full-by is end.Finished by stored bytes same = absurd (no same)
+    where
+      no : end.Finished ≡ end.Full stored bytes → ⊥
+      no e = cc
+  full-by is (end.Spent left) by stored bytes same = absurd (no same)
+    where
+      no : end.Spent left ≡ end.Full stored bytes → ⊥
+      no e = cc
+  full-by is end.DiskFault by stored bytes same = absurd (no same)
+    where
+      no : end.DiskFault ≡ end.Full stored bytes → ⊥
+      no e = cc
+
+pub fault-by : {D : Type 0} (journal : JournalState D) (before now : ℕ) (how : StoredEnd) → EndsBy journal before now how → how ≡ end.DiskFault → Rose before now
+fault-by journal before now how by is =
+    let E : StoredEnd → Type 0 = λ e. EndsBy journal before now e in
+    let rose : EndsBy journal before now end.DiskFault = subst E is by in
+    rose.1
 
 abbrev pub plan_for : JobSayings → RunPlan
 plan_for job = record { atoms = job.fields.atoms; machines = job.fields.machines; pipeline = job.fields.pipeline; budget = job.fields.budget }
@@ -73,28 +114,26 @@ module _ (job : JobSayings) (g : DataGraph) (p : Update) (bodies : List (List �
       let B : List FailureAt → Type 0 = λ fs. F (plan_for job) fs header in
       subst (F (plan_for job) job.failures) header_is (subst B failures_are (subst A plan_is f))
 
-  pub run-from : (resumed : Bool) (count : ℕ) (run : StoredRun) → GoesBy g p job.fields.window resumed count bodies old new run plan failures header → FullBy after new run
+  pub run-from : (resumed : Bool) (count : ℕ) (run : StoredRun) → GoesBy g p job.fields.window resumed count bodies old new run plan failures header → FullBy after new run.end
       → IsRunFrom job g p resumed count bodies old new run
-  run-from resumed count run goes full =
-      let went = of-job (GoesBy g p job.fields.window resumed count bodies old new run) goes in
-      record {
-        goes_on = λ owner placed good. went owner placed (shared_with job g p owner) refl good;
-        full = subst (λ (h : Header). FullBy h new run) (still ∙ header_is) full;
-      }
+  run-from resumed count run goes full = record {
+    goes_on = of-job (GoesBy g p job.fields.window resumed count bodies old new run) goes;
+    full = subst (λ (h : Header). FullBy h new run.end) (still ∙ header_is) full;
+  }
 
   kept-by : KeepsBy g p bodies old new plan failures header → IsKept job g p bodies old new
-  kept-by keeps owner placed good = of-job (KeepsBy g p bodies old new) keeps owner placed (shared_with job g p owner) refl good
+  kept-by keeps = of-job (KeepsBy g p bodies old new) keeps
 
   not-good-by : NotGoodBy g p bodies plan failures header → IsNotGood job g p bodies
-  not-good-by not owner placed good = of-job (NotGoodBy g p bodies) not owner placed (shared_with job g p owner) refl good
+  not-good-by not = of-job (NotGoodBy g p bodies) not
 
-  pub why-not-stored : (told : Type 0) (before now : ℕ) (fault : JournalFault) → IsWhyNoRun told old new before now (NotGoodBy g p bodies plan failures header) (KeepsBy g p bodies old new plan failures header) fault
-      → IsWhyNotStored told job g p bodies old new before now fault
-  why-not-stored told before now journal.DiskFault refused = refused
-  why-not-stored told before now (journal.BadStore fault) refused = λ is. not-good-by (refused is)
-  why-not-stored told before now (journal.Full stored length) refused = refused
-  why-not-stored told before now journal.Failed refused = refused
-  why-not-stored told before now journal.NoMemory refused = λ is. ⊎_elim (λ same. inl same) (λ keeps. inr (kept-by keeps)) (refused is)
+  pub why-not-stored : (told : Type 0) (before now : ℕ) (fault : JournalFault) → IsWhyNoRun told old new before now (KeepsBy g p bodies old new plan failures header) fault
+      → ((why : StoreFault) → fault ≡ journal.BadStore why → told → NotGoodBy g p bodies plan failures header) → IsWhyNotStored told job g p bodies old new before now fault
+  why-not-stored told before now journal.DiskFault refused not = refused
+  why-not-stored told before now (journal.BadStore why) refused not = λ is. not-good-by (not why refl is)
+  why-not-stored told before now (journal.Full stored length) refused not = refused
+  why-not-stored told before now journal.Failed refused not = refused
+  why-not-stored told before now journal.NoMemory refused not = λ is. ⊎_elim (λ same. inl same) (λ keeps. inr (kept-by keeps)) (refused is)
 
 -- the same of another name of the program
 pub by-program : (r : Result StoredRun JournalFault) (told : Type 0) (job : JobSayings) (g : DataGraph) (p q : Update) (bodies : List (List ℕ)) (old new : DiskPast) (before now : ℕ) → p ≡ q

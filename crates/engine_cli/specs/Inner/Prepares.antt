@@ -1,5 +1,5 @@
 -- What reading a job and its graph and running it answers.
-use Rattle.std.specs.Prelude.{◌≡◌, ℕ, Bool, All, List, [], length, ⊤, Option, None, Some, Result, Ok, Err}
+use Rattle.std.specs.Prelude.{◌≡◌, ◌≤◌, ℕ, Bool, All, List, [], length, ⊤, Option, None, Some, Result, Ok, Err}
 use Rattle.gl_outside.specs.Faults.{Rose}
 use Rattle.gl_outside.specs.FilesState.{FilesState}
 use Rattle.graph_core.specs.DataGraph.{DataGraph, IsDataGraph, size}

@@ -21,7 +21,6 @@ use Rattle.store_format.specs.declared.faults.StoreFault.TheVariants.{Used}
 use Rattle.stored_answers.specs.Images.{IsGoodStore, KeepsGood}
 use Rattle.stored_answers.specs.declared.runs.StoredEnd.TheVariants as end
 use Rattle.stored_answers.specs.declared.runs.StoredRun.{StoredRun}
-use Rattle.stored_calls.specs.Causes.{IsWhyNoRun}
 use Rattle.update_api.specs.Updates.{Update}
 use Rattle.engine_cli.specs.JobRuns.{IsStoredRun, RunsOnStore, Shared, records_size, snapshots_on, stored_order}
 use Rattle.engine_cli.specs.JobStores.{IsOtherStore, KeepsGoing, KeepsImages, RefusesStore}
@@ -48,9 +47,13 @@ abbrev pub IsNotGood : JobSayings → DataGraph → Update → List (List ℕ) �
 IsNotGood job g p bodies =
     (owner : ℕ → ℕ) → IsPlacement g job.fields.atoms job.fields.machines owner → IsGoodStore (shared_with job g p owner) (header_for job.fields g) bodies → ⊥
 
--- why there is no run of this program
+-- Why there is no run of this program. Where it is told what the disk holds, a store is refused only where it is not good.
 abbrev pub IsWhyNotStored : Type 0 → JobSayings → DataGraph → Update → List (List ℕ) → DiskPast → DiskPast → ℕ → ℕ → JournalFault → Type 0
-IsWhyNotStored told job g p bodies old new before now fault = IsWhyNoRun told old new before now (IsNotGood job g p bodies) (IsKept job g p bodies old new) fault
+IsWhyNotStored told job g p bodies old new before now journal.DiskFault = Rose before now × (told → new ≡ old)
+IsWhyNotStored told job g p bodies old new before now (journal.BadStore fault) = told → IsNotGood job g p bodies
+IsWhyNotStored told job g p bodies old new before now (journal.Full stored length) = ⊥
+IsWhyNotStored told job g p bodies old new before now journal.Failed = ⊥
+IsWhyNotStored told job g p bodies old new before now journal.NoMemory = told → (new ≡ old) ⊎ IsKept job g p bodies old new
 
 -- the same of the job, from a store that may have to be new
 abbrev pub IsWhyNotOnJournal : Type 0 → Bool → JobSayings → DataGraph → Update → List (List ℕ) → DiskPast → DiskPast → ℕ → ℕ → NoStore → Type 0

@@ -1,6 +1,6 @@
 use Rattle.std.proofs.lemmas.Result.{err_from_is_err_and}
 use Rattle.job_config.specs.Views.{job_view}
-use Rattle.engine_cli.proofs.JobFailures.{job-failures}
+use Rattle.engine_cli.proofs.JobFailures.{few-failures, job-failures}
 use Rattle.engine_cli.proofs.Preparing.{alone-used, handed-used, input-names, input-refuses, input-used, none-made, reads-used, rose-since, runs-since, sources-input, store-late, store-unused, store-used}
 use Rattle.engine_cli.proofs.running.prepare.Goals as goal
 
@@ -29,7 +29,7 @@ pub run_input-requires : goal.run_input-requires
 run_input-requires g c =
     let input = c.in_ok-input.input in
     let was = c.in_ok-input.ensures.answer.0 in
-    record { numbers = was.ready.numbers; failures = job-failures input.job.machines input.job.failures.items was.ready.failures; graph = was.graph; start = was.start }
+    record { numbers = was.ready.numbers; failures = job-failures input.job.machines input.job.failures.items was.ready.failures; few = few-failures input.job.machines input.job.failures.items was.ready.failures; graph = was.graph; start = was.start }
 
 pub returns-in-Ok-clause-answer : goal.returns-in-Ok-clause-answer
 returns-in-Ok-clause-answer g c =
