@@ -1,7 +1,8 @@
 -- The failures of a job that was read are those that a job may order.
-use Rattle.std.proofs.Common.{◌≡◌, ◌≢◌, ◌<◌, ◌≤◌, ◌==◌, ◌&&◌, ◌||◌, Bool, true, false, ℕ, nat_le, nat_lt, List, [], ◌∷◌, ◌++◌, length, None, Some, cond, refl, sym, ◌∙◌, subst, append_assoc, ⊎_elim, arith}
+use Rattle.std.proofs.Common.{◌≡◌, ◌≢◌, ◌<◌, ◌≤◌, ◌+◌, ◌==◌, ◌&&◌, ◌||◌, Bool, true, false, ℕ, nat_le, nat_lt, List, [], ◌∷◌, ◌++◌, length, None, Some, cond, refl, sym, ◌∙◌, subst, append_assoc, ⊎_elim, arith}
 use Rattle.std.specs.List.{AllByRecursion, list_any}
 use Rattle.std.proofs.lemmas.Bool.{cases_lt, eq-eqb, leb-false}
+use Rattle.std.proofs.lemmas.List.{length-append}
 use Rattle.std.proofs.lemmas.List.Folds.{list_any-append}
 use Rattle.gl_base.specs.declared.jobs.FailureAt.{FailureAt}
 use Rattle.job_config.specs.Failures.{first_faulty, is_faulty, same_failure}
@@ -84,7 +85,7 @@ few-behind machines earlier [] few none = omega (arith, few)
 few-behind machines earlier (f ∷ fs) few none =
     let parts = first-of machines earlier f fs none in
     let room : length earlier < 64 = leb-false 64 (length earlier) (false-or-false (nat_le 64 (length earlier)) _ parts.0).0 in
-    let longer : length (earlier ++ f ∷ []) ≡ length earlier + 1 = length_append earlier (f ∷ []) in
+    let longer : length (earlier ++ f ∷ []) ≡ length earlier + 1 = length-append earlier (f ∷ []) in
     let rest = few-behind machines (earlier ++ f ∷ []) fs (omega (arith, room, longer)) parts.1 in
     omega (arith, rest, longer)
 
