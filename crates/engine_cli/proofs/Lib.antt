@@ -12,6 +12,7 @@ pub mod DisksLeft
 pub mod StoredBy
 pub mod StoreRuns
 pub mod StoreUsed
+pub mod ThroughFailures
 pub mod Preparing
 pub mod RunsSay
 pub mod NothingDone

@@ -25,7 +25,7 @@ use Rattle.engine_cli.specs.declared.status.Status.TheVariants.{Done, Usage, Bad
 use Rattle.engine_cli.specs.Status.{IsDoneOrNoMemory}
 use Rattle.job_files.specs.JobTexts.{LacksSource, RefusesEdges, is_weighted, OfJob, OfSaid, OfTexts, RefusesSource, RefusesTexts, DescribeJobGraph, RefusesJob}
 use Rattle.engine_cli.specs.Answer.{IsValid}
-use Rattle.engine_cli.specs.JobRuns.{CallLists, IsEndAlone, MakesRun, RunsAlone, RunsSo, is_resumed, left_at}
+use Rattle.engine_cli.specs.JobRuns.{CallLists, IsEndAlone, MakesRun, RunsAlone, RunsSo, RunsWithoutStore, is_resumed, left_at}
 use Rattle.engine_cli.specs.JobStores.{IsOtherStore, RefusesStore}
 use Rattle.engine_cli.specs.Plays.{IsSpent, update_of}
 use Rattle.gl_outside.specs.Disk.{DiskPast}
@@ -150,26 +150,30 @@ no_bad_atoms asked file before now fault sound says =
     none_is_no_fault e = cc
 
 -- the run of a job that names no store is one without a store
-alone : (told : Bool) (asked : JobVerb) (old : FilesState) (new : List ℕ → DiskPast) (job : JobSayings) (lists : CallLists) (ending : StoredEnd) (vertices edges : List ℕ)
-    → (made : MakesRun told asked old new job lists ending vertices edges) → job.fields.store ≡ None → RunsAlone job.fields made.graph made.run
-alone told asked old new job lists ending vertices edges made none =
+without : (told : Bool) (asked : JobVerb) (old : FilesState) (new : List ℕ → DiskPast) (job : JobSayings) (lists : CallLists) (ending : StoredEnd) (vertices edges : List ℕ)
+    → (made : MakesRun told asked old new job lists ending vertices edges) → job.fields.store ≡ None → RunsWithoutStore job made.graph made.run job.failures
+without told asked old new job lists ending vertices edges made none =
     subst (λ (s : Option (List ℕ)). RunsSo told asked old new job made.graph made.run s) none made.runs
 
 -- so it ends as such a run does
 ends_alone : (told : Bool) (asked : JobVerb) (old : FilesState) (new : List ℕ → DiskPast) (job : JobSayings) (lists : CallLists) (ending : StoredEnd) (vertices edges : List ℕ)
     → MakesRun told asked old new job lists ending vertices edges → job.fields.store ≡ None → IsEndAlone ending
 ends_alone told asked old new job lists ending vertices edges made none =
-    subst IsEndAlone made.ended (alone told asked old new job lists ending vertices edges made none).ended
+    subst IsEndAlone made.ended (go job.failures (without told asked old new job lists ending vertices edges made none))
+  where
+    go : (failures : List FailureAt) → RunsWithoutStore job made.graph made.run failures → IsEndAlone made.run.end
+    go [] runs = runs.ended
+    go (failure ∷ failures) runs = runs.ended
 
 -- a budget of at least the step bound is not spent
 unspent : (told : Bool) (asked : JobVerb) (old : FilesState) (new : List ℕ → DiskPast) (job : JobSayings) (lists : CallLists) (left : Vertex) (vertices edges : List ℕ)
-    → job.fields.store ≡ None → ((g : DataGraph) → DescribeJobGraph job.fields vertices edges g → step_bound g job.fields.algorithm ≤ job.fields.budget)
+    → job.fields.store ≡ None → job.failures ≡ [] → ((g : DataGraph) → DescribeJobGraph job.fields vertices edges g → step_bound g job.fields.algorithm ≤ job.fields.budget)
     → MakesRun told asked old new job lists (Spent left) vertices edges → ⊥
-unspent told asked old new job lists left vertices edges none enough made =
+unspent told asked old new job lists left vertices edges none fails enough made =
     let g = made.graph in
     let p = update_of job.fields.algorithm job.fields.source in
     let order = made.run.order.items in
-    let was = alone told asked old new job lists (Spent left) vertices edges made none in
+    let was : RunsAlone job.fields g made.run = subst (RunsWithoutStore job g made.run) fails (without told asked old new job lists (Spent left) vertices edges made none) in
     let is : IsDataGraph g = made.graph_is.graph.graph in
     let ends : StoredEnd → Type 0 = λ e. MatchOption (left_at e) (IsFinished g p order) (IsSpent g p job.fields.budget order) in
     let spent : IsSpent g p job.fields.budget order left = subst ends made.ended was.runs.ended in
@@ -214,7 +218,7 @@ run_is_done told asked file report before now tells lists (BudgetSpent left) say
     let old : FilesState = before.files in
     let new : List ℕ → DiskPast = now.files.pasts in
     let made = of_said asked old file (λ job. HasAtoms old job.fields × OfTexts old job.fields (MakesRun told asked old new job lists (Spent left))) input says in
-    unspent told asked old new input.job lists left input.vertices input.edges sound.alone sound.enough (of_texts asked old file (MakesRun told asked old new input.job lists (Spent left)) input made.1)
+    unspent told asked old new input.job lists left input.vertices input.edges sound.alone sound.none_fails sound.enough (of_texts asked old file (MakesRun told asked old new input.job lists (Spent left)) input made.1)
 run_is_done told asked file report before now tells lists (SnapshotsFull stored length) says sound =
     let input = sound.input in
     let old : FilesState = before.files in

@@ -95,7 +95,7 @@ module _ (job : JobSayings) (g : DataGraph) (old mid new : DiskPast) (bodies : L
 
   -- the run is one on its store
   pub runs-on-store : (resumed : Bool) (run : StoredRun) → IsDataGraph g → HasStart job.fields.algorithm job.fields.source g → (resumed ≡ false → length bodies ≡ 0)
-      → IsRunFrom job g program resumed (length bodies) bodies mid new run → RunsOnStore resumed job g old new run
+      → IsRunFrom job g program job.fields.window resumed (length bodies) bodies mid new run → RunsOnStore resumed job g old new run
   runs-on-store resumed run is start fresh from =
       let same : bodies ≡ snapshots_on job g old = sym (stands_are header old.now.seen bodies stands) in
       record {

@@ -114,10 +114,10 @@ module _ (job : JobSayings) (g : DataGraph) (p : Update) (bodies : List (List �
       let B : List FailureAt → Type 0 = λ fs. F (plan_for job) fs header in
       subst (F (plan_for job) job.failures) header_is (subst B failures_are (subst A plan_is f))
 
-  pub run-from : (resumed : Bool) (count : ℕ) (run : StoredRun) → GoesBy g p job.fields.window resumed count bodies old new run plan failures header → FullBy after new run.end
-      → IsRunFrom job g p resumed count bodies old new run
-  run-from resumed count run goes full = record {
-    goes_on = of-job (GoesBy g p job.fields.window resumed count bodies old new run) goes;
+  pub run-from : (window : ℕ) (resumed : Bool) (count : ℕ) (run : StoredRun) → GoesBy g p window resumed count bodies old new run plan failures header → FullBy after new run.end
+      → IsRunFrom job g p window resumed count bodies old new run
+  run-from window resumed count run goes full = record {
+    goes_on = of-job (GoesBy g p window resumed count bodies old new run) goes;
     full = subst (λ (h : Header). FullBy h new run.end) (still ∙ header_is) full;
   }
 

@@ -1,13 +1,15 @@
 -- Runs of a job: without a store, and on the one that it names.
 pub use Rattle.recovery.specs.Journals.{records_size, stored_in, stored_order}
 pub use Rattle.stored_answers.specs.Images.{HoldsGood, orders_behind}
-pub use Rattle.stored_answers.specs.Runs.{IsStoredRun, Shared}
-use Rattle.std.specs.Prelude.{◌≡◌, ◌+◌, ◌++◌, ℕ, Bool, true, false, List, [], length, ⊤, Option, None, Some}
+pub use Rattle.stored_answers.specs.Runs.{IsRunWithFailures, IsStoredRun, Shared, lists_of}
+use Rattle.std.specs.Prelude.{◌≡◌, ◌≤◌, ◌+◌, ◌++◌, ◌∷◌, ℕ, Bool, true, false, List, [], length, sum_by, ⊤, Option, None, Some}
 use Rattle.gl_base.specs.declared.entries.Entry.{Entry}
+use Rattle.gl_base.specs.declared.jobs.FailureAt.{FailureAt}
 use Rattle.gl_base.specs.declared.numbers.Vertex.{Vertex}
 use Rattle.gl_outside.specs.Disk.{DiskPast, IsImage, LeavesOnly}
 use Rattle.gl_outside.specs.FilesState.{FilesState}
-use Rattle.graph_core.specs.DataGraph.{DataGraph}
+use Rattle.call_answers.specs.Ends.{SpendsRun}
+use Rattle.graph_core.specs.DataGraph.{DataGraph, size}
 use Rattle.job_config.specs.Fields.{JobFields}
 use Rattle.job_config.specs.Jobs.{JobSayings}
 use Rattle.job_files.specs.JobTexts.{DescribeJobGraph, HasStart}
@@ -16,6 +18,8 @@ use Rattle.job_files.specs.declared.jobs.JobVerb.TheVariants as verb
 use Rattle.job_runs.specs.Plays.{IsPlacement}
 use Rattle.job_stores.specs.JobHeaders.{header_for}
 use Rattle.job_stores.specs.NewStores.{IfDisksTold}
+use Rattle.seq_run.specs.Orders.{IsFinished, replay}
+use Rattle.seq_run.specs.Runs.{AreNumbers}
 use Rattle.store_format.specs.Stores.{StandsFor}
 use Rattle.store_format.specs.declared.header.Header.{Header}
 use Rattle.stored_answers.specs.declared.runs.SnapLine.{SnapLine}
@@ -62,7 +66,7 @@ IsEndAlone (Spent left) = ⊤
 IsEndAlone (Full stored bytes) = ⊥
 IsEndAlone DiskFault = ⊥
 
--- A run without a store. Its updates are counted by machine, no update is lost, no failure fires and no snapshot is taken; and where it left no
+-- A run without a store, of a job that orders no failure. Its updates are counted by machine, no update is lost, no failure fires and no snapshot is taken; and where it left no
 -- task, the numbers are what the algorithm is to find.
 pub record RunsAlone (job : JobFields) (g : DataGraph) (run : StoredRun) : Type 0 where
   pub runs : RunsTo g (update_of job.algorithm job.source) job.atoms job.machines job.budget run.order.items run.numbers.items (left_at run.end)
@@ -73,12 +77,33 @@ pub record RunsAlone (job : JobFields) (g : DataGraph) (run : StoredRun) : Type 
   pub snapshots : run.snapshots.items ≡ []
   pub results : run.end ≡ Finished → AreResults job.algorithm job.source g run.numbers.items
 
--- ---- on a store
-
 -- what all attempts of a run of the job share, where the vertices have these owners
 abbrev pub shared_by : JobSayings → DataGraph → (ℕ → ℕ) → Shared
 shared_by job g owner =
     record { graph = g; program = update_of job.fields.algorithm job.fields.source; owner = owner; failures = job.failures }
+
+-- A run with failures from the start, which none of them outlasts: it keeps to the budget, and its numbers are the replay of its order. Where it left
+-- no task, they are what the algorithm is to find; and else the budget is spent.
+pub record BeginsAgain (job : JobSayings) (shared : Shared) (run : StoredRun) : Type 0 where
+  pub is : IsRunWithFailures shared job.fields.machines [] false 0 (lists_of run)
+  pub few : sum_by (λ count. count) run.done.items ≤ job.fields.budget
+  pub numbers_are : AreNumbers (size shared.graph) (replay shared.graph shared.program run.order.items).vertex run.numbers.items
+  pub finished : run.end ≡ Finished → IsFinished shared.graph shared.program run.order.items
+  pub results : run.end ≡ Finished → AreResults job.fields.algorithm job.fields.source shared.graph run.numbers.items
+  pub spent : (left : Vertex) → run.end ≡ Spent left → SpendsRun shared job.fields.budget left.0 0 (lists_of run)
+
+-- A run without a store in which machines fail as the job orders. No snapshot is taken, so after each failure it begins again from the start.
+pub record RunsThroughFailures (job : JobSayings) (g : DataGraph) (run : StoredRun) : Type 0 where
+  pub goes : (owner : ℕ → ℕ) → IsPlacement g job.fields.atoms job.fields.machines owner → BeginsAgain job (shared_by job g owner) run
+  pub ended : IsEndAlone run.end
+  pub snapshots : run.snapshots.items ≡ []
+
+-- a run without a store, where the job orders these failures
+abbrev pub RunsWithoutStore : JobSayings → DataGraph → StoredRun → List FailureAt → Type 0
+RunsWithoutStore job g run [] = RunsAlone job.fields g run
+RunsWithoutStore job g run (failure ∷ failures) = RunsThroughFailures job g run
+
+-- ---- on a store
 
 -- whatever a crash would leave of the disk is a good store that begins with these snapshots
 abbrev pub AreGoodImages : Shared → Header → List (List ℕ) → DiskPast → Type 0
@@ -127,7 +152,7 @@ is_resumed verb.Init = false
 -- The run is one of the job on this graph, where the job names this store, if any, and `told` says whether it is told what disks hold. `new` is what
 -- disks hold as it has ended.
 abbrev pub RunsSo : Bool → JobVerb → FilesState → (List ℕ → DiskPast) → JobSayings → DataGraph → StoredRun → Option (List ℕ) → Type 0
-RunsSo told asked old new job g run None = RunsAlone job.fields g run
+RunsSo told asked old new job g run None = RunsWithoutStore job g run job.failures
 RunsSo told asked old new job g run (Some name) = IfDisksTold told old (RunsOnStore (is_resumed asked) job g (old.pasts name) (new name) run)
 
 -- The two texts tell a graph, this run of the job was made on it and ended so, and its lists are those that the call leaves.

@@ -1,6 +1,6 @@
 -- What each status of a run says: of the job's file and the texts, of the counts of faults, of the store, of the order's file, and of
 -- what `out` gained.
-use Rattle.std.specs.Prelude.{◌≡◌, ◌⊎◌, ◌≤◌, ℕ, Bool, IsTrue, is_some, List, Option, None, Some, Ok, IfSome, take}
+use Rattle.std.specs.Prelude.{◌≡◌, ◌⊎◌, ◌≤◌, ℕ, Bool, IsTrue, is_some, List, [], Option, None, Some, Ok, IfSome, take}
 use Rattle.std.specs.Io.KnownBytes.{Appends}
 use Rattle.gl_outside.specs.Disk.{DiskPast}
 use Rattle.gl_outside.specs.Faults.{Rose}
@@ -113,11 +113,12 @@ pub record IsReadable (asked : JobVerb) (files : FilesState) (file : List ℕ) :
   pub edges_told : files.contents job.fields.edges ≡ Some edges
   pub valid : IsValid job.fields vertices edges
 
--- Input of a run without a store that is told and valid: the budget is no less than the step bound, and the atoms, where the job names them,
+-- Input of a run without a store and without failures that is told and valid: the budget is no less than the step bound, and the atoms, where the job names them,
 -- are told and have no fault. No count rose.
 pub record IsSound (asked : JobVerb) (file : List ℕ) (before now : Moment) : Type 0 where
   pub input : IsReadable asked before.files file
   pub alone : input.job.fields.store ≡ None
+  pub none_fails : input.job.failures ≡ []
   pub enough : (g : DataGraph) → DescribeJobGraph input.job.fields input.vertices input.edges g → step_bound g input.job.fields.algorithm ≤ input.job.fields.budget
   pub atoms : (prefix : List ℕ) (g : DataGraph) → input.job.fields.atoms_at ≡ Some prefix → DescribeJobGraph input.job.fields input.vertices input.edges g
       → IsTrue (is_some before.files.sources.names) × (atoms_fault g (given_bytes before.files (index_name prefix)) (atom_files before.files prefix) ≡ None)

@@ -2,6 +2,7 @@
 #![tactic(auto)]
 
 mod ended;
+mod failing;
 mod file_verbs;
 mod notes;
 mod playing;

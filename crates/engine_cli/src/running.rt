@@ -10,7 +10,7 @@ ghost use Rattle.engine_cli.specs.Says.{moment};
 ghost use Rattle.engine_cli.specs.Status.{IsBeforeMaking, IsBeforeWriting, IsRefusedInput};
 ghost use Rattle.engine_cli.specs.Verbs.{IsRun};
 
-use crate::playing::run_alone;
+use crate::failing::run_without_store;
 use crate::printing::print_run;
 use crate::storing::run_on_store;
 use crate::{Ended, Status};
@@ -117,7 +117,7 @@ fn run_input<R: Wait, F: Files>(
     ensures used { UsesNamed input.now.job.store (F.state files.old) (F.state files.new) }
 {
     match &input.job.store {
-        None => match run_alone(rt, alloc, &input.graph, &input.job) {
+        None => match run_without_store(rt, alloc, &input.graph, &input.job) {
             Ok(run) => Ok(run),
             Err(NoMemory) => Err(NoStore::NoMemory),
         },

@@ -108,7 +108,7 @@ fn run_on_journal<R: Wait, D: Disk>(
     requires header { journal.old.header ≡ header_for (job_view input.now.job).fields input.now.graph }
     requires well { journal.old.failed ≡ false }
     ensures fresh { IsTrue D.told → IfOk result (λ run. resumed ≡ false → length (snapshots_in D.past journal.old) ≡ 0) }
-    ensures run { IsTrue D.told → IfOk result (IsRunFrom (job_view input.now.job) input.now.graph (update_of input.now.job.algorithm input.now.job.source) resumed
+    ensures run { IsTrue D.told → IfOk result (IsRunFrom (job_view input.now.job) input.now.graph (update_of input.now.job.algorithm input.now.job.source) input.now.job.window resumed
         (length (snapshots_in D.past journal.old)) (snapshots_in D.past journal.old) (D.past journal.old.disk) (D.past journal.new.disk)) }
     ensures fault { IfOk result (λ run. run.end ≡ DiskFault → Rose (D.faults journal.old.disk) (D.faults journal.new.disk)) }
     ensures printable { IfOk result (IsPrintable input.now.graph) }
@@ -121,18 +121,20 @@ fn run_on_journal<R: Wait, D: Disk>(
     if !resumed && count > 0 {
         return Err(NoStore::BadStore(StoreFault::Used(count)));
     }
-    match run_stored_on(rt, alloc, &input.graph, &input.job, journal, resumed) {
+    let window = input.job.window;
+    match run_stored_on(rt, alloc, &input.graph, &input.job, window, journal, resumed) {
         Ok(run) => Ok(run),
         Err(fault) => Err(why_not_run(fault)),
     }
 }
 
-/// Runs the job's algorithm by its program.
-fn run_stored_on<R: Wait, D: Disk>(
+/// Runs the job's algorithm by its program, with snapshots as this window asks.
+pub fn run_stored_on<R: Wait, D: Disk>(
     rt: &R,
     alloc: Global,
     graph: &Graph,
     job: &Job,
+    window: u32,
     journal: &mut Journal<D>,
     resumed: bool,
 ) -> Result<StoredRun, JournalFault>
@@ -143,7 +145,7 @@ fn run_stored_on<R: Wait, D: Disk>(
     requires header { journal.old.header ≡ header_for (job_view job.now).fields graph.now }
     requires fresh { resumed ≡ false → journal.old.count ≡ 0 }
     requires well { journal.old.failed ≡ false }
-    ensures run { IsTrue D.told → IfOk result (IsRunFrom (job_view job.now) graph.now (update_of job.now.algorithm job.now.source) resumed
+    ensures run { IsTrue D.told → IfOk result (IsRunFrom (job_view job.now) graph.now (update_of job.now.algorithm job.now.source) window resumed
         journal.old.count (snapshots_in D.past journal.old) (D.past journal.old.disk) (D.past journal.new.disk)) }
     ensures fault { IfOk result (λ run. run.end ≡ DiskFault → Rose (D.faults journal.old.disk) (D.faults journal.new.disk)) }
     ensures printable { IfOk result (IsPrintable graph.now) }
@@ -155,26 +157,31 @@ fn run_stored_on<R: Wait, D: Disk>(
     match job.algorithm {
         Algorithm::Levels => {
             let source = source_of(job);
-            run_stored_by(rt, alloc, graph, Levels { source }, job, journal, resumed)
+            let program = Levels { source };
+            run_stored_by(rt, alloc, graph, program, job, window, journal, resumed)
         }
         Algorithm::Components => {
-            run_stored_by(rt, alloc, graph, Components, job, journal, resumed)
+            run_stored_by(rt, alloc, graph, Components, job, window, journal, resumed)
         }
         Algorithm::Paths => {
             let source = source_of(job);
-            run_stored_by(rt, alloc, graph, Paths { source }, job, journal, resumed)
+            let program = Paths { source };
+            run_stored_by(rt, alloc, graph, program, job, window, journal, resumed)
         }
-        Algorithm::Colours => run_stored_by(rt, alloc, graph, Colours, job, journal, resumed),
+        Algorithm::Colours => {
+            run_stored_by(rt, alloc, graph, Colours, job, window, journal, resumed)
+        }
     }
 }
 
-/// Runs a program by the numbers of the job and its failures.
+/// Runs a program by the numbers of the job and its failures, with snapshots as this window asks.
 fn run_stored_by<R: Wait, D: Disk, P: Program>(
     rt: &R,
     alloc: Global,
     graph: &Graph,
     program: P,
     job: &Job,
+    window: u32,
     journal: &mut Journal<D>,
     resumed: bool,
 ) -> Result<StoredRun, JournalFault>
@@ -185,7 +192,7 @@ fn run_stored_by<R: Wait, D: Disk, P: Program>(
     requires header { journal.old.header ≡ header_for (job_view job.now).fields graph.now }
     requires fresh { resumed ≡ false → journal.old.count ≡ 0 }
     requires well { journal.old.failed ≡ false }
-    ensures run { IsTrue D.told → IfOk result (IsRunFrom (job_view job.now) graph.now (P.meaning program) resumed
+    ensures run { IsTrue D.told → IfOk result (IsRunFrom (job_view job.now) graph.now (P.meaning program) window resumed
         journal.old.count (snapshots_in D.past journal.old) (D.past journal.old.disk) (D.past journal.new.disk)) }
     ensures fault { IfOk result (λ run. run.end ≡ DiskFault → Rose (D.faults journal.old.disk) (D.faults journal.new.disk)) }
     ensures printable { IfOk result (IsPrintable graph.now) }
@@ -196,7 +203,7 @@ fn run_stored_by<R: Wait, D: Disk, P: Program>(
 {
     let plan = StoredPlan {
         run: plan_of(job),
-        window: job.window,
+        window,
     };
     let run = run_stored(
         rt,

@@ -96,15 +96,12 @@ fn refused(job: &Job, verb: JobVerb) -> Option<JobFault>
     }
 }
 
-/// The first key of the job whose value asks for what is not built yet.
+/// The key of the job whose value asks for what is not built yet.
 fn not_built(job: &Job) -> Option<Key>
     ensures { result ≡ not_built (job_view job.now) }
 {
-    if job.engine != EngineKind::Locking {
-        return Some(Key::Engine);
+    match job.engine {
+        EngineKind::Locking => None,
+        EngineKind::Chromatic => Some(Key::Engine),
     }
-    if job.store.is_none() && !job.failures.is_empty() {
-        return Some(Key::Failures);
-    }
-    None
 }

@@ -29,10 +29,10 @@ use Rattle.engine_cli.specs.JobStores.{IsOtherStore, KeepsGoing, KeepsImages, Re
 abbrev pub shared_with : JobSayings → DataGraph → Update → (ℕ → ℕ) → Shared
 shared_with job g p owner = record { graph = g; program = p; owner = owner; failures = job.failures }
 
--- A run of this program from an opened store with these snapshots, which are so many. From one that is good for the placed graph it is one that goes on from it.
-pub record IsRunFrom (job : JobSayings) (g : DataGraph) (p : Update) (resumed : Bool) (count : ℕ) (bodies : List (List ℕ)) (old new : DiskPast) (run : StoredRun) : Type 0 where
+-- A run of this program with this window, from an opened store with these snapshots, which are so many. From one that is good for the placed graph it is one that goes on from it.
+pub record IsRunFrom (job : JobSayings) (g : DataGraph) (p : Update) (window : ℕ) (resumed : Bool) (count : ℕ) (bodies : List (List ℕ)) (old new : DiskPast) (run : StoredRun) : Type 0 where
   pub goes_on : (owner : ℕ → ℕ) → IsPlacement g job.fields.atoms job.fields.machines owner → IsGoodStore (shared_with job g p owner) (header_for job.fields g) bodies →
-      (snapshots : List (List Entry)) × IsStoredRun (shared_with job g p owner) job.fields.machines job.fields.window job.fields.budget count (stored_order bodies) resumed snapshots run
+      (snapshots : List (List Entry)) × IsStoredRun (shared_with job g p owner) job.fields.machines window job.fields.budget count (stored_order bodies) resumed snapshots run
       × KeepsGood (shared_with job g p owner) (header_for job.fields g) bodies snapshots old new
   pub full : (stored bytes : ℕ) → run.end ≡ end.Full stored bytes → (stored ≡ length (snapshots_on job g new)) × (bytes ≡ 65 + records_size (snapshots_on job g new))
 

@@ -14,7 +14,7 @@ returns-clause-run g c told =
     IfOk-two c.run_stored.result _ _ _
     (λ run goes by.
     run-from job c.args.graph.now (g.P.Program.meaning c.args.program) bodies old new c.plan_of.result c.deref.result.now c.args.journal.now.header after.header
-    c.requires.header c.run_stored.ensures.header c.plan_of.ensures c.deref.ensures.value c.args.resumed c.args.journal.now.count run goes
+    c.requires.header c.run_stored.ensures.header c.plan_of.ensures c.deref.ensures.value c.args.window c.args.resumed c.args.journal.now.count run goes
     (full-by g.D.Disk.past (IsTrue g.D.Disk.told) after c.count-stored.result c.length-long.result _ _ c.count-stored.ensures.count c.count-stored.ensures.stored c.length-long.ensures.length c.length-long.ensures.stored told run.end by))
     (c.run_stored.ensures.run told) c.run_stored.ensures.by
 

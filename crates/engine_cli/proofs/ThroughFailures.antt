@@ -1,0 +1,74 @@
+-- A run on a store in memory as one without a store.
+use Rattle.std.proofs.Common.{◌≡◌, ◌≤◌, ℕ, List, [], Bool, false, Result, Ok, Err, refl, sym, subst}
+use Rattle.std.specs.Prelude.{IfErr, IfOk}
+use Rattle.gl_base.specs.declared.entries.Entry.{Entry}
+use Rattle.gl_base.specs.declared.numbers.Vertex.{Vertex}
+use Rattle.gl_outside.specs.Disk.{DiskPast}
+use Rattle.call_answers.specs.Ends.{SpendsRun}
+use Rattle.graph_core.specs.DataGraph.{DataGraph, IsDataGraph}
+use Rattle.job_config.specs.Jobs.{JobSayings}
+use Rattle.job_files.specs.JobTexts.{HasStart}
+use Rattle.job_runs.specs.Plays.{IsPlacement}
+use Rattle.job_stores.specs.JobHeaders.{header_for}
+use Rattle.recovery.specs.Journals.{stored_order}
+use Rattle.recovery.proofs.Goodness.{none_good}
+use Rattle.seq_run.specs.Orders.{IsFinished}
+use Rattle.stored_answers.specs.Ends.{RunEndsSo}
+use Rattle.stored_answers.specs.declared.runs.StoredEnd.{StoredEnd}
+use Rattle.stored_answers.specs.declared.runs.StoredEnd.TheVariants as end
+use Rattle.stored_answers.specs.declared.runs.StoredRun.{StoredRun}
+use Rattle.engine_cli.specs.Inner.Failing.{IsRunWithoutSnapshots}
+use Rattle.engine_cli.specs.Inner.Prepares.{IsPrintable}
+use Rattle.engine_cli.specs.Inner.Storing.{IsRunFrom}
+use Rattle.engine_cli.specs.JobRuns.{BeginsAgain, IsEndAlone, IsRunWithFailures, IsStoredRun, RunsThroughFailures, lists_of, shared_by}
+use Rattle.engine_cli.specs.Plays.{AreResults, update_of}
+use Rattle.engine_cli.proofs.Results.{results-of}
+
+module _ (job : JobSayings) (g : DataGraph) (owner : ℕ → ℕ) (window stored : ℕ) (snapshots : List (List Entry)) (was : StoredRun)
+    (ran : IsStoredRun (shared_by job g owner) job.fields.machines window job.fields.budget stored [] false snapshots was) where
+  abbrev pub ends-so : StoredEnd → Type 0
+  ends-so = RunEndsSo (shared_by job g owner) job.fields.machines window job.fields.budget [] snapshots ran.unanswered (lists_of was)
+
+  -- no failure went unanswered
+  answered : IsEndAlone was.end → ran.unanswered ≡ 0
+  answered alone = go was.end ran.ends alone
+    where
+      go : (how : StoredEnd) → ends-so how → IsEndAlone how → ran.unanswered ≡ 0
+      go end.Finished ends alone = ends.answered
+      go (end.Spent left) ends alone = ends.answered
+      go (end.Full stored bytes) ends alone = absurd alone
+      go end.DiskFault ends alone = absurd alone
+
+  pub begins-again : IsDataGraph g → HasStart job.fields.algorithm job.fields.source g → IsEndAlone was.end → BeginsAgain job (shared_by job g owner) was
+  begins-again is start alone =
+      let none = answered alone in
+      let finished : was.end ≡ end.Finished → IsFinished g (update_of job.fields.algorithm job.fields.source) was.order.items =
+      λ same. let ends : ends-so end.Finished = subst ends-so same ran.ends in ends.finished in
+      record {
+        is = subst (λ (n : ℕ). IsRunWithFailures (shared_by job g owner) job.fields.machines [] false n (lists_of was)) none ran.is;
+        few = ran.few;
+        numbers_are = ran.numbers_are;
+        finished = finished;
+        results = λ same. results-of job.fields.algorithm job.fields.source g was.order.items was.numbers.items is start ran.is.in_turn.valid ran.numbers_are (finished same);
+        spent = λ left same.
+            let ends : ends-so (end.Spent left) = subst ends-so same ran.ends in
+            subst (λ (n : ℕ). SpendsRun (shared_by job g owner) job.fields.budget left.0 n (lists_of was)) none ends;
+      }
+
+-- a run from a store that has no snapshot
+pub through-failures : (job : JobSayings) (g : DataGraph) (window count : ℕ) (bodies : List (List ℕ)) (old new : DiskPast) (was run : StoredRun) → IsDataGraph g
+    → HasStart job.fields.algorithm job.fields.source g → bodies ≡ [] → IsRunFrom job g (update_of job.fields.algorithm job.fields.source) window false count bodies old new was
+    → IsRunWithoutSnapshots was run → RunsThroughFailures job g run
+through-failures job g window count bodies old new was run is start none from alone =
+    let R : StoredRun → Type 0 = λ r. (owner : ℕ → ℕ) → IsPlacement g job.fields.atoms job.fields.machines owner → BeginsAgain job (shared_by job g owner) r in
+    let again : R (record was { snapshots = run.snapshots }) = λ owner placed.
+    let shared = shared_by job g owner in
+    let G : List (List ℕ) → Type 0 = λ b. (snapshots : List (List Entry)) × IsStoredRun shared job.fields.machines window job.fields.budget count (stored_order b) false snapshots was in
+    let went = from.goes_on owner placed (subst (λ (b : List (List ℕ)). _) (sym none) (none_good shared (header_for job.fields g))) in
+    let ran : G [] = subst G none (went.0, went.1) in
+    begins-again job g owner window count ran.0 was ran.1 is start alone.ended in
+    record {
+      goes = subst R (sym alone.is) again;
+      ended = subst (λ (r : StoredRun). IsEndAlone r.end) (sym alone.is) alone.ended;
+      snapshots = alone.none;
+    }

@@ -1,0 +1,96 @@
+//! Runs the job's algorithm on its graph without a store, and through the failures that the job orders.
+ghost use Rattle.std.specs.Prelude.{◌≡◌, ◌≤◌, [], IfOk, IsTrue, length};
+ghost use Rattle.graph_core.specs.DataGraph.{IsDataGraph};
+ghost use Rattle.job_config.specs.Ranges.{HasNumbers};
+ghost use Rattle.job_config.specs.Views.{job_view};
+ghost use Rattle.job_files.specs.JobTexts.{HasStart};
+ghost use Rattle.job_stores.specs.JobHeaders.{header_for};
+ghost use Rattle.store_format.specs.Stores.{StandsFor};
+ghost use Rattle.whole_calls.specs.Following.{AreJobFailures};
+ghost use Rattle.engine_cli.specs.JobRuns.{IsEndAlone, RunsThroughFailures, RunsWithoutStore};
+ghost use Rattle.engine_cli.specs.Inner.Failing.{IsRunWithoutSnapshots};
+ghost use Rattle.engine_cli.specs.Inner.Prepares.{IsPrintable};
+
+use crate::playing::run_alone;
+use crate::storing::run_stored_on;
+use gl_base::{Job, NoMemory};
+use gl_outside::{Disk, MemDisk};
+use graph_core::Graph;
+use job_stores::header_of;
+use snap_journal::Journal;
+use std::alloc::Global;
+use std::sync::Wait;
+use store_format::{Header, new_store};
+use stored_answers::{StoredEnd, StoredRun};
+
+/// A window in which a run has no snapshot but at its end: half of it is the greatest budget that a job may have.
+const WIDEST_WINDOW: u32 = 33_554_432;
+
+/// Runs the job's algorithm without a store. What would be in the store of a job that orders failures is kept in memory, and no snapshot is taken
+/// before the end: so a machine that fails takes all back to the start.
+pub fn run_without_store<R: Wait>(
+    rt: &R,
+    alloc: Global,
+    graph: &Graph,
+    job: &Job,
+) -> Result<StoredRun, NoMemory>
+    requires graph { IsDataGraph graph.now }
+    requires start { HasStart job.now.algorithm job.now.source graph.now }
+    requires numbers { HasNumbers (job_view job.now).fields }
+    requires failures { AreJobFailures job.now.machines job.now.failures.items }
+    requires few { length job.now.failures.items ≤ 64 }
+    ensures run { IfOk result (λ run. RunsWithoutStore (job_view job.now) graph.now run job.now.failures.items) }
+    ensures ended { IfOk result (λ run. IsEndAlone run.end) }
+    ensures printable { IfOk result (IsPrintable graph.now) }
+{
+    if job.failures.is_empty() {
+        return run_alone(rt, alloc, graph, job);
+    }
+    let header = header_of(job, graph);
+    let mut bytes = Vec::new(alloc);
+    bytes.extend_from_slice(&new_store(header))?;
+    let disk = MemDisk::new(alloc, bytes, Vec::new(alloc), u64::MAX);
+    run_through_failures(rt, alloc, graph, job, &header, disk)
+}
+
+/// Runs the job's algorithm through its failures, on a store of this header that has no snapshot. A store that may grow no more is want of memory.
+fn run_through_failures<R: Wait, D: Disk>(
+    rt: &R,
+    alloc: Global,
+    graph: &Graph,
+    job: &Job,
+    header: &Header,
+    disk: D,
+) -> Result<StoredRun, NoMemory>
+    requires graph { IsDataGraph graph.now }
+    requires start { HasStart job.now.algorithm job.now.source graph.now }
+    requires numbers { HasNumbers (job_view job.now).fields }
+    requires failures { AreJobFailures job.now.machines job.now.failures.items }
+    requires few { length job.now.failures.items ≤ 64 }
+    requires header { header.now ≡ header_for (job_view job.now).fields graph.now }
+    requires told { IsTrue D.told }
+    requires empty { StandsFor header.now [] (D.past disk).now.seen }
+    ensures run { IfOk result (RunsThroughFailures (job_view job.now) graph.now) }
+    ensures printable { IfOk result (IsPrintable graph.now) }
+{
+    let Ok(mut journal) = Journal::open(alloc, disk, header) else {
+        return Err(NoMemory);
+    };
+    match run_stored_on(rt, alloc, graph, job, WIDEST_WINDOW, &mut journal, false) {
+        Ok(run) => without_snapshots(alloc, run),
+        Err(_) => Err(NoMemory),
+    }
+}
+
+/// The run as one without a store, which takes no snapshot. Where the store in memory could grow no more there was not enough of it.
+fn without_snapshots(alloc: Global, run: StoredRun) -> Result<StoredRun, NoMemory>
+    ensures { IfOk result (IsRunWithoutSnapshots run) }
+{
+    match run.end {
+        StoredEnd::Finished | StoredEnd::Spent(_) => Ok(StoredRun {
+            snapshots: Vec::new(alloc),
+            ..run
+        }),
+        StoredEnd::Full { .. } | StoredEnd::DiskFault => Err(NoMemory),
+    }
+}
