@@ -54,7 +54,7 @@ pub fn run_without_store<R: Wait>(
 }
 
 /// Runs the job's algorithm through its failures, on a store of this header that has no snapshot. A store that may grow no more is want of memory.
-fn run_through_failures<R: Wait, D: Disk>(
+fn run_through_failures<R: Wait, D: Disk + Drop>(
     rt: &R,
     alloc: Global,
     graph: &Graph,
