@@ -116,15 +116,19 @@ module _ (st : Setting) (is : IsSetting st) (c : Cluster) (whole : IsWhole st c)
 
   vertex_there : RecordIsDue st c.coordinator → (v : ℕ) → v < size st.graph → (x : ℕ) × (((snapshot_due c.coordinator).sections (st.owner v)).section.vertices v ≡ Some x)
   vertex_there due v within =
-      let its = (due_held due).vertices v within in
-      ((replay_of st (cut_of whole.consistent.count whole.consistent.order)).vertex v,
-      ap (λ (s : Section). s.vertices v) (come_section (c.coordinator.come (st.owner v)) its.0 its.1) ∙ its.2)
+      let its = (due_held due).vertices v within in (
+        (replay_of st (cut_of whole.consistent.count whole.consistent.order)).vertex v,
+        ap (λ (s : Section). s.vertices v) (come_section (c.coordinator.come (st.owner v)) its.0 its.1) ∙ its.2,
+      )
 
   edge_there : RecordIsDue st c.coordinator → (e : ℕ) → e < length st.graph.edges → (a : ℕ) × (x : ℕ) × (a < st.machines) × (((snapshot_due c.coordinator).sections a).section.edges e ≡ Some x)
   edge_there due e within =
-      let its = (due_held due).edges e within in
-      (its.0, (replay_of st (cut_of whole.consistent.count whole.consistent.order)).edge e, its.2,
-      ap (λ (s : Section). s.edges e) (come_section (c.coordinator.come its.0) its.1 its.3) ∙ its.4)
+      let its = (due_held due).edges e within in (
+        its.0,
+        (replay_of st (cut_of whole.consistent.count whole.consistent.order)).edge e,
+        its.2,
+        ap (λ (s : Section). s.edges e) (come_section (c.coordinator.come its.0) its.1 its.3) ∙ its.4,
+      )
 
   -- the updates that the snapshot brings are among those that are logged
   logged_each : (P : Entry → Type 0) (test : Logged → Bool) (logged : List Logged) → AllByRecursion P (all_entries logged) → AllByRecursion P (passing test logged)
