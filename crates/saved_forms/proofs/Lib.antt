@@ -3,5 +3,5 @@ mod Rows
 mod InTurn
 mod AllSaved
 mod Formed
-mod Tickets
+pub mod Tickets
 pub mod Due

@@ -25,7 +25,7 @@ use Rattle.store_format.proofs.NumberLemmas.{both_none}
 use Rattle.store_format.proofs.ReadLemmas.{with_body-inv}
 
 -- the entry has a ticket that the snapshots up to this one may have
-abbrev pub IsLowFor : ℕ → Entry → Type 0
+abbrev IsLowFor : ℕ → Entry → Type 0
 IsLowFor number entry = ticket_of entry < 33554432 * number
 
 -- ---- the entries of one body
@@ -75,7 +75,7 @@ body_low header number body none =
 -- ---- all bodies
 
 -- each body has low tickets for its number, where the first has this one
-abbrev pub AreLowFrom : ℕ → List (List ℕ) → Type 0
+abbrev AreLowFrom : ℕ → List (List ℕ) → Type 0
 AreLowFrom number [] = ⊤
 AreLowFrom number (body ∷ bodies) = AllByRecursion (IsLowFor number) (body_entries body) × AreLowFrom (number + 1) bodies
 
@@ -122,10 +122,10 @@ read_low (Some fault) read low = tt
 read_low None (Ok bodies) low = low bodies refl
 read_low None (Err fault) low = tt
 
-pub stored_low : (header : Header) (bytes : List ℕ) → AreLowFrom 1 (stored_in header bytes)
+stored_low : (header : Header) (bytes : List ℕ) → AreLowFrom 1 (stored_in header bytes)
 stored_low header bytes = read_low (store_header_fault header (take 64 bytes)) (bodies_from header 1 64 0 (drop 64 bytes)) (λ bodies is. bodies_low header 1 64 0 (drop 64 bytes) bodies is)
 
-pub front_low : (number : ℕ) (front back : List (List ℕ)) → AreLowFrom number (front ++ back) → AreLowFrom number front
+front_low : (number : ℕ) (front back : List (List ℕ)) → AreLowFrom number (front ++ back) → AreLowFrom number front
 front_low number [] back low = tt
 front_low number (body ∷ front) back low = (low.0, front_low (number + 1) front back low.1)
 
@@ -153,13 +153,13 @@ behind_low number high (body ∷ bodies) order up low lows =
     (with_each (IsLowFor high) order (body_entries body) low (each-weaker (IsLowFor number) (IsLowFor high) (λ entry less. higher number high (ticket_of entry) (omega arith) less) (body_entries body) lows.0))
     lows.1
 
-pub order_low : (bodies : List (List ℕ)) → AreLowFrom 1 bodies → AllByRecursion (IsLowFor (length bodies)) (stored_order bodies)
+order_low : (bodies : List (List ℕ)) → AreLowFrom 1 bodies → AllByRecursion (IsLowFor (length bodies)) (stored_order bodies)
 order_low bodies lows = behind_low 1 (length bodies) bodies [] (next (length bodies)) tt lows
   where
     next : (n : ℕ) → 1 + n ≤ n + 1
     next n = omega arith
 
-pub above_low : (bound : ℕ) (order : List Entry) → AllByRecursion (λ entry. ticket_of entry < bound) order → ticket_above order ≤ bound
+above_low : (bound : ℕ) (order : List Entry) → AllByRecursion (λ entry. ticket_of entry < bound) order → ticket_above order ≤ bound
 above_low bound [] low = zero_low bound
   where
     zero_low : (n : ℕ) → 0 ≤ n
@@ -168,3 +168,8 @@ above_low bound (entry ∷ order) low = both (ticket_of entry) (ticket_above ord
   where
     both : (t above bound : ℕ) → t < bound → above ≤ bound → max (suc t) above ≤ bound
     both t above bound less low = omega arith
+
+-- the first ticket behind the first snapshots of a store
+pub start_low : (header : Header) (bytes : List ℕ) (start added : List (List ℕ)) → stored_in header bytes ≡ start ++ added → ticket_above (stored_order start) ≤ 33554432 * length start
+start_low header bytes start added is =
+    above_low (33554432 * length start) (stored_order start) (order_low start (front_low 1 start added (subst (AreLowFrom 1) is (stored_low header bytes))))

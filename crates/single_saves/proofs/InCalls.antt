@@ -28,7 +28,7 @@ use Rattle.cluster_records.specs.Recorded.{IsAccounted, IsOwnUpdate, snapshot_du
 use Rattle.cluster_records.proofs.Courses.{courses_go, event_goes}
 use Rattle.cluster_records.proofs.Filtering.{passing, passing-cons_in, passing-cons_out}
 use Rattle.cluster_records.proofs.Numbering.{all_own}
-use Rattle.cluster_records.proofs.Recording.{come_section, due_updates}
+use Rattle.cluster_records.proofs.Recording.{come_section, due_updates, next_number}
 use Rattle.cluster_whole.specs.Logged.{Logged, all_entries}
 use Rattle.cluster_whole.specs.Views.{world_of}
 use Rattle.cluster_whole.specs.Whole.{IsNoRecovery, IsWhole, setting_behind}
@@ -212,6 +212,9 @@ module _ (st : Setting) (failures : List FailureAt) (kept : List Entry) (resumed
 
   due_last : RecordIsDue st c.coordinator → RecordIsDue last c.coordinator
   due_last due = record { under = due.under; sections = due.sections }
+
+  pub next_due : RecordIsDue st c.coordinator → c.coordinator.begun ≡ suc c.coordinator.acknowledged
+  next_due due = next_number last last_is c ended.0 (due_last due)
 
   pub edges_once : RecordIsDue st c.coordinator → (a b e x y : ℕ) → a < st.machines → b < st.machines → e < length st.graph.edges →
       ((snapshot_due c.coordinator).sections a).section.edges e ≡ Some x → ((snapshot_due c.coordinator).sections b).section.edges e ≡ Some y → a ≡ b

@@ -1,6 +1,6 @@
 //! Laws of the snapshot that is due in the course of a call. Each is the contract of a function that does nothing.
 ghost use Rattle.std.specs.List.{AllByRecursion};
-ghost use Rattle.std.specs.Prelude.{Bool, List, Some, length, ℕ, ◌+◌, ◌<◌, ◌≡◌, ◌≤◌};
+ghost use Rattle.std.specs.Prelude.{Bool, List, Some, length, suc, ℕ, ◌+◌, ◌<◌, ◌≡◌, ◌≤◌};
 ghost use Rattle.gl_base.specs.declared.entries.Entry.{Entry};
 ghost use Rattle.gl_base.specs.declared.jobs.FailureAt.{FailureAt};
 ghost use Rattle.cluster_core.specs.Replays.{ticket_of};
@@ -11,6 +11,12 @@ ghost use Rattle.cluster_model.specs.Leading.{RecordIsDue};
 ghost use Rattle.cluster_records.specs.Recorded.{IsOwnUpdate, snapshot_due};
 ghost use Rattle.graph_core.specs.DataGraph.{size};
 ghost use Rattle.whole_calls.specs.Opened.{IsCourseOfCall};
+
+/// Where a record is due in the course of a call, it is that of the next snapshot behind the newest one that was acknowledged.
+pub fn due_snapshots_come_next()
+    ensures { (st : Setting) (failures : List FailureAt) (kept : List Entry) (resumed : Bool) (base : BaseView) (first : Cluster) (events : List Event) (c : Cluster) →
+        IsCourseOfCall st failures kept resumed base first events c → RecordIsDue st c.coordinator → c.coordinator.begun ≡ suc c.coordinator.acknowledged }
+{}
 
 /// Where a record is due in the course of a call, no edge stands in the sections of two machines.
 pub fn edges_are_saved_once()

@@ -6,6 +6,6 @@ mod laws;
 
 pub use examples::an_edge_in_one_section;
 pub use laws::{
-    edges_are_saved_once, sections_have_the_whole_graph, sections_keep_to_the_graph,
-    tickets_keep_to_the_budget,
+    due_snapshots_come_next, edges_are_saved_once, sections_have_the_whole_graph,
+    sections_keep_to_the_graph, tickets_keep_to_the_budget,
 };
