@@ -1,5 +1,5 @@
 //! The snapshot that is due is added to a store, and acknowledged.
-ghost use Rattle.std.specs.Prelude.{Err, List, ◌≡◌, ◌+◌, ◌<◌, ◌≤◌, ℕ, false, IfErr, IfOk, IsErrOf, IsTrue, OnErr, OnOk};
+ghost use Rattle.std.specs.Prelude.{Err, List, ◌≡◌, ◌+◌, ◌<◌, ◌^◌, ◌≤◌, ℕ, false, IfErr, IfOk, IsErrOf, IsTrue, OnErr, OnOk};
 ghost use Rattle.gl_base.specs.declared.entries.Entry.{Entry};
 ghost use Rattle.call_appends.specs.Appends.{Begins, CallOpening, HasOneMore, IsDueWith, IsGoodImage, IsNewestLine, IsWhyNotAppended, KnowsJournal, LeavesOnly, NeedsMore, Setting, snapshots_in};
 ghost use Rattle.call_appends.specs.Inner.Storing.{no_record};
@@ -66,6 +66,7 @@ pub fn append_due<D: Disk, M: SavingMachine>(
     ensures refused { IfErr result (IsWhyNotAppended M.stands course.old restarts.old journal.old journal.new (D.faults journal.old.disk) (D.faults journal.new.disk)) }
     ensures header { journal.new.header ≡ journal.old.header }
     ensures counted { OnOk result (journal.new.count ≡ journal.old.count + 1) }
+    ensures short { OnOk result (journal.new.length ≤ 2 ^ 30) }
     ensures well { OnOk result (journal.new.failed ≡ false) }
     ensures disk { D.same journal.old.disk journal.new.disk }
     ensures later { D.faults journal.old.disk ≤ D.faults journal.new.disk }
