@@ -1,5 +1,5 @@
 -- What the parts of the call answer, it answers.
-use Rattle.std.proofs.Common.{◌≡◌, ◌∙◌, ℕ, ◌+◌, List, Err, inl, inr, length, refl, sym, subst}
+use Rattle.std.proofs.Common.{◌≡◌, ◌∙◌, ℕ, ◌+◌, ◌<◌, List, Err, inl, inr, length, refl, sym, subst}
 use Rattle.std.specs.Prelude.{Result}
 use Rattle.gl_base.specs.declared.entries.Entry.{Entry}
 use Rattle.gl_base.specs.declared.refusals.Refused.{Refused}
@@ -10,13 +10,14 @@ use Rattle.call_courses.specs.Events.{CanHappenInCall, CanNotHappenInCall}
 use Rattle.coord_core.specs.Calls.{IsDueOf}
 use Rattle.coord_core.specs.declared.leading.Due.TheVariants as due
 use Rattle.recovery.specs.Journals.{NumbersFit, records_size}
+use Rattle.snap_journal.specs.Formats.{stored_in}
 use Rattle.snap_clusters.specs.declared.events.Event.TheVariants as event
 use Rattle.snap_clusters.specs.declared.events.Lead.TheVariants as lead
 use Rattle.stored_courses.specs.Stores.{IsKnownCourse}
 use Rattle.call_appends.specs.Appends.{AppendFault, CallOpening, CourseView, Header, IsDueWith, IsInForm, IsWhyNotAppended, JournalState, Machine, NeedsMore, Restarts, Setting}
 use Rattle.call_appends.specs.declared.faults.AppendFault.TheVariants.{DiskFault, Full, NoMemory, NotInForm}
 use Rattle.call_appends.specs.Inner.Storing.{IsWhyNotStored, no_record}
-use Rattle.call_appends.proofs.Appending.{needs_more, never_full}
+use Rattle.call_appends.proofs.Appending.{in_form, needs_more, never_full}
 
 module _ {D M : Type 0} (stands : Setting → ℕ → Machine → M → Type 0) (v : CourseView M) (restarts : Restarts) (old new : JournalState D) (before now : ℕ) where
   -- no record was made
@@ -48,6 +49,19 @@ module _ {D M : Type 0} (stands : Setting → ℕ → Machine → M → Type 0) 
   not_for_want DiskFault stored long why is = absurd (cc)
   not_for_want NotInForm stored long why is = absurd (cc)
   not_for_want NoMemory stored long why is = absurd (cc)
+
+  -- a record that is due is in the form
+  pub not_unformed : (bytes : List ℕ) → bodies ≡ stored_in header bytes → o.first.left < 33554432 → (fault : AppendFault) → IsWhyNotStored old new before now made fault → fault ≡ NotInForm → ⊥
+  not_unformed bytes bodies_are left NotInForm why is =
+      why.1 (subst (λ (h : Header). IsInForm h old.count made) (sym header_is) (in_form stands v can header start bodies lost order restarts st o k made old.count behind fits bytes bodies_are left counts))
+  not_unformed bytes bodies_are left (Full kept many) why is = absurd (cc)
+  not_unformed bytes bodies_are left DiskFault why is = absurd (cc)
+  not_unformed bytes bodies_are left NoMemory why is = absurd (cc)
+
+-- where no record was made
+pub never_unformed : (refused : Refused) (count many : ℕ) → no_record refused count many ≡ NotInForm → ⊥
+never_unformed no.NotNow count many is = absurd (cc)
+never_unformed no.NoMemory count many is = absurd (cc)
 
 -- the fault that an exit answers
 pub fault_in : {T : Type 0} (r : Result T AppendFault) (y x full : AppendFault) → r ≡ Err y → y ≡ x → r ≡ Err full → x ≡ full

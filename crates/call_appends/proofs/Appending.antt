@@ -6,7 +6,7 @@ use Rattle.std.proofs.lemmas.List.FromFn.{fill_by_all}
 use Rattle.gl_base.specs.declared.entries.Entry.{Entry}
 use Rattle.gl_base.specs.declared.jobs.FailureAt.{FailureAt}
 use Rattle.gl_base.specs.declared.snapshots.Record.{Record}
-use Rattle.attempts.specs.EngineCalls.{EngineCall}
+use Rattle.attempts.specs.EngineCalls.{EngineCall, ticket_above}
 use Rattle.attempts.specs.Entries.{is_restart}
 use Rattle.call_courses.proofs.Calling.{due_first}
 use Rattle.call_courses.specs.Courses.{IsCourseNow, newest_setting}
@@ -23,11 +23,15 @@ use Rattle.graph_core.specs.DataGraph.{size}
 use Rattle.recovery.specs.GoodStores.{GoesWith}
 use Rattle.recovery.specs.Journals.{NumbersFit, RecordFits, body_bytes, order_behind, records_size, with_entries}
 use Rattle.seq_run.specs.Orders.{replay}
+use Rattle.saved_forms.proofs.Due.{due_fits, due_form}
+use Rattle.saved_forms.proofs.Tickets.{start_low}
+use Rattle.single_saves.proofs.InCalls.{next_due}
 use Rattle.snap_clusters.specs.declared.events.Event.{Event}
 use Rattle.snap_clusters.specs.declared.events.Event.TheVariants as event
 use Rattle.snap_clusters.specs.declared.events.Lead.TheVariants as lead
 use Rattle.snap_journal.proofs.CountLemmas.{entries_long}
 use Rattle.snap_journal.specs.Answers.{IsFullFor}
+use Rattle.snap_journal.specs.Formats.{stored_in}
 use Rattle.store_format.proofs.ReadBackLemmas.{entries_of_record}
 use Rattle.store_format.specs.Bodies.{IsBody, body_size, entry_count}
 use Rattle.store_format.specs.StoredOrders.{body_entries}
@@ -145,6 +149,24 @@ module _ {M : Type 0} (stands : Setting → ℕ → Machine → M → Type 0) (v
 
 -- ---- a store of which all is known
 
+one_above : (acknowledged stored count : ℕ) → acknowledged ≡ stored → count ≡ stored → suc acknowledged ≡ 1 + count
+one_above acknowledged stored count is counts = omega arith
+
+all_few : (e m t ls lf place size ma n ed : ℕ) → e ≡ m + t → ls + m ≡ lf → place + 16 * ls ≡ 65 + size + 16 * lf → place + (8 + 16 * t + 8 * ma + 12 * n + 12 * ed + 9) ≤ 1073741824 → e < 2 ^ 32
+all_few e m t ls lf place size ma n ed entries lacks at short = omega arith
+
+vertices_few : (hn n place t ma ed : ℕ) → hn ≡ n → place + (8 + 16 * t + 8 * ma + 12 * n + 12 * ed + 9) ≤ 1073741824 → hn < 2 ^ 32
+vertices_few hn n place t ma ed is short = omega arith
+
+edges_few : (hm ed place t ma n : ℕ) → hm ≡ ed → place + (8 + 16 * t + 8 * ma + 12 * n + 12 * ed + 9) ≤ 1073741824 → hm < 2 ^ 32
+edges_few hm ed place t ma n is short = omega arith
+
+number_few : (number acknowledged stored count : ℕ) → number ≡ 1 + count → acknowledged ≡ stored → count ≡ stored → acknowledged < 4096 → number < 4294967295
+number_few number acknowledged stored count is acknowledged_is counts few = omega arith
+
+within_bound : (next left started added stored count number : ℕ) → next ≤ 33554432 * started → left < 33554432 → stored ≡ started + added → count ≡ stored → number ≡ 1 + count → next + left < 33554432 * number
+within_bound next left started added stored count number low few parts counts is = omega arith
+
 lasting : (lb e m t ls lf ma n ed hm hn he : ℕ) → lb ≡ 8 + 16 * e + 8 * hm + 12 * hn + 12 * he → hm ≡ ma → hn ≡ n → he ≡ ed → e ≡ m + t → ls + m ≡ lf →
     9 + lb + 16 * ls ≡ 8 + 16 * t + 8 * ma + 12 * n + 12 * ed + 9 + 16 * lf
 lasting lb e m t ls lf ma n ed hm hn he size machines vertices edges entries restarts = omega arith
@@ -163,12 +185,9 @@ not_long place rl size long lb short is long_is over = omega arith
 
 module _ {M : Type 0} (stands : Setting → ℕ → Machine → M → Type 0) (v : CourseView M) (header : Header) (start bodies : List (List ℕ)) (lost stored front order : List Entry)
     (st : Setting) (o : CallOpening) (k : IsKnownCourse stands v header start bodies lost stored front order st o)
-    (made : Record) (with_it : IsRecordWith st stored front k.was.cluster made) (small : RecordFits made) (fits : NumbersFit made) where
+    (made : Record) (with_it : IsRecordWith st stored front k.was.cluster made) where
   abbrev c : Cluster
   c = k.was.cluster
-
-  abbrev body : List ℕ
-  body = body_bytes made
 
   front_now : front ≡ filter is_restart c.base.order
   front_now = k.front_are ∙ ap (filter is_restart) (sym k.base)
@@ -176,77 +195,119 @@ module _ {M : Type 0} (stands : Setting → ℕ → Machine → M → Type 0) (v
   abbrev missing_is : IsRecordBehind st (stored_order bodies) c.base.order (snapshot_due c.coordinator) made
   missing_is = with_it.behind (stored_order bodies) c.base.order k.stored_are front_now
 
-  machines_are : length made.sections.items ≡ header.machines
-  machines_are = missing_is.machines ∙ sym k.fits.machines
+  entries_are : length made.entries.items ≡ length missing_is.missing + total st.machines (λ a. length (come_or (c.coordinator.come a)).entries)
+  entries_are =
+      length_permutation (missing_is.missing ++ law.entries_below st.machines (snapshot_due c.coordinator)) made.entries.items missing_is.entries
+      ∙ length-append missing_is.missing (law.entries_below st.machines (snapshot_due c.coordinator))
+      ∙ ap (λ (n : ℕ). length missing_is.missing + n) (brought_long st.machines (snapshot_due c.coordinator))
 
-  order_is : stored_order (bodies ++ body ∷ []) ≡ with_entries (stored_order bodies) made.entries.items
-  order_is = order_push bodies [] body ∙ ap (with_entries (stored_order bodies)) (entries_of_record made small fits)
+  lacking_are : length stored + length missing_is.missing ≡ length front
+  lacking_are =
+      ap (λ (es : List Entry). length es + length missing_is.missing) k.stored_are
+      ∙ sym (length-append (filter is_restart (stored_order bodies)) missing_is.missing)
+      ∙ ap (length {A = Entry}) missing_is.lacks
+      ∙ ap (length {A = Entry}) (sym front_now)
 
-  module _ (record_due : RecordIsDue st c.coordinator) where
-    pub grown : KeepsUp st v.failures header start (fronts_in (first_setting st o) (first_cluster st o) k.was.events ++ c.base.order ∷ []) (recorded_in (first_setting st o) (first_cluster st o) k.was.events ++ snapshot_due c.coordinator ∷ []) (bodies ++ body ∷ [])
-    grown = grows_up st v.failures o.kept o.resumed o.base o.first k.was.events c k.was.now.course header start bodies k.kept k.was.keeps record_due made missing_is small fits machines_are
+  -- ---- its form
 
-    pub restarts_are : front ≡ filter is_restart (stored_order (bodies ++ body ∷ []))
-    restarts_are =
-        let next : IsNextOrder st c.base.order (stored_order bodies) (snapshot_due c.coordinator) (with_entries (stored_order bodies) made.entries.items) =
-        next_is st v.failures o.kept o.resumed o.base o.first k.was.events c k.was.now.course header start bodies k.kept k.was.keeps record_due made missing_is
-        in
-        front_now ∙ sym next.restarts ∙ ap (filter is_restart) (sym order_is)
+  module _ (room : HasStoreRoom st c.coordinator) (record_due : RecordIsDue st c.coordinator) (bytes : List ℕ) (bodies_are : bodies ≡ stored_in header bytes) (left : o.first.left < 33554432)
+      (count : ℕ) (counts : count ≡ length bodies) (fits : NumbersFit made) where
+    number_is : made.number ≡ 1 + count
+    number_is =
+        with_it.number ∙ next_due st v.failures o.kept o.resumed o.base o.first k.was.events c k.was.now.course record_due
+        ∙ one_above c.coordinator.acknowledged (length bodies) count k.count counts
 
-    pub line_is : (line : SnapLine) (n : ℕ) → line.number ≡ made.number → made.number ≡ 1 + n → n ≡ length bodies → line.entries ≡ length (stored_order (bodies ++ body ∷ [])) → IsFoldOf header.n made (fold_in line) →
-        IsNewestLine st v.failures (bodies ++ body ∷ []) line
-    line_is line n number next counts entries fold =
-        let goes : GoesWith (shared_of st v.failures) bodies made =
-        goes_with st v.failures o.kept o.resumed o.base o.first k.was.events c k.was.now.course header start bodies k.kept k.was.keeps record_due made missing_is
-        in
-        let number_of : ℕ → ℕ = (replay st.graph st.program (stored_order (bodies ++ body ∷ []))).vertex in
+    entries_few : length made.entries.items < 2 ^ 32
+    entries_few =
+        all_few (length made.entries.items) (length missing_is.missing) (total st.machines (λ a. length (come_or (c.coordinator.come a)).entries)) (length stored) (length front) c.coordinator.store_end (records_size bodies)
+        st.machines (size st.graph) (length st.graph.edges) entries_are lacking_are k.place room.short
+
+    formed_fits : RecordFits made
+    formed_fits =
+        due_fits st v.failures o.kept o.resumed o.base o.first k.was.events c header (stored_order bodies) made k.was.now.course record_due k.fits.machines k.fits.n k.fits.m missing_is entries_few
+        (vertices_few header.n (size st.graph) c.coordinator.store_end (total st.machines (λ a. length (come_or (c.coordinator.come a)).entries)) st.machines (length st.graph.edges) k.fits.n room.short)
+        (edges_few header.m (length st.graph.edges) c.coordinator.store_end (total st.machines (λ a. length (come_or (c.coordinator.come a)).entries)) st.machines (size st.graph) k.fits.m room.short)
+
+    tickets_low : o.first.next + o.first.left < 33554432 * made.number
+    tickets_low =
+        within_bound o.first.next o.first.left (length start) (length k.was.keeps.added) (length bodies) count made.number
+        (subst (λ (n : ℕ). n ≤ 33554432 * length start) (sym (k.was.now.course.opened.next ∙ ap ticket_above k.kept)) (start_low header bytes start k.was.keeps.added (sym bodies_are ∙ k.was.keeps.stored)))
+        left (ap (length {A = List ℕ}) k.was.keeps.stored ∙ length-append start k.was.keeps.added) counts number_is
+
+    pub formed : IsInForm header count made
+    formed =
         record {
-          number_is = number ∙ next ∙ next_too n (length bodies) counts ∙ sym (length_push bodies body);
-          entries = entries;
-          fold = fold.fold_is ∙ ap fold_of (fill_by_all number_of fold.values (size st.graph) 0 (fold.each.count ∙ k.fits.n)
-              (λ u low.
-              fold.each.each u (subst (λ (many : ℕ). u < many) (sym k.fits.n) low) ∙ goes.vertex u low
-              ∙ ap (λ (es : List Entry). (replay st.graph st.program es).vertex u) (sym order_is)));
+          number = number_is;
+          fits = formed_fits;
+          form = subst (λ (n : ℕ). IsBody header n (body_bytes made)) number_is
+              (due_form st v.failures o.kept o.resumed o.base o.first k.was.events c header (stored_order bodies) made k.was.now.course record_due k.fits.machines k.fits.n k.fits.m missing_is with_it.in_turn formed_fits fits
+              (number_few made.number c.coordinator.acknowledged (length bodies) count number_is k.count counts room.few) tickets_low);
         }
 
-  -- how long the record is
-  module _ (number : ℕ) (form : IsBody header number body) where
-    abbrev sections_long : ℕ
-    sections_long = record_length st (λ a. come_or (c.coordinator.come a))
+  -- ---- with it
 
-    entries_are : length made.entries.items ≡ length missing_is.missing + total st.machines (λ a. length (come_or (c.coordinator.come a)).entries)
-    entries_are =
-        length_permutation (missing_is.missing ++ law.entries_below st.machines (snapshot_due c.coordinator)) made.entries.items missing_is.entries
-        ∙ length-append missing_is.missing (law.entries_below st.machines (snapshot_due c.coordinator))
-        ∙ ap (λ (n : ℕ). length missing_is.missing + n) (brought_long st.machines (snapshot_due c.coordinator))
+  module _ (small : RecordFits made) (fits : NumbersFit made) where
+    abbrev body : List ℕ
+    body = body_bytes made
 
-    lacking_are : length stored + length missing_is.missing ≡ length front
-    lacking_are =
-        ap (λ (es : List Entry). length es + length missing_is.missing) k.stored_are
-        ∙ sym (length-append (filter is_restart (stored_order bodies)) missing_is.missing)
-        ∙ ap (length {A = Entry}) missing_is.lacks
-        ∙ ap (length {A = Entry}) (sym front_now)
+    machines_are : length made.sections.items ≡ header.machines
+    machines_are = missing_is.machines ∙ sym k.fits.machines
 
-    counted : entry_count body ≡ length made.entries.items
-    counted = sym (entries_long (entry_count body) body 8) ∙ ap (length {A = Entry}) (entries_of_record made small fits)
+    order_is : stored_order (bodies ++ body ∷ []) ≡ with_entries (stored_order bodies) made.entries.items
+    order_is = order_push bodies [] body ∙ ap (with_entries (stored_order bodies)) (entries_of_record made small fits)
 
-    long_is : length body ≡ body_size header (length made.entries.items)
-    long_is = form.size ∙ ap (body_size header) counted
+    module _ (record_due : RecordIsDue st c.coordinator) where
+      pub grown : KeepsUp st v.failures header start (fronts_in (first_setting st o) (first_cluster st o) k.was.events ++ c.base.order ∷ []) (recorded_in (first_setting st o) (first_cluster st o) k.was.events ++ snapshot_due c.coordinator ∷ []) (bodies ++ body ∷ [])
+      grown = grows_up st v.failures o.kept o.resumed o.base o.first k.was.events c k.was.now.course header start bodies k.kept k.was.keeps record_due made missing_is small fits machines_are
 
-    record_long : 9 + length body + 16 * length stored ≡ sections_long + 16 * length front
-    record_long =
-        lasting (length body) (length made.entries.items) (length missing_is.missing) (total st.machines (λ a. length (come_or (c.coordinator.come a)).entries))
-        (length stored) (length front) st.machines (size st.graph) (length st.graph.edges) header.machines header.n header.m
-        long_is k.fits.machines k.fits.n k.fits.m entries_are lacking_are
+      pub restarts_are : front ≡ filter is_restart (stored_order (bodies ++ body ∷ []))
+      restarts_are =
+          let next : IsNextOrder st c.base.order (stored_order bodies) (snapshot_due c.coordinator) (with_entries (stored_order bodies) made.entries.items) =
+          next_is st v.failures o.kept o.resumed o.base o.first k.was.events c k.was.now.course header start bodies k.kept k.was.keeps record_due made missing_is
+          in
+          front_now ∙ sym next.restarts ∙ ap (filter is_restart) (sym order_is)
 
-    pub placed_is : c.coordinator.store_end + sections_long ≡ 65 + (records_size bodies + (9 + length body))
-    placed_is = placed c.coordinator.store_end sections_long (length front) (length stored) (records_size bodies) (length body) k.place record_long
+      pub line_is : (line : SnapLine) (n : ℕ) → line.number ≡ made.number → made.number ≡ 1 + n → n ≡ length bodies → line.entries ≡ length (stored_order (bodies ++ body ∷ [])) → IsFoldOf header.n made (fold_in line) →
+          IsNewestLine st v.failures (bodies ++ body ∷ []) line
+      line_is line n number next counts entries fold =
+          let goes : GoesWith (shared_of st v.failures) bodies made =
+          goes_with st v.failures o.kept o.resumed o.base o.first k.was.events c k.was.now.course header start bodies k.kept k.was.keeps record_due made missing_is
+          in
+          let number_of : ℕ → ℕ = (replay st.graph st.program (stored_order (bodies ++ body ∷ []))).vertex in
+          record {
+            number_is = number ∙ next ∙ next_too n (length bodies) counts ∙ sym (length_push bodies body);
+            entries = entries;
+            fold = fold.fold_is ∙ ap fold_of (fill_by_all number_of fold.values (size st.graph) 0 (fold.each.count ∙ k.fits.n)
+                (λ u low.
+                fold.each.each u (subst (λ (many : ℕ). u < many) (sym k.fits.n) low) ∙ goes.vertex u low
+                ∙ ap (λ (es : List Entry). (replay st.graph st.program es).vertex u) (sym order_is)));
+          }
 
-    -- where the coordinator has room for it the store does
-    pub not_full : (count long : ℕ) → HasStoreRoom st c.coordinator → count ≡ length bodies → long ≡ 65 + records_size bodies → IsFullFor count long (9 + length body) → ⊥
-    not_full count long room counts long_at (inl many) = not_few c.coordinator.acknowledged count room.few (k.count ∙ sym counts) many
-    not_full count long room counts long_at (inr over) =
-        not_long c.coordinator.store_end sections_long (records_size bodies) long (length body) room.short placed_is long_at over
+    -- how long the record is
+    module _ (number : ℕ) (form : IsBody header number body) where
+      abbrev sections_long : ℕ
+      sections_long = record_length st (λ a. come_or (c.coordinator.come a))
+
+      counted : entry_count body ≡ length made.entries.items
+      counted = sym (entries_long (entry_count body) body 8) ∙ ap (length {A = Entry}) (entries_of_record made small fits)
+
+      long_is : length body ≡ body_size header (length made.entries.items)
+      long_is = form.size ∙ ap (body_size header) counted
+
+      record_long : 9 + length body + 16 * length stored ≡ sections_long + 16 * length front
+      record_long =
+          lasting (length body) (length made.entries.items) (length missing_is.missing) (total st.machines (λ a. length (come_or (c.coordinator.come a)).entries))
+          (length stored) (length front) st.machines (size st.graph) (length st.graph.edges) header.machines header.n header.m
+          long_is k.fits.machines k.fits.n k.fits.m entries_are lacking_are
+
+      pub placed_is : c.coordinator.store_end + sections_long ≡ 65 + (records_size bodies + (9 + length body))
+      placed_is = placed c.coordinator.store_end sections_long (length front) (length stored) (records_size bodies) (length body) k.place record_long
+
+      -- where the coordinator has room for it the store does
+      pub not_full : (count long : ℕ) → HasStoreRoom st c.coordinator → count ≡ length bodies → long ≡ 65 + records_size bodies → IsFullFor count long (9 + length body) → ⊥
+      not_full count long room counts long_at (inl many) = not_few c.coordinator.acknowledged count room.few (k.count ∙ sym counts) many
+      not_full count long room counts long_at (inr over) =
+          not_long c.coordinator.store_end sections_long (records_size bodies) long (length body) room.short placed_is long_at over
 
 -- ---- what is known of it afterwards
 
@@ -262,6 +323,10 @@ module _ {M : Type 0} (stands : Setting → ℕ → Machine → M → Type 0) (v
 
   due_here : RecordIsDue st at.coordinator
   due_here = is_due stands v st o k.was.events at k.was.now can
+
+  pub in_form : (bytes : List ℕ) → bodies ≡ stored_in header bytes → o.first.left < 33554432 → n ≡ length bodies → IsInForm header n made
+  in_form bytes bodies_are left counts =
+      formed stands v header start bodies lost restarts.stored.items restarts.front.items order st o k made with_here (has_room stands v st o k.was.events at k.was.now can) due_here bytes bodies_are left n counts fits
 
   module _ (form : IsInForm header n made) where
     pub line_added : (line : SnapLine) → n ≡ length bodies → line.number ≡ made.number → line.entries ≡ length (stored_order (bodies ++ body_bytes made ∷ [])) → IsFoldOf header.n made (fold_in line) →
@@ -284,7 +349,7 @@ module _ {M : Type 0} (stands : Setting → ℕ → Machine → M → Type 0) (v
       known_now = record {
         kept = k.kept;
         was = grows stands v new failures_are header start bodies lost st o made happens k.was k.kept
-            (missing_is stands v header start bodies lost restarts.stored.items restarts.front.items order st o k made with_here form.fits fits)
+            (missing_is stands v header start bodies lost restarts.stored.items restarts.front.items order st o k made with_here)
             (λ st failures kept resumed base first events c header start bodies made course kept_is keeps due is small fits machines. grows_up st failures kept resumed base first events c course header start bodies kept_is keeps due made is small fits machines)
             form.fits fits (machines_are stands v header start bodies lost restarts.stored.items restarts.front.items order st o k made with_here form.fits fits);
         fits = k.fits;

@@ -1,12 +1,13 @@
 -- What a journal answers, the step answers.
-use Rattle.std.proofs.Common.{◌≡◌, ℕ, ◌+◌, Bool, true, false, List, Ok, Err, Result, inl, inr, length, sym, subst, ◌∙◌}
+use Rattle.std.proofs.Common.{◌≡◌, ◌⊎◌, ℕ, ◌+◌, ◌<◌, ◌^◌, ◌≤◌, ⊎_elim, Bool, true, false, List, Ok, Err, Result, inl, inr, length, sym, subst, ◌∙◌}
 use Rattle.std.specs.Prelude.{IfOk, IsTrue, ◌↔◌}
+use Rattle.std.proofs.lemmas.Bool.{cases_lt}
 use Rattle.gl_base.specs.declared.memory.NoMemory.{NoMemory as WantOfMemory}
 use Rattle.gl_base.specs.declared.snapshots.Record.{Record}
 use Rattle.call_appends.specs.Appends.{AppendFault, Header, IsInForm, JournalState}
 use Rattle.call_appends.specs.declared.faults.AppendFault.TheVariants.{DiskFault, Full, NoMemory, NotInForm}
 use Rattle.call_appends.specs.Inner.Storing.{IsFaultOfAppend, IsWhyNoFold, IsWhyNotPut, IsWhyNotStored, IsWithRecord, append_fault}
-use Rattle.snap_journal.specs.Answers.{IsWhyNotAdded}
+use Rattle.snap_journal.specs.Answers.{IsFullFor, IsWhyNotAdded}
 use Rattle.snap_journal.specs.Formats.{IsBeforeOrAfter, IsBody, RecordFits, body_bytes}
 use Rattle.snap_journal.specs.declared.faults.JournalFault.{JournalFault}
 use Rattle.snap_journal.specs.declared.faults.JournalFault.TheVariants as fault
@@ -56,3 +57,17 @@ module _ {D : Type 0} (old new : JournalState D) (before now : ℕ) (made : Reco
 pub with_record : (header : Header) (stored : ℕ) (bodies : List (List ℕ)) (made : Record) → IsInForm header stored made → (image : List ℕ) → IsBeforeOrAfter header bodies (body_bytes made) image → IsWithRecord header stored bodies made image
 with_record header stored bodies made form image (inl before) = inl before
 with_record header stored bodies made form image (inr after) = inr (after, form)
+
+-- where a record was added the store is not longer than it may be
+pub stays_short : (r : Result (Unit {0}) JournalFault) (count old new size : ℕ) → r ≡ Ok tt → new ≡ old + size → (IsFullFor count old size → (r ≡ Err (fault.Full count old)) ⊎ (r ≡ Err fault.NoMemory)) → new ≤ 2 ^ 30
+stays_short r count old new size is grown full =
+    ⊎_elim
+    (λ (over : 2 ^ 30 < old + size). absurd (refused (full (inr over))))
+    (λ (within : old + size ≤ 2 ^ 30). subst (λ (n : ℕ). n ≤ 2 ^ 30) (sym grown) within)
+    (cases_lt (2 ^ 30) (old + size))
+  where
+    no_fault : (e : JournalFault) → ◌≡◌ {A = Result (Unit {0}) JournalFault} (Ok tt) (Err e) → ⊥
+    no_fault e same = cc
+    refused : (r ≡ Err (fault.Full count old)) ⊎ (r ≡ Err fault.NoMemory) → ⊥
+    refused (inl one) = no_fault (fault.Full count old) (sym is ∙ one)
+    refused (inr other) = no_fault fault.NoMemory (sym is ∙ other)

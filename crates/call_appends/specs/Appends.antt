@@ -8,6 +8,7 @@ pub use Rattle.snap_journal.specs.Journals.{JournalState, snapshots_in}
 pub use Rattle.stored_answers.specs.Lines.{IsLineOf, fold_in, numbers_after}
 pub use Rattle.stored_answers.specs.declared.runs.SnapLine.{SnapLine}
 pub use Rattle.stored_courses.specs.Stores.{CallOpening, Cluster, CourseView, Header, IsGoodStore, IsKnownCourse, IsRecordBehind, Machine, Setting, stored_order}
+use Rattle.std.specs.List.Sorted.{IsNonDecreasingBy}
 use Rattle.std.specs.Prelude.{List, [], false, filter, length, true, ℕ, ◌++◌, ◌+◌, ◌∷◌, ◌≡◌, ◌⊎◌}
 use Rattle.gl_base.specs.declared.entries.Entry.{Entry}
 use Rattle.gl_base.specs.declared.jobs.FailureAt.{FailureAt}
@@ -27,14 +28,17 @@ use Rattle.snap_clusters.specs.declared.events.Lead.TheVariants as lead
 use Rattle.snap_journal.specs.Answers.{IsFullFor}
 use Rattle.snap_journal.specs.Disks.{Rose}
 use Rattle.snap_journal.specs.Formats.{IsBody, StandsFor}
+use Rattle.store_format.specs.StoredOrders.{entry_rank}
 use Rattle.whole_calls.specs.Telling.{NeedsMoreStore}
 
 -- ---- the record
 
--- The record is that of the snapshot that is due, with the restarts that a store lacks which has these: behind each order that has them.
+-- The record is that of the snapshot that is due, with the restarts that a store lacks which has these: behind each order that has them. Its entries
+-- stand in their turn.
 pub record IsRecordWith (st : Setting) (stored front : List Entry) (c : Cluster) (made : Record) : Type 0 where
   pub number : made.number ≡ c.coordinator.begun
   pub behind : (before order : List Entry) → stored ≡ filter is_restart before → front ≡ filter is_restart order → IsRecordBehind st before order (snapshot_due c.coordinator) made
+  pub in_turn : IsNonDecreasingBy entry_rank made.entries.items
 
 -- so wherever a course has led
 abbrev pub IsDueWith : {M : Type 0} → (Setting → ℕ → Machine → M → Type 0) → CourseView M → Restarts → Record → Type 0

@@ -1,5 +1,5 @@
 //! The snapshot that is due is added to a store, and acknowledged.
-ghost use Rattle.std.specs.Prelude.{Err, List, ◌≡◌, ◌+◌, ◌≤◌, ℕ, false, IfErr, IfOk, IsErrOf, IsTrue, OnErr, OnOk};
+ghost use Rattle.std.specs.Prelude.{Err, List, ◌≡◌, ◌+◌, ◌<◌, ◌^◌, ◌≤◌, ℕ, false, IfErr, IfOk, IsErrOf, IsTrue, OnErr, OnOk};
 ghost use Rattle.gl_base.specs.declared.entries.Entry.{Entry};
 ghost use Rattle.call_appends.specs.Appends.{Begins, CallOpening, HasOneMore, IsDueWith, IsGoodImage, IsNewestLine, IsWhyNotAppended, KnowsJournal, LeavesOnly, NeedsMore, Setting, snapshots_in};
 ghost use Rattle.call_appends.specs.Inner.Storing.{no_record};
@@ -59,9 +59,14 @@ pub fn append_due<D: Disk, M: SavingMachine>(
         KnowsJournal M.stands D.past course.old journal.old start lost restarts.old order st o →
         (k : ℕ) → IsDueOf course.old.now.coordinator (Due.Record k) → (stored long : ℕ) → IsErrOf result (AppendFault.Full stored long) → NeedsMore M.stands course.old st o }
 
+    // A record that is due is in the form of the store, where the call draws fewer tickets than each snapshot may have.
+    ensures form { IsTrue D.told → (start : List (List ℕ)) (lost order : List Entry) (st : Setting) (o : CallOpening) →
+        KnowsJournal M.stands D.past course.old journal.old start lost restarts.old order st o → o.first.left < 33554432 → IsErrOf result AppendFault.NotInForm → ⊥ }
+
     ensures refused { IfErr result (IsWhyNotAppended M.stands course.old restarts.old journal.old journal.new (D.faults journal.old.disk) (D.faults journal.new.disk)) }
     ensures header { journal.new.header ≡ journal.old.header }
     ensures counted { OnOk result (journal.new.count ≡ journal.old.count + 1) }
+    ensures short { OnOk result (journal.new.length ≤ 2 ^ 30) }
     ensures well { OnOk result (journal.new.failed ≡ false) }
     ensures disk { D.same journal.old.disk journal.new.disk }
     ensures later { D.faults journal.old.disk ≤ D.faults journal.new.disk }

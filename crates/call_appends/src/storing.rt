@@ -1,5 +1,5 @@
 //! A record is checked, and put into a journal.
-ghost use Rattle.std.specs.Prelude.{◌≡◌, ◌+◌, ◌≤◌, ◌↔◌, false, length, IfErr, IfOk, IsTrue, OnErr, OnOk};
+ghost use Rattle.std.specs.Prelude.{◌≡◌, ◌+◌, ◌^◌, ◌≤◌, ◌↔◌, false, length, IfErr, IfOk, IsTrue, OnErr, OnOk};
 ghost use Rattle.call_appends.specs.Appends.{IsInForm, LeavesOnly, snapshots_in, stored_order};
 ghost use Rattle.call_appends.specs.Folds.{IsFoldOf};
 ghost use Rattle.call_appends.specs.Inner.Numbers.{NumbersFit};
@@ -32,6 +32,7 @@ pub(crate) fn store_record<D: Disk>(
     ensures restarts { OnOk result ((restarts.new.front ≡ restarts.old.front) × (restarts.new.stored.items ≡ restarts.old.front.items)) }
     ensures kept { OnErr result (restarts.new ≡ restarts.old) }
     ensures any_moment { IsTrue D.told → LeavesOnly (D.past journal.old.disk) (D.past journal.new.disk) (IsWithRecord journal.old.header journal.old.count (snapshots_in D.past journal.old) made.now) }
+    ensures short { OnOk result (journal.new.length ≤ 2 ^ 30) }
     ensures refused { IfErr result (IsWhyNotStored journal.old journal.new (D.faults journal.old.disk) (D.faults journal.new.disk) made.now) }
     ensures fits { NumbersFit made.now }
     ensures header { journal.new.header ≡ journal.old.header }
@@ -86,6 +87,7 @@ fn put<D: Disk>(alloc: Global, journal: &mut Journal<D>, made: &Record) -> Resul
     requires form { IsInForm journal.old.header journal.old.count made.now }
     ensures stored { OnOk result (HasStored (IsTrue D.told) D.past journal.old journal.new made.now) }
     ensures any_moment { IsTrue D.told → LeavesOnly (D.past journal.old.disk) (D.past journal.new.disk) (IsWithRecord journal.old.header journal.old.count (snapshots_in D.past journal.old) made.now) }
+    ensures short { OnOk result (journal.new.length ≤ 2 ^ 30) }
     ensures refused { IfErr result (IsWhyNotPut journal.old journal.new (D.faults journal.old.disk) (D.faults journal.new.disk) made.now) }
     ensures header { journal.new.header ≡ journal.old.header }
     ensures disk { D.same journal.old.disk journal.new.disk }

@@ -1,6 +1,6 @@
 //! Laws of the snapshot that is due in the course of a call. Each is the contract of a function that does nothing.
 ghost use Rattle.std.specs.List.{AllByRecursion};
-ghost use Rattle.std.specs.Prelude.{Bool, List, Some, length, ℕ, ◌+◌, ◌<◌, ◌≡◌, ◌≤◌};
+ghost use Rattle.std.specs.Prelude.{Bool, List, Some, length, suc, ℕ, ◌+◌, ◌<◌, ◌≡◌, ◌≤◌};
 ghost use Rattle.gl_base.specs.declared.entries.Entry.{Entry};
 ghost use Rattle.gl_base.specs.declared.jobs.FailureAt.{FailureAt};
 ghost use Rattle.cluster_core.specs.Replays.{ticket_of};
@@ -11,6 +11,12 @@ ghost use Rattle.cluster_model.specs.Leading.{RecordIsDue};
 ghost use Rattle.cluster_records.specs.Recorded.{IsOwnUpdate, snapshot_due};
 ghost use Rattle.graph_core.specs.DataGraph.{size};
 ghost use Rattle.whole_calls.specs.Opened.{IsCourseOfCall};
+
+/// Where a record is due in the course of a call, it is that of the next snapshot behind the newest one that was acknowledged.
+pub fn due_snapshots_come_next()
+    ensures { (st : Setting) (failures : List FailureAt) (kept : List Entry) (resumed : Bool) (base : BaseView) (first : Cluster) (events : List Event) (c : Cluster) →
+        IsCourseOfCall st failures kept resumed base first events c → RecordIsDue st c.coordinator → c.coordinator.begun ≡ suc c.coordinator.acknowledged }
+{}
 
 /// Where a record is due in the course of a call, no edge stands in the sections of two machines.
 pub fn edges_are_saved_once()
@@ -32,6 +38,20 @@ pub fn sections_keep_to_the_graph()
     ensures updates { (st : Setting) (failures : List FailureAt) (kept : List Entry) (resumed : Bool) (base : BaseView) (first : Cluster) (events : List Event) (c : Cluster) →
         IsCourseOfCall st failures kept resumed base first events c → RecordIsDue st c.coordinator →
         AllByRecursion (IsOwnUpdate st) (entries_below st.machines (snapshot_due c.coordinator)) }
+{}
+
+/// Where a record is due in the course of a call, each vertex of the graph stands in the section of the machine that owns it, and in no other; and each
+/// edge stands in one.
+pub fn sections_have_the_whole_graph()
+    ensures owners { (st : Setting) (failures : List FailureAt) (kept : List Entry) (resumed : Bool) (base : BaseView) (first : Cluster) (events : List Event) (c : Cluster) →
+        IsCourseOfCall st failures kept resumed base first events c → RecordIsDue st c.coordinator →
+        (a v x : ℕ) → a < st.machines → ((snapshot_due c.coordinator).sections a).section.vertices v ≡ Some x → st.owner v ≡ a }
+    ensures vertices { (st : Setting) (failures : List FailureAt) (kept : List Entry) (resumed : Bool) (base : BaseView) (first : Cluster) (events : List Event) (c : Cluster) →
+        IsCourseOfCall st failures kept resumed base first events c → RecordIsDue st c.coordinator →
+        (v : ℕ) → v < size st.graph → (x : ℕ) × (((snapshot_due c.coordinator).sections (st.owner v)).section.vertices v ≡ Some x) }
+    ensures edges { (st : Setting) (failures : List FailureAt) (kept : List Entry) (resumed : Bool) (base : BaseView) (first : Cluster) (events : List Event) (c : Cluster) →
+        IsCourseOfCall st failures kept resumed base first events c → RecordIsDue st c.coordinator →
+        (e : ℕ) → e < length st.graph.edges → (a : ℕ) × (x : ℕ) × (a < st.machines) × (((snapshot_due c.coordinator).sections a).section.edges e ≡ Some x) }
 {}
 
 /// Through failures and recoveries, the next ticket and the tickets that are left are together the first ticket and the budget. So each update that a

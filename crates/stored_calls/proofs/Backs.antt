@@ -1,8 +1,7 @@
 -- A call whose machines went back, or could not.
-use Rattle.std.proofs.Common.{◌≡◌, ℕ, ◌<◌, ◌++◌, ◌∙◌, Bool, true, false, List, ap, length, refl, subst, sym}
+use Rattle.std.proofs.Common.{◌≡◌, ℕ, ◌++◌, Bool, true, false, List, refl, subst, sym}
 use Rattle.std.specs.Prelude.{Err, IfOk, IfSome, None, Ok, Option, Result, Some}
 use Rattle.gl_base.specs.declared.entries.Entry.{Entry}
-use Rattle.gl_base.specs.declared.jobs.FailureAt.{FailureAt}
 use Rattle.gl_base.specs.declared.numbers.MachineNo.{MachineNo}
 use Rattle.call_backs.proofs.Keepings.{known_on}
 use Rattle.call_backs.specs.Failing.{HaveFailedSince, InEachCourse}

@@ -1,22 +1,20 @@
 -- What is so of a call with a store as it begins.
-use Rattle.std.proofs.Common.{◌≡◌, ◌≤◌, ℕ, ◌∙◌, List, [], ◌++◌, ap, inl, inr, le_refl, length, refl, subst, suc, sym, arith}
+use Rattle.std.proofs.Common.{◌≡◌, ◌≤◌, ℕ, ◌∙◌, List, [], ◌++◌, ap, inl, le_refl, length, subst, suc, sym}
 use Rattle.std.proofs.lemmas.List.{append-nil, get_or_past}
 use Rattle.std.specs.declared.alloc.Global.{Global}
 use Rattle.std.specs.declared.vec.Vec.{Vec}
 use Rattle.call_returns.specs.declared.restarts.Restarts.{Restarts}
-use Rattle.std.specs.Prelude.{Bool, false, slice_index_or}
-use Rattle.gl_outside.specs.Disk.{DiskState, clock, images_since, state_at}
+use Rattle.std.specs.Prelude.{Bool}
+use Rattle.gl_outside.specs.Disk.{DiskState, clock, state_at}
 use Rattle.gl_base.specs.declared.entries.Entry.{Entry}
 use Rattle.gl_base.specs.declared.jobs.FailureAt.{FailureAt}
-use Rattle.call_starts.specs.Starting.{HasStarted}
 use Rattle.call_starts.specs.declared.starting.Started.{Started}
-use Rattle.cluster_runs.specs.Attempts.{Shared}
 use Rattle.recovery.specs.GoodStores.{IsGoodStore}
 use Rattle.snap_journal.specs.Formats.{stored_in}
 use Rattle.snap_journal.specs.Journals.{AllStandFor}
 use Rattle.stored_calls.proofs.Going.{all_begin}
 use Rattle.stored_answers.specs.declared.runs.SnapLine.{SnapLine}
-use Rattle.stored_calls.specs.Calls.{AreSnapLines, CallOpening, CourseView, DiskPast, Header, HoldsGood, IsCallAt, IsImage, IsKnownAt, IsKnownCourse, IsSaverOf, JournalState, LeavesOnly, SaverView, Setting, shared_of, snapshots_in}
+use Rattle.stored_calls.specs.Calls.{AreSnapLines, CallOpening, CourseView, DiskPast, Header, HoldsGood, IsImage, IsKnownAt, IsKnownCourse, IsSaverOf, JournalState, LeavesOnly, SaverView, Setting, shared_of, snapshots_in}
 use Rattle.stored_calls.specs.Runs.{HasCallBegun}
 use Rattle.stored_calls.specs.declared.calls.StoredCall.{StoredCall}
 use Rattle.update_api.specs.Updates.{Update}

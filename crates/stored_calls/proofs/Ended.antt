@@ -1,5 +1,5 @@
 -- What a run with a store is, where its call has ended.
-use Rattle.std.proofs.Common.{◌≡◌, ℕ, ◌+◌, ◌∙◌, List, [], ◌++◌, ap, length, refl, subst, subst₂, sym}
+use Rattle.std.proofs.Common.{◌≡◌, ℕ, ◌∙◌, List, ◌++◌, ap, length, subst, subst₂, sym}
 use Rattle.std.proofs.lemmas.List.{append_cancel_left}
 use Rattle.std.specs.Prelude.{false, suc}
 use Rattle.gl_base.specs.declared.entries.Entry.{Entry}
@@ -12,13 +12,10 @@ use Rattle.call_ends.specs.Gathered.{GathersFrom, IsGathered, gathered_lists}
 use Rattle.call_ends.specs.declared.gathering.CallLists.{CallLists}
 use Rattle.cluster_model.specs.Events as law
 use Rattle.graph_core.specs.DataGraph.{DataGraph}
-use Rattle.recovery.specs.Journals.{records_size}
 use Rattle.stored_answers.specs.Ends.{RunEndsSo}
-use Rattle.stored_answers.specs.declared.runs.SnapLine.{SnapLine}
 use Rattle.stored_answers.specs.declared.runs.StoredEnd.{StoredEnd}
 use Rattle.stored_answers.specs.declared.runs.StoredEnd.TheVariants as end
-use Rattle.stored_answers.specs.declared.runs.StoredRun.{StoredRun}
-use Rattle.stored_calls.specs.Calls.{AreSnapLines, CallOpening, Cluster, CourseView, Header, IsCourseNow, IsKnownAt, IsRunAt, IsSaverOf, PauseGives, SaverView, Setting, orders_behind, shared_of, stored_order}
+use Rattle.stored_calls.specs.Calls.{AreSnapLines, CallOpening, Cluster, Header, IsRunAt, IsSaverOf, PauseGives, Setting, orders_behind, shared_of, stored_order}
 use Rattle.stored_calls.specs.Runs.{IsEndAt, IsRunSo}
 use Rattle.stored_calls.specs.declared.calls.StoredCall.{StoredCall}
 use Rattle.update_api.specs.Updates.{Update}

@@ -1,5 +1,5 @@
 -- A call goes on with its store.
-use Rattle.std.proofs.Common.{◌≡◌, ℕ, ◌+◌, ◌∙◌, List, [], ◌∷◌, ◌++◌, inl, inr, length, length-append, refl, sym, ap, subst, ⊎_elim, append_assoc, le_refl, arith}
+use Rattle.std.proofs.Common.{◌≡◌, ℕ, ◌+◌, ◌∙◌, List, [], ◌∷◌, ◌++◌, length, length-append, refl, sym, ap, subst, ⊎_elim, append_assoc, le_refl, arith}
 use Rattle.std.proofs.lemmas.List.{append-nil, get_or_past}
 use Rattle.gl_outside.specs.Disk.{DiskState, clock, images_since, state_at}
 use Rattle.call_appends.proofs.Images.{leaves_more}

@@ -9,3 +9,5 @@ pub mod Ended
 pub mod Owners
 pub mod Runs
 pub mod Playing
+pub mod Bounds
+pub mod Refusing

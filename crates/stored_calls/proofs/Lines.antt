@@ -1,5 +1,5 @@
 -- One line more.
-use Rattle.std.proofs.Common.{◌≡◌, ℕ, ◌+◌, List, [], ◌∷◌, ◌++◌, length, suc, sym, subst, arith}
+use Rattle.std.proofs.Common.{◌≡◌, ℕ, ◌+◌, List, [], ◌∷◌, ◌++◌, length, suc, subst, arith}
 use Rattle.gl_base.specs.declared.entries.Entry.{Entry}
 use Rattle.cluster_runs.specs.Attempts.{Shared}
 use Rattle.stored_answers.specs.Lines.{AreSnapLines, IsLineOf}

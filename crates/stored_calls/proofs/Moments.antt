@@ -1,7 +1,6 @@
 -- Moments of a run, one behind the other.
-use Rattle.std.proofs.Common.{ℕ, ◌≤◌, List, inl, inr, arith, ⊎_elim}
-use Rattle.std.specs.Prelude.{◌⊎◌, length}
-use Rattle.gl_outside.specs.Disk.{DiskPast, IsImage, LeavesOnly, clock, images_since, state_at}
+use Rattle.std.proofs.Common.{ℕ, List, inr, arith, ⊎_elim}
+use Rattle.gl_outside.specs.Disk.{DiskPast, LeavesOnly, clock}
 
 -- a crash leaves what one left at an earlier part of the run, or at a later one
 pub then_leaves : (old mid new : DiskPast) (P Q : List ℕ → Type 0) → LeavesOnly old mid P → LeavesOnly mid new Q → ((image : List ℕ) → Q image → P image) → LeavesOnly old new P

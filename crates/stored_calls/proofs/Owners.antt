@@ -1,7 +1,6 @@
 -- A run with a store, by whatever owners the placement gives.
-use Rattle.std.proofs.Common.{◌≡◌, ◌≤◌, ◌<◌, ℕ, ◌∙◌, ◌++◌, Bool, List, ap, inl, inr, length, refl, subst, subst₂, sym, true}
+use Rattle.std.proofs.Common.{◌≡◌, ◌<◌, ℕ, ◌++◌, Bool, List, length, refl, subst, subst₂, sym, true}
 use Rattle.cluster_core.specs.Settings.{Locking}
-use Rattle.gl_base.specs.declared.entries.Entry.{Entry}
 use Rattle.gl_base.specs.declared.jobs.FailureAt.{FailureAt}
 use Rattle.graph_core.specs.DataGraph.{DataGraph, IsDataGraph, size}
 use Rattle.machine_places.proofs.OwnerLemmas.{owner_low}
@@ -10,8 +9,8 @@ use Rattle.placed_savers.specs.declared.savers.Places.{Places}
 use Rattle.stored_answers.specs.declared.runs.StoredEnd.{StoredEnd}
 use Rattle.stored_answers.specs.declared.runs.StoredPlan.{StoredPlan}
 use Rattle.stored_answers.specs.declared.runs.StoredRun.{StoredRun}
-use Rattle.stored_calls.specs.Calls.{ArePlacesOf, CallOpening, DiskPast, Header, HoldsGood, IsCallAt, IsCallEnded, IsImage, IsRunAt, JournalState, LeavesOnly, Setting, orders_behind, shared_of, snapshots_in, stored_order}
-use Rattle.stored_calls.specs.Runs.{ArePlacedFor, IsEndAt, IsGoodStore, IsPlacement, IsRunSo, IsStoredRun, KeepsGood, Shared, owned_shared}
+use Rattle.stored_calls.specs.Calls.{CallOpening, DiskPast, Header, HoldsGood, IsCallAt, IsCallEnded, IsRunAt, JournalState, LeavesOnly, Setting, orders_behind, shared_of, stored_order}
+use Rattle.stored_calls.specs.Runs.{ArePlacedFor, IsEndAt, IsRunSo, IsStoredRun, KeepsGood, Shared, owned_shared}
 use Rattle.stored_calls.specs.declared.calls.StoredCall.{StoredCall}
 use Rattle.update_api.specs.Updates.{Update}
 

@@ -9,7 +9,7 @@ use Rattle.snap_journal.specs.declared.faults.JournalFault.{JournalFault}
 use Rattle.stored_answers.specs.declared.runs.StoredEnd.{StoredEnd}
 use Rattle.stored_answers.specs.declared.runs.StoredEnd.TheVariants as end
 use Rattle.stored_calls.proofs.Going.{still_there}
-use Rattle.stored_calls.specs.Calls.{CallOpening, DiskPast, EndsCall, Header, IsCallAt, IsCallEnded, IsKnownAt, IsRunAt, IsSameCall, IsSaverOf, IsTaskIn, JournalState, KeepsCall, PausesSo, Setting}
+use Rattle.stored_calls.specs.Calls.{CallOpening, DiskPast, EndsCall, Header, IsCallAt, IsKnownAt, IsRunAt, IsSameCall, IsSaverOf, IsTaskIn, JournalState, KeepsCall, PausesSo, Setting}
 use Rattle.stored_calls.specs.declared.calls.StoredCall.{StoredCall}
 use Rattle.update_api.specs.Updates.{Update}
 

@@ -1,11 +1,10 @@
 -- A call goes on, pause behind pause.
-use Rattle.std.proofs.Common.{◌≡◌, ◌∙◌, ℕ, ◌≤◌, refl, sym, subst, le_trans}
-use Rattle.std.specs.Prelude.{Option, None, Some, IfSome}
+use Rattle.std.proofs.Common.{◌∙◌, ℕ, ◌≤◌, refl, sym, subst}
 use Rattle.graph_core.specs.DataGraph.{DataGraph}
 use Rattle.snap_journal.proofs.AppendLemmas.{rose_after}
 use Rattle.stored_answers.specs.declared.runs.StoredEnd.{StoredEnd}
 use Rattle.stored_answers.specs.declared.runs.StoredEnd.TheVariants as end
-use Rattle.stored_calls.specs.Calls.{CallOpening, DiskPast, EndsBy, EndsCall, IsCallAt, IsRunAt, IsSameCall, JournalState, KeepsCall, Setting}
+use Rattle.stored_calls.specs.Calls.{DiskPast, EndsBy, EndsCall, IsRunAt, IsSameCall, JournalState, KeepsCall, Setting}
 use Rattle.stored_calls.specs.declared.calls.StoredCall.{StoredCall}
 use Rattle.update_api.specs.Updates.{Update}
 

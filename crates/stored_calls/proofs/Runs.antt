@@ -1,11 +1,10 @@
 -- A run with a store, from its beginning to its end.
-use Rattle.std.proofs.Common.{◌≡◌, ◌≤◌, ◌<◌, ◌∙◌, ◌⊎◌, ℕ, Bool, Err, IfErr, IfOk, List, Ok, Result, ap, false, inl, inr, length, subst, sym, true, true≢false, arith}
+use Rattle.std.proofs.Common.{◌≡◌, ◌≤◌, ◌<◌, ◌^◌, ◌∙◌, ◌⊎◌, ℕ, Bool, Err, IfErr, IfOk, List, Ok, Result, ap, false, inl, inr, length, subst, sym, true≢false, arith}
 use Rattle.gl_base.specs.declared.entries.Entry.{Entry}
 use Rattle.gl_base.specs.declared.jobs.FailureAt.{FailureAt}
 use Rattle.graph_core.specs.DataGraph.{DataGraph, IsDataGraph, size}
 use Rattle.placed_savers.specs.Beginning.{placed_owner}
 use Rattle.placed_savers.specs.declared.savers.Places.{Places}
-use Rattle.snap_journal.specs.Disks.{Rose}
 use Rattle.snap_journal.specs.declared.faults.JournalFault.{JournalFault}
 use Rattle.snap_journal.specs.declared.faults.JournalFault.TheVariants as fault
 use Rattle.store_format.specs.declared.faults.StoreFault.{StoreFault}
@@ -14,7 +13,7 @@ use Rattle.stored_answers.specs.declared.runs.StoredEnd.TheVariants as end
 use Rattle.stored_answers.specs.declared.runs.StoredPlan.{StoredPlan}
 use Rattle.stored_answers.specs.declared.runs.StoredRun.{StoredRun}
 use Rattle.stored_calls.proofs.Owners.{HasOwner, end_at, kept_good, run_named, with_owner}
-use Rattle.stored_calls.specs.Calls.{CallOpening, DiskPast, EndsBy, EndsCall, Header, IsCallAt, IsCallEnded, IsRunAt, IsWhyStopped, JournalState, KeepsCall, Setting, orders_behind, shared_of, snapshots_in, stored_order}
+use Rattle.stored_calls.specs.Calls.{CallOpening, DiskPast, EndsBy, EndsCall, Header, IsCallAt, IsCallEnded, IsNotRefused, IsRunAt, IsWhyStopped, JournalState, KeepsCall, KeepsToBounds, Setting, orders_behind, shared_of, snapshots_in, stored_order}
 use Rattle.stored_calls.specs.Runs.{ArePlacedFor, HasCallBegun, IsEndAt, IsGoodStore, IsPlacement, IsRunSo, IsStoredRun, IsWhyNoRun, IsWhyNotBegun, KeepsByOwner, KeepsGood, Shared, owned_shared}
 use Rattle.stored_calls.specs.declared.calls.StoredCall.{StoredCall}
 use Rattle.update_api.specs.Updates.{Update}
@@ -63,6 +62,40 @@ module _ {D P : Type 0} (meaning : P → Update) (past : D → DiskPast) (g : Da
         kept_good meaning past later after bodies (past journal.disk) (has owner placement).st start.opening (owned_shared g program owner failures) journal.header (shared_later owner placement) header e.at,
       )
 
+  -- ---- why it is not refused
+
+  module _ (budget_low : plan.run.budget ≤ 16777216) (machines_low : plan.run.machines < 65535) (failures_low : length failures ≤ 65536) (began : call.course.failures ≡ failures) (long : mid.length ≡ journal.length) (short : journal.length ≤ 2 ^ 30)
+      (owner : ℕ → ℕ) (placement : IsPlacement g plan.run.atoms plan.run.machines owner) (good : IsGoodStore (owned_shared g program owner failures) journal.header bodies) where
+    bounded : KeepsToBounds call mid (has owner placement).st (starts owner placement good).opening
+    bounded =
+        record {
+          tickets = below (starts owner placement good).opening.first.left plan.run.budget (starts owner placement good).tickets budget_low;
+          failures = subst (λ (fs : List FailureAt). length fs ≤ 65536) (sym began) failures_low;
+          machines = subst (λ (n : ℕ). n < 65535) (sym ((has owner placement).runs.placed.machines ∙ placed.are.many)) machines_low;
+          bytes = subst (λ (n : ℕ). n ≤ 2 ^ 30) (sym long) short;
+        }
+      where
+        below : (left budget : ℕ) → left ≡ budget → budget ≤ 16777216 → left < 33554432
+        below left budget is low = omega arith
+
+    -- as it goes on
+    pub never_stopped : {T : Type 0} (r : Result T JournalFault) → ((st : Setting) → IsRunAt g program call.places st → IsNotRefused meaning past call mid st r) → (bad : StoreFault) → r ≡ Err (fault.BadStore bad) → ⊥
+    never_stopped r never bad is = never (has owner placement).st (has owner placement).runs bodies (past journal.disk) (starts owner placement good).opening (starts owner placement good).at bounded bad is
+
+    -- as its lists are gathered
+    pub never_other : (how : StoredEnd) → EndsCall meaning past g program call mid later after how → later.places ≡ call.places → (why : JournalFault) (other : StoreFault) →
+        (why ≡ fault.NoMemory) ⊎ ((why ≡ fault.BadStore other) × ((program : Update) (header : Header) (start added : List (List ℕ)) (st : Setting) (o : CallOpening) → IsRunAt g program later.places st → IsEndAt meaning later header start added st o how → ⊥)) →
+        (bad : StoreFault) → why ≡ fault.BadStore bad → ⊥
+    never_other how ends places why other (inl none) bad is = no_memory bad (sym none ∙ is)
+      where
+        no_memory : (bad : StoreFault) → fault.NoMemory ≡ fault.BadStore bad → ⊥
+        no_memory bad same = cc
+    never_other how ends places why other (inr unlike) bad is =
+        let start : HasCallBegun meaning past call journal mid resumed plan.run.budget (has owner placement).st = starts owner placement good in
+        let e : IsCallEnded meaning past later after bodies (past journal.disk) (has owner placement).st start.opening how = ends bodies (past journal.disk) (has owner placement).st start.opening (has owner placement).runs start.at in
+        let there : IsRunAt g program later.places (has owner placement).st = subst (λ (p : Places). IsRunAt g program p (has owner placement).st) (sym places) (has owner placement).runs in
+        unlike.1 program after.header bodies e.at.added (has owner placement).st start.opening there (end_at meaning past later after bodies (past journal.disk) (has owner placement).st start.opening how e)
+
 -- ---- why there is no run
 
 pub not_begun : (told : Type 0) (failed : Bool) (old new : DiskPast) (before now : ℕ) (kept : Type 0) (why : JournalFault) → failed ≡ false → (told → new ≡ old) → IsWhyNotBegun failed before now why → IsWhyNoRun told old new before now kept why
@@ -88,6 +121,10 @@ ok_then (Err e) P Q by holds = tt
 pub err_then : {X E : Type 0} (r : Result X E) (P Q : E → Type 0) → ((e : E) → P e → Q e) → IfErr r P → IfErr r Q
 err_then (Ok x) P Q by holds = tt
 err_then (Err e) P Q by holds = by e holds
+
+-- what is so of the fault that is answered
+pub err_so : {X E : Type 0} (r : Result X E) (P : E → Type 0) (e : E) {Q : Type 0} → IfErr r P → r ≡ Err e → (P e → Q) → Q
+err_so {X} {E} r P e holds is by = by (subst (λ (s : Result X E). IfErr s P) is holds)
 
 -- memory ran out, or the order is of another graph
 pub not_gathered : (told : Type 0) (old new : DiskPast) (before now : ℕ) (kept : Type 0) (bad : StoreFault) (other : Type 0) (why : JournalFault) → (told → kept) → (why ≡ fault.NoMemory) ⊎ ((why ≡ fault.BadStore bad) × other) → IsWhyNoRun told old new before now kept why

@@ -9,14 +9,13 @@ use Rattle.call_appends.specs.declared.faults.AppendFault.TheVariants as append
 use Rattle.call_backs.proofs.Failings.{stayed}
 use Rattle.call_courses.specs.Events.{StaysThere}
 use Rattle.call_returns.specs.declared.restarts.Restarts.{Restarts}
-use Rattle.cluster_runs.specs.Attempts.{Shared}
 use Rattle.recovery.specs.GoodStores.{IsGoodStore}
 use Rattle.recovery.specs.Journals.{records_size}
 use Rattle.snap_journal.specs.Journals.{AllStandFor}
 use Rattle.stored_answers.specs.declared.runs.StoredEnd.TheVariants as end
 use Rattle.stored_calls.proofs.Backs.{ended_here, known_later}
 use Rattle.stored_calls.proofs.Going.{fault_there, one_more, still_there}
-use Rattle.stored_calls.specs.Calls.{CallOpening, DiskPast, EndsBy, Header, IsCallAt, IsCallEnded, IsKnownAt, IsKnownCourse, IsSaverOf, IsWhyStopped, JournalState, LeavesOnly, NoneReached, Setting, end_of, shared_of, snapshots_in}
+use Rattle.stored_calls.specs.Calls.{CallOpening, DiskPast, EndsBy, Header, IsCallAt, IsCallEnded, IsKnownAt, IsKnownCourse, IsSaverOf, JournalState, LeavesOnly, NoneReached, Setting, end_of, shared_of, snapshots_in}
 use Rattle.stored_calls.specs.declared.calls.StoredCall.{StoredCall}
 use Rattle.update_api.specs.Updates.{Update}
 

@@ -12,7 +12,7 @@ pub use Rattle.snap_journal.specs.Journals.{JournalState, snapshots_in}
 pub use Rattle.stored_answers.specs.Images.{HoldsGood, orders_behind, stored_order}
 pub use Rattle.stored_answers.specs.Lines.{AreSnapLines}
 pub use Rattle.stored_courses.specs.Stores.{Cluster, Header, IsKnownCourse}
-use Rattle.std.specs.Prelude.{Err, List, Ok, Option, Result, Some, false, length, suc, true, ⊤, ℕ, ◌+◌, ◌++◌, ◌≡◌}
+use Rattle.std.specs.Prelude.{Err, IsErrOf, List, Ok, Option, Result, Some, false, length, suc, true, ⊤, ℕ, ◌+◌, ◌++◌, ◌<◌, ◌^◌, ◌≡◌, ◌≤◌}
 use Rattle.call_appends.specs.declared.faults.AppendFault.{AppendFault}
 use Rattle.call_appends.specs.declared.faults.AppendFault.TheVariants as append
 use Rattle.call_rounds.specs.declared.pauses.Pause.TheVariants as pause
@@ -21,6 +21,7 @@ use Rattle.recovery.specs.Journals.{records_size}
 use Rattle.snap_journal.specs.Disks.{Rose}
 use Rattle.snap_journal.specs.declared.faults.JournalFault.{JournalFault}
 use Rattle.snap_journal.specs.declared.faults.JournalFault.TheVariants as fault
+use Rattle.store_format.specs.declared.faults.StoreFault.{StoreFault}
 use Rattle.store_format.specs.declared.faults.StoreFault.TheVariants.{BadByte}
 use Rattle.stored_answers.specs.declared.runs.StoredEnd.{StoredEnd}
 use Rattle.stored_answers.specs.declared.runs.StoredEnd.TheVariants as end
@@ -109,3 +110,23 @@ end_of (append.Full stored long) length = Ok (Some (end.Full stored long))
 end_of append.DiskFault length = Ok (Some end.DiskFault)
 end_of append.NotInForm length = Err (fault.BadStore (BadByte length))
 end_of append.NoMemory length = Err fault.NoMemory
+
+-- what becomes of a run that could not go back, with a store of so many bytes
+abbrev pub end_without : JournalFault → ℕ → Result (Option StoredEnd) JournalFault
+end_without fault.DiskFault length = Ok (Some end.DiskFault)
+end_without (fault.Full stored bytes) length = Err (fault.BadStore (BadByte length))
+end_without (fault.BadStore why) length = Err (fault.BadStore why)
+end_without fault.NoMemory length = Err fault.NoMemory
+end_without fault.Failed length = Err fault.Failed
+
+-- The call draws fewer tickets than each snapshot may have, and so few failures, machines and bytes are there that all may go back.
+pub record KeepsToBounds {D P : Type 0} (call : StoredCall P) (journal : JournalState D) (st : Setting) (o : CallOpening) : Type 0 where
+  pub tickets : o.first.left < 33554432
+  pub failures : length call.course.failures ≤ 65536
+  pub machines : st.machines < 65535
+  pub bytes : journal.length ≤ 2 ^ 30
+
+-- where the store has what the call knows of it, and all keeps to these bounds, it is not refused
+abbrev pub IsNotRefused : {D P T : Type 0} → (P → Update) → (D → DiskPast) → StoredCall P → JournalState D → Setting → Result T JournalFault → Type 0
+IsNotRefused meaning past call journal st result =
+    (start : List (List ℕ)) (first : DiskPast) (o : CallOpening) → IsCallAt meaning past call journal start first st o → KeepsToBounds call journal st o → (why : StoreFault) → IsErrOf result (fault.BadStore why) → ⊥

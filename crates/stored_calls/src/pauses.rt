@@ -1,9 +1,9 @@
 //! What is done where a call pauses.
-ghost use Rattle.std.specs.Prelude.{List, None, Some, false, ◌≡◌, ◌≢◌, ◌≤◌, ℕ, IfErr, IfOk, IfSome, IsTrue};
+ghost use Rattle.std.specs.Prelude.{List, None, Some, false, ◌≡◌, ◌≢◌, ◌≤◌, ◌^◌, ℕ, IfErr, IfOk, IfSome, IsTrue};
 ghost use Rattle.gl_base.specs.declared.numbers.MachineNo.{MachineNo};
 ghost use Rattle.snap_journal.specs.declared.faults.JournalFault.TheVariants as fault;
 ghost use Rattle.stored_answers.specs.declared.runs.StoredEnd.TheVariants as ending;
-ghost use Rattle.stored_calls.specs.Calls.{Begins, CallOpening, CanCallGoOn, DiskPast, EndsBy, EndsCall, IsCallAt, IsCallEnded, IsSameCall, IsSaverOf, IsWhyStopped, KeepsCall, PausesSo, Setting, end_of};
+ghost use Rattle.stored_calls.specs.Calls.{Begins, CallOpening, CanCallGoOn, DiskPast, EndsBy, EndsCall, IsCallAt, IsCallEnded, IsNotRefused, IsSameCall, IsSaverOf, IsWhyStopped, KeepsCall, PausesSo, Setting, end_of, end_without};
 ghost use Rattle.call_rounds.specs.declared.pauses.Pause.TheVariants as pause;
 
 use crate::calls::StoredCall;
@@ -31,12 +31,16 @@ pub(crate) fn go_back_from<D: Disk, P: Program>(
     ensures ends { IsTrue D.told → IfOk result (λ end. IfSome end (EndsCall P.meaning D.past graph.now (P.meaning program) call.old journal.old call.new journal.new)) }
     ensures by { IfOk result (λ end. IfSome end (EndsBy journal.new (D.faults journal.old.disk) (D.faults journal.new.disk))) }
     ensures on { IfOk result (λ end. end ≡ None → CanCallGoOn graph.now call.new journal.new) }
+    ensures short { IfOk result (λ end. end ≡ None → journal.old.length ≤ 2 ^ 30 → journal.new.length ≤ 2 ^ 30) }
     ensures refused { IfErr result IsWhyStopped }
+    ensures good { IsTrue D.told → (st : Setting) → IsNotRefused P.meaning D.past call.old journal.old st result }
     ensures call { IsSameCall call.old call.new }
     ensures header { journal.new.header ≡ journal.old.header }
     ensures same { D.same journal.old.disk journal.new.disk }
     ensures later { D.faults journal.old.disk ≤ D.faults journal.new.disk }
 {
+    // The reader tells that the store has so many bytes.
+    let length = journal.length();
     let back = go_back(
         alloc,
         &mut call.course,
@@ -52,13 +56,14 @@ pub(crate) fn go_back_from<D: Disk, P: Program>(
             call.order = order;
             Ok(None)
         }
-        Err(why) => end_without(why, journal.length()),
+        Err(why) => end_without(why, length),
     }
 }
 
 /// What becomes of a run that could not go back, with a store of so many bytes. A store that is so long that its length with the restarts that it
 /// lacks can't be told is refused.
 fn end_without(why: JournalFault, length: u64) -> Result<Option<StoredEnd>, JournalFault>
+    ensures is { result ≡ end_without why length }
     ensures end { IfOk result (λ end. (end ≡ Some ending.DiskFault) × (why ≡ fault.DiskFault)) }
     ensures refused { why ≢ fault.Failed → IfErr result IsWhyStopped }
 {
@@ -86,7 +91,9 @@ pub(crate) fn save_due<D: Disk, P: Program>(
     ensures by { IfOk result (λ end. IfSome end (EndsBy journal.new (D.faults journal.old.disk) (D.faults journal.new.disk))) }
     ensures well { IfOk result (λ end. end ≡ None → journal.new.failed ≡ false) }
     ensures restarts { Begins call.new.restarts.stored.items call.new.restarts.front.items }
+    ensures short { IfOk result (λ end. end ≡ None → journal.new.length ≤ 2 ^ 30) }
     ensures refused { IfErr result IsWhyStopped }
+    ensures good { IsTrue D.told → (st : Setting) → IsNotRefused P.meaning D.past call.old journal.old st result }
     ensures call { IsSameCall call.old call.new }
     ensures header { journal.new.header ≡ journal.old.header }
     ensures same { D.same journal.old.disk journal.new.disk }

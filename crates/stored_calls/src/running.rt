@@ -1,8 +1,9 @@
 //! A run with a store.
-ghost use Rattle.std.specs.Prelude.{All, List, [], false, length, ◌≡◌, ◌≤◌, ◌<◌, ◌⊎◌, ℕ, IfErr, IfOk, IsErrOf, IsTrue};
+ghost use Rattle.std.specs.Prelude.{All, List, [], false, length, ◌≡◌, ◌≤◌, ◌<◌, ◌^◌, ◌⊎◌, ℕ, IfErr, IfOk, IsErrOf, IsTrue};
 ghost use Rattle.gl_base.specs.declared.entries.Entry.{Entry};
 ghost use Rattle.graph_core.specs.DataGraph.{size};
 ghost use Rattle.snap_journal.specs.declared.faults.JournalFault.TheVariants as fault;
+ghost use Rattle.store_format.specs.declared.faults.StoreFault.{StoreFault};
 ghost use Rattle.store_format.specs.declared.faults.StoreFault.TheVariants.{BadByte};
 ghost use Rattle.stored_calls.specs.Calls.{ArePlacesOf, CallOpening, CanCallGoOn, EndsBy, Header, IsHeaderOf, IsRunAt, Setting, shared_of, snapshots_in};
 ghost use Rattle.stored_calls.specs.Runs.{AreJobFailures, ArePlacedFor, HasCallBegun, IsEndAt, IsEntryOf, IsGoodStore, IsInRange, IsRunSo, IsPlacement, IsStoredRun, IsWhyNoRun, IsWhyNotBegun, KeepsByOwner, KeepsGood, owned_shared, refused_by, run_shared, stored_order};
@@ -56,6 +57,11 @@ pub fn run_stored<R: Wait, D: Disk, P: Program>(
         (stored_order (snapshots_in D.past journal.old)) resumed snapshots run
         × KeepsGood (owned_shared graph.now (P.meaning program) owner failures.now) journal.old.header (snapshots_in D.past journal.old) snapshots (D.past journal.old.disk) (D.past journal.new.disk)) }
 
+    // From such a store, that is as long as one may grow or shorter, no run is refused for the store or a record: memory ran out, or the disk failed before the run began.
+    ensures good { IsTrue D.told → (owner : ℕ → ℕ) → IsPlacement graph.now plan.run.atoms plan.run.machines owner →
+        IsGoodStore (owned_shared graph.now (P.meaning program) owner failures.now) journal.old.header (snapshots_in D.past journal.old) → journal.old.length ≤ 2 ^ 30 →
+        (why : StoreFault) → IsErrOf result (fault.BadStore why) → ⊥ }
+
     ensures by { IfOk result (λ run. EndsBy journal.new (D.faults journal.old.disk) (D.faults journal.new.disk) run.end) }
     ensures numbers { IfOk result (λ run. length run.numbers.items ≡ size graph.now) }
     ensures entries { IfOk result (λ run. All (IsEntryOf graph.now) run.order.items) }
@@ -96,15 +102,18 @@ fn begin<D: Disk, P: Program>(
     ensures places { IfOk result (λ call. ArePlacedFor graph.now plan call.places) }
     ensures failures { IfOk result (λ call. call.course.failures ≡ failures.now) }
     ensures refused { IfErr result (IsWhyNotBegun journal.old.failed (D.faults journal.old.disk) (D.faults journal.new.disk)) }
+    ensures good { IsTrue D.told → journal.old.length ≤ 2 ^ 30 → (why : StoreFault) → IsErrOf result (fault.BadStore why) → ⊥ }
+    ensures long { journal.new.length ≡ journal.old.length }
     ensures past { IsTrue D.told → D.past journal.new.disk ≡ D.past journal.old.disk }
     ensures header { journal.new.header ≡ journal.old.header }
     ensures same { D.same journal.old.disk journal.new.disk }
     ensures later { D.faults journal.old.disk ≤ D.faults journal.new.disk }
 {
     let _stored = journal.count();
+    let length = journal.length();
     match start_call(alloc, graph, program, plan, failures, journal, resumed) {
         Ok(started) => Ok(call_of(alloc, started)),
-        Err(why) => Err(refused_by(why, journal.length())),
+        Err(why) => Err(refused_by(why, length)),
     }
 }
 

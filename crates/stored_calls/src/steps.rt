@@ -1,6 +1,6 @@
 //! A call goes on, pause by pause, until it ends.
-ghost use Rattle.std.specs.Prelude.{List, None, ◌≡◌, ◌≤◌, ℕ, IfErr, IfOk, IfSome, IsTrue};
-ghost use Rattle.stored_calls.specs.Calls.{CallOpening, CanCallGoOn, EndsBy, EndsCall, Header, IsKnownAt, IsSameCall, IsSaverOf, IsWhyStopped, KeepsCall, PausesSo, Setting};
+ghost use Rattle.std.specs.Prelude.{List, None, ◌≡◌, ◌≤◌, ◌^◌, ℕ, IfErr, IfOk, IfSome, IsTrue};
+ghost use Rattle.stored_calls.specs.Calls.{CallOpening, CanCallGoOn, EndsBy, EndsCall, Header, IsKnownAt, IsNotRefused, IsRunAt, IsSameCall, IsSaverOf, IsWhyStopped, KeepsCall, PausesSo, Setting};
 
 use crate::calls::StoredCall;
 use crate::pauses::{go_back_from, save_due};
@@ -29,6 +29,7 @@ pub(crate) fn play_to_end<R: Wait, D: Disk, P: Program>(
     ensures ends { IsTrue D.told → IfOk result (EndsCall P.meaning D.past graph.now (P.meaning program) call.old journal.old call.new journal.new) }
     ensures by { IfOk result (EndsBy journal.new (D.faults journal.old.disk) (D.faults journal.new.disk)) }
     ensures refused { IfErr result IsWhyStopped }
+    ensures good { IsTrue D.told → (st : Setting) → IsRunAt graph.now (P.meaning program) call.old.places st → IsNotRefused P.meaning D.past call.old journal.old st result }
     ensures call { IsSameCall call.old call.new }
     ensures header { journal.new.header ≡ journal.old.header }
     ensures same { D.same journal.old.disk journal.new.disk }
@@ -57,7 +58,9 @@ fn step<R: Wait, D: Disk, P: Program>(
     ensures ends { IsTrue D.told → IfOk result (λ end. IfSome end (EndsCall P.meaning D.past graph.now (P.meaning program) call.old journal.old call.new journal.new)) }
     ensures by { IfOk result (λ end. IfSome end (EndsBy journal.new (D.faults journal.old.disk) (D.faults journal.new.disk))) }
     ensures on { IfOk result (λ end. end ≡ None → CanCallGoOn graph.now call.new journal.new) }
+    ensures short { IfOk result (λ end. end ≡ None → journal.old.length ≤ 2 ^ 30 → journal.new.length ≤ 2 ^ 30) }
     ensures refused { IfErr result IsWhyStopped }
+    ensures good { IsTrue D.told → (st : Setting) → IsNotRefused P.meaning D.past call.old journal.old st result }
     ensures call { IsSameCall call.old call.new }
     ensures header { journal.new.header ≡ journal.old.header }
     ensures same { D.same journal.old.disk journal.new.disk }

@@ -7,9 +7,9 @@ use Rattle.snap_clusters.specs.declared.events.Event.TheVariants.{Lead}
 use Rattle.snap_clusters.specs.declared.events.Lead.TheVariants.{Record}
 use Rattle.call_appends.specs.Appends.{IsWhyNotAppended, snapshots_in, stored_order}
 use Rattle.call_appends.specs.Inner.Storing.{no_record}
-use Rattle.call_appends.specs.declared.faults.AppendFault.TheVariants.{Full}
+use Rattle.call_appends.specs.declared.faults.AppendFault.TheVariants.{Full, NotInForm}
 use Rattle.call_appends.proofs.Appending.{happened, image_good, known_now, line_added}
-use Rattle.call_appends.proofs.Answering.{fault_in, known_as, needed_for_record, not_for_want, same_anew, why_no_record, why_not_stored}
+use Rattle.call_appends.proofs.Answering.{fault_in, known_as, needed_for_record, never_unformed, not_for_want, not_unformed, same_anew, why_no_record, why_not_stored}
 use Rattle.call_appends.proofs.Images.{leaves_more}
 use Rattle.call_appends.proofs.adding.append_due.Goals as goal
 
@@ -24,6 +24,10 @@ pub returns-in-Err-clause-needed : goal.returns-in-Err-clause-needed
 returns-in-Err-clause-needed g c = λ told start lost order st o known k due stored long is.
     needed_for_record g.M.SavingMachine.stands c.args.course.now k due stored long st o c.in-Err.refused c.count-stored.result c.length-length.result (λ so. c.in-Err.ensures.not_now (ap Err so))
     (sym c.no_record.ensures ∙ (cc))
+
+pub returns-in-Err-clause-form : goal.returns-in-Err-clause-form
+returns-in-Err-clause-form g c = λ told start lost order st o known left is.
+    never_unformed c.in-Err.refused c.count-stored.result c.length-length.result (sym c.no_record.ensures ∙ (cc))
 
 pub returns-in-Err-clause-refused : goal.returns-in-Err-clause-refused
 returns-in-Err-clause-refused g c =
@@ -49,6 +53,16 @@ returns-in_err-line-clause-needed g c = λ told start lost order st o known k du
     j c.store_record.new.journal (g.D.Disk.faults j.disk) (g.D.Disk.faults c.store_record.new.journal.disk) refl
     (sym c.count-stored.ensures.count ∙ c.count-stored.ensures.stored told c.requires.well) (sym c.length-length.ensures.length ∙ c.length-length.ensures.stored told c.requires.well)
     c.in_err-line.field-0.0 stored long c.in_err-line.ensures.refused (fault_in c.from_residual.result p.0 c.in_err-line.field-0.0 (Full stored long) p.1 p.2 is))
+
+pub returns-in_err-line-clause-form : goal.returns-in_err-line-clause-form
+returns-in_err-line-clause-form g c = λ told start lost order st o known left is.
+    let j = c.args.journal.now in
+    let p = err_from_is_err_and c.from_residual.result c.from_residual.ensures.1 in
+    absurd (not_unformed g.M.SavingMachine.stands c.args.course.now c.in-Ok.ensures.due j.header start (snapshots_in g.D.Disk.past j) lost order c.args.restarts.now st o known c.in-Ok.made c.in-Ok.ensures.made c.store_record.ensures.fits
+    j c.store_record.new.journal (g.D.Disk.faults j.disk) (g.D.Disk.faults c.store_record.new.journal.disk) refl
+    (sym c.count-stored.ensures.count ∙ c.count-stored.ensures.stored told c.requires.well) (sym c.length-length.ensures.length ∙ c.length-length.ensures.stored told c.requires.well)
+    (g.D.Disk.past j.disk).now.seen refl left
+    c.in_err-line.field-0.0 c.in_err-line.ensures.refused (fault_in c.from_residual.result p.0 c.in_err-line.field-0.0 NotInForm p.1 p.2 is))
 
 pub returns-in_err-line-clause-refused : goal.returns-in_err-line-clause-refused
 returns-in_err-line-clause-refused g c =

@@ -22,4 +22,5 @@ returns-clause-made g c = λ st o events own is.
           (subst (AllByRecursion (λ entry. is_restart entry ≡ true)) (sym c.deref-3.ensures.value) c.in_ok-missing.ensures.alone)
           (subst (λ (es : List Entry). filter is_restart before ++ es ≡ filter is_restart order) (sym c.deref-3.ensures.value)
           (lacking c.deref.result.now c.deref-2.result.now missing before order c.in_ok-missing.ensures.lacks (c.deref.ensures.value ∙ stored_is) (c.deref-2.ensures.value ∙ front_is)));
+      in_turn = c.in_ok-record_behind.ensures.in_turn;
     }

@@ -1,7 +1,8 @@
 -- The snapshot was added, or why it wasn't.
-use Rattle.std.proofs.Common.{◌≡◌, ◌++◌, ◌∙◌, [], ◌∷◌, ap, append-nil, refl, sym}
+use Rattle.std.proofs.Common.{◌++◌, ◌∙◌, [], ◌∷◌, ap, append-nil, refl, sym}
 use Rattle.std.specs.Prelude.{Err}
 use Rattle.stored_calls.proofs.Saves.{added_one, ends_so, knows, not_added, same_answer}
+use Rattle.stored_calls.proofs.Refusing.{only_unformed}
 use Rattle.stored_calls.proofs.pauses.save_due.Goals as goal
 
 pub returns-in-Ok-clause-keeps : goal.returns-in-Ok-clause-keeps
@@ -27,3 +28,9 @@ returns-in-Err-clause-ends g c = λ told.
     c.reserve.ensures.items _ _ c.in-Err.why c.length-length.result c.in-Err.ensures.refused (c.append_due-added.ensures.any_moment told) (λ ok. sym c.count-stored.ensures.count ∙ c.count-stored.ensures.stored told ok)
     (λ ok. sym c.length-length.ensures.length ∙ c.length-length.ensures.stored told ok) c.requires.due.1.0
     (λ start lost order st o known stored long is. c.append_due-added.ensures.needed told start lost order st o known c.requires.due.0 c.requires.due.1.1 stored long (c.in-Err.is ∙ ap Err is)))
+
+pub returns-in-Err-clause-good : goal.returns-in-Err-clause-good
+returns-in-Err-clause-good g c = λ told st start first o at bounds bad is.
+    let call = c.args.call.now in
+    let known = knows g.P.Program.meaning g.D.Disk.past call call c.args.journal.now c.args.journal.now refl refl c.requires.well start first st o at in
+    only_unformed c.in-Err.why c.length-length.result bad (λ unformed. c.append_due-added.ensures.form told start call.lost.items call.order.items st o known bounds.tickets (c.in-Err.is ∙ ap Err unformed)) (sym c.end_of.ensures ∙ is)

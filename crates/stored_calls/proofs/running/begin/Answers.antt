@@ -1,10 +1,11 @@
 -- The call goes on from what the store has.
-use Rattle.std.proofs.Common.{List, [], ap, length, subst, subst₂, sym, ℕ, ◌∙◌, ◌≡◌}
-use Rattle.gl_base.specs.declared.entries.Entry.{Entry}
+use Rattle.std.proofs.Common.{ap, length, subst, subst₂, sym, ℕ, ◌∙◌}
 use Rattle.call_returns.specs.declared.restarts.Restarts.{Restarts}
 use Rattle.placed_savers.specs.declared.savers.Places.{Places}
 use Rattle.stored_calls.proofs.Begun.{begun, from_started}
 use Rattle.stored_calls.specs.Calls.{ArePlacesOf, Begins, IsHeaderOf, IsRunAt}
+use Rattle.snap_journal.specs.declared.faults.JournalFault.TheVariants.{BadStore}
+use Rattle.stored_calls.proofs.Refusing.{few_more, never_begun, same_fault}
 use Rattle.stored_calls.proofs.running.begin.Goals as goal
 
 pub returns-in-Ok-clause-can : goal.returns-in-Ok-clause-can
@@ -27,3 +28,8 @@ returns-in-Ok-clause-begun g c = λ told st runs good.
     (ap (λ x. x.failures) c.call_of.ensures.course ∙ c.in-Ok.ensures.failures) (c.in-Ok.ensures.past told) (ap (λ j. j.header) c.in-Ok.ensures.kept) good
     (c.count-stored.ensures.durable told c.in-Ok.ensures.well.0) c.call_of.ensures.lost c.call_of.ensures.snapshots has.opening has.resumed_is has.tickets
     (from_started g.P.Program.meaning c.in-Ok.started c.call_of.result c.args.journal.now.header _ st has.opening c.call_of.ensures.course c.call_of.ensures.restarts c.call_of.ensures.order has.known)
+
+pub returns-in-Err-clause-good : goal.returns-in-Err-clause-good
+returns-in-Err-clause-good g c = λ told short bad is.
+    never_begun g.D.Disk.past _ _ c.args.journal.now c.start_call.new.journal _ _ c.in-Err.why c.length-length.result bad told (few_more c.args.resumed)
+    (λ ok. sym c.length-length.ensures.length ∙ c.length-length.ensures.stored told ok) short c.in-Err.ensures.refused (sym c.refused_by.ensures ∙ same_fault c.refused_by.result (BadStore bad) is)

@@ -1,6 +1,5 @@
 -- The lists are those of the run.
-use Rattle.std.proofs.Common.{All, List, inr, refl, rules, subst, sym, ◌++◌}
-use Rattle.std.specs.Prelude.{IsErrOf}
+use Rattle.std.proofs.Common.{All, inr, refl, rules, subst, sym, ◌++◌}
 use Rattle.call_ends.specs.Gathered.{gathered_lists}
 use Rattle.stored_answers.specs.declared.runs.StoredRun.{StoredRun}
 use Rattle.stored_calls.proofs.Ended.{gathers, run_so}

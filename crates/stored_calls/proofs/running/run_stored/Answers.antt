@@ -1,8 +1,10 @@
 -- The run from its beginning to its end, by whatever owners the placement gives.
-use Rattle.std.proofs.Common.{List, length, subst, sym, ℕ, ◌∙◌, ◌≡◌}
+use Rattle.std.proofs.Common.{Err, ap, length, refl, subst, sym, ◌∙◌, ◌≡◌}
 use Rattle.std.proofs.lemmas.Result.{err_from_is_err_and}
 use Rattle.graph_core.specs.DataGraph.{IsDataGraph}
-use Rattle.stored_calls.proofs.Runs.{by_earlier, err_then, keeps_owner, not_gathered, ok_then, runs_owner, stopped}
+use Rattle.snap_journal.specs.declared.faults.JournalFault.TheVariants.{BadStore}
+use Rattle.stored_calls.proofs.Refusing.{fault_in}
+use Rattle.stored_calls.proofs.Runs.{by_earlier, err_so, err_then, keeps_owner, never_other, never_stopped, not_gathered, ok_then, runs_owner, stopped}
 use Rattle.stored_calls.specs.Calls.{EndsBy, snapshots_in}
 use Rattle.stored_calls.proofs.running.run_stored.Goals as goal
 
@@ -56,3 +58,32 @@ returns-clause-refused g c =
     (c.in_ok-end.ensures.call.failures ∙ c.in_ok-call.ensures.failures) (c.in_ok-end.ensures.header ∙ c.in_ok-call.ensures.header) (c.in_ok-end.ensures.keeps told))
     other)
     c.gathered.ensures.other
+
+pub returns-in_err-call-clause-good : goal.returns-in_err-call-clause-good
+returns-in_err-call-clause-good g c = λ told owner placement good short bad is.
+    let exit = err_from_is_err_and c.from_residual.result c.from_residual.ensures.1 in
+    c.in_err-call.ensures.good told short bad (ap Err (fault_in c.from_residual.result exit.0 c.in_err-call.field-0.0 (BadStore bad) exit.1 exit.2 is))
+
+pub returns-in_err-end-clause-good : goal.returns-in_err-end-clause-good
+returns-in_err-end-clause-good g c = λ told owner placement good short bad is.
+    let graph = c.args.graph.now in
+    let there = c.in_ok-call.ensures.setting in
+    let sound : IsDataGraph graph = subst IsDataGraph there.1.placed.graph there.1.setting.is.graph in
+    let exit = err_from_is_err_and c.from_residual-in_err-end.result c.from_residual-in_err-end.ensures.1 in
+    never_stopped g.P.Program.meaning g.D.Disk.past graph (g.P.Program.meaning c.args.program) c.args.plan c.args.failures.now c.args.journal.now c.begin.new.journal c.play_to_end.new.journal c.in_ok-call.call c.play_to_end.new.call c.args.resumed
+    sound c.in_ok-call.ensures.places (λ owner other. c.placements_are_one.ensures graph c.args.plan.run.atoms c.args.plan.run.machines owner other sound c.requires.plan.machines) (c.in_ok-call.ensures.begun told)
+    (c.in_err-end.ensures.call.failures ∙ c.in_ok-call.ensures.failures) (c.in_err-end.ensures.header ∙ c.in_ok-call.ensures.header)
+    c.requires.plan.budget c.requires.few c.requires.places c.in_ok-call.ensures.failures c.in_ok-call.ensures.long short owner placement good
+    _ (c.in_err-end.ensures.good told) bad (ap Err (fault_in c.from_residual-in_err-end.result exit.0 c.in_err-end.field-0.0 (BadStore bad) exit.1 exit.2 is))
+
+pub returns-clause-good : goal.returns-clause-good
+returns-clause-good g c = λ told owner placement good short bad is.
+    let graph = c.args.graph.now in
+    let there = c.in_ok-call.ensures.setting in
+    let sound : IsDataGraph graph = subst IsDataGraph there.1.placed.graph there.1.setting.is.graph in
+    err_so c.gathered.result _ (BadStore bad) c.gathered.ensures.other is
+    (λ other. never_other g.P.Program.meaning g.D.Disk.past graph (g.P.Program.meaning c.args.program) c.args.plan c.args.failures.now c.args.journal.now c.begin.new.journal c.play_to_end.new.journal c.in_ok-call.call c.play_to_end.new.call c.args.resumed
+    sound c.in_ok-call.ensures.places (λ owner other. c.placements_are_one.ensures graph c.args.plan.run.atoms c.args.plan.run.machines owner other sound c.requires.plan.machines) (c.in_ok-call.ensures.begun told)
+    (c.in_ok-end.ensures.call.failures ∙ c.in_ok-call.ensures.failures) (c.in_ok-end.ensures.header ∙ c.in_ok-call.ensures.header)
+    c.requires.plan.budget c.requires.few c.requires.places c.in_ok-call.ensures.failures c.in_ok-call.ensures.long short owner placement good
+    c.in_ok-end.end (c.in_ok-end.ensures.ends told) c.in_ok-end.ensures.call.places (BadStore bad) _ other bad refl)

@@ -1,5 +1,5 @@
 -- The course goes on, and what is known of it goes on with it.
-use Rattle.std.proofs.Common.{◌≡◌, ◌∙◌, ap}
+use Rattle.std.proofs.Common.{◌∙◌, ap}
 use Rattle.stored_calls.specs.Calls.{IsSaverOf}
 use Rattle.stored_courses.proofs.Keeping.{passes_known}
 use Rattle.stored_calls.proofs.steps.go_on.Goals as goal

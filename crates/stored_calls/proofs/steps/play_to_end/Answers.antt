@@ -1,8 +1,11 @@
 -- The call goes on, pause behind pause, until it ends.
-use Rattle.std.proofs.Common.{◌≡◌, ◌∙◌, refl, subst, le_refl, le_trans}
+use Rattle.std.proofs.Common.{Err, ap, ◌∙◌, refl, subst, le_refl, le_trans}
 use Rattle.std.specs.Prelude.{IfSome}
+use Rattle.snap_journal.specs.declared.faults.JournalFault.TheVariants.{BadStore}
 use Rattle.stored_calls.specs.Calls.{EndsBy, EndsCall}
 use Rattle.stored_calls.proofs.Playing.{by_on, ends_on, keeps_on, same_first, same_on}
+use Rattle.std.proofs.lemmas.Result.{err_from_is_err_and}
+use Rattle.stored_calls.proofs.Refusing.{bounds_on, fault_in}
 use Rattle.stored_calls.proofs.steps.play_to_end.Goals as goal
 
 pub loop-init : goal.loop-init
@@ -10,6 +13,7 @@ loop-init g c = record {
   can = c.requires.can;
   keeps = λ told start first st o runs at. at;
   call = same_first c.args.call.now;
+  short = λ low. low;
   header = refl;
   same = g.met.D.Disk.same_refl _;
   later = le_refl _;
@@ -69,7 +73,15 @@ loop-preserved g c = record {
   keeps = λ told. keeps_on g.P.Program.meaning g.D.Disk.past c.args.graph.now (g.P.Program.meaning c.args.program) c.args.call.now c.loop.call c.step.new.call c.args.journal.now c.loop.journal c.step.new.journal c.loop.invariant.call (c.loop.invariant.keeps told)
       (c.step.ensures.keeps told);
   call = same_on c.args.call.now c.loop.call c.step.new.call c.loop.invariant.call c.step.ensures.call;
+  short = λ low. c.in_ok-end.ensures.short c.in_default.is (c.loop.invariant.short low);
   header = c.step.ensures.header ∙ c.loop.invariant.header;
   same = g.met.D.Disk.same_trans _ _ _ c.loop.invariant.same c.step.ensures.same;
   later = le_trans c.loop.invariant.later c.step.ensures.later;
 }
+
+pub returns-in_err-end-clause-good : goal.returns-in_err-end-clause-good
+returns-in_err-end-clause-good g c = λ told st runs start first o at bounds bad is.
+    let exit = err_from_is_err_and c.from_residual.result c.from_residual.ensures.1 in
+    c.in_err-end.ensures.good told st start first o (c.loop.invariant.keeps told start first st o runs at)
+    (bounds_on c.args.call.now c.loop.call c.args.journal.now c.loop.journal st o c.loop.invariant.call.failures (c.loop.invariant.short bounds.bytes) bounds) bad
+    (ap Err (fault_in c.from_residual.result exit.0 c.in_err-end.field-0.0 (BadStore bad) exit.1 exit.2 is))

@@ -1,8 +1,8 @@
 -- The call goes on to its next pause, and is led on or ended there.
-use Rattle.std.proofs.Common.{◌≡◌, subst}
-use Rattle.call_rounds.specs.declared.pauses.Pause.TheVariants as pause
+use Rattle.std.proofs.Common.{subst}
 use Rattle.stored_calls.specs.Calls.{IsSaverOf, PausesSo}
 use Rattle.stored_calls.proofs.Pausing.{ends_from, finished, on_at, spent, then_ends, then_keeps}
+use Rattle.stored_calls.proofs.Refusing.{bounds_on}
 use Rattle.stored_calls.proofs.steps.step.Goals as goal
 
 pub returns-in_err-go_on-clause-keeps : goal.returns-in_err-go_on-clause-keeps
@@ -49,3 +49,15 @@ returns-in-Spent-clause-ends g c = λ told.
     let pauses = subst (PausesSo (IsSaverOf g.P.Program.meaning) c.go_on.new.call.course) c.in-Spent.is c.in_ok-go_on.ensures.pause in
     spent g.P.Program.meaning g.D.Disk.past c.args.graph.now (g.P.Program.meaning c.args.program) c.args.call.now c.go_on.new.call c.args.journal.now c.go_on.ensures.same c.go_on.ensures.attempt c.go_on.ensures.known c.requires.can.well
     c.task_left.result pauses (c.task_left.ensures pauses.2)
+
+pub returns-in-Reached-clause-good : goal.returns-in-Reached-clause-good
+returns-in-Reached-clause-good g c = λ told st start first o at bounds.
+    c.go_back_from.ensures.good told st start first o
+    (on_at g.P.Program.meaning g.D.Disk.past c.args.graph.now (g.P.Program.meaning c.args.program) c.args.call.now c.go_on.new.call c.args.journal.now c.go_on.ensures.same c.go_on.ensures.attempt c.go_on.ensures.known c.requires.can.well start first st o at)
+    (bounds_on c.args.call.now c.go_on.new.call c.args.journal.now c.args.journal.now st o c.go_on.ensures.attempt.failures bounds.bytes bounds)
+
+pub returns-in-Record-clause-good : goal.returns-in-Record-clause-good
+returns-in-Record-clause-good g c = λ told st start first o at bounds.
+    c.save_due.ensures.good told st start first o
+    (on_at g.P.Program.meaning g.D.Disk.past c.args.graph.now (g.P.Program.meaning c.args.program) c.args.call.now c.go_on.new.call c.args.journal.now c.go_on.ensures.same c.go_on.ensures.attempt c.go_on.ensures.known c.requires.can.well start first st o at)
+    (bounds_on c.args.call.now c.go_on.new.call c.args.journal.now c.args.journal.now st o c.go_on.ensures.attempt.failures bounds.bytes bounds)

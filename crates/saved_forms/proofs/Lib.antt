@@ -1,0 +1,7 @@
+mod Times
+mod Rows
+mod InTurn
+mod AllSaved
+mod Formed
+pub mod Tickets
+pub mod Due
