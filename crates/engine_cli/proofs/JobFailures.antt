@@ -90,4 +90,9 @@ few-behind machines earlier (f ∷ fs) few none =
     omega (arith, rest, longer)
 
 pub few-failures : (machines : ℕ) (failures : List FailureAt) → first_faulty machines [] failures ≡ None → length failures ≤ 64
-few-failures machines failures none = few-behind machines [] failures (omega (arith)) none
+few-failures machines failures none =
+    let all : length none_before + length failures ≤ 64 = few-behind machines none_before failures (omega (arith)) none in
+    omega (arith, all)
+  where
+    none_before : List FailureAt
+    none_before = []

@@ -1,5 +1,5 @@
 -- What the run of a program on an opened store says of the job.
-use Rattle.std.proofs.Common.{◌≡◌, inl, inr, ℕ, ◌+◌, Bool, List, length, Result, Ok, Err, refl, sym, ◌∙◌, subst, ⊎_elim}
+use Rattle.std.proofs.Common.{◌≡◌, inl, inr, ℕ, ◌+◌, Bool, false, List, length, Result, Ok, Err, refl, sym, ◌∙◌, subst, ⊎_elim}
 use Rattle.std.specs.Prelude.{All, IfErr, IfOk}
 use Rattle.gl_base.specs.declared.entries.Entry.{Entry}
 use Rattle.gl_base.specs.declared.jobs.FailureAt.{FailureAt}
@@ -77,8 +77,8 @@ module _ {D : Type 0} (past : D → DiskPast) (told : Type 0) (journal : Journal
   pub full-by : told → (how : StoredEnd) → EndsBy journal before now how → FullBy journal.header (past journal.disk) how
   full-by is (end.Full s b) by stored bytes same =
       let both = same_full same in (
-        sym both.0 ∙ by.1.0 ∙ sym count_is ∙ counted is by.0,
-        sym both.1 ∙ by.1.1 ∙ sym long_is ∙ measured is by.0,
+        sym both.0 ∙ by.1 ∙ sym count_is ∙ counted is by.0,
+        sym both.1 ∙ by.2 ∙ sym long_is ∙ measured is by.0,
       )
     where
       same_full : end.Full s b ≡ end.Full stored bytes → (s ≡ stored) × (b ≡ bytes)

@@ -14,6 +14,7 @@ use Rattle.recovery.specs.Journals.{stored_order}
 use Rattle.recovery.proofs.Goodness.{none_good}
 use Rattle.seq_run.specs.Orders.{IsFinished}
 use Rattle.stored_answers.specs.Ends.{RunEndsSo}
+use Rattle.stored_answers.specs.Images.{IsGoodStore}
 use Rattle.stored_answers.specs.declared.runs.StoredEnd.{StoredEnd}
 use Rattle.stored_answers.specs.declared.runs.StoredEnd.TheVariants as end
 use Rattle.stored_answers.specs.declared.runs.StoredRun.{StoredRun}
@@ -64,11 +65,17 @@ through-failures job g window count bodies old new was run is start none from al
     let again : R (record was { snapshots = run.snapshots }) = λ owner placed.
     let shared = shared_by job g owner in
     let G : List (List ℕ) → Type 0 = λ b. (snapshots : List (List Entry)) × IsStoredRun shared job.fields.machines window job.fields.budget count (stored_order b) false snapshots was in
-    let went = from.goes_on owner placed (subst (λ (b : List (List ℕ)). _) (sym none) (none_good shared (header_for job.fields g))) in
+    let went = from.goes_on owner placed (subst (IsGoodStore shared (header_for job.fields g)) (sym none) (none_good shared (header_for job.fields g))) in
     let ran : G [] = subst G none (went.0, went.1) in
-    begins-again job g owner window count ran.0 was ran.1 is start alone.ended in
+    let b = begins-again job g owner window count ran.0 was ran.1 is start alone.ended in
+    record { is = b.is; few = b.few; numbers_are = b.numbers_are; finished = b.finished; results = b.results; spent = b.spent } in
     record {
       goes = subst R (sym alone.is) again;
       ended = subst (λ (r : StoredRun). IsEndAlone r.end) (sym alone.is) alone.ended;
       snapshots = alone.none;
     }
+
+pub printable-without : (g : DataGraph) (was run : StoredRun) → IsPrintable g was → IsRunWithoutSnapshots was run → IsPrintable g run
+printable-without g was run printable alone =
+    let same : IsPrintable g (record was { snapshots = run.snapshots }) = record { numbers = printable.numbers; entries = printable.entries } in
+    subst (IsPrintable g) (sym alone.is) same

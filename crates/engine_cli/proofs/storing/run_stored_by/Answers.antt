@@ -9,27 +9,27 @@ returns-clause-run g c told =
     let job = job_view c.args.job.now in
     let bodies = snapshots_in g.D.Disk.past c.args.journal.now in
     let old = g.D.Disk.past c.args.journal.now.disk in
-    let after = c.run_stored.new.journal in
+    let after = c.run_stored-run.new.journal in
     let new = g.D.Disk.past after.disk in
-    IfOk-two c.run_stored.result _ _ _
+    IfOk-two c.run_stored-run.result _ _ _
     (λ run goes by.
     run-from job c.args.graph.now (g.P.Program.meaning c.args.program) bodies old new c.plan_of.result c.deref.result.now c.args.journal.now.header after.header
-    c.requires.header c.run_stored.ensures.header c.plan_of.ensures c.deref.ensures.value c.args.window c.args.resumed c.args.journal.now.count run goes
+    c.requires.header c.run_stored-run.ensures.header c.plan_of.ensures c.deref.ensures.value c.args.window c.args.resumed c.args.journal.now.count run goes
     (full-by g.D.Disk.past (IsTrue g.D.Disk.told) after c.count-stored.result c.length-long.result _ _ c.count-stored.ensures.count c.count-stored.ensures.stored c.length-long.ensures.length c.length-long.ensures.stored told run.end by))
-    (c.run_stored.ensures.run told) c.run_stored.ensures.by
+    (c.run_stored-run.ensures.run told) c.run_stored-run.ensures.by
 
 pub returns-clause-fault : goal.returns-clause-fault
 returns-clause-fault g c =
-    IfOk-map c.run_stored.result _ _ (λ run by. fault-by c.run_stored.new.journal _ _ run.end by) c.run_stored.ensures.by
+    IfOk-map c.run_stored-run.result _ _ (λ run by. fault-by c.run_stored-run.new.journal _ _ run.end by) c.run_stored-run.ensures.by
 
 pub returns-clause-refused : goal.returns-clause-refused
 returns-clause-refused g c =
     let job = job_view c.args.job.now in
     let bodies = snapshots_in g.D.Disk.past c.args.journal.now in
     let old = g.D.Disk.past c.args.journal.now.disk in
-    let new = g.D.Disk.past c.run_stored.new.journal.disk in
-    IfErr-two c.run_stored.result _ _ _
+    let new = g.D.Disk.past c.run_stored-run.new.journal.disk in
+    IfErr-two c.run_stored-run.result _ _ _
     (λ fault refused good.
-    why-not-stored job c.args.graph.now (g.P.Program.meaning c.args.program) bodies old new c.plan_of.result c.deref.result.now c.args.journal.now.header c.run_stored.new.journal.header
-    c.requires.header c.run_stored.ensures.header c.plan_of.ensures c.deref.ensures.value _ _ _ fault refused good)
-    c.run_stored.ensures.refused c.run_stored.ensures.good
+    why-not-stored job c.args.graph.now (g.P.Program.meaning c.args.program) bodies old new c.plan_of.result c.deref.result.now c.args.journal.now.header c.run_stored-run.new.journal.header
+    c.requires.header c.run_stored-run.ensures.header c.plan_of.ensures c.deref.ensures.value _ _ _ fault refused good)
+    c.run_stored-run.ensures.refused c.run_stored-run.ensures.good
