@@ -1,5 +1,5 @@
 -- What a run on its store is, over the opening of the store and what it does with it.
-use Rattle.std.proofs.Common.{◌≡◌, inl, inr, ℕ, ◌≤◌, ◌++◌, Bool, false, List, [], length, Result, Ok, sym, ap, ◌∙◌, subst, ⊎_elim, append_assoc}
+use Rattle.std.proofs.Common.{◌≡◌, inl, inr, ℕ, ◌+◌, ◌^◌, ◌≤◌, ◌++◌, Bool, false, List, [], length, Result, Ok, sym, ap, ◌∙◌, subst, ⊎_elim, append_assoc}
 use Rattle.std.specs.Result.{result_unwrap_or}
 use Rattle.gl_base.specs.declared.entries.Entry.{Entry}
 use Rattle.gl_outside.specs.Disk.{DiskPast, IsImage, LeavesOnly}
@@ -24,7 +24,7 @@ use Rattle.stored_answers.specs.declared.runs.StoredEnd.TheVariants as end
 use Rattle.stored_answers.specs.declared.runs.StoredRun.{StoredRun}
 use Rattle.update_api.specs.Updates.{Update}
 use Rattle.engine_cli.specs.Inner.Storing.{IsKept, IsNotGood, IsRunFrom, IsWhyNotOnDisk, IsWhyNotOnJournal, IsWhyNotStored, no_store_of_journal}
-use Rattle.engine_cli.specs.JobRuns.{AreGoodImages, GoesOnFrom, KeepsStore, RunsOnStore, shared_by, snapshots_on}
+use Rattle.engine_cli.specs.JobRuns.{AreGoodImages, GoesOnFrom, KeepsStore, RunsOnStore, records_size, shared_by, snapshots_on}
 use Rattle.engine_cli.specs.JobStores.{IsOtherStore, KeepsGoing, KeepsImages}
 use Rattle.engine_cli.specs.Plays.{AreResults, update_of}
 use Rattle.engine_cli.proofs.DisksLeft.{leaves-more, leaves-twice}
@@ -127,7 +127,9 @@ module _ (job : JobSayings) (g : DataGraph) (old mid new : DiskPast) (bodies : L
 
   -- the store is none that calls leave
   other-store : IsNotGood job g program bodies → IsOtherStore job g old
-  other-store not owner placed front good = not owner placed (front-opened (shared_by job g owner) front good).2
+  other-store not owner placed front good short =
+      let same : snapshots_on job g old ≡ bodies = stands_are header old.now.seen bodies stands in
+      not owner placed (front-opened (shared_by job g owner) front good).2 (subst (λ (b : List (List ℕ)). 65 + records_size b ≤ 2 ^ 30) same short)
 
   -- a disk that the run left as it was opened
   unchanged : new ≡ mid → KeepsImages old new

@@ -1,5 +1,5 @@
 -- What the run of a program on an opened store says of the job.
-use Rattle.std.proofs.Common.{◌≡◌, inl, inr, ℕ, ◌+◌, Bool, false, List, length, Result, Ok, Err, refl, sym, ◌∙◌, subst, ⊎_elim}
+use Rattle.std.proofs.Common.{◌≡◌, ◌≤◌, ◌^◌, inl, inr, ℕ, ◌+◌, Bool, false, List, length, Result, Ok, Err, refl, sym, ◌∙◌, subst, ⊎_elim}
 use Rattle.std.specs.Prelude.{All, IfErr, IfOk}
 use Rattle.gl_base.specs.declared.entries.Entry.{Entry}
 use Rattle.gl_base.specs.declared.jobs.FailureAt.{FailureAt}
@@ -39,9 +39,10 @@ pub IfErr-map : {T E : Type 0} (r : Result T E) (P Q : E → Type 0) → ((e : E
 IfErr-map (Ok x) P Q step p = tt
 IfErr-map (Err e) P Q step p = step e p
 
-pub IfErr-two : {T E : Type 0} (r : Result T E) (P Q R : E → Type 0) → ((e : E) → P e → Q e → R e) → IfErr r P → IfErr r Q → IfErr r R
-IfErr-two (Ok x) P Q R step p q = tt
-IfErr-two (Err e) P Q R step p q = step e p q
+-- what is said of an error, with the error that it is
+pub IfErr-is : {T E : Type 0} (r : Result T E) (P R : E → Type 0) → ((e : E) → r ≡ Err e → P e → R e) → IfErr r P → IfErr r R
+IfErr-is (Ok x) P R step p = tt
+IfErr-is (Err e) P R step p = step e refl p
 
 pub printable-of : {E : Type 0} (r : Result StoredRun E) (g : DataGraph) → IfOk r (λ run. length run.numbers.items ≡ size g) → IfOk r (λ run. All (IsEntryOf g) run.order.items) → IfOk r (IsPrintable g)
 printable-of r g numbers entries =
@@ -63,7 +64,7 @@ KeepsBy g p bodies old new plan failures header =
 
 abbrev pub NotGoodBy : DataGraph → Update → List (List ℕ) → RunPlan → List FailureAt → Header → Type 0
 NotGoodBy g p bodies plan failures header =
-    (owner : ℕ → ℕ) → IsPlacement g plan.atoms plan.machines owner → IsGoodStore (owned_shared g p owner failures) header bodies → ⊥
+    (owner : ℕ → ℕ) → IsPlacement g plan.atoms plan.machines owner → IsGoodStore (owned_shared g p owner failures) header bodies → 65 + records_size bodies ≤ 2 ^ 30 → ⊥
 
 -- how many snapshots and bytes a full store has
 abbrev pub FullBy : Header → DiskPast → StoredEnd → Type 0

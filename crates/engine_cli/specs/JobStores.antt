@@ -1,5 +1,5 @@
 -- What a run finds and leaves of the job's store where none is made, or memory ran out.
-use Rattle.std.specs.Prelude.{◌≡◌, ◌⊎◌, ◌<◌, ◌≤◌, ℕ, Bool, IsTrue, is_some, false, List, length, Some, Err}
+use Rattle.std.specs.Prelude.{◌≡◌, ◌⊎◌, ◌+◌, ◌^◌, ◌<◌, ◌≤◌, ℕ, Bool, IsTrue, is_some, false, List, length, Some, Err}
 use Rattle.gl_base.specs.declared.entries.Entry.{Entry}
 use Rattle.gl_outside.specs.Disk.{DiskPast, IsImage, LeavesOnly}
 use Rattle.gl_outside.specs.FilesState.{FilesState}
@@ -15,7 +15,7 @@ use Rattle.store_format.specs.Stores.{StandsFor, read_store}
 use Rattle.store_format.specs.declared.faults.StoreFault.{StoreFault}
 use Rattle.store_format.specs.declared.faults.StoreFault.TheVariants.{Used}
 use Rattle.store_format.specs.declared.header.Header.{Header}
-use Rattle.engine_cli.specs.JobRuns.{AreGoodImages, KeepsStore, is_resumed, shared_by, snapshots_on}
+use Rattle.engine_cli.specs.JobRuns.{AreGoodImages, KeepsStore, is_resumed, records_size, shared_by, snapshots_on}
 use Rattle.engine_cli.specs.StoreJobs.{HandsStore, IsStoreName}
 
 -- the bytes are those of a store that has snapshots, and the fault tells how many
@@ -29,11 +29,13 @@ pub record IsUsed (header : Header) (seen : List ℕ) (fault : StoreFault) : Typ
 abbrev pub RefusesStore : Bool → Header → List ℕ → StoreFault → Type 0
 RefusesStore resumed header seen fault = (read_store header seen ≡ Err fault) ⊎ ((resumed ≡ false) × IsUsed header seen fault)
 
--- The store is none that calls leave: whatever a crash would have left is not a good one, wherever the graph is placed.
+-- The store is none that calls leave: it is longer than one may grow, or whatever a crash would have left is not a good one, wherever the
+-- graph is placed.
 abbrev pub IsOtherStore : JobSayings → DataGraph → DiskPast → Type 0
 IsOtherStore job g past =
     (owner : ℕ → ℕ) → IsPlacement g job.fields.atoms job.fields.machines owner
-    → (front : List (List ℕ)) → AreGoodImages (shared_by job g owner) (header_for job.fields g) front past → ⊥
+    → (front : List (List ℕ)) → AreGoodImages (shared_by job g owner) (header_for job.fields g) front past
+    → 65 + records_size (snapshots_on job g past) ≤ 2 ^ 30 → ⊥
 
 -- a crash at any moment of the call left what one as it began would have left
 abbrev pub KeepsImages : DiskPast → DiskPast → Type 0

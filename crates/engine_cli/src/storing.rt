@@ -205,6 +205,8 @@ fn run_stored_by<R: Wait, D: Disk, P: Program>(
         run: plan_of(job),
         window,
     };
+    // The readers tell how many snapshots and bytes the store has, before and behind the run.
+    let _short = journal.length();
     let run = run_stored(
         rt,
         alloc,
@@ -215,7 +217,6 @@ fn run_stored_by<R: Wait, D: Disk, P: Program>(
         journal,
         resumed,
     );
-    // The readers tell how many snapshots and bytes the store has now.
     let _stored = journal.count();
     let _long = journal.length();
     run

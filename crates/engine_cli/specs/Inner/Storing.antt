@@ -1,5 +1,5 @@
 -- What running a job on its store answers, at each of its steps.
-use Rattle.std.specs.Prelude.{◌≡◌, ◌⊎◌, ◌+◌, ◌<◌, ℕ, Bool, false, List, length}
+use Rattle.std.specs.Prelude.{◌≡◌, ◌⊎◌, ◌+◌, ◌^◌, ◌<◌, ◌≤◌, ℕ, Bool, false, List, length}
 use Rattle.gl_base.specs.declared.entries.Entry.{Entry}
 use Rattle.gl_outside.specs.Disk.{DiskPast}
 use Rattle.gl_outside.specs.Faults.{Rose}
@@ -42,10 +42,11 @@ IsKept job g p bodies old new =
     (owner : ℕ → ℕ) → IsPlacement g job.fields.atoms job.fields.machines owner → IsGoodStore (shared_with job g p owner) (header_for job.fields g) bodies →
     (snapshots : List (List Entry)) × KeepsGood (shared_with job g p owner) (header_for job.fields g) bodies snapshots old new
 
--- a store with these snapshots is not a good one for the placed graph
+-- a store with these snapshots is not a good one for the placed graph, or is longer than one may grow
 abbrev pub IsNotGood : JobSayings → DataGraph → Update → List (List ℕ) → Type 0
 IsNotGood job g p bodies =
-    (owner : ℕ → ℕ) → IsPlacement g job.fields.atoms job.fields.machines owner → IsGoodStore (shared_with job g p owner) (header_for job.fields g) bodies → ⊥
+    (owner : ℕ → ℕ) → IsPlacement g job.fields.atoms job.fields.machines owner → IsGoodStore (shared_with job g p owner) (header_for job.fields g) bodies
+    → 65 + records_size bodies ≤ 2 ^ 30 → ⊥
 
 -- Why there is no run of this program. Where it is told what the disk holds, a store is refused only where it is not good.
 abbrev pub IsWhyNotStored : Type 0 → JobSayings → DataGraph → Update → List (List ℕ) → DiskPast → DiskPast → ℕ → ℕ → JournalFault → Type 0

@@ -1,7 +1,8 @@
-use Rattle.std.proofs.Common.{IsTrue}
+use Rattle.std.proofs.Common.{IsTrue, ℕ, ◌+◌, ◌^◌, ◌≤◌, Err, sym, ap, ◌∙◌, subst}
 use Rattle.job_config.specs.Views.{job_view}
-use Rattle.recovery.specs.Journals.{snapshots_in}
-use Rattle.engine_cli.proofs.StoredBy.{IfErr-map, IfErr-two, IfOk-map, IfOk-two, fault-by, full-by, run-from, why-not-stored}
+use Rattle.recovery.specs.Journals.{records_size, snapshots_in}
+use Rattle.snap_journal.specs.declared.faults.JournalFault.{JournalFault}
+use Rattle.engine_cli.proofs.StoredBy.{IfErr-is, IfOk-map, IfOk-two, fault-by, full-by, run-from, why-not-stored}
 use Rattle.engine_cli.proofs.storing.run_stored_by.Goals as goal
 
 pub returns-clause-run : goal.returns-clause-run
@@ -28,8 +29,11 @@ returns-clause-refused g c =
     let bodies = snapshots_in g.D.Disk.past c.args.journal.now in
     let old = g.D.Disk.past c.args.journal.now.disk in
     let new = g.D.Disk.past c.run_stored-run.new.journal.disk in
-    IfErr-two c.run_stored-run.result _ _ _
-    (λ fault refused good.
+    let short : IsTrue g.D.Disk.told → 65 + records_size bodies ≤ 2 ^ 30 → c.args.journal.now.length ≤ 2 ^ 30 =
+    λ told few. subst (λ (l : ℕ). l ≤ 2 ^ 30) (sym (c.length-short.ensures.stored told c.requires.well) ∙ c.length-short.ensures.length) few in
+    IfErr-is c.run_stored-run.result _ _
+    (λ fault is refused.
     why-not-stored job c.args.graph.now (g.P.Program.meaning c.args.program) bodies old new c.plan_of.result c.deref.result.now c.args.journal.now.header c.run_stored-run.new.journal.header
-    c.requires.header c.run_stored-run.ensures.header c.plan_of.ensures c.deref.ensures.value _ _ _ fault refused good)
-    c.run_stored-run.ensures.refused c.run_stored-run.ensures.good
+    c.requires.header c.run_stored-run.ensures.header c.plan_of.ensures c.deref.ensures.value _ _ _ fault refused
+    (λ why same told owner placed good few. c.run_stored-run.ensures.good told owner placed good (short told few) why (is ∙ ap (λ (f : JournalFault). Err f) same)))
+    c.run_stored-run.ensures.refused
