@@ -1,5 +1,5 @@
 //! Runs by colours on a cluster.
-ghost use Rattle.std.specs.Prelude.{◌≡◌, length, slice_index_or, IfOk};
+ghost use Rattle.std.specs.Prelude.{◌≡◌, ◌≤◌, length, slice_index_or, All, IfOk};
 ghost use Rattle.graph_core.specs.Colourings.{IsProperColouring};
 ghost use Rattle.graph_core.specs.DataGraph.{size};
 ghost use Rattle.placed_steps.specs.Running.{IsColorMachineOf, part_in_steps};
@@ -76,6 +76,8 @@ fn cluster_of<P: Program>(
 }
 
 /// The greatest of some colours, and 0 where there is none.
-fn greatest(colours: &[u32]) -> u32 {
+fn greatest(colours: &[u32]) -> u32
+    ensures { All (λ colour. colour ≤ result) colours.now }
+{
     colours.iter().copied().max().unwrap_or(0)
 }
