@@ -10,7 +10,9 @@ use gl_base::{MachineNo, NoMemory};
 use std::sync::Wait;
 
 /// Makes steps of the colours 1 to `greatest` in turn, round after round, until no task is left or all tickets were drawn, and says how
-/// the run has ended. In a step each machine runs its tasks of that colour. For want of memory the cluster stays where it is.
+/// the run has ended. In a step each machine runs its tasks of that colour. The end is asked for behind a round in which nothing was
+/// run, and not at each step, since a machine without a task looks at each of its vertices then. For want of memory the cluster stays
+/// where it is.
 pub fn drive_by_steps<R: Wait, M: StepMachine>(
     rt: &R,
     cluster: &mut Cluster<M>,
@@ -30,8 +32,7 @@ pub fn drive_by_steps<R: Wait, M: StepMachine>(
     unreachable!()
 }
 
-/// A step of each colour. Says whether anything was run: who asks for the end at each step looks at each vertex of a machine without a
-/// task.
+/// A step of each colour. Says whether anything was run.
 fn run_colours<M: StepMachine>(cluster: &mut Cluster<M>, greatest: u32) -> Result<bool, NoMemory>
     requires { length cluster.old.now.machines.items < 2 ^ 16 }
     ensures { IsSameRun cluster.old cluster.new }
