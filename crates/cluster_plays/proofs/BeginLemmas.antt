@@ -1,46 +1,23 @@
--- The cluster on which a run begins.
-use Rattle.std.proofs.Common.{◌≡◌, ◌<◌, ◌≤◌, ℕ, ◌∙◌, false, List, length, replicate, All, ap, sym, subst, refl, Result, Ok, Err, IfOk, inl, inr, arith}
+-- Where a plan places a graph, and the cluster on which a run with locks begins.
+use Rattle.std.proofs.Common.{◌≡◌, ◌<◌, ℕ, ◌∙◌, List, length, replicate, All, ap, sym, subst, refl, inl, inr, arith}
 use Rattle.std.specs.Prelude.{slice_index}
 use Rattle.std.proofs.lemmas.Bool.{cases_lt}
 use Rattle.std.proofs.lemmas.List.{get_or-map, get_or-replicate, get_or_past, length-map, length-replicate}
 use Rattle.std.proofs.lemmas.List.FromFn.{length-map-range_with_len}
 use Rattle.cluster_core.specs.Settings.{Locking}
-use Rattle.cluster_step.specs.Clusters.{ClusterView}
 use Rattle.gl_base.specs.declared.numbers.AtomNo.{AtomNo}
 use Rattle.gl_base.specs.declared.numbers.MachineNo.{MachineNo}
 use Rattle.gl_base.specs.declared.numbers.Vertex.{Vertex}
 use Rattle.gl_base.specs.declared.snapshots.Base.{Base}
 use Rattle.graph_core.specs.DataGraph.{DataGraph, IsDataGraph, size}
 use Rattle.job_runs.specs.declared.runs.RunPlan.{RunPlan}
-use Rattle.machine_places.proofs.OwnerLemmas.{owner_low}
-use Rattle.placed_clusters.specs.Running.{BeginsWith, IsGrowthCut, IsPlacing, IsRunOf, ProgramMachineView, Setting, StartsIn, atom_numbers, atom_weights, machine_numbers, placed_owner}
+use Rattle.placed_clusters.specs.Running.{BeginsWith, IsGrowthCut, IsPlacing, IsRunOf, atom_numbers, atom_weights, machine_numbers, placed_owner}
 use Rattle.placed_clusters.specs.declared.clusters.Run.{Run}
 use Rattle.placed_graphs.specs.Weights.{atom_weight}
 use Rattle.placed_graphs.specs.declared.cutting.Placement.{Placement}
-use Rattle.seq_run.specs.States.{start_state}
 use Rattle.update_api.specs.Updates.{Update}
-use Rattle.cluster_plays.specs.Inner.Beginnings.{BeginsPlaced, IsFirstRun}
 use Rattle.cluster_plays.specs.Plans.{IsPlaced}
-
-three_ok : {X E : Type 0} (r : Result X E) (P Q R S : X → Type 0) → ((x : X) → P x → Q x → R x → S x) → IfOk r P → IfOk r Q → IfOk r R → IfOk r S
-three_ok (Ok x) P Q R S then p q s = then x p q s
-three_ok (Err e) P Q R S then p q s = tt
-
--- the setting in which the program runs on the graph from the numbers that it starts with
-abbrev pub first_setting : DataGraph → Update → (ℕ → ℕ) → RunPlan → Setting
-first_setting g program owner plan =
-    record {
-      graph = g;
-      program = program;
-      owner = owner;
-      machines = plan.machines;
-      pipeline = plan.pipeline;
-      engine = Locking;
-      stored = false;
-      window = 1;
-      start = start_state g program;
-      base = 0;
-    }
+use Rattle.cluster_plays.proofs.StartLemmas.{each_owned, first_setting}
 
 -- how its cluster runs
 abbrev pub run_by : RunPlan → Vertex → Run
@@ -103,20 +80,11 @@ is_whole g plan made one all owner =
     below = subst (λ (ms : List MachineNo). All (λ (m : MachineNo). m.0 < plan.machines) ms) (sym owner) (λ i d low. subst (λ (m : MachineNo). m.0 < plan.machines) (sym (get_or-replicate 1 i home d (omega (arith, length-replicate 1 home)))) (omega (arith, one)))
 
 module _ (g : DataGraph) (plan : RunPlan) (made : Placement) (placed : IsPlaced g plan made) where
-  -- the same of equal lists
-  pub atoms_placed : (of' : List AtomNo) (on' : List MachineNo) → of' ≡ made.of.items → on' ≡ made.owner.items → All (λ (a : AtomNo). a.0 < length on') of'
-  atoms_placed of' on' same_of same_on =
-      subst (λ (l : List AtomNo). All (λ (a : AtomNo). a.0 < length on') l) (sym same_of)
-      (subst (λ (l : List MachineNo). All (λ (a : AtomNo). a.0 < length l) made.of.items) (sym same_on) placed.atoms)
-
-  each_owned : (v : ℕ) → v < size g → placed_owner made.of.items made.owner.items v < plan.machines
-  each_owned = owner_low g plan.machines made.of.items made.owner.items placed.each placed.atoms placed.machines
-
-  run_there : (program : Update) (base : Base) (first : Vertex) → IsDataGraph g → BeginsWith (first_setting g program (placed_owner made.of.items made.owner.items) plan) base →
-      IsRunOf g program (placed_owner made.of.items made.owner.items) base (run_by plan first) (first_setting g program (placed_owner made.of.items made.owner.items) plan)
+  run_there : (program : Update) (base : Base) (first : Vertex) → IsDataGraph g → BeginsWith (first_setting g program (placed_owner made.of.items made.owner.items) Locking plan) base →
+      IsRunOf g program (placed_owner made.of.items made.owner.items) base (run_by plan first) (first_setting g program (placed_owner made.of.items made.owner.items) Locking plan)
   run_there program base first graph begins =
       record {
-        is = record { graph = graph; owner = each_owned };
+        is = record { graph = graph; owner = each_owned g plan made placed };
         placed = record { graph = refl; machines = refl; owners = λ v inside. refl };
         program_is = refl;
         engine = refl;
@@ -126,36 +94,9 @@ module _ (g : DataGraph) (plan : RunPlan) (made : Placement) (placed : IsPlaced 
       }
 
   -- the same of equal lists
-  pub run_placed : (program : Update) (base : Base) (first : Vertex) (of' : List AtomNo) (on' : List MachineNo) → of' ≡ made.of.items → on' ≡ made.owner.items → IsDataGraph g → BeginsWith (first_setting g program (placed_owner made.of.items made.owner.items) plan) base →
-      IsRunOf g program (placed_owner of' on') base (run_by plan first) (first_setting g program (placed_owner made.of.items made.owner.items) plan)
+  pub run_placed : (program : Update) (base : Base) (first : Vertex) (of' : List AtomNo) (on' : List MachineNo) → of' ≡ made.of.items → on' ≡ made.owner.items → IsDataGraph g → BeginsWith (first_setting g program (placed_owner made.of.items made.owner.items) Locking plan) base →
+      IsRunOf g program (placed_owner of' on') base (run_by plan first) (first_setting g program (placed_owner made.of.items made.owner.items) Locking plan)
   run_placed program base first of' on' same_of same_on graph begins =
-      subst (λ (l : List AtomNo). IsRunOf g program (placed_owner l on') base (run_by plan first) (first_setting g program (placed_owner made.of.items made.owner.items) plan)) (sym same_of)
-      (subst (λ (l : List MachineNo). IsRunOf g program (placed_owner made.of.items l) base (run_by plan first) (first_setting g program (placed_owner made.of.items made.owner.items) plan)) (sym same_on)
+      subst (λ (l : List AtomNo). IsRunOf g program (placed_owner l on') base (run_by plan first) (first_setting g program (placed_owner made.of.items made.owner.items) Locking plan)) (sym same_of)
+      (subst (λ (l : List MachineNo). IsRunOf g program (placed_owner made.of.items l) base (run_by plan first) (first_setting g program (placed_owner made.of.items made.owner.items) Locking plan)) (sym same_on)
       (run_there program base first graph begins))
-
-  first_run : (program : Update) → IsFirstRun g program plan (first_setting g program (placed_owner made.of.items made.owner.items) plan)
-  first_run program =
-      record {
-        graph = refl;
-        program = refl;
-        machines = refl;
-        placed = placed.placement;
-        start = refl;
-      }
-
-  -- a cluster that starts in this setting
-  pub begins_placed : {P E : Type 0} (meaning : P → Update) (program : P) (r : Result (ClusterView (ProgramMachineView P)) E) →
-      IfOk r (StartsIn meaning (first_setting g (meaning program) (placed_owner made.of.items made.owner.items) plan)) → IfOk r (λ k. k.start ≡ k.now) → IfOk r (λ k. (k.now.next ≡ 0) × (k.now.left ≡ plan.budget)) →
-      IfOk r (BeginsPlaced g meaning program plan)
-  begins_placed meaning program r starts began tickets =
-      three_ok r (StartsIn meaning (first_setting g (meaning program) (placed_owner made.of.items made.owner.items) plan)) (λ k. k.start ≡ k.now) (λ k. (k.now.next ≡ 0) × (k.now.left ≡ plan.budget)) (BeginsPlaced g meaning program plan)
-      (λ k start same drawn.
-      record {
-        st = first_setting g (meaning program) (placed_owner made.of.items made.owner.items) plan;
-        first = first_run (meaning program);
-        starts = start;
-        began = same;
-        next = drawn.0;
-        left = drawn.1;
-      })
-      starts began tickets

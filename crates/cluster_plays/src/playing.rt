@@ -1,13 +1,14 @@
 //! Runs on a cluster.
 ghost use Rattle.std.specs.Prelude.{◌≡◌, ℕ, ◌<◌, ◌≤◌, length, slice_index, IfOk};
 ghost use Rattle.graph_core.specs.DataGraph.{IsDataGraph};
-ghost use Rattle.placed_clusters.specs.Running.{IsBaseFor};
-ghost use Rattle.cluster_plays.specs.Inner.Beginnings.{BeginsPlaced};
+ghost use Rattle.machine_parts.specs.Parts.{part_of};
+ghost use Rattle.placed_clusters.specs.Running.{IsBaseFor, IsMachineOf};
+ghost use Rattle.cluster_plays.specs.Beginnings.{StartsPlaced};
 ghost use Rattle.cluster_plays.specs.Plans.{CountsByMachine, IsInRange, IsPlaced, RunsTo};
 
-use cluster_rounds::{End, drive};
+use crate::ended::ended_run;
+use cluster_rounds::drive;
 use cluster_step::Cluster;
-use gathered_runs::{GatheredRun, gather};
 use gl_base::{AtomNo, Base, MachineNo, NoMemory, Vertex};
 use graph_core::Graph;
 use job_runs::{Run, RunPlan};
@@ -32,21 +33,8 @@ pub fn run_program<R: Wait, P: Program>(
     ensures done { IfOk result (λ run. CountsByMachine plan.machines run.order.items run.done.items) }
 {
     let mut cluster = cluster_of(alloc, graph, program, plan)?;
-    let left = match drive(rt, alloc, &mut cluster)? {
-        End::Quiet => None,
-        End::Spent(vertex) => Some(vertex),
-    };
-    let GatheredRun {
-        order,
-        numbers,
-        done,
-    } = gather(alloc, &cluster)?;
-    Ok(Run {
-        order,
-        numbers,
-        done,
-        left,
-    })
+    let end = drive(rt, alloc, &mut cluster)?;
+    ended_run(alloc, &cluster, end)
 }
 
 /// The cluster before its first update, on whose machines the graph is placed as the plan says.
@@ -57,7 +45,8 @@ fn cluster_of<P: Program>(
     plan: RunPlan,
 ) -> Result<Cluster<ProgramMachine<P>>, NoMemory>
     requires plan { IsInRange plan }
-    ensures { IfOk result (BeginsPlaced graph.now P.meaning program plan) }
+    ensures placed { IfOk result (λ c. StartsPlaced (IsMachineOf P.meaning) (λ m. part_of m.core) graph.now (P.meaning program) plan c.start) }
+    ensures began { IfOk result (λ c. c.start ≡ c.now) }
 {
     let base = first_base(alloc, graph, &program)?;
     let first = first_of(graph, &base);

@@ -115,7 +115,7 @@ fn grant_or_update<M: ClusterMachine>(
 }
 
 /// All that waits at the one machine for the other is sent and received. Says whether anything was received.
-fn tell<M: ClusterMachine>(
+pub(crate) fn tell<M: ClusterMachine>(
     cluster: &mut Cluster<M>,
     from: MachineNo,
     to: MachineNo,

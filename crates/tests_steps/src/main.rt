@@ -4,10 +4,12 @@
 mod chances;
 mod driver;
 mod graphs;
+mod plays;
 mod rows;
 mod runs;
 mod trouble;
 
+use plays::all_plays;
 use rows::{by_chance, complete_of_four, no_vertex, path_by_steps, triangle};
 use std::io;
 use std::process::ExitCode;
@@ -20,6 +22,7 @@ fn main(rt: HostRuntime) -> io::Result<ExitCode> {
     println!(rt; "a complete graph: {}", said(complete_of_four(alloc)))?;
     println!(rt; "a triangle and a vertex alone: {}", said(triangle(alloc)))?;
     println!(rt; "random events: {}", said(by_chance(alloc)))?;
+    println!(rt; "runs by a plan: {}", said(all_plays(&rt, alloc)))?;
     Ok(ExitCode::SUCCESS)
 }
 

@@ -1,11 +1,10 @@
--- The cluster on which a run begins.
-use Rattle.std.specs.Prelude.{◌≡◌, ◌<◌, List, length, All}
-use Rattle.cluster_step.specs.Clusters.{ClusterView}
-use Rattle.graph_core.specs.DataGraph.{DataGraph, size}
+-- Clusters on which a run begins.
+pub use Rattle.cluster_step.specs.Starts.{Part, Setting, StartIn}
+use Rattle.std.specs.Prelude.{◌≡◌, ℕ}
+use Rattle.cluster_step.specs.declared.parts.Parts.{Parts}
+use Rattle.graph_core.specs.DataGraph.{DataGraph}
 use Rattle.job_runs.specs.declared.runs.RunPlan.{RunPlan}
 use Rattle.job_runs.specs.Plays.{IsPlacement}
-use Rattle.placed_clusters.specs.Running.{ProgramMachineView, Setting, StartsIn, placed_owner}
-use Rattle.placed_graphs.specs.declared.cutting.Placement.{Placement}
 use Rattle.seq_run.specs.States.{start_state}
 use Rattle.update_api.specs.Updates.{Update}
 
@@ -18,10 +17,9 @@ pub record IsFirstRun (g : DataGraph) (p : Update) (plan : RunPlan) (st : Settin
   pub start : st.start ≡ start_state g p
 
 -- The machines start in some such setting, with ticket 0 and as many tickets as the budget has.
-pub record BeginsPlaced {P : Type 0} (g : DataGraph) (meaning : P → Update) (program : P) (plan : RunPlan) (c : ClusterView (ProgramMachineView P)) : Type 0 where
+pub record StartsPlaced {M : Type 0} (belongs : Setting → ℕ → M → Type 0) (part : M → Part) (g : DataGraph) (p : Update) (plan : RunPlan) (start : Parts M) : Type 0 where
   pub st : Setting
-  pub first : IsFirstRun g (meaning program) plan st
-  pub starts : StartsIn meaning st c
-  pub began : c.start ≡ c.now
-  pub next : c.now.next ≡ 0
-  pub left : c.now.left ≡ plan.budget
+  pub first : IsFirstRun g p plan st
+  pub starts : StartIn belongs part start.machines.items st
+  pub next : start.next ≡ 0
+  pub left : start.left ≡ plan.budget

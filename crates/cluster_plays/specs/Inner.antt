@@ -1,2 +1,0 @@
--- What clauses of private functions cite.
-pub mod Beginnings
