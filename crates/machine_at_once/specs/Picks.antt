@@ -6,8 +6,9 @@ pub use Rattle.machine_parts.specs.Parts.{LocalView, part_of, is_own, links_at, 
 pub use Rattle.machine_parts.specs.Settings.{Setting, IsPartOf, SameSettings}
 pub use Rattle.machine_scopes.specs.Admitting.{MayAdmitNone, MayAdmitVertex}
 pub use Rattle.machine_turns.specs.Turns.{HasEachRow, IsRowIn}
+pub use Rattle.machine_numbers.specs.Views.{TasksView, datum_here, is_flagged}
 pub use Rattle.task_sched.specs.Tasks.{IsNextPick}
-use Rattle.std.specs.Prelude.{◌≡◌, ◌⊎◌, ℕ, Some, None, slice_get}
+use Rattle.std.specs.Prelude.{◌≡◌, ◌+◌, ◌⊎◌, ℕ, Some, None, slice_get, true}
 use Rattle.gl_base.specs.declared.numbers.Vertex.{Vertex}
 use Rattle.update_api.specs.Updates.{Update}
 use Rattle.task_sched.specs.declared.task_sets.Pick.{Pick}
@@ -48,3 +49,9 @@ pub record HasUpdatedPick (program : Update) (old new : Core) (v : Vertex) (tick
   pub may : MayUpdateHere old v
   pub after : (st : Setting) → IsSetting st → IsPartOf st old → st.program ≡ program →
       part_of new ≡ at_once st old.numbers.local.me.0 v.0 (entry_at_once old.numbers.local.me.0 v.0 ticket) (part_of old)
+
+-- One update more is outside. As many scopes are planned as were, and of each vertex that is admitted it is as it was whether its scope was planned.
+pub record HasRunAtOnce (old new : TasksView) : Type 0 where
+  pub plans : new.plans ≡ old.plans
+  pub planned : (k : ℕ) → is_flagged old.admitted k ≡ true → is_flagged new.planned k ≡ is_flagged old.planned k
+  pub rest : new ≡ record old { task = new.task; planned = new.planned; outside = old.outside + 1 }
