@@ -260,6 +260,7 @@ module _ (p : Update) (m : Core) (new : Numbers) (f : Found) (ticket : ℕ) (is 
   pub gone_updated : HasUpdatedPick p m gone f.vertex ticket
   gone_updated = record {
     picked = found.picked;
+    opened = found.waits.opened;
     may = may_here m f is found;
     after = λ st setting part program.
         subst (λ (q : PipeView). part_of (record m { numbers = new; pipe = q }) ≡ at_once st m.numbers.local.me.0 f.vertex.0 (entry_at_once m.numbers.local.me.0 f.vertex.0 ticket) (part_of m)) (sym passed)
