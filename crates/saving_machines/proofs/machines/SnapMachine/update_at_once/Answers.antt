@@ -13,3 +13,6 @@ invariant_of-self-in-Ok g c =
     let parts = logged_stays _ _ m.snaps c.reserve.new.self c.log.new.self c.reserve.ensures.same c.log.ensures.logged in
     stays_updated m.core c.update_at_once.new.core m.snaps c.log.new.self m.seen is e.orderly e.places e.rows (ap (λ (x : Core). x.terms) e.rest) e.local e.own e.marks parts.0 parts.1
     (ap (λ (t : TasksView). t.outside) e.run.rest ∙ ap (λ (k : ℕ). k + 1) is.outside ∙ sym parts.2)
+
+pub returns-in-Err-clause-not_now : goal.returns-in-Err-clause-not_now
+returns-in-Err-clause-not_now g c = rw (← c.self.view_is) c.in-Err.ensures.refused
