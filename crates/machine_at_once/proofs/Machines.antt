@@ -50,6 +50,18 @@ renewed_mark d x = by (x == d.value)
     by true = refl
     by false = refl
 
+-- its mark stays
+pub made_marks : (p : Update) (old new : Numbers) (v : Vertex) (entry : Entry) → HasMadeHere p old new v entry → (u : ℕ) → (datum_here new u).mark ≡ (datum_here old u).mark
+made_marks p old new v entry made u =
+    let c = made.outcome.work.vertex.0 in
+    let d = datum_here old c in
+    ap (λ (x : Datum). x.mark) (made.updated.datum u)
+    ∙ set_at-cases (λ (x : Datum). x.mark ≡ (datum_here old u).mark) (datum_here old) c (renewed d made.outcome.value) u
+    (λ same. renewed_mark d made.outcome.value ∙ ap (λ (j : ℕ). (datum_here old j).mark) (sym same)) (λ off. refl)
+
+pub back_marks : (old new : Numbers) → HasSameNumbers old new → (u : ℕ) → (datum_here new u).mark ≡ (datum_here old u).mark
+back_marks old new same u = ap (λ (k : Numbers). (datum_here k u).mark) same.rest
+
 -- what a machine in order says of a vertex of its own
 pub can_be_made : (m : Core) (v : Vertex) → IsOrderly m → is_own m.numbers.local v.0 ≡ true → CanBeMade m.numbers v
 can_be_made m v is own = record { sides = is.numbers.sides v.0 own; tasks = is.numbers.tasks; outside = is.numbers.outside }
@@ -77,7 +89,7 @@ made_numbers p old new v entry base own_v made n =
           (set_at-cases marked (datum_here old) c next u (λ same. subst (λ (k : ℕ). base ≤ k) (sym (renewed_mark (datum_here old c) o.value)) (n.marks c mine)) (λ off. n.marks u (was u is)));
       outside =
           let before = n.outside in
-          let more : new.tasks.outside ≡ old.tasks.outside + 1 = ap (λ (t : TasksView). t.outside) made.run.rest in
+          let more : new.tasks.outside ≡ old.tasks.outside + 1 = ap (λ (t : TasksView). t.outside) made.run.once.rest in
           let longer = long in
           omega arith;
     }
@@ -193,7 +205,7 @@ module _ (p : Update) (m : Core) (new : Numbers) (v : Vertex) (ticket : ℕ) (ow
   after = record m { numbers = new; pipe = record m.pipe { serial = m.pipe.serial + 1 } }
 
   admitted : new.tasks.admitted ≡ m.numbers.tasks.admitted
-  admitted = ap (λ (t : TasksView). t.admitted) made.run.rest
+  admitted = ap (λ (t : TasksView). t.admitted) made.run.once.rest
 
   later : m.pipe.serial ≤ m.pipe.serial + 1
   later = omega arith
@@ -202,7 +214,7 @@ module _ (p : Update) (m : Core) (new : Numbers) (v : Vertex) (ticket : ℕ) (ow
   made_orderly is = ordered m new (m.pipe.serial + 1) later made.graph admitted (made_numbers p m.numbers new v entry m.terms.base own made is.numbers) is
 
   pub made_settled : IsOrderly m → SameSettings m after
-  made_settled is = settled m new (m.pipe.serial + 1) later made.graph admitted (made_numbers p m.numbers new v entry m.terms.base own made is.numbers) (ap (λ (t : TasksView). t.window) made.run.rest)
+  made_settled is = settled m new (m.pipe.serial + 1) later made.graph admitted (made_numbers p m.numbers new v entry m.terms.base own made is.numbers) (ap (λ (t : TasksView). t.window) made.run.once.rest)
 
   pub made_places : IsOrderly m → KnowsPlaces m → KnowsPlaces after
   made_places is = places m new (m.pipe.serial + 1) later made.graph admitted (made_numbers p m.numbers new v entry m.terms.base own made is.numbers) made.run.many
@@ -210,7 +222,7 @@ module _ (p : Update) (m : Core) (new : Numbers) (v : Vertex) (ticket : ℕ) (ow
   pending : (u : ℕ) → pending_here new u ≡ pending_here m.numbers u
   pending u =
       ap (λ (o : Option ℕ). flag_there new.tasks.pending o) (place_kept m.numbers.local new.local (same_graph m.numbers.local new.local made.graph) u)
-      ∙ ap (λ (t : TasksView). flag_there t.pending (place_at m.numbers.local u)) made.run.rest
+      ∙ ap (λ (t : TasksView). flag_there t.pending (place_at m.numbers.local u)) made.run.once.rest
 
   pub made_part : (st : Setting) → IsPartOf st m → st.program ≡ p → part_of after ≡ at_once st m.numbers.local.me.0 v.0 (entry_at_once m.numbers.local.me.0 v.0 ticket) (part_of m)
   made_part st is program =
@@ -248,6 +260,7 @@ module _ (p : Update) (m : Core) (new : Numbers) (f : Found) (ticket : ℕ) (is 
   pub gone_updated : HasUpdatedPick p m gone f.vertex ticket
   gone_updated = record {
     picked = found.picked;
+    opened = found.waits.opened;
     may = may_here m f is found;
     after = λ st setting part program.
         subst (λ (q : PipeView). part_of (record m { numbers = new; pipe = q }) ≡ at_once st m.numbers.local.me.0 f.vertex.0 (entry_at_once m.numbers.local.me.0 f.vertex.0 ticket) (part_of m)) (sym passed)

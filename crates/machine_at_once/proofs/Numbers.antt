@@ -1,8 +1,8 @@
 -- An update that is made on a machine's own numbers, from the start to its log.
-use Rattle.std.proofs.Common.{◌≡◌, ℕ, zero, suc, ◌+◌, ◌<◌, ◌≤◌, ◌==◌, ◌++◌, Bool, true, false, if◌then◌else◌, Option, None, Some, is_some, List, [], ◌∷◌, length, slice_set, vec_len, vec_capacity, refl, sym, ap, ◌∙◌, subst, arith, inl, inr}
+use Rattle.std.proofs.Common.{◌≡◌, ℕ, zero, suc, ◌+◌, ◌<◌, ◌≤◌, ◌==◌, ◌++◌, Bool, true, false, true≢false, if◌then◌else◌, Option, None, Some, is_some, List, [], ◌∷◌, length, slice_set, vec_len, vec_capacity, refl, sym, ap, ◌∙◌, subst, arith, inl, inr}
 use Rattle.std.specs.Prelude.{Result, Ok, Err, OnErr}
 use Rattle.std.proofs.lemmas.Bool.{cases_eq, eq-eqb, ne_eqb}
-use Rattle.std.proofs.lemmas.List.{length-map, get_or-set_same}
+use Rattle.std.proofs.lemmas.List.{length-map, get_or-set_other, get_or-set_same}
 use Rattle.gl_base.specs.declared.entries.Entry.{Entry}
 use Rattle.gl_base.specs.declared.numbers.Vertex.{Vertex}
 use Rattle.gl_base.specs.declared.scopes.ScopeId.{ScopeId}
@@ -19,7 +19,7 @@ use Rattle.machine_numbers.specs.Settings.{IsMadeOfWork, IsOutcomeOf, IsLocalOf,
 use Rattle.machine_numbers.specs.Views.{AreTasksOf, LocalView, datum_here, edge_here, flag_there, value_here, is_own, links_at, numbers_along, place_at, sides_at}
 use Rattle.machine_numbers.proofs.WorkLemmas.{outcome_is}
 use Rattle.machine_scopes.proofs.PickLemmas.{free_parts}
-use Rattle.machine_at_once.specs.Picks.{IsRowIn}
+use Rattle.machine_at_once.specs.Picks.{HasRunAtOnce, IsRowIn}
 use Rattle.machine_at_once.specs.Inner.Finding.{WaitsAt}
 use Rattle.machine_at_once.specs.Inner.Making.{CanBeKept, CanBeMade, HasMadeHere, HasRunOne, HasSameNumbers, KeepsGraph}
 
@@ -32,9 +32,13 @@ set_back (b ∷ flags) (suc k) clear = ap (λ (fs : List Bool). b ∷ fs) (set_b
 
 pub run_one : (old between new : TasksView) (k : ℕ) → is_flagged old.admitted k ≡ false
     → between ≡ record old { admitted = slice_set old.admitted k true; planned = slice_set old.planned k true; plans = old.plans + 1 }
-    → HasRun between new k → new ≡ record old { task = new.task; planned = new.planned; plans = new.plans; outside = old.outside + 1 }
+    → HasRun between new k → HasRunAtOnce old new
 run_one old between new k clear admitted run =
     let with : TasksView → TasksView = λ t. record new { admitted = slice_set t.admitted k false; pending = t.pending; asked = t.asked; window = t.window; outside = t.outside + 1 } in
+    let before : between.plans ≡ old.plans + 1 = ap (λ (t : TasksView). t.plans) admitted in
+    let behind = run.plans in
+    let plans : new.plans ≡ old.plans = omega arith in
+    let flags : new.planned ≡ slice_set (slice_set old.planned k true) k false = ap (λ (t : TasksView). t.planned) run.rest ∙ ap (λ (t : TasksView). slice_set t.planned k false) admitted in
     let same : new ≡ with between = λ i. record new {
       admitted = ap (λ (t : TasksView). t.admitted) run.rest i;
       pending = ap (λ (t : TasksView). t.pending) run.rest i;
@@ -42,8 +46,18 @@ run_one old between new k clear admitted run =
       window = ap (λ (t : TasksView). t.window) run.rest i;
       outside = ap (λ (t : TasksView). t.outside) run.rest i;
     } in
+    let all : new ≡ record new { admitted = old.admitted; pending = old.pending; asked = old.asked; window = old.window; outside = old.outside + 1 } =
     same ∙ ap with admitted
-    ∙ ap (λ (flags : List Bool). record new { admitted = flags; pending = old.pending; asked = old.asked; window = old.window; outside = old.outside + 1 }) (set_back old.admitted k clear)
+    ∙ ap (λ (left : List Bool). record new { admitted = left; pending = old.pending; asked = old.asked; window = old.window; outside = old.outside + 1 }) (set_back old.admitted k clear) in
+    record {
+      plans = plans;
+      planned = λ j set.
+          let other : j ≡ k → ⊥ = λ same_place. true≢false (sym set ∙ ap (is_flagged old.admitted) same_place ∙ clear) in
+          ap (λ (left : List Bool). is_flagged left j) flags
+          ∙ get_or-set_other (slice_set old.planned k true) k j false false other
+          ∙ get_or-set_other old.planned k j true false other;
+      rest = all ∙ ap (λ (many : ℕ). record old { task = new.task; planned = new.planned; plans = many; outside = old.outside + 1 }) plans;
+    }
 
 -- ---- rows
 
@@ -95,7 +109,7 @@ module _ (n : Numbers) (t : TasksView) (o : Outcome) (place : Vertex) (can : Can
       record {
         tasks = tasks;
         many = many ∙ ap (λ (k : TasksView). length k.task) is;
-        rest = run_one n.tasks t new.tasks place.0 flags.1 is (run place.0 can.waits.at);
+        once = run_one n.tasks t new.tasks place.0 flags.1 is (run place.0 can.waits.at);
       }
 
 -- ---- from the start to the end
@@ -148,7 +162,7 @@ module _ (n roomy out new : Numbers) (scope : ScopeId) (v : Vertex) (work : Work
     run_from : HasRunOne out new → HasRunOne n new
     run_from has =
         let now = subst (λ (k : Numbers). HasRunOne k new) out_is has in
-        record { tasks = now.tasks; many = now.many; rest = now.rest }
+        record { tasks = now.tasks; many = now.many; once = record { plans = now.once.plans; planned = now.once.planned; rest = now.once.rest } }
 
     pub made_here : HasUpdated out new o entry
         → ((x : ℕ) → is_own new.local x ≡ is_own out.local x)

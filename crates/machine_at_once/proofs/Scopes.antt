@@ -32,7 +32,7 @@ use Rattle.machine_scopes.specs.Inner.Picking.{CanTake, StandInLine}
 use Rattle.machine_scopes.proofs.AdmitLemmas.{picked_at}
 use Rattle.machine_scopes.proofs.HeldLemmas.{own_in, one_of}
 use Rattle.machine_scopes.proofs.LawLemmas.{part_is, some_number}
-use Rattle.machine_scopes.proofs.PickLemmas.{can_take, free_parts, may_pick, none_may, pick_own, pick_place}
+use Rattle.machine_scopes.proofs.PickLemmas.{can_take, free_parts, may_pick, none_may, pick_own, pick_place, pick_room}
 use Rattle.machine_updates.proofs.LeaveLemmas.{none_or}
 use Rattle.machine_at_once.specs.declared.finding.Found.{Found}
 use Rattle.machine_at_once.specs.Picks.{CanNotUpdatePick, CanUpdatePick, HasNoneAtOnce, MayAdmitNone, MayUpdateHere, MayNotUpdateHere, PicksNext}
@@ -152,7 +152,7 @@ module _ (m : Core) (f : Found) (is : IsOrderly m) (found : IsFoundPick m f) whe
       }
 
 pub can_update : (m : Core) (f : Found) → IsOrderly m → IsFoundPick m f → CanUpdatePick m
-can_update m f is found = record { vertex = f.vertex; picked = found.picked; may = may_here m f is found }
+can_update m f is found = record { vertex = f.vertex; picked = found.picked; opened = found.waits.opened; may = may_here m f is found }
 
 -- ---- it may not
 
@@ -218,7 +218,7 @@ module _ (m : Core) (pick : Pick) (v : Vertex) (is : IsOrderly m) (knows : Knows
   -- where it may not be updated at once, one is admitted or none
   refused : MayNotUpdateHere m v → HasNoneAtOnce m
   refused not = ⊎_elim
-      (λ (few : flight_count m.pipe < m.terms.pipeline). inr (v, may_pick m pick v is knows can at few, not))
+      (λ (few : flight_count m.pipe < m.terms.pipeline). inr (v, may_pick m pick v is knows can at few, not, pick_room m pick v is knows can at))
       (λ (full : m.terms.pipeline ≤ flight_count m.pipe). inl (full_none m full))
       (cases_lt (flight_count m.pipe) m.terms.pipeline)
 

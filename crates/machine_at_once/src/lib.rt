@@ -5,4 +5,4 @@ mod finding;
 mod making;
 mod updating;
 
-pub use updating::update_at_once;
+pub use updating::{refusal, update_at_once};

@@ -1,6 +1,6 @@
 //! Updates at once.
-ghost use Rattle.std.specs.Prelude.{◌≡◌, ℕ, IfOk, OnErr, IsErrOf};
-ghost use Rattle.machine_at_once.specs.Picks.{CanNotUpdatePick, CanUpdatePick, HasEachRow, HasNoneAtOnce, HasUpdatedPick, IsOrderly, KnowsPlaces, SameSettings, links_at, part_of};
+ghost use Rattle.std.specs.Prelude.{◌≡◌, ℕ, IfOk, OnErr, OnOk, IsErrOf};
+ghost use Rattle.machine_at_once.specs.Picks.{CanNotUpdatePick, CanUpdatePick, HasEachRow, HasNoneAtOnce, HasRunAtOnce, HasUpdatedPick, IsOrderly, KnowsPlaces, SameSettings, datum_here, is_own, links_at, part_of};
 
 use crate::finding::find;
 use crate::making::make;
@@ -26,12 +26,16 @@ pub fn update_at_once<P: Program>(
     requires places { KnowsPlaces core.old }
     requires rows { HasEachRow core.old.numbers.local }
     ensures updated { IfOk result (λ v. HasUpdatedPick (P.meaning program.now) core.old core.new v ticket) }
+    ensures run { OnOk result (HasRunAtOnce core.old.numbers.tasks core.new.numbers.tasks) }
     ensures not_now { IsErrOf result Refused.NotNow → CanNotUpdatePick core.old }
     ensures refused { IsErrOf result Refused.NotNow → HasNoneAtOnce core.old }
     ensures no_memory { IsErrOf result Refused.NoMemory → CanUpdatePick core.old }
     ensures same { IsErrOf result Refused.NotNow → core.new ≡ core.old }
     ensures unchanged { OnErr result (part_of core.new ≡ part_of core.old) }
+    ensures tasks { OnErr result (core.new.numbers.tasks ≡ core.old.numbers.tasks) }
     ensures rows { HasEachRow core.new.numbers.local }
+    ensures own { (x : ℕ) → is_own core.new.numbers.local x ≡ is_own core.old.numbers.local x }
+    ensures marks { (x : ℕ) → (datum_here core.new.numbers x).mark ≡ (datum_here core.old.numbers x).mark }
     ensures local { let old = core.old.numbers.local in let new = core.new.numbers.local in new ≡ record old { kept = new.kept; rows = new.rows; numbers = new.numbers } }
     ensures links { (x : ℕ) → links_at core.new.numbers.local x ≡ links_at core.old.numbers.local x }
     ensures orderly { IsOrderly core.new }
@@ -61,5 +65,18 @@ pub fn update_at_once<P: Program>(
             Ok(found.vertex)
         }
         Err(NoMemory) => Err(Refused::NoMemory),
+    }
+}
+
+/// What an update at once is refused with, where memory is wanting for what is kept beside it.
+pub fn refusal(core: &Core) -> Refused
+    requires orderly { IsOrderly core.now }
+    requires places { KnowsPlaces core.now }
+    ensures not_now { result ≡ Refused.NotNow → HasNoneAtOnce core.now }
+    ensures no_memory { result ≡ Refused.NoMemory → CanUpdatePick core.now }
+{
+    match find(core) {
+        Some(_) => Refused::NoMemory,
+        None => Refused::NotNow,
     }
 }

@@ -13,3 +13,7 @@ use Rattle.saving_machines.specs.Machines.{SnapView}
 abbrev pub HasLogged : Core → SnapView → SnapView → ScopeId → ℕ → Type 0
 HasLogged m w now s ticket =
     (v : Vertex) → flight_at m.pipe s ≡ Some v → IsSameButRoom (with_entry (Go s.home v ticket) (datum_here m.numbers v.0).mark w) now
+
+-- the update of v at once is kept by the mark that it had
+abbrev pub HasLoggedAtOnce : Core → SnapView → SnapView → Vertex → ℕ → Type 0
+HasLoggedAtOnce m w now v ticket = IsSameButRoom (with_entry (Go m.numbers.local.me v ticket) (datum_here m.numbers v.0).mark w) now

@@ -1,10 +1,11 @@
 //! Updates, which are counted beside what is kept for snapshots.
-ghost use Rattle.std.specs.Prelude.{◌≡◌, ◌&&◌, not, true, false, None, Some, IfNone, IfSome, OnOk, OnErr, IsErrOf};
+ghost use Rattle.std.specs.Prelude.{◌≡◌, ◌&&◌, not, true, false, None, Some, IfNone, IfOk, IfSome, OnOk, OnErr, IsErrOf};
 ghost use Rattle.gl_base.specs.declared.scopes.ScopeId.{ScopeId};
+ghost use Rattle.machine_at_once.specs.Picks.{CanUpdatePick, HasNoneAtOnce, HasRunAtOnce, HasUpdatedPick};
 ghost use Rattle.machine_turns.specs.Turns.{HasMadeUpdate, HasRunOf, MayUpdate, flight_at, pending_here, task_here};
 ghost use Rattle.snap_update.specs.Snaps.{IsSameButRoom, asked_behind, with_asking};
 ghost use Rattle.saving_machines.specs.Machines.{SameSettings, part_of};
-ghost use Rattle.saving_machines.specs.Updates.{HasLogged};
+ghost use Rattle.saving_machines.specs.Updates.{HasLogged, HasLoggedAtOnce};
 
 use crate::machines::SnapMachine;
 use gl_base::{Entry, Refused, ScopeId, Vertex};
@@ -55,6 +56,53 @@ impl<P: Program> SnapMachine<P> {
             }
             Err(refused) => Err(refused),
         }
+    }
+
+    /// Updates the vertex that the tasks pick, where it is not pending, its scope has this machine alone, and nobody holds or waits for
+    /// a lock of it: as if a scope of it were admitted, took each lock in turn and made its update. It is logged under the ticket, and kept
+    /// before the marks where its vertex has no mark of the snapshot that is known, else behind them.
+    pub fn update_at_once(&mut self, ticket: u64) -> Result<Vertex, Refused>
+        ensures updated { IfOk result (λ v. HasUpdatedPick (P.meaning self.old.program) self.old.core self.new.core v ticket) }
+        ensures run { OnOk result (HasRunAtOnce self.old.core.numbers.tasks self.new.core.numbers.tasks) }
+        ensures logged { IfOk result (λ v. HasLoggedAtOnce self.old.core self.old.kept self.new.kept v ticket) }
+        ensures not_now { IsErrOf result Refused.NotNow → HasNoneAtOnce self.old.core }
+        ensures no_memory { IsErrOf result Refused.NoMemory → CanUpdatePick self.old.core }
+        ensures unchanged { OnErr result (part_of self.new.core ≡ part_of self.old.core) }
+        ensures same { OnErr result (IsSameButRoom self.old.kept self.new.kept) }
+        ensures tasks { OnErr result (self.new.core.numbers.tasks ≡ self.old.core.numbers.tasks) }
+        ensures local { let old = self.old.core.numbers.local in let new = self.new.core.numbers.local in new ≡ record old { kept = new.kept; rows = new.rows; numbers = new.numbers } }
+        ensures program { self.new.program ≡ self.old.program }
+        ensures settings { SameSettings self.old.core self.new.core }
+    {
+        if self.snaps.reserve().is_err() {
+            return Err(machine_at_once::refusal(&self.core));
+        }
+        match machine_at_once::update_at_once(
+            self.alloc,
+            &mut self.core,
+            &mut self.spares,
+            &self.program,
+            ticket,
+        ) {
+            Ok(vertex) => {
+                let entry = Entry::Go {
+                    ticket,
+                    machine: self.core.numbers.local.me(),
+                    vertex,
+                };
+                self.snaps.log(entry, self.core.numbers.datum(vertex).mark);
+                Ok(vertex)
+            }
+            Err(refused) => Err(refused),
+        }
+    }
+
+    /// What an update at once is refused with, where memory is wanting for what is kept beside it.
+    pub fn refusal_at_once(&self) -> Refused
+        ensures not_now { result ≡ Refused.NotNow → HasNoneAtOnce self.now.core }
+        ensures no_memory { result ≡ Refused.NoMemory → CanUpdatePick self.now.core }
+    {
+        machine_at_once::refusal(&self.core)
     }
 
     /// Whether a scope may make its update now.

@@ -1,9 +1,10 @@
 //! The machines of a cluster that takes snapshots, their links, the coordinator, and the tickets.
-ghost use Rattle.std.specs.Prelude.{◌≡◌, ◌+◌, ◌^◌, ◌<◌, ◌≤◌, ◌⊎◌, true, false, length, replicate, slice_index_or, IfOk, IfSome, IfNone, IsErrOf, IsTrue, OnOk};
+ghost use Rattle.std.specs.Prelude.{◌≡◌, ◌+◌, ◌-◌, ◌^◌, ◌<◌, ◌≤◌, ◌⊎◌, true, false, length, replicate, slice_index_or, IfOk, IfSome, IfNone, IsErrOf, IsTrue, OnOk};
 ghost use Rattle.cluster_core.specs.Recovering.{going_on};
 ghost use Rattle.cluster_model.specs.Events.{recovers};
 ghost use Rattle.cluster_step.specs.Inner.Writing.{HasLinkBetween};
 ghost use Rattle.coord_core.specs.Stores.{store_view};
+ghost use Rattle.snap_clusters.specs.AtOnce.{AnswersAtOnce};
 ghost use Rattle.snap_clusters.specs.Clusters.{BaseView, Cluster, InEachCluster, IsSavingClusterOf, Setting, StandsForSaving, StandsForSameSaving, StartsSaving};
 ghost use Rattle.snap_clusters.specs.Cuts.{RecordsCut};
 ghost use Rattle.snap_clusters.specs.Events.{AnswersEvent, CanNotTakePlace, CanTakePlace, IsReadyToAcknowledge, TakesPlace, NamesLocal, NamesItsMachines, NamesPassage, acting, acting_local, acting_passage, is_resting};
@@ -272,12 +273,41 @@ impl<M: SavingMachine> Parts<M> {
         }
         match self.machines[scope.home.0 as usize].update(scope, self.next) {
             Ok(()) => {
-                self.next += 1;
-                self.left -= 1;
+                self.draw();
                 Ok(())
             }
             Err(refused) => Err(refused),
         }
+    }
+
+    /// A vertex of the machine is updated at once, under the next ticket, where the one that the machine looks at may be now.
+    pub(crate) fn update_at_once(&mut self, at: MachineNo) -> Result<Vertex, Refused>
+        requires within { at.0 < length self.old.machines.items }
+        requires some { StandsForSaving M.stands self.old }
+        ensures answers { AnswersAtOnce M.stands self.old at result self.new }
+        ensures machines { length self.new.machines.items ≡ length self.old.machines.items }
+        ensures stopped { self.new.stopped ≡ self.old.stopped }
+    {
+        if self.is_still(at) || self.left == 0 {
+            return Err(Refused::NotNow);
+        }
+        match self.machines[at.0 as usize].update_at_once(self.next) {
+            Ok(vertex) => {
+                self.draw();
+                Ok(vertex)
+            }
+            Err(refused) => Err(refused),
+        }
+    }
+
+    /// The next ticket is drawn.
+    fn draw(&mut self)
+        requires some { 0 < self.old.left }
+        requires few { self.old.next + self.old.left < 2 ^ 64 }
+        ensures { self.new ≡ record self.old { next = self.old.next + 1; left = self.old.left - 1 } }
+    {
+        self.next += 1;
+        self.left -= 1;
     }
 
     /// The first message that waits at the one machine for the other goes onto the link.

@@ -1,3 +1,4 @@
+pub mod AtOnce
 pub mod Deeds
 pub mod Going
 pub mod Promises

@@ -1,5 +1,6 @@
 //! A machine that takes snapshots, as a cluster knows it.
-ghost use Rattle.std.specs.Prelude.{◌≡◌, ◌↔◌, ℕ, [], IsTrue, OnOk, OnErr, IfErr, IfSome, IfNone, IsErrOf};
+ghost use Rattle.std.specs.Prelude.{◌≡◌, ◌↔◌, ℕ, [], IsTrue, OnOk, OnErr, IfErr, IfOk, IfSome, IfNone, IsErrOf};
+ghost use Rattle.snap_members.specs.AtOnce.{CanNotUpdateAtOnce, CanUpdateAtOnce, HasUpdatedAtOnce};
 ghost use Rattle.snap_members.specs.Promises.{Grant, Machine, Mark, Section, Setting, Update, CanAdmit, CanDo, CanGrantNone, CanMarkNone, CanUpdate, CanUpdateNone, MayBeDone, MayHearCall, CanNotAdmit, CanNotDo, MayReceiveFirst, HasAdmittedSome, HasDone, HasHeard, HasFirst, HasNext, HasReceived, IsReporting, SendsItsFirst, OfEach, StandsStill, fails};
 
 use gl_base::{Entry, MachineNo, Refused, ScopeId, Vertex};
@@ -39,6 +40,16 @@ pub trait SavingMachine: Drop {
         ensures updated { OnOk result (HasDone stands self.old (Update scope ticket) self.new) }
         ensures not_now { IsErrOf result Refused.NotNow → CanNotDo stands self.old (Update scope ticket) }
         ensures no_memory { IsErrOf result Refused.NoMemory → CanDo stands self.old (Update scope ticket) }
+        ensures unchanged { OnErr result (StandsStill stands self.old self.new) };
+
+    /// Makes the update of a vertex that is a task and not pending where the window has room, all of whose scope is this machine's, and of
+    /// whose scope nobody holds or waits for a lock: a scope of it is admitted, takes each lock in turn and makes its update. It is
+    /// logged under the ticket, and the coordinator is asked for a snapshot where it has to be. Of the vertices that may be admitted the
+    /// machine looks at one of its choice.
+    fn update_at_once(&mut self, ticket: u64) -> Result<Vertex, Refused>
+        ensures updated { IfOk result (λ v. HasUpdatedAtOnce stands self.old v.0 ticket self.new) }
+        ensures not_now { IsErrOf result Refused.NotNow → CanNotUpdateAtOnce stands self.old }
+        ensures no_memory { IsErrOf result Refused.NoMemory → CanUpdateAtOnce stands self.old }
         ensures unchanged { OnErr result (StandsStill stands self.old self.new) };
 
     /// Makes the snapshot update of a ready scope of this home, whose vertex is pending.

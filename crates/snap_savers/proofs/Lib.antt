@@ -1,6 +1,8 @@
 pub mod StandLemmas
 pub mod ScopeLemmas
 pub mod WorkLemmas
+pub mod TurnLemmas
+pub mod AtOnceLemmas
 pub mod MarkLemmas
 pub mod HearLemmas
 pub mod ReceiveLemmas

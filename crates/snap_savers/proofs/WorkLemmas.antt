@@ -108,29 +108,29 @@ module _ {P : Type 0} (meaning : P → Update) (st : Setting) (a : ℕ) (m : Mac
 
 -- ---- an update
 
-entry_before : (b : Bool) (w : SnapView) (e : Entry) (before : List Entry) → before ≡ w.before → (if b then before ++ e ∷ [] else before) ≡ (if b then record w { before = w.before ++ e ∷ [] } else record w { behind = w.behind ++ e ∷ [] }).before
+pub entry_before : (b : Bool) (w : SnapView) (e : Entry) (before : List Entry) → before ≡ w.before → (if b then before ++ e ∷ [] else before) ≡ (if b then record w { before = w.before ++ e ∷ [] } else record w { behind = w.behind ++ e ∷ [] }).before
 entry_before true w e before is = ap (λ (es : List Entry). es ++ e ∷ []) is
 entry_before false w e before is = is
 
-entry_behind : (b : Bool) (w : SnapView) (e : Entry) (behind : List Entry) → behind ≡ w.behind → (if b then behind else behind ++ e ∷ []) ≡ (if b then record w { before = w.before ++ e ∷ [] } else record w { behind = w.behind ++ e ∷ [] }).behind
+pub entry_behind : (b : Bool) (w : SnapView) (e : Entry) (behind : List Entry) → behind ≡ w.behind → (if b then behind else behind ++ e ∷ []) ≡ (if b then record w { before = w.before ++ e ∷ [] } else record w { behind = w.behind ++ e ∷ [] }).behind
 entry_behind true w e behind is = is
 entry_behind false w e behind is = ap (λ (es : List Entry). es ++ e ∷ []) is
 
 -- beside the entries the same is kept
-record HasOtherEntries (w now : SnapView) : Type 0 where
-  known : now.known ≡ w.known
-  sent : now.sent ≡ w.sent
-  acknowledged : now.acknowledged ≡ w.acknowledged
-  wanted : now.wanted ≡ w.wanted
-  vertices : now.vertices ≡ w.vertices
-  edges : now.edges ≡ w.edges
-  unsure : now.unsure ≡ w.unsure
+pub record HasOtherEntries (w now : SnapView) : Type 0 where
+  pub known : now.known ≡ w.known
+  pub sent : now.sent ≡ w.sent
+  pub acknowledged : now.acknowledged ≡ w.acknowledged
+  pub wanted : now.wanted ≡ w.wanted
+  pub vertices : now.vertices ≡ w.vertices
+  pub edges : now.edges ≡ w.edges
+  pub unsure : now.unsure ≡ w.unsure
 
 entry_rest : (b : Bool) (w : SnapView) (e : Entry) → HasOtherEntries w (if b then record w { before = w.before ++ e ∷ [] } else record w { behind = w.behind ++ e ∷ [] })
 entry_rest true w e = record { known = refl; sent = refl; acknowledged = refl; wanted = refl; vertices = refl; edges = refl; unsure = refl }
 entry_rest false w e = record { known = refl; sent = refl; acknowledged = refl; wanted = refl; vertices = refl; edges = refl; unsure = refl }
 
-entry_kept : (e : Entry) (mark : ℕ) (w now : SnapView) → IsSameButRoom (with_entry e mark w) now → HasOtherEntries w now
+pub entry_kept : (e : Entry) (mark : ℕ) (w now : SnapView) → IsSameButRoom (with_entry e mark w) now → HasOtherEntries w now
 entry_kept e mark w now same =
     let one = entry_rest (nat_lt mark w.known) w e in
     record {
@@ -143,12 +143,12 @@ entry_kept e mark w now same =
       unsure = ap (λ (x : SnapView). x.unsure) same ∙ one.unsure;
     }
 
-other_once : (w now : SnapView) → HasOtherEntries w now → IsSavedOnce w → IsSavedOnce now
+pub other_once : (w now : SnapView) → HasOtherEntries w now → IsSavedOnce w → IsSavedOnce now
 other_once w now same once =
     subst IsSavedOnce (λ i. record now { vertices = sym same.vertices i; edges = sym same.edges i })
     (record { vertices = once.vertices; edges = once.edges })
 
-other_snaps : (w now : SnapView) (part : Part) → HasOtherEntries w now → with_snaps now part ≡ with_snaps w part
+pub other_snaps : (w now : SnapView) (part : Part) → HasOtherEntries w now → with_snaps now part ≡ with_snaps w part
 other_snaps w now part same = λ i. with_snaps (record now { known = same.known i; sent = same.sent i; vertices = same.vertices i; edges = same.edges i }) part
 
 -- ---- plans, as a scope ends

@@ -26,6 +26,10 @@ impl<P: Program> SavingMachine for Saver<P> {
         self.update_one(scope, ticket)
     }
 
+    fn update_at_once(&mut self, ticket: u64) -> Result<Vertex, Refused> {
+        self.update_pick(ticket)
+    }
+
     fn mark(&mut self, scope: ScopeId) -> Result<(), Refused> {
         self.mark_one(scope)
     }

@@ -1,11 +1,12 @@
 //! Updates.
-ghost use Rattle.std.specs.Prelude.{◌≡◌, ◌<◌, IfNone, IfSome, OnOk, OnErr, IsErrOf};
+ghost use Rattle.std.specs.Prelude.{◌≡◌, ◌<◌, IfNone, IfOk, IfSome, OnOk, OnErr, IsErrOf};
+ghost use Rattle.snap_members.specs.AtOnce.{CanNotUpdateAtOnce, CanUpdateAtOnce, HasUpdatedAtOnce};
 ghost use Rattle.snap_members.specs.Promises.{Update, CanDo, CanNotDo, CanUpdate, CanUpdateNone, HasDone, StandsStill};
 ghost use Rattle.snap_savers.specs.Asking.{HasWanted};
 ghost use Rattle.snap_savers.specs.Savers.{IsSaverOf};
 
 use crate::savers::Saver;
-use gl_base::{Refused, ScopeId};
+use gl_base::{Refused, ScopeId, Vertex};
 use update_api::Program;
 use wire_msgs::Message;
 
@@ -29,6 +30,27 @@ impl<P: Program> Saver<P> {
             Ok(()) => {
                 self.ask();
                 Ok(())
+            }
+            Err(refused) => Err(refused),
+        }
+    }
+
+    /// Makes the update of the vertex that the tasks pick, where it is not pending, its scope has this machine alone, and nobody holds or
+    /// waits for a lock of it; and where half of the window is outside the last snapshot, the coordinator is asked for the next one.
+    pub(crate) fn update_pick(&mut self, ticket: u64) -> Result<Vertex, Refused>
+        ensures updated { IfOk result (λ v. HasUpdatedAtOnce (IsSaverOf P.meaning) self.old v.0 ticket self.new) }
+        ensures not_now { IsErrOf result Refused.NotNow → CanNotUpdateAtOnce (IsSaverOf P.meaning) self.old }
+        ensures no_memory { IsErrOf result Refused.NoMemory → CanUpdateAtOnce (IsSaverOf P.meaning) self.old }
+        ensures unchanged { OnErr result (StandsStill (IsSaverOf P.meaning) self.old self.new) }
+    {
+        let _core = self.machine.core();
+        if self.reports.reserve().is_err() {
+            return Err(self.machine.refusal_at_once());
+        }
+        match self.machine.update_at_once(ticket) {
+            Ok(vertex) => {
+                self.ask();
+                Ok(vertex)
             }
             Err(refused) => Err(refused),
         }

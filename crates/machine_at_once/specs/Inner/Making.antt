@@ -3,14 +3,14 @@ pub use Rattle.machine_numbers.specs.Steps.{HasUpdated, IsSideHere}
 pub use Rattle.machine_numbers.specs.Settings.{IsOutcomeOf, IsLocalOf}
 pub use Rattle.machine_numbers.specs.Views.{AreTasksOf, datum_here, edge_here}
 pub use Rattle.machine_parts.specs.Parts.{sides_at}
-use Rattle.std.specs.Prelude.{◌≡◌, ℕ, ◌+◌, ◌<◌, ◌≤◌, length, vec_len, vec_capacity}
+use Rattle.std.specs.Prelude.{◌≡◌, ℕ, ◌<◌, ◌≤◌, length, vec_len, vec_capacity}
 use Rattle.std.specs.List.{All}
 use Rattle.gl_base.specs.declared.entries.Entry.{Entry}
 use Rattle.gl_base.specs.declared.numbers.Vertex.{Vertex}
 use Rattle.local_graph.specs.declared.works.Outcome.{Outcome}
 use Rattle.update_api.specs.Updates.{Update}
 use Rattle.machine_numbers.specs.declared.keeping.Numbers.{Numbers}
-use Rattle.machine_at_once.specs.Picks.{LocalView, Setting, is_own, links_at}
+use Rattle.machine_at_once.specs.Picks.{HasRunAtOnce, LocalView, Setting, is_own, links_at}
 use Rattle.machine_at_once.specs.Inner.Finding.{WaitsAt}
 
 -- what the numbers of a machine in order say of v
@@ -40,7 +40,7 @@ pub record KeepsGraph (old new : LocalView) : Type 0 where
 pub record HasRunOne (old new : Numbers) : Type 0 where
   pub tasks : AreTasksOf new.local new.tasks
   pub many : length new.tasks.task ≡ length old.tasks.task
-  pub rest : new.tasks ≡ record old.tasks { task = new.tasks.task; planned = new.tasks.planned; plans = new.tasks.plans; outside = old.tasks.outside + 1 }
+  pub once : HasRunAtOnce old.tasks new.tasks
 
 -- the update of v is kept: it is what the program makes of the numbers as they stood
 pub record HasMadeHere (program : Update) (old new : Numbers) (v : Vertex) (entry : Entry) : Type 0 where

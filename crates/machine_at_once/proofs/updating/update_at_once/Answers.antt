@@ -1,5 +1,5 @@
 -- The update is the law's, and leaves the machine in order.
-use Rattle.machine_at_once.proofs.Machines.{back_orderly, back_part, back_places, back_settled, can_be_made, gone_orderly, gone_pipe, gone_places, gone_settled, gone_updated, rows_kept}
+use Rattle.machine_at_once.proofs.Machines.{back_marks, back_orderly, back_part, back_places, back_settled, can_be_made, gone_orderly, gone_pipe, gone_places, gone_settled, gone_updated, made_marks, rows_kept}
 use Rattle.machine_at_once.proofs.Scopes.{can_update}
 use Rattle.machine_at_once.proofs.updating.update_at_once.Goals as goal
 
@@ -58,3 +58,9 @@ returns-in-Err-clause-links g c = c.in-Err.ensures.same.graph.links
 
 pub returns-then-not-has_serial-clause-no_memory : goal.returns-then-not-has_serial-clause-no_memory
 returns-then-not-has_serial-clause-no_memory g c = λ refused. can_update c.args.core.now c.in-Some.found c.requires.orderly c.in-Some.ensures.found
+
+pub returns-in-Ok-clause-marks : goal.returns-in-Ok-clause-marks
+returns-in-Ok-clause-marks g c = made_marks (g.P.Program.meaning c.args.program.now) c.args.core.now.numbers c.make.new.numbers c.in-Some.found.vertex _ c.in-Ok.ensures.made
+
+pub returns-in-Err-clause-marks : goal.returns-in-Err-clause-marks
+returns-in-Err-clause-marks g c = back_marks c.args.core.now.numbers c.make.new.numbers c.in-Err.ensures.same
