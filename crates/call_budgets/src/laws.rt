@@ -1,0 +1,20 @@
+//! Laws of how much a call makes. Each is the contract of a function that does nothing.
+ghost use Rattle.std.specs.Prelude.{length, true, ℕ, ◌*◌, ◌+◌, ◌<◌, ◌≡◌, ◌≤◌};
+ghost use Rattle.attempts.specs.EngineCalls.{EngineCall, IsEngineCall, call_order, made_of};
+ghost use Rattle.call_budgets.specs.Enough.{BoundsSteps};
+ghost use Rattle.cluster_runs.specs.Attempts.{Shared};
+ghost use Rattle.seq_run.specs.Orders.{tasks_after};
+
+/// Where no valid order has more updates after its last restart than this bound, a call makes at most so many in each attempt, and it makes one attempt
+/// more than failures at most. Where its order leaves a task, it has made fewer.
+pub fn attempts_keep_to_the_bound()
+    ensures made { (shared : Shared) (call : EngineCall) (bound : ℕ) → IsEngineCall shared call → BoundsSteps shared.graph shared.program bound →
+        length (made_of call) ≤ (1 + length shared.failures) * bound }
+    ensures left { (shared : Shared) (call : EngineCall) (bound : ℕ) → IsEngineCall shared call → BoundsSteps shared.graph shared.program bound →
+        (v : ℕ) → tasks_after shared.graph shared.program (call_order call) v ≡ true → length (made_of call) < (1 + length shared.failures) * bound }
+{}
+
+/// The order of a call has no more entries than that of its base, the updates that it made, and a restart for each failure and one where it resumes.
+pub fn orders_grow_by_updates()
+    ensures { (shared : Shared) (call : EngineCall) → IsEngineCall shared call → length (call_order call) ≤ length call.base + 1 + length (made_of call) + length shared.failures }
+{}
