@@ -70,7 +70,7 @@ none_times n bound = let none : zero * bound ≡ 0 = zero-mul bound in omega (ar
 one_times : (own rest n bound last all : ℕ) → all ≡ own + rest → own ≤ bound → rest ≤ n * bound + last → all ≤ suc n * bound + last
 one_times own rest n bound last all is few less = let more : suc n * bound ≡ n * bound + bound = suc-mul n bound in omega (arith, more)
 
-filter_few : {X : Type 0} (test : X → Bool) (xs : List X) → length (filter test xs) ≤ length xs
+pub filter_few : {X : Type 0} (test : X → Bool) (xs : List X) → length (filter test xs) ≤ length xs
 filter_few test [] = omega arith
 filter_few {X} test (x ∷ xs) = either (test x) (filter_few test xs)
   where

@@ -3,4 +3,6 @@
 
 mod laws;
 
-pub use laws::{attempts_keep_to_the_bound, orders_grow_by_updates};
+pub use laws::{
+    attempts_keep_to_the_bound, orders_grow_by_updates, what_is_outside_is_of_the_order,
+};
