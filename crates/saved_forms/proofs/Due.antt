@@ -20,14 +20,16 @@ use Rattle.cluster_records.specs.Recorded.{IsOwnUpdate, snapshot_due}
 use Rattle.graph_core.specs.DataGraph.{size}
 use Rattle.graph_core.proofs.HalvesLaws.{each-append, each-back, each-both}
 use Rattle.seq_run.proofs.EachOf.{all_is, each_is}
-use Rattle.single_saves.proofs.InCalls.{edges_inside, edges_once, edges_there, front_below, updates_below, updates_owned, vertices_inside, vertices_owned, vertices_there}
+use Rattle.single_saves.proofs.InCalls.{edges_inside, edges_once, front_below, updates_below, updates_owned, vertices_inside}
 use Rattle.store_format.specs.declared.header.Header.{Header}
 use Rattle.store_format.specs.Bodies.{IsBody}
 use Rattle.store_format.specs.Encoding.{RecordFits, body_bytes}
 use Rattle.store_format.specs.ReadBack.{NumbersFit}
 use Rattle.store_format.specs.StoredOrders.{entry_rank}
 use Rattle.stored_records.specs.Keeping.{IsRecordBehind}
+use Rattle.whole_calls.proofs.Calling.{the_call}
 use Rattle.whole_calls.specs.Opened.{IsCourseOfCall}
+use Rattle.whole_calls.specs.Saved.{SaysOnce}
 use Rattle.saved_forms.proofs.AllSaved.{AreWhole, ArePartsOf, all_edges, all_in_order, all_saved, all_vertices}
 use Rattle.saved_forms.proofs.Formed.{is_body, record_fits}
 use Rattle.saved_forms.proofs.InTurn.{IsTaken}
@@ -63,22 +65,25 @@ module _ (st : Setting) (failures : List FailureAt) (kept : List Entry) (resumed
 
   -- ---- what was saved
 
+  says : SaysOnce st (snapshot_due c.coordinator)
+  says = ((the_call st failures kept resumed base first events c course).5.pending due).4
+
   vertices_whole : AreWhole (size st.graph) st.machines (λ a. (sections a).vertices)
   vertices_whole =
       record {
         inside = λ a v x low its. vertices_inside st failures kept resumed base first events c course due a v x low its;
         there = λ v within.
-            let its = vertices_there st failures kept resumed base first events c course due v within in
+            let its = says.some_vertex v within in
             (st.owner v, its.0, course.is.owner v within, its.1);
         alone = λ a b v x y low_a low_b within one other.
-            sym (vertices_owned st failures kept resumed base first events c course due a v x low_a one) ∙ vertices_owned st failures kept resumed base first events c course due b v y low_b other;
+            sym (says.vertices a v x low_a one) ∙ says.vertices b v y low_b other;
       }
 
   edges_whole : AreWhole (length st.graph.edges) st.machines (λ a. (sections a).edges)
   edges_whole =
       record {
         inside = λ a e x low its. edges_inside st failures kept resumed base first events c course due a e x low its;
-        there = λ e within. edges_there st failures kept resumed base first events c course due e within;
+        there = λ e within. says.some_edge e within;
         alone = λ a b e x y low_a low_b within one other. edges_once st failures kept resumed base first events c course due a b e x y low_a low_b within one other;
       }
 

@@ -8,14 +8,11 @@ use Rattle.gl_base.specs.declared.jobs.FailureAt.{FailureAt}
 use Rattle.graph_core.specs.DataGraph.{size}
 use Rattle.graph_core.proofs.HalvesLaws.{each-append, each-front, each-weaker}
 use Rattle.attempts.specs.EngineCalls.{EngineCall, first_ticket, made_of, ticket_above}
-use Rattle.cluster_core.specs.Cuts.{cut_of}
 use Rattle.cluster_core.specs.Messages.{Section}
 use Rattle.cluster_core.specs.Recovering.{going_on}
-use Rattle.cluster_core.specs.Replays.{replay_of, ticket_of}
+use Rattle.cluster_core.specs.Replays.{ticket_of}
 use Rattle.cluster_core.specs.Settings.{IsSetting, Setting}
 use Rattle.cluster_core.specs.Worlds.{World}
-use Rattle.cluster_cuts.specs.Goings.{HoldCut}
-use Rattle.cluster_cuts.proofs.CutsKept.{recorded}
 use Rattle.cluster_cuts.proofs.MarkEvents.{all_known, section_come}
 use Rattle.cluster_ending.proofs.Courses.{setting_same}
 use Rattle.cluster_model.specs.ByTicket.{StandByTicket}
@@ -54,7 +51,6 @@ begins_right st now base c =
     record {
       once = λ a b e x y low_a low_b within same one other. absurd (none_some x one);
       vertices = λ a v x its. absurd (none_some x its);
-      owners = λ a v x its. absurd (none_some x its);
       edges = λ a e x its. absurd (none_some x its);
     }
 
@@ -104,31 +100,8 @@ module _ (st : Setting) (is : IsSetting st) (c : Cluster) (whole : IsWhole st c)
     due_vertex : (a v x : ℕ) → a < st.machines → ((snapshot_due c.coordinator).sections a).section.vertices v ≡ Some x → v < size st.graph
     due_vertex a v x low its = right.vertices a v x (ap (λ (s : Section). s.vertices v) (sym (due_saved due a low)) ∙ its)
 
-    due_owner : (a v x : ℕ) → a < st.machines → ((snapshot_due c.coordinator).sections a).section.vertices v ≡ Some x → st.owner v ≡ a
-    due_owner a v x low its = right.owners a v x (ap (λ (s : Section). s.vertices v) (sym (due_saved due a low)) ∙ its)
-
     due_edge : (a e x : ℕ) → a < st.machines → ((snapshot_due c.coordinator).sections a).section.edges e ≡ Some x → e < length st.graph.edges
     due_edge a e x low its = right.edges a e x (edge_saved due a e x low its)
-
-  -- all of the graph has come
-  due_held : RecordIsDue st c.coordinator → HoldCut st w whole.consistent.count whole.consistent.order
-  due_held due = recorded st is w whole.consistent (may_record st c due)
-
-  vertex_there : RecordIsDue st c.coordinator → (v : ℕ) → v < size st.graph → (x : ℕ) × (((snapshot_due c.coordinator).sections (st.owner v)).section.vertices v ≡ Some x)
-  vertex_there due v within =
-      let its = (due_held due).vertices v within in (
-        (replay_of st (cut_of whole.consistent.count whole.consistent.order)).vertex v,
-        ap (λ (s : Section). s.vertices v) (come_section (c.coordinator.come (st.owner v)) its.0 its.1) ∙ its.2,
-      )
-
-  edge_there : RecordIsDue st c.coordinator → (e : ℕ) → e < length st.graph.edges → (a : ℕ) × (x : ℕ) × (a < st.machines) × (((snapshot_due c.coordinator).sections a).section.edges e ≡ Some x)
-  edge_there due e within =
-      let its = (due_held due).edges e within in (
-        its.0,
-        (replay_of st (cut_of whole.consistent.count whole.consistent.order)).edge e,
-        its.2,
-        ap (λ (s : Section). s.edges e) (come_section (c.coordinator.come its.0) its.1 its.3) ∙ its.4,
-      )
 
   -- the updates that the snapshot brings are among those that are logged
   logged_each : (P : Entry → Type 0) (test : Logged → Bool) (logged : List Logged) → AllByRecursion P (all_entries logged) → AllByRecursion P (passing test logged)
@@ -222,15 +195,6 @@ module _ (st : Setting) (failures : List FailureAt) (kept : List Entry) (resumed
 
   pub vertices_inside : RecordIsDue st c.coordinator → (a v x : ℕ) → a < st.machines → ((snapshot_due c.coordinator).sections a).section.vertices v ≡ Some x → v < size st.graph
   vertices_inside due = due_vertex last last_is c ended.0 saved_right (due_last due)
-
-  pub vertices_owned : RecordIsDue st c.coordinator → (a v x : ℕ) → a < st.machines → ((snapshot_due c.coordinator).sections a).section.vertices v ≡ Some x → st.owner v ≡ a
-  vertices_owned due = due_owner last last_is c ended.0 saved_right (due_last due)
-
-  pub vertices_there : RecordIsDue st c.coordinator → (v : ℕ) → v < size st.graph → (x : ℕ) × (((snapshot_due c.coordinator).sections (st.owner v)).section.vertices v ≡ Some x)
-  vertices_there due = vertex_there last last_is c ended.0 (due_last due)
-
-  pub edges_there : RecordIsDue st c.coordinator → (e : ℕ) → e < length st.graph.edges → (a : ℕ) × (x : ℕ) × (a < st.machines) × (((snapshot_due c.coordinator).sections a).section.edges e ≡ Some x)
-  edges_there due = edge_there last last_is c ended.0 (due_last due)
 
   pub edges_inside : RecordIsDue st c.coordinator → (a e x : ℕ) → a < st.machines → ((snapshot_due c.coordinator).sections a).section.edges e ≡ Some x → e < length st.graph.edges
   edges_inside due = due_edge last last_is c ended.0 saved_right (due_last due)

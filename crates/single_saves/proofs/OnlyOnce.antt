@@ -1,4 +1,4 @@
--- No two machines that know one snapshot save the same edge for it, and none saves more than the graph has, nor a vertex of another.
+-- No two machines that know one snapshot save the same edge for it, and none saves more than the graph has.
 use Rattle.std.proofs.Common.{◌≡◌, ◌≢◌, ◌⊎◌, ℕ, max, ◌<◌, ◌≤◌, ◌==◌, true, false, nat_lt, if◌then◌else◌, None, Option, Some, List, ◌∷◌, length, inl, inr, refl, sym, ◌∙◌, ap, subst, ⊎_elim, eq-eqb, eqb-true, le-ltb, lt-ltb, lt_of_le_of_lt, ne_of_lt, ne_eqb, arith}
 use Rattle.std.proofs.lemmas.List.{get_or_past}
 use Rattle.std.proofs.lemmas.Bool.{and_parts, cases_Bool, cases_eq, cases_lt, cond-false, cond-true, or_cases}
@@ -30,11 +30,10 @@ SavesOnce st w =
     (a b e x y : ℕ) → a < st.machines → b < st.machines → e < length st.graph.edges → (w.part a).known ≡ (w.part b).known →
     (w.part a).saved.edges e ≡ Some x → (w.part b).saved.edges e ≡ Some y → a ≡ b
 
--- What machines have saved: an edge one of those that know one snapshot, a vertex its owner alone, and vertices and edges of the graph alone.
+-- What machines have saved: an edge one of those that know one snapshot, and vertices and edges of the graph alone.
 pub record SavesRight (st : Setting) (w : World) : Type 0 where
   pub once : SavesOnce st w
   pub vertices : (a v x : ℕ) → (w.part a).saved.vertices v ≡ Some x → v < size st.graph
-  pub owners : (a v x : ℕ) → (w.part a).saved.vertices v ≡ Some x → st.owner v ≡ a
   pub edges : (a e x : ℕ) → (w.part a).saved.edges e ≡ Some x → e < length st.graph.edges
 
 -- what is saved is what was, for the same snapshot, or nothing
@@ -88,7 +87,6 @@ saves_still st old new no_more right =
           let others = edge_before (old.part b) (new.part b) (no_more b) e y other in
           right.once a b e x y low_a low_b within (sym its.1 ∙ same ∙ others.1) its.0 others.0;
       vertices = λ a v x its. right.vertices a v x (vertex_before (old.part a) (new.part a) (no_more a) v x its);
-      owners = λ a v x its. right.owners a v x (vertex_before (old.part a) (new.part a) (no_more a) v x its);
       edges = λ a e x its. right.edges a e x (edge_before (old.part a) (new.part a) (no_more a) e x its).0;
     }
 
@@ -201,14 +199,6 @@ module _ (st : Setting) (is : IsSetting st) (w : World) (kept : IsConsistent st 
       (λ other its. right.vertices s.home.0 u x its))
       (λ there its. right.vertices b u x its)
 
-  marked_owner : (b u x : ℕ) → (new.part b).saved.vertices u ≡ Some x → st.owner u ≡ b
-  marked_owner b u x =
-      set_at-cases (λ (p : Part). p.saved.vertices u ≡ Some x → st.owner u ≡ b) w.part s.home.0 made b
-      (λ here. set_at-cases (λ (o : Option ℕ). o ≡ Some x → st.owner u ≡ b) own.saved.vertices v (Some (own.datum v).value) u
-      (λ same its. ap st.owner same ∙ owned ∙ sym here)
-      (λ other its. right.owners s.home.0 u x its ∙ sym here))
-      (λ there its. right.owners b u x its)
-
   marked_edge : (b e x : ℕ) → (new.part b).saved.edges e ≡ Some x → e < length st.graph.edges
   marked_edge b e x =
       set_at-cases (λ (p : Part). p.saved.edges e ≡ Some x → e < length st.graph.edges) w.part s.home.0 made b
@@ -219,7 +209,7 @@ module _ (st : Setting) (is : IsSetting st) (w : World) (kept : IsConsistent st 
       (λ there its. right.edges b e x its)
 
   pub marked_right : SavesRight st new
-  marked_right = record { once = marked_once; vertices = marked_vertex; owners = marked_owner; edges = marked_edge }
+  marked_right = record { once = marked_once; vertices = marked_vertex; edges = marked_edge }
 
 -- ---- each action
 

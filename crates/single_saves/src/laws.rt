@@ -40,20 +40,6 @@ pub fn sections_keep_to_the_graph()
         AllByRecursion (IsOwnUpdate st) (entries_below st.machines (snapshot_due c.coordinator)) }
 {}
 
-/// Where a record is due in the course of a call, each vertex of the graph stands in the section of the machine that owns it, and in no other; and each
-/// edge stands in one.
-pub fn sections_have_the_whole_graph()
-    ensures owners { (st : Setting) (failures : List FailureAt) (kept : List Entry) (resumed : Bool) (base : BaseView) (first : Cluster) (events : List Event) (c : Cluster) →
-        IsCourseOfCall st failures kept resumed base first events c → RecordIsDue st c.coordinator →
-        (a v x : ℕ) → a < st.machines → ((snapshot_due c.coordinator).sections a).section.vertices v ≡ Some x → st.owner v ≡ a }
-    ensures vertices { (st : Setting) (failures : List FailureAt) (kept : List Entry) (resumed : Bool) (base : BaseView) (first : Cluster) (events : List Event) (c : Cluster) →
-        IsCourseOfCall st failures kept resumed base first events c → RecordIsDue st c.coordinator →
-        (v : ℕ) → v < size st.graph → (x : ℕ) × (((snapshot_due c.coordinator).sections (st.owner v)).section.vertices v ≡ Some x) }
-    ensures edges { (st : Setting) (failures : List FailureAt) (kept : List Entry) (resumed : Bool) (base : BaseView) (first : Cluster) (events : List Event) (c : Cluster) →
-        IsCourseOfCall st failures kept resumed base first events c → RecordIsDue st c.coordinator →
-        (e : ℕ) → e < length st.graph.edges → (a : ℕ) × (x : ℕ) × (a < st.machines) × (((snapshot_due c.coordinator).sections a).section.edges e ≡ Some x) }
-{}
-
 /// Through failures and recoveries, the next ticket and the tickets that are left are together the first ticket and the budget. So each update that a
 /// snapshot that is due brings has a lower ticket; and no entry of the order that the attempt began with, restarts among them, has a higher one.
 pub fn tickets_keep_to_the_budget()

@@ -85,7 +85,7 @@ grows (body ∷ bodies) order = more (length order) (length (body_entries body))
     more : (n k mid last : ℕ) → mid ≡ n + k → mid ≤ last → n ≤ last
     more n k mid last is low = omega arith
 
-parted : (start added : List (List ℕ)) (order : List Entry) → order_behind order (start ++ added) ≡ order_behind (order_behind order start) added
+pub parted : (start added : List (List ℕ)) (order : List Entry) → order_behind order (start ++ added) ≡ order_behind (order_behind order start) added
 parted [] added order = refl
 parted (body ∷ start) added order = parted start added (with_entries order (body_entries body))
 

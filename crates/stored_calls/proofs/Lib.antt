@@ -10,4 +10,5 @@ pub mod Owners
 pub mod Runs
 pub mod Playing
 pub mod Bounds
+pub mod Sizes
 pub mod Refusing

@@ -1,7 +1,14 @@
 -- A run with a store, from its beginning to its end.
-use Rattle.std.proofs.Common.{◌≡◌, ◌≤◌, ◌<◌, ◌^◌, ◌∙◌, ◌⊎◌, ℕ, Bool, Err, IfErr, IfOk, List, Ok, Result, ap, false, inl, inr, length, subst, sym, true≢false, arith}
+use Rattle.std.proofs.Common.{◌≡◌, ◌≤◌, ◌<◌, ◌^◌, ◌*◌, ◌+◌, ◌/◌, ◌++◌, ◌∙◌, ◌⊎◌, ℕ, subst₂, Bool, Err, IfErr, IfOk, List, Ok, Result, ap, false, inl, inr, length, subst, sym, true≢false, arith}
 use Rattle.gl_base.specs.declared.entries.Entry.{Entry}
 use Rattle.gl_base.specs.declared.jobs.FailureAt.{FailureAt}
+use Rattle.gl_base.specs.declared.numbers.Vertex.{Vertex}
+use Rattle.attempts.specs.EngineCalls.{made_of}
+use Rattle.call_budgets.proofs.Stretches.{made_fewer}
+use Rattle.call_courses.proofs.Calling.{makes_call}
+use Rattle.cluster_model.specs.Working.{half_window}
+use Rattle.recovery.specs.Journals.{records_size}
+use Rattle.stored_calls.proofs.Sizes.{never_needs}
 use Rattle.graph_core.specs.DataGraph.{DataGraph, IsDataGraph, size}
 use Rattle.placed_savers.specs.Beginning.{placed_owner}
 use Rattle.placed_savers.specs.declared.savers.Places.{Places}
@@ -13,8 +20,8 @@ use Rattle.stored_answers.specs.declared.runs.StoredEnd.TheVariants as end
 use Rattle.stored_answers.specs.declared.runs.StoredPlan.{StoredPlan}
 use Rattle.stored_answers.specs.declared.runs.StoredRun.{StoredRun}
 use Rattle.stored_calls.proofs.Owners.{HasOwner, end_at, kept_good, run_named, with_owner}
-use Rattle.stored_calls.specs.Calls.{CallOpening, DiskPast, EndsBy, EndsCall, Header, IsCallAt, IsCallEnded, IsNotRefused, IsRunAt, IsWhyStopped, JournalState, KeepsCall, KeepsToBounds, Setting, orders_behind, shared_of, snapshots_in, stored_order}
-use Rattle.stored_calls.specs.Runs.{ArePlacedFor, HasCallBegun, IsEndAt, IsGoodStore, IsPlacement, IsRunSo, IsStoredRun, IsWhyNoRun, IsWhyNotBegun, KeepsByOwner, KeepsGood, Shared, owned_shared}
+use Rattle.stored_calls.specs.Calls.{CallOpening, DiskPast, EndsBy, EndsCall, Header, IsCallAt, IsCallEnded, IsNotRefused, IsRunAt, IsSaverOf, IsWhyStopped, JournalState, KeepsCall, KeepsToBounds, Setting, orders_behind, shared_of, snapshots_in, stored_order}
+use Rattle.stored_calls.specs.Runs.{ArePlacedFor, BoundsSteps, HasCallBegun, HasRoomFor, half_of, IsEndAt, IsGoodStore, IsPlacement, IsRunSo, IsStoredRun, IsWhyNoRun, IsWhyNotBegun, KeepsByOwner, KeepsGood, Shared, owned_shared}
 use Rattle.stored_calls.specs.declared.calls.StoredCall.{StoredCall}
 use Rattle.update_api.specs.Updates.{Update}
 
@@ -61,6 +68,58 @@ module _ {D P : Type 0} (meaning : P → Update) (past : D → DiskPast) (g : Da
             (gathered program after.header bodies e.at.added (has owner placement).st start.opening there (end_at meaning past later after bodies (past journal.disk) (has owner placement).st start.opening how e)),
         kept_good meaning past later after bodies (past journal.disk) (has owner placement).st start.opening (owned_shared g program owner failures) journal.header (shared_later owner placement) header e.at,
       )
+
+  -- ---- how it doesn't end
+
+  module _ (stays : later.places ≡ call.places) (owner : ℕ → ℕ) (placement : IsPlacement g plan.run.atoms plan.run.machines owner) (good : IsGoodStore (owned_shared g program owner failures) journal.header bodies) where
+    abbrev st : Setting
+    st = (has owner placement).st
+
+    abbrev o : CallOpening
+    o = (starts owner placement good).opening
+
+    ended : (how : StoredEnd) → EndsCall meaning past g program call mid later after how → IsCallEnded meaning past later after bodies (past journal.disk) st o how
+    ended how ends = ends bodies (past journal.disk) st o (has owner placement).runs (starts owner placement good).at
+
+    spends_less : (bound : ℕ) → BoundsSteps g program bound → (1 + length failures) * bound ≤ plan.run.budget → (left : Vertex) → IsCallEnded meaning past later after bodies (past journal.disk) st o (end.Spent left) → ⊥
+    spends_less bound steps enough left e =
+        let makes = makes_call (IsSaverOf meaning) e.paused st o e.known.was.events e.known.was.cluster e.known.was.now in
+        let spent = e.gives.0.1 st o e.known.was.events e.known.was.cluster e.known.was.now makes.0 makes.1 in
+        let many : length e.paused.failures ≡ length failures = ap (length {A = FailureAt}) (e.failures ∙ same) in
+        let there : BoundsSteps st.graph st.program bound = subst₂ (λ (k : DataGraph) (p : Update). BoundsSteps k p bound) (sym (has owner placement).runs.placed.graph) (sym (has owner placement).runs.program_is) steps in
+        less (length (made_of makes.0)) o.first.left plan.run.budget ((1 + length failures) * bound) ((1 + length e.paused.failures) * bound) spent.0 (starts owner placement good).tickets enough (ap (λ (n : ℕ). (1 + n) * bound) many)
+        (made_fewer (shared_of st e.paused.failures) bound there makes.0 makes.1.is.is spent.1.0 spent.1.2)
+      where
+        less : (made left budget bounded other : ℕ) → made ≡ left → left ≡ budget → bounded ≤ budget → other ≡ bounded → made < other → ⊥
+        less made left budget bounded other is left_is enough same few = omega arith
+
+    pub never_spent : (how : StoredEnd) → EndsCall meaning past g program call mid later after how → (bound : ℕ) → BoundsSteps g program bound → (1 + length failures) * bound ≤ plan.run.budget → (left : Vertex) → how ≡ end.Spent left → ⊥
+    never_spent how ends bound steps enough left is =
+        spends_less bound steps enough left (subst (IsCallEnded meaning past later after bodies (past journal.disk) st o) is (ended how ends))
+
+    needs_no_more : HasRoomFor g plan (length failures) journal.count journal.length → journal.count ≡ length bodies → journal.length ≡ 65 + records_size bodies → later.course.now.stopped ≡ false → after.failed ≡ false → (stored long : ℕ) →
+        IsCallEnded meaning past later after bodies (past journal.disk) st o (end.Full stored long) → ⊥
+    needs_no_more room counts lasts running well stored long e =
+        let makes = makes_call (IsSaverOf meaning) e.paused st o e.known.was.events e.known.was.cluster e.known.was.now in
+        let half : half_of plan.window ≡ half_window st = ap half_of (sym ((has owner placement).runs.window ∙ placed.window)) in
+        let budget : plan.run.budget ≡ o.first.left = sym (starts owner placement good).tickets in
+        let many : length failures ≡ length e.paused.failures = sym (ap (length {A = FailureAt}) (e.failures ∙ same)) in
+        let machines : plan.run.machines ≡ st.machines = sym ((has owner placement).runs.placed.machines ∙ placed.are.many) in
+        let graph_is : g ≡ st.graph = sym (has owner placement).runs.placed.graph in
+        never_needs (IsSaverOf meaning) e.paused after.header bodies (bodies ++ e.at.added) later.lost.items later.restarts.stored.items later.restarts.front.items later.order.items st o e.known (past after.disk).now.seen (e.at.stored well) makes.0 makes.1
+        (subst (λ (h : ℕ). 0 < h) half room.half)
+        (subst (λ (n : ℕ). n + (o.first.left / half_window st + 1) < 4096) counts
+        (subst₂ (λ (b h : ℕ). journal.count + (b / h + 1) < 4096) budget half room.few))
+        (subst (λ (n : ℕ). n + 16 * (o.first.left + length e.paused.failures + 1) + (o.first.left / half_window st + 2) * (17 + 8 * st.machines + 12 * size st.graph + 12 * length st.graph.edges) ≤ 2 ^ 30) lasts
+        (subst₂ (λ (b h : ℕ). journal.length + 16 * (b + length e.paused.failures + 1) + (b / h + 2) * (17 + 8 * st.machines + 12 * size st.graph + 12 * length st.graph.edges) ≤ 2 ^ 30) budget half
+        (subst₂ (λ (f m : ℕ). journal.length + 16 * (plan.run.budget + f + 1) + (plan.run.budget / half_of plan.window + 2) * (17 + 8 * m + 12 * size st.graph + 12 * length st.graph.edges) ≤ 2 ^ 30) many machines
+        (subst (λ (k : DataGraph). journal.length + 16 * (plan.run.budget + length failures + 1) + (plan.run.budget / half_of plan.window + 2) * (17 + 8 * plan.run.machines + 12 * size k + 12 * length k.edges) ≤ 2 ^ 30) graph_is room.short))))
+        (e.gives.3 e.known.was.events e.known.was.cluster e.known.was.now makes.0 makes.1 (e.now.code.stopped ∙ running))
+
+    pub never_full_of : (how : StoredEnd) → EndsCall meaning past g program call mid later after how → HasRoomFor g plan (length failures) journal.count journal.length → journal.count ≡ length bodies → journal.length ≡ 65 + records_size bodies → later.course.now.stopped ≡ false →
+        (before now : ℕ) → EndsBy after before now how → (stored long : ℕ) → how ≡ end.Full stored long → ⊥
+    never_full_of how ends room counts lasts running before now by stored long is =
+        needs_no_more room counts lasts running (subst (EndsBy after before now) is by).0 stored long (subst (IsCallEnded meaning past later after bodies (past journal.disk) st o) is (ended how ends))
 
   -- ---- why it is not refused
 

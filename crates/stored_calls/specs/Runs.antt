@@ -4,13 +4,16 @@ pub use Rattle.call_starts.specs.Starting.{ArePlacedFor, run_shared}
 pub use Rattle.cluster_plays.specs.Plans.{IsInRange}
 pub use Rattle.job_runs.specs.Plays.{IsPlacement}
 pub use Rattle.order_text.specs.Orders.{IsEntryOf}
+pub use Rattle.call_budgets.specs.Enough.{BoundsSteps}
+pub use Rattle.stored_answers.specs.Ends.{half_of}
+pub use Rattle.stored_answers.specs.declared.runs.StoredPlan.{StoredPlan}
 pub use Rattle.stored_answers.specs.Images.{HoldsGood, IsGoodStore, KeepsGood, stored_order}
 pub use Rattle.stored_answers.specs.Runs.{IsStoredRun, Shared}
 pub use Rattle.whole_calls.specs.Following.{AreJobFailures}
-use Rattle.std.specs.Prelude.{Bool, List, length, suc, true, ⊤, ℕ, ◌++◌, ◌≡◌, ◌⊎◌}
+use Rattle.std.specs.Prelude.{Bool, List, length, suc, true, ⊤, ℕ, ◌*◌, ◌++◌, ◌+◌, ◌/◌, ◌<◌, ◌^◌, ◌≡◌, ◌≤◌, ◌⊎◌}
 use Rattle.gl_base.specs.declared.entries.Entry.{Entry}
 use Rattle.gl_base.specs.declared.jobs.FailureAt.{FailureAt}
-use Rattle.graph_core.specs.DataGraph.{DataGraph}
+use Rattle.graph_core.specs.DataGraph.{DataGraph, size}
 use Rattle.snap_journal.specs.Disks.{DiskPast, Rose}
 use Rattle.snap_journal.specs.declared.faults.JournalFault.{JournalFault}
 use Rattle.snap_journal.specs.declared.faults.JournalFault.TheVariants as fault
@@ -73,3 +76,10 @@ IsWhyNotBegun failed before now fault.NoMemory = ⊤
 abbrev pub refused_by : JournalFault → ℕ → JournalFault
 refused_by (fault.Full stored bytes) length = fault.BadStore (BadByte length)
 refused_by why length = why
+
+-- The store, which has so many snapshots and bytes, has room for a run with this plan and so many failures: for a snapshot for each half of the window
+-- that goes into the budget, and for two more, with all updates and restarts that they may bring.
+pub record HasRoomFor (g : DataGraph) (plan : StoredPlan) (failures stored bytes : ℕ) : Type 0 where
+  pub half : 0 < half_of plan.window
+  pub few : stored + (plan.run.budget / half_of plan.window + 1) < 4096
+  pub short : bytes + 16 * (plan.run.budget + failures + 1) + (plan.run.budget / half_of plan.window + 2) * (17 + 8 * plan.run.machines + 12 * size g + 12 * length g.edges) ≤ 2 ^ 30

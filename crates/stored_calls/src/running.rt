@@ -1,12 +1,14 @@
 //! A run with a store.
-ghost use Rattle.std.specs.Prelude.{All, List, [], false, length, ◌≡◌, ◌≤◌, ◌<◌, ◌^◌, ◌⊎◌, ℕ, IfErr, IfOk, IsErrOf, IsTrue};
+ghost use Rattle.std.specs.Prelude.{All, List, [], false, length, ◌≡◌, ◌≤◌, ◌<◌, ◌^◌, ◌*◌, ◌+◌, ◌⊎◌, ℕ, IfErr, IfOk, IsErrOf, IsTrue};
 ghost use Rattle.gl_base.specs.declared.entries.Entry.{Entry};
+ghost use Rattle.gl_base.specs.declared.numbers.Vertex.{Vertex};
 ghost use Rattle.graph_core.specs.DataGraph.{size};
 ghost use Rattle.snap_journal.specs.declared.faults.JournalFault.TheVariants as fault;
 ghost use Rattle.store_format.specs.declared.faults.StoreFault.{StoreFault};
 ghost use Rattle.store_format.specs.declared.faults.StoreFault.TheVariants.{BadByte};
 ghost use Rattle.stored_calls.specs.Calls.{ArePlacesOf, CallOpening, CanCallGoOn, EndsBy, Header, IsHeaderOf, IsRunAt, Setting, shared_of, snapshots_in};
-ghost use Rattle.stored_calls.specs.Runs.{AreJobFailures, ArePlacedFor, HasCallBegun, IsEndAt, IsEntryOf, IsGoodStore, IsInRange, IsRunSo, IsPlacement, IsStoredRun, IsWhyNoRun, IsWhyNotBegun, KeepsByOwner, KeepsGood, owned_shared, refused_by, run_shared, stored_order};
+ghost use Rattle.stored_answers.specs.declared.runs.StoredEnd.TheVariants as ending;
+ghost use Rattle.stored_calls.specs.Runs.{AreJobFailures, ArePlacedFor, BoundsSteps, HasCallBegun, HasRoomFor, IsEndAt, IsEntryOf, IsGoodStore, IsInRange, IsRunSo, IsPlacement, IsStoredRun, IsWhyNoRun, IsWhyNotBegun, KeepsByOwner, KeepsGood, owned_shared, refused_by, run_shared, stored_order};
 ghost use Rattle.update_api.specs.Updates.{Update};
 
 use crate::calls::StoredCall;
@@ -62,6 +64,14 @@ pub fn run_stored<R: Wait, D: Disk, P: Program>(
         IsGoodStore (owned_shared graph.now (P.meaning program) owner failures.now) journal.old.header (snapshots_in D.past journal.old) → journal.old.length ≤ 2 ^ 30 →
         (why : StoreFault) → IsErrOf result (fault.BadStore why) → ⊥ }
 
+    // And its budget is not spent, where each attempt has as many tickets as it may need; and the store is not full, where it has room for the run.
+    ensures enough { IsTrue D.told → IfOk result (λ run. (owner : ℕ → ℕ) → IsPlacement graph.now plan.run.atoms plan.run.machines owner →
+        IsGoodStore (owned_shared graph.now (P.meaning program) owner failures.now) journal.old.header (snapshots_in D.past journal.old) →
+        (bound : ℕ) → BoundsSteps graph.now (P.meaning program) bound → (1 + length failures.now) * bound ≤ plan.run.budget → (left : Vertex) → run.end ≡ ending.Spent left → ⊥) }
+    ensures roomy { IsTrue D.told → IfOk result (λ run. (owner : ℕ → ℕ) → IsPlacement graph.now plan.run.atoms plan.run.machines owner →
+        IsGoodStore (owned_shared graph.now (P.meaning program) owner failures.now) journal.old.header (snapshots_in D.past journal.old) →
+        HasRoomFor graph.now plan (length failures.now) journal.old.count journal.old.length → (stored long : ℕ) → run.end ≡ ending.Full stored long → ⊥) }
+
     ensures by { IfOk result (λ run. EndsBy journal.new (D.faults journal.old.disk) (D.faults journal.new.disk) run.end) }
     ensures numbers { IfOk result (λ run. length run.numbers.items ≡ size graph.now) }
     ensures entries { IfOk result (λ run. All (IsEntryOf graph.now) run.order.items) }
@@ -72,7 +82,9 @@ pub fn run_stored<R: Wait, D: Disk, P: Program>(
     ensures later { D.faults journal.old.disk ≤ D.faults journal.new.disk }
 {
     placements_are_one();
+    // The reader tells how many snapshots and bytes the store has.
     let _stored = journal.count();
+    let _length = journal.length();
     let mut call = begin(alloc, graph, program, plan, failures, journal, resumed)?;
     let end = play_to_end(rt, alloc, graph, program, &mut call, journal)?;
     let long = journal.length();

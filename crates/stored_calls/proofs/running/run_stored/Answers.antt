@@ -4,7 +4,7 @@ use Rattle.std.proofs.lemmas.Result.{err_from_is_err_and}
 use Rattle.graph_core.specs.DataGraph.{IsDataGraph}
 use Rattle.snap_journal.specs.declared.faults.JournalFault.TheVariants.{BadStore}
 use Rattle.stored_calls.proofs.Refusing.{fault_in}
-use Rattle.stored_calls.proofs.Runs.{by_earlier, err_so, err_then, keeps_owner, never_other, never_stopped, not_gathered, ok_then, runs_owner, stopped}
+use Rattle.stored_calls.proofs.Runs.{by_earlier, err_so, err_then, keeps_owner, never_full_of, never_other, never_spent, never_stopped, not_gathered, ok_then, runs_owner, stopped}
 use Rattle.stored_calls.specs.Calls.{EndsBy, snapshots_in}
 use Rattle.stored_calls.proofs.running.run_stored.Goals as goal
 
@@ -87,3 +87,30 @@ returns-clause-good g c = λ told owner placement good short bad is.
     (c.in_ok-end.ensures.call.failures ∙ c.in_ok-call.ensures.failures) (c.in_ok-end.ensures.header ∙ c.in_ok-call.ensures.header)
     c.requires.plan.budget c.requires.few c.requires.places c.in_ok-call.ensures.failures c.in_ok-call.ensures.long short owner placement good
     c.in_ok-end.end (c.in_ok-end.ensures.ends told) c.in_ok-end.ensures.call.places (BadStore bad) _ other bad refl)
+
+pub returns-clause-enough : goal.returns-clause-enough
+returns-clause-enough g c = λ told.
+    let graph = c.args.graph.now in
+    let there = c.in_ok-call.ensures.setting in
+    let sound : IsDataGraph graph = subst IsDataGraph there.1.placed.graph there.1.setting.is.graph in
+    ok_then c.gathered.result _ _
+    (λ run is owner placement good bound steps enough left spent. never_spent g.P.Program.meaning g.D.Disk.past graph (g.P.Program.meaning c.args.program) c.args.plan c.args.failures.now c.args.journal.now c.begin.new.journal c.play_to_end.new.journal c.in_ok-call.call c.play_to_end.new.call c.args.resumed
+    sound c.in_ok-call.ensures.places (λ owner other. c.placements_are_one.ensures graph c.args.plan.run.atoms c.args.plan.run.machines owner other sound c.requires.plan.machines) (c.in_ok-call.ensures.begun told)
+    (c.in_ok-end.ensures.call.failures ∙ c.in_ok-call.ensures.failures) (c.in_ok-end.ensures.header ∙ c.in_ok-call.ensures.header)
+    c.in_ok-end.ensures.call.places owner placement good c.in_ok-end.end (c.in_ok-end.ensures.ends told)
+    bound steps enough left (sym is ∙ spent))
+    c.gathered.ensures.end
+
+pub returns-clause-roomy : goal.returns-clause-roomy
+returns-clause-roomy g c = λ told.
+    let graph = c.args.graph.now in
+    let there = c.in_ok-call.ensures.setting in
+    let sound : IsDataGraph graph = subst IsDataGraph there.1.placed.graph there.1.setting.is.graph in
+    ok_then c.gathered.result _ _
+    (λ run is owner placement good room stored long full. never_full_of g.P.Program.meaning g.D.Disk.past graph (g.P.Program.meaning c.args.program) c.args.plan c.args.failures.now c.args.journal.now c.begin.new.journal c.play_to_end.new.journal c.in_ok-call.call c.play_to_end.new.call c.args.resumed
+    sound c.in_ok-call.ensures.places (λ owner other. c.placements_are_one.ensures graph c.args.plan.run.atoms c.args.plan.run.machines owner other sound c.requires.plan.machines) (c.in_ok-call.ensures.begun told)
+    (c.in_ok-end.ensures.call.failures ∙ c.in_ok-call.ensures.failures) (c.in_ok-end.ensures.header ∙ c.in_ok-call.ensures.header)
+    c.in_ok-end.ensures.call.places owner placement good c.in_ok-end.end (c.in_ok-end.ensures.ends told)
+    room (sym c.count-stored.ensures.count ∙ c.count-stored.ensures.stored told c.requires.well) (sym c.length-length.ensures.length ∙ c.length-length.ensures.stored told c.requires.well)
+    (c.in_ok-end.ensures.call.stopped ∙ c.in_ok-call.ensures.can.running) _ _ c.in_ok-end.ensures.by stored long (sym is ∙ full))
+    c.gathered.ensures.end
