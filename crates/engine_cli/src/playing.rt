@@ -10,7 +10,8 @@ ghost use Rattle.engine_cli.specs.Inner.Prepares.{IsPrintable, IsRunAlone};
 ghost use Rattle.engine_cli.specs.Plays.{CountsByMachine, RunsTo, source_id, update_of};
 
 use cluster_plays::run_program;
-use gl_base::{Algorithm, Job, NoMemory};
+use color_plays::run_by_colours;
+use gl_base::{Algorithm, EngineKind, Job, NoMemory};
 use graph_core::Graph;
 use job_runs::{Run, RunPlan};
 use prog_colours::Colours;
@@ -78,7 +79,7 @@ fn run_on<R: Wait>(rt: &R, alloc: Global, graph: &Graph, job: &Job) -> Result<Ru
     }
 }
 
-/// Runs a program by the numbers of the job.
+/// Runs a program by the numbers of the job, with locks or in steps of one colour as its engine is.
 fn run_by<R: Wait, P: Program>(
     rt: &R,
     alloc: Global,
@@ -90,7 +91,10 @@ fn run_by<R: Wait, P: Program>(
     ensures run { IfOk result (λ run. RunsTo graph.now (P.meaning program) job.now.atoms job.now.machines job.now.budget run.order.items run.numbers.items run.left) }
     ensures done { IfOk result (λ run. CountsByMachine job.now.machines run.order.items run.done.items) }
 {
-    run_program(rt, alloc, graph, program, plan_of(job))
+    match job.engine {
+        EngineKind::Locking => run_program(rt, alloc, graph, program, plan_of(job)),
+        EngineKind::Chromatic => run_by_colours(rt, alloc, graph, program, plan_of(job)),
+    }
 }
 
 /// How the job's graph is placed and its program run on it.

@@ -1,5 +1,5 @@
 -- Which bytes are a job that a verb can do.
-use Rattle.std.specs.Prelude.{ℕ, Bool, true, false, not, List, Option, None, Some, is_some, Result, Ok, Err, if◌then◌else◌}
+use Rattle.std.specs.Prelude.{◌||◌, ℕ, Bool, true, false, nat_lt, List, length, Option, None, Some, is_some, Result, Ok, Err, if◌then◌else◌}
 use Rattle.gl_base.specs.Results.{and_then}
 use Rattle.gl_base.specs.declared.job_faults.JobFault.{JobFault}
 use Rattle.gl_base.specs.declared.job_faults.JobFault.TheVariants.{Missing, NotBuilt}
@@ -15,9 +15,10 @@ abbrev pub is_locking : EngineKind → Bool
 is_locking Locking = true
 is_locking Chromatic = false
 
--- the key whose value asks for what is not built yet: the engine by locks alone is built
+-- the key whose value asks for what is not built yet: by colours no run with a store or with failures is
 abbrev pub not_built : JobSayings → Option Key
-not_built job = if not (is_locking job.fields.engine) then Some key.Engine else None
+not_built job = if is_locking job.fields.engine then None
+    else (if is_some job.fields.store || nat_lt 0 (length job.failures) then Some key.Engine else None)
 
 -- the job, where such a key is not there
 abbrev pub if_built : JobSayings → Option Key → Result JobSayings JobFault

@@ -102,6 +102,12 @@ fn not_built(job: &Job) -> Option<Key>
 {
     match job.engine {
         EngineKind::Locking => None,
-        EngineKind::Chromatic => Some(Key::Engine),
+        EngineKind::Chromatic => {
+            if job.store.is_some() || !job.failures.is_empty() {
+                Some(Key::Engine)
+            } else {
+                None
+            }
+        }
     }
 }
