@@ -178,14 +178,37 @@ fn play_turn<R: Wait>(
     }
     let Left { files, .. } = left;
     let step = Step::new(alloc, Vec::new(alloc), Vec::new(alloc));
-    let after = Scene {
-        step: &step,
-        names: scene.names,
-        disks: scene.disks,
-        files: &files,
+    play_behind(
+        rt,
+        alloc,
+        &step,
+        scene.names,
+        scene.disks,
+        &files,
+        turns,
+        differences,
+    )
+}
+
+/// Makes the call behind a call that failed, over the files that this left.
+fn play_behind<'a, R: Wait>(
+    rt: &R,
+    alloc: Global,
+    step: &'a Step<'a>,
+    names: &'a [&'a str],
+    disks: &'a [&'a str],
+    files: &'a MemFiles,
+    turns: &Turns<'_>,
+    differences: &mut Vec<String>,
+) -> Result<(), AllocError> {
+    let scene = Scene {
+        step,
+        names,
+        disks,
+        files,
     };
-    let last = make_call(rt, alloc, &after, &turns.then, None)?;
-    compare(alloc, &after, &last, &turns.wants, differences)
+    let left = make_call(rt, alloc, &scene, &turns.then, None)?;
+    compare(alloc, &scene, &left, &turns.wants, differences)
 }
 
 /// Makes a call, where one more call may fail.
