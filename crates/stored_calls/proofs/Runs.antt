@@ -22,7 +22,7 @@ use Rattle.stored_answers.specs.declared.runs.StoredPlan.{StoredPlan}
 use Rattle.stored_answers.specs.declared.runs.StoredRun.{StoredRun}
 use Rattle.stored_calls.proofs.Owners.{HasOwner, end_at, kept_good, run_named, with_owner}
 use Rattle.stored_calls.specs.Calls.{CallOpening, DiskPast, EndsBy, EndsCall, Header, IsCallAt, IsCallEnded, IsNotRefused, IsRunAt, IsSaverOf, IsWhyStopped, JournalState, KeepsCall, KeepsToBounds, Setting, orders_behind, shared_of, snapshots_in, stored_order}
-use Rattle.stored_calls.specs.Runs.{ArePlacedFor, BoundsSteps, HasCallBegun, HasRoomFor, half_of, IsEndAt, IsFinishedOrNoMemory, IsGoodStore, IsPlacement, IsRunSo, IsStoredRun, IsWhyNoRun, IsWhyNotBegun, KeepsByOwner, KeepsGood, Shared, owned_shared}
+use Rattle.stored_calls.specs.Runs.{ArePlacedFor, BoundsSteps, HasCallBegun, HasRoomForRun, half_of, IsEndAt, IsFinishedOrNoMemory, IsGoodStore, IsPlacement, IsRunSo, IsStoredRun, IsWhyNoRun, IsWhyNotBegun, KeepsByOwner, KeepsGood, Shared, owned_shared}
 use Rattle.stored_calls.specs.declared.calls.StoredCall.{StoredCall}
 use Rattle.update_api.specs.Updates.{Update}
 
@@ -98,7 +98,7 @@ module _ {D P : Type 0} (meaning : P → Update) (past : D → DiskPast) (g : Da
     never_spent how ends bound steps enough left is =
         spends_less bound steps enough left (subst (IsCallEnded meaning past later after bodies (past journal.disk) st o) is (ended how ends))
 
-    needs_no_more : HasRoomFor g plan (length failures) journal.count journal.length → journal.count ≡ length bodies → journal.length ≡ 65 + records_size bodies → later.course.now.stopped ≡ false → after.failed ≡ false → (stored long : ℕ) →
+    needs_no_more : HasRoomForRun g plan (length failures) journal.count journal.length → journal.count ≡ length bodies → journal.length ≡ 65 + records_size bodies → later.course.now.stopped ≡ false → after.failed ≡ false → (stored long : ℕ) →
         IsCallEnded meaning past later after bodies (past journal.disk) st o (end.Full stored long) → ⊥
     needs_no_more room counts lasts running well stored long e =
         let makes = makes_call (IsSaverOf meaning) e.paused st o e.known.was.events e.known.was.cluster e.known.was.now in
@@ -117,7 +117,7 @@ module _ {D P : Type 0} (meaning : P → Update) (past : D → DiskPast) (g : Da
         (subst (λ (k : DataGraph). journal.length + 16 * (plan.run.budget + length failures + 1) + (plan.run.budget / half_of plan.window + 2) * (17 + 8 * plan.run.machines + 12 * size k + 12 * length k.edges) ≤ 2 ^ 30) graph_is room.short))))
         (e.gives.3 e.known.was.events e.known.was.cluster e.known.was.now makes.0 makes.1 (e.now.code.stopped ∙ running))
 
-    pub never_full_of : (how : StoredEnd) → EndsCall meaning past g program call mid later after how → HasRoomFor g plan (length failures) journal.count journal.length → journal.count ≡ length bodies → journal.length ≡ 65 + records_size bodies → later.course.now.stopped ≡ false →
+    pub never_full_of : (how : StoredEnd) → EndsCall meaning past g program call mid later after how → HasRoomForRun g plan (length failures) journal.count journal.length → journal.count ≡ length bodies → journal.length ≡ 65 + records_size bodies → later.course.now.stopped ≡ false →
         (before now : ℕ) → EndsBy after before now how → (stored long : ℕ) → how ≡ end.Full stored long → ⊥
     never_full_of how ends room counts lasts running before now by stored long is =
         needs_no_more room counts lasts running (subst (EndsBy after before now) is by).0 stored long (subst (IsCallEnded meaning past later after bodies (past journal.disk) st o) is (ended how ends))

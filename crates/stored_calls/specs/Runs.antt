@@ -80,7 +80,7 @@ refused_by why length = why
 
 -- The store, which has so many snapshots and bytes, has room for a run with this plan and so many failures: for a snapshot for each half of the window
 -- that goes into the budget, and for two more, with all updates and restarts that they may bring.
-pub record HasRoomFor (g : DataGraph) (plan : StoredPlan) (failures stored bytes : ℕ) : Type 0 where
+pub record HasRoomForRun (g : DataGraph) (plan : StoredPlan) (failures stored bytes : ℕ) : Type 0 where
   pub half : 0 < half_of plan.window
   pub few : stored + (plan.run.budget / half_of plan.window + 1) < 4096
   pub short : bytes + 16 * (plan.run.budget + failures + 1) + (plan.run.budget / half_of plan.window + 2) * (17 + 8 * plan.run.machines + 12 * size g + 12 * length g.edges) ≤ 2 ^ 30
