@@ -68,6 +68,7 @@ stays_short r count old new size is grown full =
   where
     no_fault : (e : JournalFault) → ◌≡◌ {A = Result (Unit {0}) JournalFault} (Ok tt) (Err e) → ⊥
     no_fault e same = cc
+
     refused : (r ≡ Err (fault.Full count old)) ⊎ (r ≡ Err fault.NoMemory) → ⊥
     refused (inl one) = no_fault (fault.Full count old) (sym is ∙ one)
     refused (inr other) = no_fault fault.NoMemory (sym is ∙ other)

@@ -1,11 +1,11 @@
 -- The last snapshot of a call, what is outside it, and the restarts that it lacks are no more than the call's order.
-use Rattle.std.proofs.Common.{◌≡◌, ◌∙◌, ℕ, suc, ◌+◌, ◌≤◌, ◌==◌, Bool, true, false, List, [], ◌∷◌, ◌++◌, ap, arith, filter, if◌then◌else◌, length, length-append, pred, refl, subst, sym}
+use Rattle.std.proofs.Common.{◌≡◌, ◌∙◌, ℕ, suc, ◌+◌, ◌≤◌, ◌==◌, Bool, true, false, List, [], ◌∷◌, ◌++◌, ap, arith, filter, if◌then◌else◌, length, length-append, pred, subst, sym}
 use Rattle.std.proofs.lemmas.List.Elements.{filter-append}
 use Rattle.gl_base.specs.declared.entries.Entry.{Entry}
 use Rattle.gl_base.specs.declared.entries.Entry.TheVariants.{Go, Restart}
 use Rattle.attempts.proofs.Prefixes.{last_order_append, last_order_map}
 use Rattle.attempts.proofs.Storing.{call_back}
-use Rattle.attempts.specs.Beginnings.{last_of, left_out, nothing, order_after, snapshot_order, unheld_updates}
+use Rattle.attempts.specs.Beginnings.{last_of, left_out, nothing, snapshot_order, unheld_updates}
 use Rattle.attempts.specs.EngineCalls.{EngineCall, IsEngineCall, call_order, last_beginning, opening}
 use Rattle.attempts.specs.Entries.{is_restart}
 use Rattle.attempts.specs.Stores.{ResumesFrom, attempted_snapshots, last_order, snapshot_orders, snapshots_of}

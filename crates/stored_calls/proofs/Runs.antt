@@ -1,5 +1,5 @@
 -- A run with a store, from its beginning to its end.
-use Rattle.std.proofs.Common.{◌≡◌, ◌≤◌, ◌<◌, ◌^◌, ◌*◌, ◌+◌, ◌/◌, ◌++◌, ◌∙◌, ◌⊎◌, ℕ, subst₂, Bool, Err, IfErr, IfOk, List, Ok, Result, ap, false, inl, inr, length, subst, sym, true≢false, arith}
+use Rattle.std.proofs.Common.{◌≡◌, ◌≤◌, ◌<◌, ◌^◌, ◌*◌, ◌+◌, ◌/◌, ◌++◌, ◌∙◌, ◌⊎◌, ℕ, subst₂, Bool, Err, IfErr, IfOk, List, Ok, Result, ap, false, inl, inr, length, refl, subst, sym, true≢false, arith}
 use Rattle.gl_base.specs.declared.entries.Entry.{Entry}
 use Rattle.gl_base.specs.declared.jobs.FailureAt.{FailureAt}
 use Rattle.gl_base.specs.declared.numbers.Vertex.{Vertex}
@@ -12,6 +12,7 @@ use Rattle.stored_calls.proofs.Sizes.{never_needs}
 use Rattle.graph_core.specs.DataGraph.{DataGraph, IsDataGraph, size}
 use Rattle.placed_savers.specs.Beginning.{placed_owner}
 use Rattle.placed_savers.specs.declared.savers.Places.{Places}
+use Rattle.snap_journal.specs.Disks.{Rose}
 use Rattle.snap_journal.specs.declared.faults.JournalFault.{JournalFault}
 use Rattle.snap_journal.specs.declared.faults.JournalFault.TheVariants as fault
 use Rattle.store_format.specs.declared.faults.StoreFault.{StoreFault}
@@ -21,7 +22,7 @@ use Rattle.stored_answers.specs.declared.runs.StoredPlan.{StoredPlan}
 use Rattle.stored_answers.specs.declared.runs.StoredRun.{StoredRun}
 use Rattle.stored_calls.proofs.Owners.{HasOwner, end_at, kept_good, run_named, with_owner}
 use Rattle.stored_calls.specs.Calls.{CallOpening, DiskPast, EndsBy, EndsCall, Header, IsCallAt, IsCallEnded, IsNotRefused, IsRunAt, IsSaverOf, IsWhyStopped, JournalState, KeepsCall, KeepsToBounds, Setting, orders_behind, shared_of, snapshots_in, stored_order}
-use Rattle.stored_calls.specs.Runs.{ArePlacedFor, BoundsSteps, HasCallBegun, HasRoomFor, half_of, IsEndAt, IsGoodStore, IsPlacement, IsRunSo, IsStoredRun, IsWhyNoRun, IsWhyNotBegun, KeepsByOwner, KeepsGood, Shared, owned_shared}
+use Rattle.stored_calls.specs.Runs.{ArePlacedFor, BoundsSteps, HasCallBegun, HasRoomForRun, half_of, IsEndAt, IsFinishedOrNoMemory, IsGoodStore, IsPlacement, IsRunSo, IsStoredRun, IsWhyNoRun, IsWhyNotBegun, KeepsByOwner, KeepsGood, Shared, owned_shared}
 use Rattle.stored_calls.specs.declared.calls.StoredCall.{StoredCall}
 use Rattle.update_api.specs.Updates.{Update}
 
@@ -97,7 +98,7 @@ module _ {D P : Type 0} (meaning : P → Update) (past : D → DiskPast) (g : Da
     never_spent how ends bound steps enough left is =
         spends_less bound steps enough left (subst (IsCallEnded meaning past later after bodies (past journal.disk) st o) is (ended how ends))
 
-    needs_no_more : HasRoomFor g plan (length failures) journal.count journal.length → journal.count ≡ length bodies → journal.length ≡ 65 + records_size bodies → later.course.now.stopped ≡ false → after.failed ≡ false → (stored long : ℕ) →
+    needs_no_more : HasRoomForRun g plan (length failures) journal.count journal.length → journal.count ≡ length bodies → journal.length ≡ 65 + records_size bodies → later.course.now.stopped ≡ false → after.failed ≡ false → (stored long : ℕ) →
         IsCallEnded meaning past later after bodies (past journal.disk) st o (end.Full stored long) → ⊥
     needs_no_more room counts lasts running well stored long e =
         let makes = makes_call (IsSaverOf meaning) e.paused st o e.known.was.events e.known.was.cluster e.known.was.now in
@@ -116,7 +117,7 @@ module _ {D P : Type 0} (meaning : P → Update) (past : D → DiskPast) (g : Da
         (subst (λ (k : DataGraph). journal.length + 16 * (plan.run.budget + length failures + 1) + (plan.run.budget / half_of plan.window + 2) * (17 + 8 * plan.run.machines + 12 * size k + 12 * length k.edges) ≤ 2 ^ 30) graph_is room.short))))
         (e.gives.3 e.known.was.events e.known.was.cluster e.known.was.now makes.0 makes.1 (e.now.code.stopped ∙ running))
 
-    pub never_full_of : (how : StoredEnd) → EndsCall meaning past g program call mid later after how → HasRoomFor g plan (length failures) journal.count journal.length → journal.count ≡ length bodies → journal.length ≡ 65 + records_size bodies → later.course.now.stopped ≡ false →
+    pub never_full_of : (how : StoredEnd) → EndsCall meaning past g program call mid later after how → HasRoomForRun g plan (length failures) journal.count journal.length → journal.count ≡ length bodies → journal.length ≡ 65 + records_size bodies → later.course.now.stopped ≡ false →
         (before now : ℕ) → EndsBy after before now how → (stored long : ℕ) → how ≡ end.Full stored long → ⊥
     never_full_of how ends room counts lasts running before now by stored long is =
         needs_no_more room counts lasts running (subst (EndsBy after before now) is by).0 stored long (subst (IsCallEnded meaning past later after bodies (past journal.disk) st o) is (ended how ends))
@@ -199,3 +200,41 @@ by_earlier journal old mid now end.DiskFault less by = (by.0, λ small. above ol
   where
     above : (old mid now : ℕ) → old ≤ mid → mid < now → old < now
     above old mid now less more = omega (arith, less, more)
+
+-- ---- where it finishes
+
+pub short_first : (long updates records : ℕ) → long + updates + records ≤ 2 ^ 30 → long ≤ 2 ^ 30
+short_first long updates records short = omega arith
+
+pub only_begun : (failed : Bool) (before now : ℕ) (why : JournalFault) → failed ≡ false → IsWhyNotBegun failed before now why → (Rose before now → ⊥) → ((bad : StoreFault) → why ≡ fault.BadStore bad → ⊥) → why ≡ fault.NoMemory
+only_begun failed before now fault.DiskFault well is none good = absurd (none is)
+only_begun failed before now (fault.BadStore bad) well is none good = absurd (good bad refl)
+only_begun failed before now (fault.Full stored bytes) well is none good = absurd is
+only_begun failed before now fault.Failed well is none good = absurd (true≢false (sym is ∙ well))
+only_begun failed before now fault.NoMemory well is none good = refl
+
+pub only_stopped : (why : JournalFault) → IsWhyStopped why → ((bad : StoreFault) → why ≡ fault.BadStore bad → ⊥) → why ≡ fault.NoMemory
+only_stopped fault.DiskFault is good = absurd is
+only_stopped (fault.BadStore bad) is good = absurd (good bad refl)
+only_stopped (fault.Full stored bytes) is good = absurd is
+only_stopped fault.Failed is good = absurd is
+only_stopped fault.NoMemory is good = refl
+
+pub only_gathered : (why : JournalFault) (bad : StoreFault) (other : Type 0) → (why ≡ fault.NoMemory) ⊎ ((why ≡ fault.BadStore bad) × other) → ((bad : StoreFault) → why ≡ fault.BadStore bad → ⊥) → why ≡ fault.NoMemory
+only_gathered why bad other (inl none) good = none
+only_gathered why bad other (inr is) good = absurd (good bad is.0)
+
+finishes : (how : StoredEnd) → ((left : Vertex) → how ≡ end.Spent left → ⊥) → ((stored long : ℕ) → how ≡ end.Full stored long → ⊥) → (how ≡ end.DiskFault → ⊥) → how ≡ end.Finished
+finishes end.Finished spent full fault = refl
+finishes (end.Spent left) spent full fault = absurd (spent left refl)
+finishes (end.Full stored long) spent full fault = absurd (full stored long refl)
+finishes end.DiskFault spent full fault = absurd (fault refl)
+
+pub all_finish : (r : Result StoredRun JournalFault) → IfOk r (λ run. (left : Vertex) → run.end ≡ end.Spent left → ⊥) → IfOk r (λ run. (stored long : ℕ) → run.end ≡ end.Full stored long → ⊥) → IfOk r (λ run. run.end ≡ end.DiskFault → ⊥) →
+    IfErr r (λ why. why ≡ fault.NoMemory) → IsFinishedOrNoMemory r
+all_finish (Ok run) spent full disk why = finishes run.end spent full disk
+all_finish (Err e) spent full disk why = why
+
+-- an end by a fault of the disk tells of one
+pub not_by_fault : {D : Type 0} (journal : JournalState D) (before now : ℕ) (how : StoredEnd) → (Rose before now → ⊥) → EndsBy journal before now how → how ≡ end.DiskFault → ⊥
+not_by_fault journal before now how none by is = none (subst (EndsBy journal before now) is by).1

@@ -1,10 +1,9 @@
 -- How long a store is with the snapshots of a call, and that it has room for one more.
-use Rattle.std.proofs.Common.{◌≡◌, ◌∙◌, ℕ, zero, suc, ◌+◌, ◌*◌, ◌/◌, ◌<◌, ◌≤◌, ◌^◌, ◌==◌, Bool, true, false, List, [], ◌∷◌, ◌++◌, Ok, Err, None, Option, Some, Result, ap, ap₂, arith, drop, filter, if◌then◌else◌, inl, inr, length, length-append, length-drop, le_trans, refl, subst, sym, take}
+use Rattle.std.proofs.Common.{◌≡◌, ◌∙◌, ℕ, zero, suc, ◌+◌, ◌*◌, ◌/◌, ◌<◌, ◌≤◌, ◌==◌, Bool, true, false, List, [], ◌∷◌, ◌++◌, Ok, Err, None, Option, Some, Result, ap, ap₂, arith, drop, filter, if◌then◌else◌, inl, inr, length, length-append, length-drop, refl, subst, sym, take}
 use Rattle.std.specs.Prelude.{⊤}
 use Rattle.std.specs.Result.{result_unwrap_or}
 use Rattle.std.proofs.Math.Nat.{mul-le-mul_right, suc-mul, zero-mul}
 use Rattle.gl_base.specs.declared.entries.Entry.{Entry}
-use Rattle.gl_base.specs.declared.jobs.FailureAt.{FailureAt}
 use Rattle.attempts.specs.Beginnings.{unheld_updates}
 use Rattle.attempts.specs.EngineCalls.{EngineCall, call_order, last_beginning, made_of}
 use Rattle.attempts.specs.Entries.{is_restart}
@@ -23,7 +22,6 @@ use Rattle.snap_journal.proofs.CountLemmas.{entries_long, with_long}
 use Rattle.store_format.proofs.NewLemmas.{field-behind}
 use Rattle.store_format.proofs.ReadLemmas.{split_record, with_body-inv}
 use Rattle.store_format.specs.Bodies.{body_size, entry_count}
-use Rattle.store_format.specs.Fields.{field}
 use Rattle.store_format.specs.Headers.{store_header_fault}
 use Rattle.store_format.specs.Records.{bodies_from, body_in, length_in, stored_fault, unless_bad, with_body}
 use Rattle.store_format.specs.Stores.{unless_refused}

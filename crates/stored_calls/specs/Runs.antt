@@ -10,7 +10,7 @@ pub use Rattle.stored_answers.specs.declared.runs.StoredPlan.{StoredPlan}
 pub use Rattle.stored_answers.specs.Images.{HoldsGood, IsGoodStore, KeepsGood, stored_order}
 pub use Rattle.stored_answers.specs.Runs.{IsStoredRun, Shared}
 pub use Rattle.whole_calls.specs.Following.{AreJobFailures}
-use Rattle.std.specs.Prelude.{Bool, List, length, suc, true, ⊤, ℕ, ◌*◌, ◌++◌, ◌+◌, ◌/◌, ◌<◌, ◌^◌, ◌≡◌, ◌≤◌, ◌⊎◌}
+use Rattle.std.specs.Prelude.{Bool, Err, List, Ok, Result, length, suc, true, ⊤, ℕ, ◌*◌, ◌++◌, ◌+◌, ◌/◌, ◌<◌, ◌^◌, ◌≡◌, ◌≤◌, ◌⊎◌}
 use Rattle.gl_base.specs.declared.entries.Entry.{Entry}
 use Rattle.gl_base.specs.declared.jobs.FailureAt.{FailureAt}
 use Rattle.graph_core.specs.DataGraph.{DataGraph, size}
@@ -19,6 +19,7 @@ use Rattle.snap_journal.specs.declared.faults.JournalFault.{JournalFault}
 use Rattle.snap_journal.specs.declared.faults.JournalFault.TheVariants as fault
 use Rattle.store_format.specs.declared.faults.StoreFault.TheVariants.{BadByte}
 use Rattle.stored_answers.specs.declared.runs.StoredEnd.{StoredEnd}
+use Rattle.stored_answers.specs.declared.runs.StoredEnd.TheVariants as end
 use Rattle.stored_answers.specs.declared.runs.StoredRun.{StoredRun}
 use Rattle.stored_calls.specs.Calls.{AreSnapLines, CallOpening, CourseView, Header, IsCallAt, IsCourseNow, IsKnownAt, IsSaverOf, JournalState, PauseGives, SaverView, Setting, orders_behind, shared_of, snapshots_in}
 use Rattle.stored_calls.specs.declared.calls.StoredCall.{StoredCall}
@@ -79,7 +80,12 @@ refused_by why length = why
 
 -- The store, which has so many snapshots and bytes, has room for a run with this plan and so many failures: for a snapshot for each half of the window
 -- that goes into the budget, and for two more, with all updates and restarts that they may bring.
-pub record HasRoomFor (g : DataGraph) (plan : StoredPlan) (failures stored bytes : ℕ) : Type 0 where
+pub record HasRoomForRun (g : DataGraph) (plan : StoredPlan) (failures stored bytes : ℕ) : Type 0 where
   pub half : 0 < half_of plan.window
   pub few : stored + (plan.run.budget / half_of plan.window + 1) < 4096
   pub short : bytes + 16 * (plan.run.budget + failures + 1) + (plan.run.budget / half_of plan.window + 2) * (17 + 8 * plan.run.machines + 12 * size g + 12 * length g.edges) ≤ 2 ^ 30
+
+-- the run was made and has finished, or memory ran out
+abbrev pub IsFinishedOrNoMemory : Result StoredRun JournalFault → Type 0
+IsFinishedOrNoMemory (Ok run) = run.end ≡ end.Finished
+IsFinishedOrNoMemory (Err why) = why ≡ fault.NoMemory

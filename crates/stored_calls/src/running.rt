@@ -3,12 +3,13 @@ ghost use Rattle.std.specs.Prelude.{All, List, [], false, length, ◌≡◌, ◌
 ghost use Rattle.gl_base.specs.declared.entries.Entry.{Entry};
 ghost use Rattle.gl_base.specs.declared.numbers.Vertex.{Vertex};
 ghost use Rattle.graph_core.specs.DataGraph.{size};
+ghost use Rattle.snap_journal.specs.Disks.{Rose};
 ghost use Rattle.snap_journal.specs.declared.faults.JournalFault.TheVariants as fault;
 ghost use Rattle.store_format.specs.declared.faults.StoreFault.{StoreFault};
 ghost use Rattle.store_format.specs.declared.faults.StoreFault.TheVariants.{BadByte};
 ghost use Rattle.stored_calls.specs.Calls.{ArePlacesOf, CallOpening, CanCallGoOn, EndsBy, Header, IsHeaderOf, IsRunAt, Setting, shared_of, snapshots_in};
 ghost use Rattle.stored_answers.specs.declared.runs.StoredEnd.TheVariants as ending;
-ghost use Rattle.stored_calls.specs.Runs.{AreJobFailures, ArePlacedFor, BoundsSteps, HasCallBegun, HasRoomFor, IsEndAt, IsEntryOf, IsGoodStore, IsInRange, IsRunSo, IsPlacement, IsStoredRun, IsWhyNoRun, IsWhyNotBegun, KeepsByOwner, KeepsGood, owned_shared, refused_by, run_shared, stored_order};
+ghost use Rattle.stored_calls.specs.Runs.{AreJobFailures, ArePlacedFor, BoundsSteps, HasCallBegun, HasRoomForRun, IsEndAt, IsFinishedOrNoMemory, IsEntryOf, IsGoodStore, IsInRange, IsRunSo, IsPlacement, IsStoredRun, IsWhyNoRun, IsWhyNotBegun, KeepsByOwner, KeepsGood, owned_shared, refused_by, run_shared, stored_order};
 ghost use Rattle.update_api.specs.Updates.{Update};
 
 use crate::calls::StoredCall;
@@ -70,7 +71,13 @@ pub fn run_stored<R: Wait, D: Disk, P: Program>(
         (bound : ℕ) → BoundsSteps graph.now (P.meaning program) bound → (1 + length failures.now) * bound ≤ plan.run.budget → (left : Vertex) → run.end ≡ ending.Spent left → ⊥) }
     ensures roomy { IsTrue D.told → IfOk result (λ run. (owner : ℕ → ℕ) → IsPlacement graph.now plan.run.atoms plan.run.machines owner →
         IsGoodStore (owned_shared graph.now (P.meaning program) owner failures.now) journal.old.header (snapshots_in D.past journal.old) →
-        HasRoomFor graph.now plan (length failures.now) journal.old.count journal.old.length → (stored long : ℕ) → run.end ≡ ending.Full stored long → ⊥) }
+        HasRoomForRun graph.now plan (length failures.now) journal.old.count journal.old.length → (stored long : ℕ) → run.end ≡ ending.Full stored long → ⊥) }
+
+    // So it finishes, or memory runs out, where the disk does not fail.
+    ensures complete { IsTrue D.told → (owner : ℕ → ℕ) → IsPlacement graph.now plan.run.atoms plan.run.machines owner →
+        IsGoodStore (owned_shared graph.now (P.meaning program) owner failures.now) journal.old.header (snapshots_in D.past journal.old) →
+        (bound : ℕ) → BoundsSteps graph.now (P.meaning program) bound → (1 + length failures.now) * bound ≤ plan.run.budget →
+        HasRoomForRun graph.now plan (length failures.now) journal.old.count journal.old.length → (Rose (D.faults journal.old.disk) (D.faults journal.new.disk) → ⊥) → IsFinishedOrNoMemory result }
 
     ensures by { IfOk result (λ run. EndsBy journal.new (D.faults journal.old.disk) (D.faults journal.new.disk) run.end) }
     ensures numbers { IfOk result (λ run. length run.numbers.items ≡ size graph.now) }
