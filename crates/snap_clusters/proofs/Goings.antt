@@ -1,5 +1,6 @@
 -- A cluster of the law goes on, whatever happens but a recovery.
-use Rattle.std.proofs.Common.{[], ◌∷◌, ◌++◌, refl, sym, subst}
+use Rattle.std.proofs.Common.{List, [], ◌∷◌, ◌++◌, refl, sym, subst}
+use Rattle.std.specs.List.{AllByRecursion}
 use Rattle.cluster_core.specs.Recovering.{going_on}
 use Rattle.cluster_core.specs.Settings.{Setting}
 use Rattle.cluster_model.specs.Clusters.{BaseView, Cluster}
@@ -41,3 +42,10 @@ module _ (st : Setting) (setting : IsSnapSetting st) (c : Cluster) (going : IsGo
         logged = going.logged ++ accounts.1;
         accounts = accounts.3;
       }
+
+-- and so on, event by event
+pub going_course : (st : Setting) → IsSnapSetting st → (events : List Event) → AllByRecursion IsNoRecovery events → (c new : Cluster) → IsGoing st c → IsCourse st c events new → IsGoing st new
+going_course st setting [] others c new going course = subst (IsGoing st) (sym course) going
+going_course st setting (event ∷ events) others c new going course =
+    going_course st setting events others.1 (after_event st c event) new (going_after st setting c going event course.0 others.0)
+    (subst (λ (s : Setting). IsCourse s (after_event st c event) events new) (setting_same st event others.0) course.1)

@@ -2,6 +2,7 @@ pub mod Goings
 pub mod Lines
 pub mod Making
 pub mod Answering
+pub mod AtOnceRuns
 pub mod Leading
 pub mod Cutting
 pub mod Next

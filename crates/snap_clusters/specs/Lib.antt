@@ -1,5 +1,6 @@
 pub mod Lines
 pub mod Clusters
 pub mod Events
+pub mod AtOnce
 pub mod Cuts
 pub mod Ordered

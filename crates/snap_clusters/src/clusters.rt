@@ -6,6 +6,7 @@ ghost use Rattle.cluster_ending.specs.Ends.{HasFinishedOrder};
 ghost use Rattle.cluster_model.specs.Events.{HasNext, recovers};
 ghost use Rattle.coord_core.specs.Calls.{IsDueOf};
 ghost use Rattle.coord_core.specs.Stores.{store_view};
+ghost use Rattle.snap_clusters.specs.AtOnce.{CanNotTakePlaceAtOnce, CanTakePlaceAtOnce, TakesPlaceAtOnce};
 ghost use Rattle.snap_clusters.specs.Clusters.{BaseView, Cluster, GoesOnWith, IsSavingClusterOf, InEachCluster, Setting, StandsForSaving, StandsForSameSaving, StartsSaving};
 ghost use Rattle.snap_clusters.specs.Cuts.{IsSnapshotCut, RecordsCut};
 ghost use Rattle.snap_clusters.specs.Events.{CanTakePlace, CanNotTakePlace, IsNoStop, IsReadyToAcknowledge, TakesPlace, NamesItsMachines};
@@ -71,6 +72,21 @@ impl<M: SavingMachine> SnapCluster<M> {
         ensures stopped { IsNoStop event → self.new.stopped ≡ self.old.stopped }
     {
         self.parts.make(event)
+    }
+
+    /// A vertex of the machine is updated at once, where the one that the machine looks at may be now: a scope of it is admitted, each of
+    /// its locks is granted in turn, and its update is made, all on this machine. Of the vertices that may be admitted the machine
+    /// looks at one of its choice.
+    pub fn update_at_once(&mut self, at: MachineNo) -> Result<Vertex, Refused>
+        requires { at.0 < length self.old.machines.items }
+        ensures made { IfOk result (λ v. TakesPlaceAtOnce M.stands self.old at.0 v.0 self.new) }
+        ensures not_now { IsErrOf result Refused.NotNow → CanNotTakePlaceAtOnce M.stands self.old at }
+        ensures no_memory { IsErrOf result Refused.NoMemory → CanTakePlaceAtOnce M.stands self.old at.0 }
+        ensures unchanged { OnErr result (StandsForSameSaving M.stands self.old self.new) }
+        ensures machines { length self.new.machines.items ≡ length self.old.machines.items }
+        ensures stopped { self.new.stopped ≡ self.old.stopped }
+    {
+        self.parts.update_at_once(at)
     }
 
     /// All machines go back to a base: the cluster goes on with these machines, which begin an attempt from it, and with nothing on its way.

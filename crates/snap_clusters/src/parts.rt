@@ -4,6 +4,7 @@ ghost use Rattle.cluster_core.specs.Recovering.{going_on};
 ghost use Rattle.cluster_model.specs.Events.{recovers};
 ghost use Rattle.cluster_step.specs.Inner.Writing.{HasLinkBetween};
 ghost use Rattle.coord_core.specs.Stores.{store_view};
+ghost use Rattle.snap_clusters.specs.AtOnce.{AnswersAtOnce};
 ghost use Rattle.snap_clusters.specs.Clusters.{BaseView, Cluster, InEachCluster, IsSavingClusterOf, Setting, StandsForSaving, StandsForSameSaving, StartsSaving};
 ghost use Rattle.snap_clusters.specs.Cuts.{RecordsCut};
 ghost use Rattle.snap_clusters.specs.Events.{AnswersEvent, CanNotTakePlace, CanTakePlace, IsReadyToAcknowledge, TakesPlace, NamesLocal, NamesItsMachines, NamesPassage, acting, acting_local, acting_passage, is_resting};
@@ -275,6 +276,25 @@ impl<M: SavingMachine> Parts<M> {
                 self.next += 1;
                 self.left -= 1;
                 Ok(())
+            }
+            Err(refused) => Err(refused),
+        }
+    }
+
+    /// A vertex of the machine is updated at once, under the next ticket, where the one that the machine looks at may be now.
+    pub(crate) fn update_at_once(&mut self, at: MachineNo) -> Result<Vertex, Refused>
+        requires within { at.0 < length self.old.machines.items }
+        requires some { StandsForSaving M.stands self.old }
+        ensures { AnswersAtOnce M.stands self.old at result self.new }
+    {
+        if self.is_still(at) || self.left == 0 {
+            return Err(Refused::NotNow);
+        }
+        match self.machines[at.0 as usize].update_at_once(self.next) {
+            Ok(vertex) => {
+                self.next += 1;
+                self.left -= 1;
+                Ok(vertex)
             }
             Err(refused) => Err(refused),
         }

@@ -70,7 +70,7 @@ pub taken_none : {X Y : Type 0} (view : X → Y) (o : Option X) (ys : List Y) (C
 taken_none view None ys C is make = make is
 taken_none view (Some x) ys C is make = tt
 
-error_is : {X E : Type 0} (e x : E) → IsErrOf {T = X} (Err e) x → e ≡ x
+pub error_is : {X E : Type 0} (e x : E) → IsErrOf {T = X} (Err e) x → e ≡ x
 error_is e x is = cc
 
 -- the same error of another call

@@ -1,5 +1,5 @@
 -- An update at once, and what is asked for behind it, for each machine of the law.
-use Rattle.std.proofs.Common.{◌≡◌, ◌⊎◌, ℕ, suc, ◌+◌, ◌<◌, ◌==◌, ◌&&◌, ◌||◌, ◌++◌, not, Bool, true, false, true≢false, if◌then◌else◌, Option, None, Some, List, [], ◌∷◌, refl, sym, ap, ◌∙◌, subst, ⊎_elim, inl, inr}
+use Rattle.std.proofs.Common.{◌≡◌, ℕ, suc, ◌<◌, ◌==◌, ◌++◌, Bool, true, false, if◌then◌else◌, Option, None, Some, List, [], ◌∷◌, refl, sym, ap, ◌∙◌, subst, ⊎_elim, inl, inr}
 use Rattle.std.specs.Prelude.{nat_lt}
 use Rattle.gl_base.specs.declared.entries.Entry.{Entry}
 use Rattle.gl_base.specs.declared.entries.Entry.TheVariants.{Go}
@@ -13,9 +13,9 @@ use Rattle.update_api.specs.Updates.{Update}
 use Rattle.cluster_core.specs.Actions.{MayAdmit}
 use Rattle.cluster_core.specs.Effects.{next_scope, renewed, updated}
 use Rattle.cluster_core.specs.Parts.{Part, Stand, lent}
-use Rattle.cluster_core.specs.Scopes.{is_scope, set_for}
+use Rattle.cluster_core.specs.Scopes.{is_scope}
 use Rattle.cluster_core.proofs.Basics.{scope_cases, set_at-kept, set_for-other}
-use Rattle.cluster_model.specs.Working.{asks, has_room}
+use Rattle.cluster_model.specs.Working.{asks}
 use Rattle.interior_scopes.specs.AtOnce.{IsInterior, IsUnseen, MayUpdateAtOnce, at_once, entry_at_once}
 use Rattle.machine_at_once.specs.Picks.{CanUpdatePick, HasNoneAtOnce, HasRunAtOnce, HasUpdatedPick}
 use Rattle.machine_numbers.specs.Views.{LocalView, TasksView, datum_here}

@@ -1,6 +1,6 @@
 -- What a machine of the law makes of an update at once, as it does one thing after another.
-use Rattle.std.proofs.Common.{◌≡◌, ℕ, zero, suc, pred, ◌+◌, ◌-◌, ◌<◌, ◌==◌, ◌&&◌, ◌||◌, ◌++◌, Bool, true, false, if◌then◌else◌, not, Option, None, Some, List, [], ◌∷◌, length, map, refl, sym, ap, ◌∙◌, subst, inr, arith}
-use Rattle.std.specs.Prelude.{is_some, nat_lt}
+use Rattle.std.proofs.Common.{◌≡◌, ℕ, zero, suc, pred, ◌+◌, ◌-◌, ◌<◌, ◌==◌, ◌++◌, Bool, true, false, if◌then◌else◌, not, Option, None, Some, List, [], ◌∷◌, length, map, refl, sym, ap, ◌∙◌, subst, inr, arith}
+use Rattle.std.specs.Prelude.{nat_lt}
 use Rattle.std.proofs.lemmas.Bool.{eqb-true, and_parts}
 use Rattle.std.proofs.lemmas.Option.{none-some}
 use Rattle.gl_base.specs.declared.entries.Entry.{Entry}
@@ -13,15 +13,15 @@ use Rattle.cluster_core.specs.Messages.{Message}
 use Rattle.cluster_core.specs.Parts.{Part}
 use Rattle.cluster_core.specs.Ranges.{all_passing, first_passing}
 use Rattle.cluster_core.specs.Scopes.{set_for}
-use Rattle.cluster_core.specs.Settings.{Engine, IsSetting, Locking, Setting, is_in_scope}
+use Rattle.cluster_core.specs.Settings.{IsSetting, Locking, Setting, is_in_scope}
 use Rattle.cluster_core.proofs.Basics.{set_at-same, set_for-same}
 use Rattle.cluster_model.specs.Machines.{Machine, gained}
-use Rattle.cluster_model.specs.Working.{asks, makes_update, prompt, works_on}
+use Rattle.cluster_model.specs.Working.{asks, prompt, works_on}
 use Rattle.cluster_whole.proofs.Flows.{total_from-none}
 use Rattle.interior_scopes.specs.AtOnce.{MayUpdateAtOnce, at_once, entry_at_once}
 use Rattle.interior_scopes.proofs.Walking.{admitted_walks, claim_for, granted_walks, held_below, held_past, is_its, its, not_yet, updated_walks, walks}
 use Rattle.snap_members.specs.AtOnce.{AreDone, MayUpdateWithin, deeds_at_once}
-use Rattle.snap_members.specs.Deeds.{Admit, Deed, Grant, MayBeDone, Update, does, updates_centre}
+use Rattle.snap_members.specs.Deeds.{Admit, Grant, Update, does, updates_centre}
 use Rattle.snap_savers.proofs.StandLemmas.{prompt_still}
 
 -- where nothing is put out, as many messages were
