@@ -202,13 +202,6 @@ module _ {M : Type 0} (stands : Setting → ℕ → Machine → M → Type 0) (o
 -- ---- behind it
 
 module _ {M : Type 0} (stands : Setting → ℕ → Machine → M → Type 0) (old new : Parts M) (some : StandsForSaving stands old) (at : MachineNo) where
-  drawn_on : (st : Setting) (events : List law.Event) (c after : Cluster) → AllByRecursion IsNoRecovery events → law.IsCourse st c events after → after.stopped ≡ after.stopped
-  drawn_on st events c after others course = refl
-
   pub some_at_once : (r : Result Vertex Refused) → AnswersAtOnce stands old at r new → StandsForSaving stands new
   some_at_once (Ok v) answers = let made = answers.made some.0 some.1 some.2 some.3 in (some.0, made.after, some.2, made.code)
   some_at_once (Err e) answers = (some.0, some.1, some.2, answers.unchanged some.0 some.1 some.2 some.3)
-
-  pub many_at_once : (r : Result Vertex Refused) → AnswersAtOnce stands old at r new → length new.machines.items ≡ length old.machines.items
-  many_at_once (Ok v) answers = let made = answers.made some.0 some.1 some.2 some.3 in made.code.many ∙ sym some.3.many
-  many_at_once (Err e) answers = let same = answers.unchanged some.0 some.1 some.2 some.3 in same.many ∙ sym some.3.many

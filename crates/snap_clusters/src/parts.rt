@@ -285,7 +285,9 @@ impl<M: SavingMachine> Parts<M> {
     pub(crate) fn update_at_once(&mut self, at: MachineNo) -> Result<Vertex, Refused>
         requires within { at.0 < length self.old.machines.items }
         requires some { StandsForSaving M.stands self.old }
-        ensures { AnswersAtOnce M.stands self.old at result self.new }
+        ensures answers { AnswersAtOnce M.stands self.old at result self.new }
+        ensures machines { length self.new.machines.items ≡ length self.old.machines.items }
+        ensures stopped { self.new.stopped ≡ self.old.stopped }
     {
         if self.is_still(at) || self.left == 0 {
             return Err(Refused::NotNow);
