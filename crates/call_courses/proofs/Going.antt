@@ -28,7 +28,7 @@ use Rattle.whole_calls.proofs.WorkedPair.{course_append, follow_append}
 
 -- ---- one event behind a course
 
-behind_append : (xs ys : List law.Event) (st : Setting) → setting_behind st (xs ++ ys) ≡ setting_behind (setting_behind st xs) ys
+pub behind_append : (xs ys : List law.Event) (st : Setting) → setting_behind st (xs ++ ys) ≡ setting_behind (setting_behind st xs) ys
 behind_append [] ys st = refl
 behind_append (x ∷ xs) ys st = behind_append xs ys (law.setting_after st x)
 
@@ -144,7 +144,7 @@ module _ {M : Type 0} (stands : Setting → ℕ → Machine → M → Type 0) (o
 
   -- as it was at that time, in both
   module _ (since : new.since ≡ old.since) (done : new.done ≡ old.done) where
-    since_back : (st : Setting) (o : CallOpening) (events : List law.Event) (c : Cluster) → IsCourseNow stands (as_since new) st o events c → IsCourseNow stands (as_since old) st o events c
+    pub since_back : (st : Setting) (o : CallOpening) (events : List law.Event) (c : Cluster) → IsCourseNow stands (as_since new) st o events c → IsCourseNow stands (as_since old) st o events c
     since_back st o events c is = record {
       setting = is.setting;
       course = subst (λ (fs : List FailureAt). IsCourseOfCall st fs o.kept o.resumed o.base o.first events c) failures is.course;

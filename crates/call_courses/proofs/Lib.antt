@@ -1,3 +1,4 @@
 pub mod Going
+pub mod AtOnceGoing
 pub mod Calling
 pub mod Passing

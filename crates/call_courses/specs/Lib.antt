@@ -1,3 +1,4 @@
 pub mod Courses
 pub mod Events
+pub mod AtOnce
 pub mod Calls

@@ -1,6 +1,7 @@
 //! The course of a call.
 ghost use Rattle.std.specs.Prelude.{[], ◌≡◌, ◌+◌, ◌^◌, ◌<◌, ◌≤◌, ℕ, length, slice_index_or, false, true, IfNone, IfOk, IfSome, IsErrOf, OnErr, OnOk};
 ghost use Rattle.attempts.specs.EngineCalls.{done_of, first_ticket, made_of};
+ghost use Rattle.call_courses.specs.AtOnce.{CanHappenAtOnceInCall, CanNotHappenAtOnceInCall, HappensAtOnceInCall};
 ghost use Rattle.call_courses.specs.Calls.{HasCall, HasEndedCall, HasTaskLeft, OfTheCall};
 ghost use Rattle.call_courses.specs.Courses.{BaseView, CallOpening, Cluster, CourseGoesOn, HasCourse, HasGoneBack, InEachCourse, IsCourseNow, IsSameAttempt, OpensCall, Setting, StartsCall, StartsSaving, as_since, first_cluster, newest_setting};
 ghost use Rattle.call_courses.specs.Events.{CanHappenInCall, CanNotHappenInCall, HappensInCall, IsHeldBack, GoesOnBy, StaysThere};
@@ -97,6 +98,23 @@ impl<M: SavingMachine> Course<M> {
             return Err(Refused::NotNow);
         }
         self.cluster.apply(event)
+    }
+
+    /// A vertex of the machine is updated at once, where the one that the machine looks at may be now and the machine has reached the count of
+    /// no failure: a scope of it is admitted, each of its locks is granted in turn, and its update is made, all on this machine. Of the
+    /// vertices that may be admitted the machine looks at one of its choice.
+    pub fn update_at_once(&mut self, at: MachineNo) -> Result<Vertex, Refused>
+        requires { at.0 < length self.old.now.machines.items }
+        ensures made { IfOk result (λ v. HappensAtOnceInCall M.stands self.old at.0 v.0 self.new) }
+        ensures not_now { IsErrOf result Refused.NotNow → CanNotHappenAtOnceInCall M.stands self.old at }
+        ensures no_memory { IsErrOf result Refused.NoMemory → CanHappenAtOnceInCall M.stands self.old at.0 }
+        ensures unchanged { OnErr result (StaysThere M.stands self.old self.new) }
+        ensures same { IsSameAttempt self.old self.new }
+    {
+        if self.has_reached(at) {
+            return Err(Refused::NotNow);
+        }
+        self.cluster.update_at_once(at)
     }
 
     /// The snapshot of this number, whose record was made, is acknowledged. It takes no memory.

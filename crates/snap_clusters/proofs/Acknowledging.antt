@@ -4,11 +4,11 @@ use Rattle.std.specs.Prelude.{Err, IfOk, Ok, Result}
 use Rattle.gl_base.specs.declared.refusals.Refused.{Refused}
 use Rattle.gl_base.specs.declared.snapshots.Record.{Record}
 use Rattle.cluster_model.specs.Events as law
-use Rattle.cluster_model.specs.Leading.{Coordinator, acknowledges}
+use Rattle.cluster_model.specs.Leading.{acknowledges}
 use Rattle.coord_core.specs.Calls.{HasRecorded, IsReadyToRecord}
 use Rattle.coord_core.specs.Coordinators.{CoordinatorView}
 use Rattle.coord_core.proofs.SavingLemmas.{law_due, law_room}
-use Rattle.snap_clusters.specs.Clusters.{Cluster, IsCoordinatorOf, IsSavingClusterOf, IsSnapSetting, Machine, Parts, Setting, StandsForSaving}
+use Rattle.snap_clusters.specs.Clusters.{Cluster, IsCoordinatorOf, Machine, Parts, Setting, StandsForSaving}
 use Rattle.snap_clusters.specs.Events.{IsReadyToAcknowledge, TakesPlace}
 use Rattle.snap_clusters.specs.declared.events.Event.TheVariants as event
 use Rattle.snap_clusters.specs.declared.events.Lead.TheVariants as lead

@@ -1,7 +1,7 @@
 -- What a machine does in an update at once is a run of events of the cluster.
-use Rattle.std.proofs.Common.{◌≡◌, ◌⊎◌, ℕ, suc, pred, ◌+◌, ◌-◌, ◌<◌, ◌^◌, ◌++◌, Bool, true, false, true≢false, List, [], ◌∷◌, get_or, length, map, refl, sym, ap, arith, add-one, subst, ⊎_elim, inl, inr, ◌∙◌}
+use Rattle.std.proofs.Common.{◌≡◌, ◌⊎◌, ℕ, suc, pred, ◌+◌, ◌-◌, ◌<◌, ◌^◌, ◌++◌, true, false, true≢false, List, [], ◌∷◌, get_or, length, map, refl, sym, ap, arith, add-one, subst, ⊎_elim, inl, inr, ◌∙◌}
 use Rattle.std.specs.List.{AllByRecursion}
-use Rattle.std.specs.Prelude.{Err, IfOk, Ok, OnErr, Result, slice_index_or}
+use Rattle.std.specs.Prelude.{Err, Ok, Result, slice_index_or}
 use Rattle.std.specs.Vec.{with_item}
 use Rattle.gl_base.specs.declared.numbers.MachineNo.{MachineNo}
 use Rattle.gl_base.specs.declared.numbers.Vertex.{Vertex}
@@ -15,8 +15,8 @@ use Rattle.cluster_whole.specs.Whole.{IsNoRecovery}
 use Rattle.interior_scopes.proofs.Walking.{set_at-twice}
 use Rattle.snap_members.specs.AtOnce.{AreDone, CanNotUpdateAtOnce, CanUpdateAtOnce, HasUpdatedAtOnce, MayUpdateWithin, deeds_at_once, own_vertices}
 use Rattle.snap_members.specs.Promises.{Admit, Deed, Grant, MayBeDone, StandsStill, Update, does}
-use Rattle.snap_clusters.specs.AtOnce.{AnswersAtOnce, CanNotTakePlaceAtOnce, CanTakePlaceAtOnce, MayBeMadeAtOnce, TakesPlaceAtOnce, events_at_once}
-use Rattle.snap_clusters.specs.Clusters.{Cluster, IsSavingClusterOf, IsSnapSetting, Machine, Parts, Setting, StandsForSameSaving, StandsForSaving}
+use Rattle.snap_clusters.specs.AtOnce.{AnswersAtOnce, CanNotTakePlaceAtOnce, CanTakePlaceAtOnce, TakesPlaceAtOnce, events_at_once}
+use Rattle.snap_clusters.specs.Clusters.{Cluster, IsSavingClusterOf, IsSnapSetting, Machine, Parts, Setting, StandsForSaving}
 use Rattle.snap_clusters.specs.Events.{CanNotTakePlace}
 use Rattle.snap_clusters.specs.declared.events.Event.TheVariants as event
 use Rattle.snap_clusters.specs.declared.events.Local.TheVariants as local

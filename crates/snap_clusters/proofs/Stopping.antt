@@ -1,13 +1,12 @@
 -- Nothing but its end stops a run.
-use Rattle.std.proofs.Common.{◌≡◌, ℕ, List, [], ◌∷◌, None, Option, Some, false, refl, sym, ap, ◌∙◌}
+use Rattle.std.proofs.Common.{◌≡◌, ℕ, List, [], ◌∷◌, None, Option, Some, refl, sym, ap, ◌∙◌}
 use Rattle.std.specs.Prelude.{Err, Ok, Result}
 use Rattle.gl_base.specs.declared.refusals.Refused.{Refused}
 use Rattle.gl_base.specs.declared.scopes.ScopeId.{ScopeId}
 use Rattle.cluster_core.specs.Messages.{Message}
-use Rattle.cluster_core.specs.Recovering.{going_on}
 use Rattle.cluster_model.specs.Calls.{Call, Report}
 use Rattle.cluster_model.specs.Events as law
-use Rattle.snap_clusters.specs.Clusters.{BaseView, Cluster, IsSavingClusterOf, Machine, Parts, Setting, StandsForSameSaving, StandsForSaving}
+use Rattle.snap_clusters.specs.Clusters.{Cluster, Machine, Parts, Setting, StandsForSameSaving, StandsForSaving}
 use Rattle.snap_clusters.specs.Events.{AnswersEvent, IsNamedEvent, IsNoStop, TakesPlace}
 use Rattle.snap_clusters.specs.declared.events.Event.{Event}
 use Rattle.snap_clusters.specs.declared.events.Event.TheVariants as event

@@ -1,8 +1,4 @@
 -- What the parts do, the cluster does.
-use Rattle.std.proofs.Common.{sym, subst}
-use Rattle.snap_clusters.specs.Events.{IsReadyToAcknowledge, TakesPlace}
-use Rattle.snap_clusters.specs.declared.events.Event.TheVariants as event
-use Rattle.snap_clusters.specs.declared.events.Lead.TheVariants as lead
 use Rattle.snap_clusters.proofs.Acknowledging.{some_behind}
 use Rattle.snap_clusters.proofs.clusters.SnapCluster.acknowledge.Goals as goal
 
