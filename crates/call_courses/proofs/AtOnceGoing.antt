@@ -1,15 +1,13 @@
 -- The course of a call goes on by an update at once.
-use Rattle.std.proofs.Common.{◌≡◌, ◌≢◌, ◌⊎◌, ℕ, suc, ◌+◌, ◌<◌, ◌==◌, ◌++◌, Bool, true, false, if◌then◌else◌, Option, None, Some, List, [], ◌∷◌, length, map, refl, sym, ap, ap₂, append_assoc, subst, inl, inr, ◌∙◌}
-use Rattle.std.specs.List.{AllByRecursion}
-use Rattle.std.specs.Prelude.{Err, IfOk, IsErrOf, Ok, OnErr, Result, slice_index_or}
-use Rattle.gl_base.specs.declared.entries.Entry.{Entry}
+use Rattle.std.proofs.Common.{◌≡◌, ℕ, suc, ◌+◌, ◌==◌, ◌++◌, Bool, true, false, if◌then◌else◌, Option, None, Some, List, [], ◌∷◌, length, map, refl, sym, ap, append_assoc, subst, inr, ◌∙◌}
+use Rattle.std.specs.Prelude.{Err, IfOk, Ok, OnErr, Result, slice_index_or}
 use Rattle.gl_base.specs.declared.jobs.FailureAt.{FailureAt}
 use Rattle.gl_base.specs.declared.numbers.MachineNo.{MachineNo}
 use Rattle.gl_base.specs.declared.numbers.Vertex.{Vertex}
 use Rattle.gl_base.specs.declared.refusals.Refused.{Refused}
 use Rattle.gl_base.specs.declared.scopes.Claim.{Claim}
 use Rattle.gl_base.specs.declared.scopes.ScopeId.{ScopeId}
-use Rattle.cluster_core.specs.Effects.{admitted, admitted_by, asks_for, first_granted, goes_away, goes_on, granted, in_flight, moves_on, next_scope, posts, sets_out, takes_lock}
+use Rattle.cluster_core.specs.Effects.{admitted_by, asks_for, first_granted, goes_away, goes_on, in_flight, moves_on, next_scope, posts, sets_out, takes_lock}
 use Rattle.cluster_core.specs.Messages.{Ask, Ready}
 use Rattle.cluster_core.specs.Parts.{Part, Stand}
 use Rattle.cluster_core.specs.Scopes.{machines_from, own_from, set_for}
@@ -20,11 +18,11 @@ use Rattle.cluster_ending.proofs.Courses.{setting_same}
 use Rattle.cluster_model.specs.Events as law
 use Rattle.cluster_model.specs.Working.{admits, grants, prompt}
 use Rattle.cluster_records.specs.LineOfFour.{after_events}
-use Rattle.cluster_whole.specs.Whole.{IsNoRecovery, setting_behind}
+use Rattle.cluster_whole.specs.Whole.{setting_behind}
 use Rattle.snap_clusters.specs.AtOnce.{CanNotTakePlaceAtOnce, CanTakePlaceAtOnce, IsMadeAtOnce, TakesPlaceAtOnce, events_at_once, own_vertices}
 use Rattle.snap_clusters.specs.Clusters.{StandsForSameSaving}
-use Rattle.call_courses.specs.AtOnce.{CanHappenAtOnceInCall, CanNotHappenAtOnceInCall, HappensAtOnceInCall, HasHappenedAtOnce}
-use Rattle.call_courses.specs.Courses.{ArePassing, CallOpening, Cluster, CourseGoesOn, CourseView, HasCourse, InEachCourse, IsCourseNow, IsPassing, IsSavingClusterOf, Machine, Parts, Setting, as_since, first_cluster, first_setting, newest_setting}
+use Rattle.call_courses.specs.AtOnce.{CanHappenAtOnceInCall, CanNotHappenAtOnceInCall, HappensAtOnceInCall}
+use Rattle.call_courses.specs.Courses.{ArePassing, CallOpening, Cluster, CourseGoesOn, CourseView, HasCourse, InEachCourse, IsCourseNow, IsSavingClusterOf, Machine, Parts, Setting, as_since, first_cluster, first_setting, newest_setting}
 use Rattle.call_courses.specs.Events.{StaysThere}
 use Rattle.call_courses.proofs.Going.{behind_append, ends_at, going_still, setting_now, since_back, stays}
 use Rattle.whole_calls.specs.Following.{FollowJob, has_reached, reaches}

@@ -1,9 +1,9 @@
 //! Events that happen, or may not happen now.
-ghost use Rattle.std.specs.Prelude.{◌≡◌, length};
+ghost use Rattle.std.specs.Prelude.{◌<◌, ◌≡◌, length};
 ghost use Rattle.call_rounds.specs.Pauses.{GoesOnBy, IsSameAttempt, NamesItsMachines};
 
 use call_courses::{Course, Event, SavingMachine};
-use gl_base::{NoMemory, Refused};
+use gl_base::{MachineNo, NoMemory, Refused};
 
 /// Makes the event, and says whether it happened.
 pub(crate) fn happens<M: SavingMachine>(
@@ -16,6 +16,21 @@ pub(crate) fn happens<M: SavingMachine>(
 {
     match course.apply(event) {
         Ok(()) => Ok(true),
+        Err(Refused::NotNow) => Ok(false),
+        Err(Refused::NoMemory) => Err(NoMemory),
+    }
+}
+
+/// Makes an update at once at the machine, and says whether one was made.
+pub(crate) fn is_made_at_once<M: SavingMachine>(
+    course: &mut Course<M>,
+    at: MachineNo,
+) -> Result<bool, NoMemory>
+    requires { at.0 < length course.old.now.machines.items }
+    ensures { IsSameAttempt course.old course.new }
+{
+    match course.update_at_once(at) {
+        Ok(_) => Ok(true),
         Err(Refused::NotNow) => Ok(false),
         Err(Refused::NoMemory) => Err(NoMemory),
     }

@@ -2,12 +2,12 @@
 ghost use Rattle.std.specs.Prelude.{◌≡◌, ◌^◌, ◌<◌, length};
 ghost use Rattle.call_rounds.specs.Pauses.{IsSameAttempt};
 
-use crate::happenings::{exhaust, happens};
+use crate::happenings::{exhaust, happens, is_made_at_once};
 use call_courses::{Course, Due, Event, Lead, Local, Passage, SavingMachine};
 use gl_base::{MachineNo, NoMemory};
 
-/// How many scopes a machine admits in one turn.
-const SCOPES_IN_A_TURN: u32 = 16;
+/// How many tasks a machine takes up in one turn.
+const TASKS_IN_A_TURN: u32 = 16;
 
 /// Each machine has its turn, and then the coordinator: a snapshot begins where one is due, and where nothing else moved a wave is put out
 /// where one is due. Says whether anything moved.
@@ -51,20 +51,35 @@ fn turn<M: SavingMachine>(course: &mut Course<M>, at: MachineNo) -> Result<bool,
     Ok(worked || told || led)
 }
 
-/// What has come is settled, and then one scope after another is admitted and goes as far as it may. Says whether anything moved.
+/// What has come is settled; then one task after another is taken up. Says whether anything moved.
 fn work<M: SavingMachine>(course: &mut Course<M>, at: MachineNo) -> Result<bool, NoMemory>
     requires { at.0 < length course.old.now.machines.items }
     ensures { IsSameAttempt course.old course.new }
 {
     let mut moved = settle(course, at)?;
-    for _ in 0..SCOPES_IN_A_TURN {
-        if !happens(course, Event::Local(Local::Admit(at)))? {
+    for _ in 0..TASKS_IN_A_TURN {
+        if !take_up(course, at)? {
             return Ok(moved);
         }
         moved = true;
-        settle(course, at)?;
     }
     Ok(moved)
+}
+
+/// A vertex is updated at once, or where the machine's pick may not be a scope is admitted and goes as far as it may. Says whether there was
+/// one.
+fn take_up<M: SavingMachine>(course: &mut Course<M>, at: MachineNo) -> Result<bool, NoMemory>
+    requires { at.0 < length course.old.now.machines.items }
+    ensures { IsSameAttempt course.old course.new }
+{
+    if is_made_at_once(course, at)? {
+        return Ok(true);
+    }
+    if !happens(course, Event::Local(Local::Admit(at)))? {
+        return Ok(false);
+    }
+    settle(course, at)?;
+    Ok(true)
 }
 
 /// Locks are granted and updates made at the machine until there are none. Says whether there was one.
@@ -73,7 +88,7 @@ fn settle<M: SavingMachine>(course: &mut Course<M>, at: MachineNo) -> Result<boo
     ensures { IsSameAttempt course.old course.new }
 {
     for times in 0..u64::MAX {
-        if !take_up(course, at)? {
+        if !goes_on(course, at)? {
             return Ok(times > 0);
         }
     }
@@ -82,7 +97,7 @@ fn settle<M: SavingMachine>(course: &mut Course<M>, at: MachineNo) -> Result<boo
 
 /// A lock is granted at the machine, or else an update made, or else a snapshot update, or else its section is put out. Says whether there
 /// was one.
-fn take_up<M: SavingMachine>(course: &mut Course<M>, at: MachineNo) -> Result<bool, NoMemory>
+fn goes_on<M: SavingMachine>(course: &mut Course<M>, at: MachineNo) -> Result<bool, NoMemory>
     requires { at.0 < length course.old.now.machines.items }
     ensures { IsSameAttempt course.old course.new }
 {

@@ -1,5 +1,5 @@
 //! The machines of a cluster that takes snapshots, their links, the coordinator, and the tickets.
-ghost use Rattle.std.specs.Prelude.{◌≡◌, ◌+◌, ◌^◌, ◌<◌, ◌≤◌, ◌⊎◌, true, false, length, replicate, slice_index_or, IfOk, IfSome, IfNone, IsErrOf, IsTrue, OnOk};
+ghost use Rattle.std.specs.Prelude.{◌≡◌, ◌+◌, ◌-◌, ◌^◌, ◌<◌, ◌≤◌, ◌⊎◌, true, false, length, replicate, slice_index_or, IfOk, IfSome, IfNone, IsErrOf, IsTrue, OnOk};
 ghost use Rattle.cluster_core.specs.Recovering.{going_on};
 ghost use Rattle.cluster_model.specs.Events.{recovers};
 ghost use Rattle.cluster_step.specs.Inner.Writing.{HasLinkBetween};
@@ -273,8 +273,7 @@ impl<M: SavingMachine> Parts<M> {
         }
         match self.machines[scope.home.0 as usize].update(scope, self.next) {
             Ok(()) => {
-                self.next += 1;
-                self.left -= 1;
+                self.draw();
                 Ok(())
             }
             Err(refused) => Err(refused),
@@ -294,12 +293,21 @@ impl<M: SavingMachine> Parts<M> {
         }
         match self.machines[at.0 as usize].update_at_once(self.next) {
             Ok(vertex) => {
-                self.next += 1;
-                self.left -= 1;
+                self.draw();
                 Ok(vertex)
             }
             Err(refused) => Err(refused),
         }
+    }
+
+    /// The next ticket is drawn.
+    fn draw(&mut self)
+        requires some { 0 < self.old.left }
+        requires few { self.old.next + self.old.left < 2 ^ 64 }
+        ensures { self.new ≡ record self.old { next = self.old.next + 1; left = self.old.left - 1 } }
+    {
+        self.next += 1;
+        self.left -= 1;
     }
 
     /// The first message that waits at the one machine for the other goes onto the link.

@@ -1,5 +1,5 @@
 -- What the cluster makes at once is so of each course.
-use Rattle.std.proofs.Common.{◌≡◌, false, refl, sym, ◌∙◌, inl}
+use Rattle.std.proofs.Common.{◌≡◌, false, refl, sym, ◌∙◌}
 use Rattle.call_courses.specs.Courses.{InEachCourse}
 use Rattle.call_courses.proofs.AtOnceGoing.{can_at_once, cannot_at_once, kept_at_once, made_at_once, unchanged_at_once}
 use Rattle.call_courses.proofs.Going.{attempt_seen}

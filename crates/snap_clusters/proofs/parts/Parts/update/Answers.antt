@@ -1,6 +1,9 @@
 -- The call of the machine is the event of the cluster, and draws the next ticket.
-use Rattle.std.proofs.Common.{◌≢◌, ◌<◌, ℕ, arith, ap, refl}
-use Rattle.std.specs.Prelude.{Err}
+use Rattle.std.proofs.Common.{◌≢◌, ◌<◌, ℕ, arith, ap, refl, subst, sym}
+use Rattle.std.specs.Prelude.{Err, Ok}
+use Rattle.snap_clusters.specs.Events.{AnswersEvent}
+use Rattle.snap_clusters.specs.declared.events.Event.TheVariants as event
+use Rattle.snap_clusters.specs.declared.events.Local.TheVariants as local
 use Rattle.snap_clusters.proofs.Answering.{update_answers, update_refused, update_spent}
 use Rattle.snap_clusters.proofs.parts.Parts.update.Goals as goal
 
@@ -12,8 +15,9 @@ returns-then-self-eq0 g c = update_spent g.M.SavingMachine.stands c.args.self.no
 
 pub returns-in-Ok : goal.returns-in-Ok
 returns-in-Ok g c =
-    update_answers g.M.SavingMachine.stands c.args.self.now c.requires.runs c.args.scope.home.0 c.requires.within c.requires.awake c.index_mut.result.now c.index_mut.ensures.value
-    c.args.scope refl c.update.new.self (some c.if-self-eq0.false) c.in-Ok.ensures.updated
+    subst (λ p. AnswersEvent g.M.SavingMachine.stands c.args.self.now (event.Local (local.Update c.args.scope)) (Ok tt) p) (sym c.draw.ensures)
+    (update_answers g.M.SavingMachine.stands c.args.self.now c.requires.runs c.args.scope.home.0 c.requires.within c.requires.awake c.index_mut.result.now c.index_mut.ensures.value
+    c.args.scope refl c.update.new.self (some c.if-self-eq0.false) c.in-Ok.ensures.updated)
 
 pub returns-in-Err : goal.returns-in-Err
 returns-in-Err g c =
