@@ -1,5 +1,5 @@
 //! The lines that say what happens.
-use crate::events::{both_happen, happens, has_machine};
+use crate::events::{both_happen, happens, happens_at_once, has_machine};
 use crate::fields::Fields;
 use crate::records::take_record;
 use crate::recovering::go_back;
@@ -21,6 +21,7 @@ pub fn act<P: Program>(
         "record" => take_record(alloc, scene)?,
         "recover" => go_back(alloc, scene, given(alloc, fields)?)?,
         "call" | "report" | "pass" => comes(scene, fields)?,
+        "at-once" => happens_at_once(&mut scene.whole, fields.machine(0)?)?,
         _ => match event_of(scene, fields)? {
             Some(event) => happens(&mut scene.whole, event)?,
             None => false,

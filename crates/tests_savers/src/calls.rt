@@ -141,12 +141,16 @@ fn has_machine<P: Program>(course: &InCourse<P>, at: MachineNo) -> bool
     (at.0 as usize) < course.machines()
 }
 
-/// The machine fails, where it has reached the count of a failure; and no other may. Tells whether it has failed.
+/// The machine fails, where it has reached the count of a failure, which makes no update any more; and no other may. Tells whether it has
+/// failed.
 fn fails<P: Program>(course: &mut InCourse<P>, at: MachineNo) -> Result<bool, Trouble> {
     if !has_machine(course, at) {
         return Err(Trouble::Malformed("no such machine"));
     }
     let reached = course.has_reached(at);
+    if reached && course.update_at_once(at).is_ok() {
+        return Err(Trouble::Differs("an update behind the count of a failure"));
+    }
     if course.apply(Event::Local(Local::Fail(at))).is_ok() != reached {
         return Err(Trouble::Differs("a machine fails at another time"));
     }

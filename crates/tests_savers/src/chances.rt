@@ -4,7 +4,7 @@ ghost use Rattle.std.specs.Prelude.{◌<◌};
 use crate::acts::ready;
 use crate::answers::is_answer;
 use crate::driving::{drive, next_grant};
-use crate::events::happens;
+use crate::events::{happens, happens_at_once};
 use crate::records::take_record;
 use crate::recovering::go_back;
 use crate::scenes::Scene;
@@ -65,6 +65,10 @@ fn play_chances<P: Program>(
             0..=3 => take_record(alloc, scene)?,
             4..=6 => go_back(alloc, scene, None)?,
             7 if may_fail => some_failure(scene, &mut chances)?,
+            8..=10 => {
+                let at = some_machine(scene, &mut chances);
+                happens_at_once(&mut scene.whole, at)?
+            }
             _ => {
                 let event = some_event(scene, &mut chances)?;
                 happens(&mut scene.whole, event)?

@@ -20,6 +20,18 @@ pub fn happens<P: Program>(whole: &mut Whole<P>, event: Event) -> Result<bool, T
     }
 }
 
+/// A vertex of the machine is updated at once, or none is. Tells whether one was.
+pub fn happens_at_once<P: Program>(whole: &mut Whole<P>, at: MachineNo) -> Result<bool, Trouble> {
+    if !has_machine(whole, at) {
+        return Err(Trouble::Malformed("no such machine"));
+    }
+    match whole.update_at_once(at) {
+        Ok(_) => Ok(true),
+        Err(Refused::NotNow) => Ok(false),
+        Err(Refused::NoMemory) => Err(Trouble::NoMemory),
+    }
+}
+
 /// The one event happens, and then the other, or neither.
 pub fn both_happen<P: Program>(
     whole: &mut Whole<P>,
