@@ -177,38 +177,40 @@ fn play_turn<R: Wait>(
         return compare(alloc, scene, &left, &turns.wants, differences);
     }
     let Left { files, .. } = left;
-    let step = Step::new(alloc, Vec::new(alloc), Vec::new(alloc));
-    play_behind(
-        rt,
-        alloc,
-        &step,
-        scene.names,
-        scene.disks,
-        &files,
-        turns,
-        differences,
-    )
+    play_behind(rt, alloc, scene, &files, turns, differences)
 }
 
 /// Makes the call behind a call that failed, over the files that this left.
-fn play_behind<'a, R: Wait>(
+fn play_behind<R: Wait>(
+    rt: &R,
+    alloc: Global,
+    scene: &Scene<'_>,
+    files: &MemFiles,
+    turns: &Turns<'_>,
+    differences: &mut Vec<String>,
+) -> Result<(), AllocError> {
+    let step = Step::new(alloc, Vec::new(alloc), Vec::new(alloc));
+    play_over(rt, alloc, &step, scene, files, turns, differences)
+}
+
+/// Makes it in a step of its own.
+fn play_over<'a, R: Wait>(
     rt: &R,
     alloc: Global,
     step: &'a Step<'a>,
-    names: &'a [&'a str],
-    disks: &'a [&'a str],
+    scene: &'a Scene<'a>,
     files: &'a MemFiles,
     turns: &Turns<'_>,
     differences: &mut Vec<String>,
 ) -> Result<(), AllocError> {
-    let scene = Scene {
+    let after = Scene {
         step,
-        names,
-        disks,
+        names: scene.names,
+        disks: scene.disks,
         files,
     };
-    let left = make_call(rt, alloc, &scene, &turns.then, None)?;
-    compare(alloc, &scene, &left, &turns.wants, differences)
+    let left = make_call(rt, alloc, &after, &turns.then, None)?;
+    compare(alloc, &after, &left, &turns.wants, differences)
 }
 
 /// Makes a call, where one more call may fail.
