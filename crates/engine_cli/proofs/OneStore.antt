@@ -1,5 +1,5 @@
 -- A valid job on a store that is sound, over valid texts, has no fault.
-use Rattle.std.proofs.Common.{◌≡◌, ℕ, ◌+◌, ◌<◌, ◌≤◌, ◌^◌, Bool, false, IsTrue, is_some, List, length, Option, None, Some, IfSome, Result, Ok, Err, refl, sym, ap, ◌∙◌, subst, arith, ⊎_elim}
+use Rattle.std.proofs.Common.{◌≡◌, ℕ, ◌+◌, ◌≤◌, ◌^◌, Bool, false, IsTrue, is_some, List, length, Option, None, Some, IfSome, Ok, Err, refl, sym, ap, ◌∙◌, subst, arith, ⊎_elim}
 use Rattle.gl_base.specs.declared.numbers.Vertex.{Vertex}
 use Rattle.gl_outside.specs.Disk.{DiskPast}
 use Rattle.gl_outside.specs.FilesState.{FilesState}
@@ -10,11 +10,9 @@ use Rattle.job_files.specs.JobTexts.{DescribeJobGraph, OfTexts}
 use Rattle.job_files.specs.declared.jobs.JobVerb.{JobVerb}
 use Rattle.job_stores.specs.JobHeaders.{header_for}
 use Rattle.job_stores.specs.NewStores.{IfDisksTold}
-use Rattle.store_format.specs.Stores.{read_store}
 use Rattle.store_format.specs.declared.faults.StoreFault.{StoreFault}
 use Rattle.stored_answers.specs.declared.runs.StoredEnd.{StoredEnd}
 use Rattle.stored_answers.specs.declared.runs.StoredEnd.TheVariants as end
-use Rattle.stored_calls.specs.Runs.{HasRoomFor}
 use Rattle.engine_cli.specs.declared.status.Status.{Status}
 use Rattle.engine_cli.specs.declared.status.Status.TheVariants.{Done, Usage, BadJob, BadGraph, BadAtoms, ReadFault, WriteFault, DiskFault, BadStore, BudgetSpent, SnapshotsFull, NoMemory}
 use Rattle.engine_cli.specs.JobRuns.{CallLists, GoesOnFrom, MakesRun, RunsOnStore, RunsSo, is_resumed, records_size, shared_by, snapshots_on}

@@ -1,6 +1,6 @@
 -- What each status of a run says: of the job's file and the texts, of the counts of faults, of the store, of the order's file, and of
 -- what `out` gained.
-use Rattle.std.specs.Prelude.{◌≡◌, ◌⊎◌, ℕ, Bool, IsTrue, false, is_some, length, List, [], Option, None, Some, Ok, IfSome, take}
+use Rattle.std.specs.Prelude.{◌≡◌, ◌⊎◌, ℕ, Bool, IsTrue, false, is_some, length, List, Option, None, Some, Ok, IfSome, take}
 use Rattle.std.specs.Io.KnownBytes.{Appends}
 use Rattle.gl_outside.specs.Disk.{DiskPast}
 use Rattle.gl_outside.specs.Faults.{Rose}
