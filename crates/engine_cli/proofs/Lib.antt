@@ -19,3 +19,4 @@ pub mod NothingDone
 pub mod Bounds
 pub mod EntriesInside
 pub mod OneGraph
+pub mod OneStore

@@ -1,10 +1,10 @@
 -- A valid job over valid texts has no fault.
-use Rattle.std.proofs.Common.{◌≡◌, ℕ, ◌<◌, ◌≤◌, Bool, false, IsTrue, is_some, List, [], ◌∷◌, ◌++◌, length, get_or, Option, None, Some, IfSome, Result, Ok, Err, sym, ◌∙◌, subst, arith, ⊎_elim}
+use Rattle.std.proofs.Common.{◌≡◌, ℕ, ◌<◌, ◌≤◌, ◌+◌, ◌*◌, Bool, false, IsTrue, is_some, List, [], ◌∷◌, ◌++◌, length, get_or, Option, None, Some, IfSome, Result, Ok, Err, refl, sym, ◌∙◌, subst, arith, ⊎_elim}
 use Rattle.gl_base.specs.declared.entries.Entry.{Entry}
 use Rattle.gl_base.specs.declared.entries.Entry.TheVariants.{Go}
 use Rattle.gl_base.specs.declared.jobs.FailureAt.{FailureAt}
 use Rattle.gl_base.specs.declared.numbers.Vertex.{Vertex}
-use Rattle.graph_core.specs.DataGraph.{DataGraph, IsDataGraph}
+use Rattle.graph_core.specs.DataGraph.{DataGraph}
 use Rattle.seq_run.specs.Orders.{IsFinished, IsValidOrder}
 use Rattle.std.specs.List.Sorted.{IsPermutation}
 use Rattle.gl_base.specs.declared.job_faults.JobFault.{JobFault}
@@ -26,7 +26,7 @@ use Rattle.engine_cli.specs.declared.status.Status.TheVariants.{Done, Usage, Bad
 use Rattle.engine_cli.specs.Status.{IsDoneOrNoMemory}
 use Rattle.job_files.specs.JobTexts.{LacksSource, RefusesEdges, is_weighted, OfJob, OfSaid, OfTexts, RefusesSource, RefusesTexts, DescribeJobGraph, RefusesJob}
 use Rattle.engine_cli.specs.Answer.{IsValid}
-use Rattle.engine_cli.specs.JobRuns.{CallLists, IsEndAlone, MakesRun, RunsAlone, RunsSo, RunsWithoutStore, is_resumed, left_at}
+use Rattle.engine_cli.specs.JobRuns.{CallLists, HasEnough, IsEndAlone, MakesRun, RunsSo, RunsWithoutStore, is_resumed, left_at}
 use Rattle.engine_cli.specs.JobStores.{IsOtherStore, RefusesStore}
 use Rattle.engine_cli.specs.Plays.{IsSpent, update_of}
 use Rattle.gl_outside.specs.Disk.{DiskPast}
@@ -36,7 +36,8 @@ use Rattle.std.specs.Prelude.{MatchOption}
 use Rattle.stored_answers.specs.declared.runs.StoredEnd.{StoredEnd}
 use Rattle.stored_answers.specs.declared.runs.StoredEnd.TheVariants as end
 use Rattle.stored_answers.specs.declared.runs.StoredEnd.TheVariants.{Spent}
-use Rattle.engine_cli.specs.Says.{IsSound, Moment, Refuses, Says, SaysOfRun}
+use Rattle.update_api.specs.Updates.{Update}
+use Rattle.engine_cli.specs.Says.{HasSoundAtoms, IsSound, Moment, Refuses, Says, SaysOfRun}
 use Rattle.whole_files.specs.FilesUsed.{OfRead}
 use Rattle.whole_files.proofs.TextsRead.{OfRead-bytes}
 use Rattle.engine_cli.proofs.Bounds.{bound-of, one-more, since-one-more}
@@ -130,13 +131,12 @@ no_bad_graph asked files file fault input says =
     (of_job asked files file (RefusesTexts files fault) input says)
 
 -- nor its atoms, where they have no fault
-no_bad_atoms : (asked : JobVerb) (file : List ℕ) (before now : Moment) (fault : AtomsFault) → IsSound asked file before now → OfJob asked before.files file (RefusesAtoms before.files fault) → ⊥
-no_bad_atoms asked file before now fault sound says =
-    let input = sound.input in
-    let files : FilesState = before.files in
+pub no_bad_atoms : (asked : JobVerb) (files : FilesState) (file : List ℕ) (fault : AtomsFault) → (input : IsReadable asked files file) → HasSoundAtoms files input.job.fields input.vertices input.edges
+    → OfJob asked files file (RefusesAtoms files fault) → ⊥
+no_bad_atoms asked files file fault input atoms says =
     let at = of_job asked files file (RefusesAtoms files fault) input says in
     let found = of_texts asked files file (OfGraph input.job.fields (λ g. FindsInAtoms files at.0 g (Some fault))) input at.2 in
-    let none = sound.atoms at.0 found.0 at.1 found.1 in
+    let none = atoms at.0 found.0 at.1 found.1 in
     let finds : atoms_fault found.0 (given_bytes files (index_name at.0)) (atom_files files at.0) ≡ Some fault = told files.sources.names none.0 _ found.3 in
     none_is_no_fault (sym none.1 ∙ finds)
   where
@@ -166,22 +166,34 @@ ends_alone told asked old new job lists ending vertices edges made none =
     go [] runs = runs.ended
     go (failure ∷ failures) runs = runs.ended
 
--- a budget of at least the step bound is not spent
+-- a budget of at least the step bound for each attempt is not spent
 unspent : (told : Bool) (asked : JobVerb) (old : FilesState) (new : List ℕ → DiskPast) (job : JobSayings) (lists : CallLists) (left : Vertex) (vertices edges : List ℕ)
-    → job.fields.store ≡ None → job.failures ≡ [] → ((g : DataGraph) → DescribeJobGraph job.fields vertices edges g → step_bound g job.fields.algorithm ≤ job.fields.budget)
-    → MakesRun told asked old new job lists (Spent left) vertices edges → ⊥
-unspent told asked old new job lists left vertices edges none fails enough made =
-    let g = made.graph in
-    let p = update_of job.fields.algorithm job.fields.source in
-    let order = made.run.order.items in
-    let was : RunsAlone job.fields g made.run = subst (RunsWithoutStore job g made.run) fails (without told asked old new job lists (Spent left) vertices edges made none) in
-    let is : IsDataGraph g = made.graph_is.graph.graph in
-    let ends : StoredEnd → Type 0 = λ e. MatchOption (left_at e) (IsFinished g p order) (IsSpent g p job.fields.budget order) in
-    let spent : IsSpent g p job.fields.budget order left = subst ends made.ended was.runs.ended in
-    let next : Entry = Go (record { 0 = 0 }) left 0 in
-    let longer : IsValidOrder g p (order ++ next ∷ []) = one-more g p order left was.runs.play.valid spent.task in
-    let few = bound-of job.fields.algorithm job.fields.source g (order ++ next ∷ []) is made.start longer in
-    omega (arith, few, spent.spent, enough g made.graph_is, since-one-more order left was.runs.play.tickets)
+    → job.fields.store ≡ None → ((g : DataGraph) → DescribeJobGraph job.fields vertices edges g → HasEnough job g) → MakesRun told asked old new job lists (Spent left) vertices edges → ⊥
+unspent told asked old new job lists left vertices edges none enough made =
+    go job.failures refl (without told asked old new job lists (Spent left) vertices edges made none)
+  where
+    g : DataGraph
+    g = made.graph
+
+    p : Update
+    p = update_of job.fields.algorithm job.fields.source
+
+    order : List Entry
+    order = made.run.order.items
+
+    next : Entry
+    next = Go (record { 0 = 0 }) left 0
+
+    go : (failures : List FailureAt) → job.failures ≡ failures → RunsWithoutStore job g made.run failures → ⊥
+    go [] none was =
+        let ends : StoredEnd → Type 0 = λ e. MatchOption (left_at e) (IsFinished g p order) (IsSpent g p job.fields.budget order) in
+        let spent : IsSpent g p job.fields.budget order left = subst ends made.ended was.runs.ended in
+        let longer : IsValidOrder g p (order ++ next ∷ []) = one-more g p order left was.runs.play.valid spent.task in
+        let few = bound-of job.fields.algorithm job.fields.source g (order ++ next ∷ []) made.graph_is.graph.graph made.start longer in
+        let alone : (1 + 0) * step_bound g job.fields.algorithm ≤ job.fields.budget =
+        subst (λ (fs : List FailureAt). (1 + length fs) * step_bound g job.fields.algorithm ≤ job.fields.budget) none (enough g made.graph_is) in
+        omega (arith, few, spent.spent, alone, since-one-more order left was.runs.play.tickets)
+    go (failure ∷ failures) some was = (was.goes was.placed.0 was.placed.1).enough (enough g made.graph_is) left made.ended
 
 -- a job that names no store names none
 no_store : (name : List ℕ) (store : Option (List ℕ)) → store ≡ None → store ≡ Some name → ⊥
@@ -219,7 +231,7 @@ run_is_done told asked file report before now tells lists (BudgetSpent left) say
     let old : FilesState = before.files in
     let new : List ℕ → DiskPast = now.files.pasts in
     let made = of_said asked old file (λ job. HasAtoms old job.fields × OfTexts old job.fields (MakesRun told asked old new job lists (Spent left))) input says in
-    unspent told asked old new input.job lists left input.vertices input.edges sound.alone sound.none_fails sound.enough (of_texts asked old file (MakesRun told asked old new input.job lists (Spent left)) input made.1)
+    unspent told asked old new input.job lists left input.vertices input.edges sound.alone sound.enough (of_texts asked old file (MakesRun told asked old new input.job lists (Spent left)) input made.1)
 run_is_done told asked file report before now tells lists (SnapshotsFull stored length) says sound =
     let input = sound.input in
     let old : FilesState = before.files in
@@ -236,7 +248,7 @@ not_refused told asked file before now Done says sound = tt
 not_refused told asked file before now (Usage fault) says sound = says
 not_refused told asked file before now (BadJob fault) says sound = no_bad_job asked before.files file fault sound.input says
 not_refused told asked file before now (BadGraph fault) says sound = no_bad_graph asked before.files file fault sound.input says
-not_refused told asked file before now (BadAtoms fault) says sound = no_bad_atoms asked file before now fault sound says
+not_refused told asked file before now (BadAtoms fault) says sound = no_bad_atoms asked before.files file fault sound.input sound.atoms says
 not_refused told asked file before now ReadFault says sound = sound.no_read_fault says
 not_refused told asked file before now WriteFault says sound = says
 not_refused told asked file before now DiskFault says sound =

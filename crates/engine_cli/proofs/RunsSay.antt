@@ -39,6 +39,7 @@ use Rattle.job_files.proofs.InputsRead.{of-graph}
 use Rattle.job_stores.specs.NewStores.{IfDisksTold}
 use Rattle.engine_cli.proofs.NamesHanded.{hands-no-name, hands-written-names}
 use Rattle.engine_cli.proofs.OneGraph.{sound_is_done}
+use Rattle.engine_cli.proofs.OneStore.{sound_on_store_is_done}
 use Rattle.engine_cli.proofs.Preparing.{same-images}
 
 -- ---- the run that was made
@@ -252,6 +253,7 @@ ends-early told asked file report before now tells lists status says ran early r
     record {
       says = says;
       complete = λ sound. sound_is_done told asked file report before now tells lists status says sound;
+      complete_on_store = λ sound. sound_on_store_is_done told asked file before now sound report tells lists status says;
       sources = ran.handed;
       refused = refused;
       sinks = hands-no-name asked before.files now.files file (ap (λ (s : FilesState). s.sinks.names) ran.frame);
@@ -297,6 +299,7 @@ ends-late told asked file report before mid now tells job lists status of_run sa
     record {
       says = says;
       complete = λ sound. sound_is_done told asked file report before now tells lists status says sound;
+      complete_on_store = λ sound. sound_on_store_is_done told asked file before now sound report tells lists status says;
       sources = subst Handed (sym sources) ran.handed;
       refused = λ refused. absurd (not_refused refused);
       sinks = hands-written-names asked before.files now.files file job says_job
@@ -318,6 +321,7 @@ run-retold told asked file report before now tells retells lists status same run
     record {
       says = ⊎_elim (λ made. inl (run-told told asked file report before now tells retells lists status same made)) (λ refused. inr refused) run.says;
       complete = run.complete;
+      complete_on_store = run.complete_on_store;
       sources = run.sources;
       refused = run.refused;
       sinks = run.sinks;

@@ -10,6 +10,7 @@ use Rattle.job_files.specs.JobTexts.{HasStart}
 use Rattle.job_stores.specs.JobHeaders.{header_for}
 use Rattle.job_stores.specs.declared.making.NoStore.{NoStore}
 use Rattle.job_stores.specs.declared.making.NoStore.TheVariants as no_store
+use Rattle.seq_run.specs.StepBound.{step_bound}
 use Rattle.snap_journal.specs.Answers.{IsWhyNotOpened}
 use Rattle.snap_journal.specs.declared.faults.JournalFault.{JournalFault}
 use Rattle.snap_journal.specs.declared.faults.JournalFault.TheVariants as journal
@@ -27,6 +28,7 @@ use Rattle.engine_cli.specs.Inner.Storing.{IsKept, IsNotGood, IsRunFrom, IsWhyNo
 use Rattle.engine_cli.specs.JobRuns.{AreGoodImages, GoesOnFrom, KeepsStore, RunsOnStore, records_size, shared_by, snapshots_on}
 use Rattle.engine_cli.specs.JobStores.{IsOtherStore, KeepsGoing, KeepsImages}
 use Rattle.engine_cli.specs.Plays.{AreResults, update_of}
+use Rattle.engine_cli.proofs.Bounds.{bound-of}
 use Rattle.engine_cli.proofs.DisksLeft.{leaves-more, leaves-twice}
 use Rattle.engine_cli.proofs.Results.{results-of}
 
@@ -111,6 +113,8 @@ module _ (job : JobSayings) (g : DataGraph) (old mid new : DiskPast) (bodies : L
               is = went.1;
               keeps = keeps-store shared front went.0 good went.2;
               results = stored-results job g owner _ _ resumed went.0 run is start went.1;
+              enough = from.enough owner placed found.2 (step_bound g job.fields.algorithm) (λ order valid. bound-of job.fields.algorithm job.fields.source g order is start valid);
+              roomy = from.roomy owner placed found.2;
             });
         full = from.full;
       }

@@ -1,8 +1,9 @@
 -- What the run of a program on an opened store says of the job.
-use Rattle.std.proofs.Common.{◌≡◌, ◌≤◌, ◌^◌, inl, inr, ℕ, ◌+◌, Bool, false, List, length, Result, Ok, Err, refl, sym, ◌∙◌, subst, ⊎_elim}
+use Rattle.std.proofs.Common.{◌≡◌, ◌≤◌, ◌^◌, inl, inr, ℕ, ◌+◌, ◌*◌, Bool, false, List, length, Result, Ok, Err, refl, sym, ◌∙◌, subst, ⊎_elim}
 use Rattle.std.specs.Prelude.{All, IfErr, IfOk}
 use Rattle.gl_base.specs.declared.entries.Entry.{Entry}
 use Rattle.gl_base.specs.declared.jobs.FailureAt.{FailureAt}
+use Rattle.gl_base.specs.declared.numbers.Vertex.{Vertex}
 use Rattle.gl_outside.specs.Disk.{DiskPast}
 use Rattle.gl_outside.specs.Faults.{Rose}
 use Rattle.graph_core.specs.DataGraph.{DataGraph, size}
@@ -26,6 +27,7 @@ use Rattle.stored_calls.specs.Runs.{IsWhyNoRun, owned_shared}
 use Rattle.update_api.specs.Updates.{Update}
 use Rattle.engine_cli.specs.Inner.Prepares.{IsPrintable}
 use Rattle.engine_cli.specs.Inner.Storing.{IsKept, IsNotGood, IsRunFrom, IsWhyNotStored, shared_with}
+use Rattle.engine_cli.specs.JobRuns.{BoundsSteps, HasRoomFor, plan_for}
 
 pub IfOk-map : {T E : Type 0} (r : Result T E) (P Q : T → Type 0) → ((x : T) → P x → Q x) → IfOk r P → IfOk r Q
 IfOk-map (Ok x) P Q step p = step x p
@@ -34,6 +36,10 @@ IfOk-map (Err e) P Q step p = tt
 pub IfOk-two : {T E : Type 0} (r : Result T E) (P Q R : T → Type 0) → ((x : T) → P x → Q x → R x) → IfOk r P → IfOk r Q → IfOk r R
 IfOk-two (Ok x) P Q R step p q = step x p q
 IfOk-two (Err e) P Q R step p q = tt
+
+-- two facts of a value are one
+pub IfOk-both : {T E : Type 0} (r : Result T E) (P Q : T → Type 0) → IfOk r P → IfOk r Q → IfOk r (λ x. P x × Q x)
+IfOk-both r P Q p q = IfOk-two r P Q (λ x. P x × Q x) (λ x a b. (a, b)) p q
 
 pub IfErr-map : {T E : Type 0} (r : Result T E) (P Q : E → Type 0) → ((e : E) → P e → Q e) → IfErr r P → IfErr r Q
 IfErr-map (Ok x) P Q step p = tt
@@ -56,6 +62,20 @@ GoesBy g p window resumed count bodies old new run plan failures header =
     (owner : ℕ → ℕ) → IsPlacement g plan.atoms plan.machines owner → IsGoodStore (owned_shared g p owner failures) header bodies →
     (snapshots : List (List Entry)) × IsStoredRun (owned_shared g p owner failures) plan.machines window plan.budget count (stored_order bodies) resumed snapshots run
     × KeepsGood (owned_shared g p owner failures) header bodies snapshots old new
+
+-- that a graph is placed for it, that it does not spend a budget that is enough, and that it does not fill a store with room for it
+abbrev pub PlacedBy : DataGraph → RunPlan → List FailureAt → Header → Type 0
+PlacedBy g plan failures header = (owner : ℕ → ℕ) × IsPlacement g plan.atoms plan.machines owner
+
+abbrev pub EnoughBy : DataGraph → Update → List (List ℕ) → StoredRun → RunPlan → List FailureAt → Header → Type 0
+EnoughBy g p bodies run plan failures header =
+    (owner : ℕ → ℕ) → IsPlacement g plan.atoms plan.machines owner → IsGoodStore (owned_shared g p owner failures) header bodies →
+    (bound : ℕ) → BoundsSteps g p bound → (1 + length failures) * bound ≤ plan.budget → (left : Vertex) → run.end ≡ end.Spent left → ⊥
+
+abbrev pub RoomyBy : DataGraph → Update → ℕ → ℕ → ℕ → List (List ℕ) → StoredRun → RunPlan → List FailureAt → Header → Type 0
+RoomyBy g p window count long bodies run plan failures header =
+    (owner : ℕ → ℕ) → IsPlacement g plan.atoms plan.machines owner → IsGoodStore (owned_shared g p owner failures) header bodies →
+    HasRoomFor g (record { run = plan; window = window }) (length failures) count long → (stored bytes : ℕ) → run.end ≡ end.Full stored bytes → ⊥
 
 abbrev pub KeepsBy : DataGraph → Update → List (List ℕ) → DiskPast → DiskPast → RunPlan → List FailureAt → Header → Type 0
 KeepsBy g p bodies old new plan failures header =
@@ -103,9 +123,6 @@ fault-by journal before now how by is =
     let rose : EndsBy journal before now end.DiskFault = subst E is by in
     rose.1
 
-abbrev pub plan_for : JobSayings → RunPlan
-plan_for job = record { atoms = job.fields.atoms; machines = job.fields.machines; pipeline = job.fields.pipeline; budget = job.fields.budget }
-
 module _ (job : JobSayings) (g : DataGraph) (p : Update) (bodies : List (List ℕ)) (old new : DiskPast) (plan : RunPlan) (failures : List FailureAt) (header after : Header)
     (header_is : header ≡ header_for job.fields g) (still : after ≡ header) (plan_is : plan ≡ plan_for job) (failures_are : failures ≡ job.failures) where
   -- the same of the job
@@ -115,10 +132,15 @@ module _ (job : JobSayings) (g : DataGraph) (p : Update) (bodies : List (List �
       let B : List FailureAt → Type 0 = λ fs. F (plan_for job) fs header in
       subst (F (plan_for job) job.failures) header_is (subst B failures_are (subst A plan_is f))
 
-  pub run-from : (window : ℕ) (resumed : Bool) (count : ℕ) (run : StoredRun) → GoesBy g p window resumed count bodies old new run plan failures header → FullBy after new run.end
+  pub run-from : (window : ℕ) (resumed : Bool) (count long : ℕ) (run : StoredRun) → long ≡ 65 + records_size bodies → GoesBy g p window resumed count bodies old new run plan failures header
+      → PlacedBy g plan failures header → EnoughBy g p bodies run plan failures header → RoomyBy g p window count long bodies run plan failures header → FullBy after new run.end
       → IsRunFrom job g p window resumed count bodies old new run
-  run-from window resumed count run goes full = record {
+  run-from window resumed count long run long_is goes placed enough roomy full = record {
     goes_on = of-job (GoesBy g p window resumed count bodies old new run) goes;
+    placed = of-job (PlacedBy g) placed;
+    enough = of-job (EnoughBy g p bodies run) enough;
+    roomy = of-job (RoomyBy g p window count (65 + records_size bodies) bodies run)
+        (subst (λ (l : ℕ). RoomyBy g p window count l bodies run plan failures header) long_is roomy);
     full = subst (λ (h : Header). FullBy h new run.end) (still ∙ header_is) full;
   }
 

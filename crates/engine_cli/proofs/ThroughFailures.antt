@@ -13,6 +13,7 @@ use Rattle.job_stores.specs.JobHeaders.{header_for}
 use Rattle.recovery.specs.Journals.{stored_order}
 use Rattle.recovery.proofs.Goodness.{none_good}
 use Rattle.seq_run.specs.Orders.{IsFinished}
+use Rattle.seq_run.specs.StepBound.{step_bound}
 use Rattle.stored_answers.specs.Ends.{RunEndsSo}
 use Rattle.stored_answers.specs.Images.{IsGoodStore}
 use Rattle.stored_answers.specs.declared.runs.StoredEnd.{StoredEnd}
@@ -21,8 +22,9 @@ use Rattle.stored_answers.specs.declared.runs.StoredRun.{StoredRun}
 use Rattle.engine_cli.specs.Inner.Failing.{IsRunWithoutSnapshots}
 use Rattle.engine_cli.specs.Inner.Prepares.{IsPrintable}
 use Rattle.engine_cli.specs.Inner.Storing.{IsRunFrom}
-use Rattle.engine_cli.specs.JobRuns.{BeginsAgain, IsEndAlone, IsRunWithFailures, IsStoredRun, RunsThroughFailures, lists_of, shared_by}
+use Rattle.engine_cli.specs.JobRuns.{BeginsAgain, HasEnough, IsEndAlone, IsRunWithFailures, IsStoredRun, RunsThroughFailures, lists_of, shared_by}
 use Rattle.engine_cli.specs.Plays.{AreResults, update_of}
+use Rattle.engine_cli.proofs.Bounds.{bound-of}
 use Rattle.engine_cli.proofs.Results.{results-of}
 
 module _ (job : JobSayings) (g : DataGraph) (owner : ℕ → ℕ) (window stored : ℕ) (snapshots : List (List Entry)) (was : StoredRun)
@@ -40,8 +42,9 @@ module _ (job : JobSayings) (g : DataGraph) (owner : ℕ → ℕ) (window stored
       go (end.Full stored bytes) ends alone = absurd alone
       go end.DiskFault ends alone = absurd alone
 
-  pub begins-again : IsDataGraph g → HasStart job.fields.algorithm job.fields.source g → IsEndAlone was.end → BeginsAgain job (shared_by job g owner) was
-  begins-again is start alone =
+  pub begins-again : IsDataGraph g → HasStart job.fields.algorithm job.fields.source g → IsEndAlone was.end → (HasEnough job g → (left : Vertex) → was.end ≡ end.Spent left → ⊥)
+      → BeginsAgain job (shared_by job g owner) was
+  begins-again is start alone enough =
       let none = answered alone in
       let finished : was.end ≡ end.Finished → IsFinished g (update_of job.fields.algorithm job.fields.source) was.order.items =
       λ same. let ends : ends-so end.Finished = subst ends-so same ran.ends in ends.finished in
@@ -54,6 +57,7 @@ module _ (job : JobSayings) (g : DataGraph) (owner : ℕ → ℕ) (window stored
         spent = λ left same.
             let ends : ends-so (end.Spent left) = subst ends-so same ran.ends in
             subst (λ (n : ℕ). SpendsRun (shared_by job g owner) job.fields.budget left.0 n (lists_of was)) none ends;
+        enough = enough;
       }
 
 -- a run from a store that has no snapshot
@@ -65,11 +69,14 @@ through-failures job g window count bodies old new was run is start none from al
     let again : R (record was { snapshots = run.snapshots }) = λ owner placed.
     let shared = shared_by job g owner in
     let G : List (List ℕ) → Type 0 = λ b. (snapshots : List (List Entry)) × IsStoredRun shared job.fields.machines window job.fields.budget count (stored_order b) false snapshots was in
-    let went = from.goes_on owner placed (subst (IsGoodStore shared (header_for job.fields g)) (sym none) (none_good shared (header_for job.fields g))) in
+    let good : IsGoodStore shared (header_for job.fields g) bodies = subst (IsGoodStore shared (header_for job.fields g)) (sym none) (none_good shared (header_for job.fields g)) in
+    let went = from.goes_on owner placed good in
     let ran : G [] = subst G none (went.0, went.1) in
-    let b = begins-again job g owner window count ran.0 was ran.1 is start alone.ended in
-    record { is = b.is; few = b.few; numbers_are = b.numbers_are; finished = b.finished; results = b.results; spent = b.spent } in
+    let enough = from.enough owner placed good (step_bound g job.fields.algorithm) (λ order valid. bound-of job.fields.algorithm job.fields.source g order is start valid) in
+    let b = begins-again job g owner window count ran.0 was ran.1 is start alone.ended enough in
+    record { is = b.is; few = b.few; numbers_are = b.numbers_are; finished = b.finished; results = b.results; spent = b.spent; enough = b.enough } in
     record {
+      placed = from.placed;
       goes = subst R (sym alone.is) again;
       ended = subst (λ (r : StoredRun). IsEndAlone r.end) (sym alone.is) alone.ended;
       snapshots = alone.none;

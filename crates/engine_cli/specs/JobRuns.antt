@@ -2,7 +2,8 @@
 pub use Rattle.recovery.specs.Journals.{records_size, stored_in, stored_order}
 pub use Rattle.stored_answers.specs.Images.{HoldsGood, orders_behind}
 pub use Rattle.stored_answers.specs.Runs.{IsRunWithFailures, IsStoredRun, Shared, lists_of}
-use Rattle.std.specs.Prelude.{◌≡◌, ◌≤◌, ◌+◌, ◌++◌, ◌∷◌, ℕ, Bool, true, false, List, [], length, sum_by, ⊤, Option, None, Some}
+pub use Rattle.stored_calls.specs.Runs.{BoundsSteps, HasRoomFor}
+use Rattle.std.specs.Prelude.{◌≡◌, ◌≤◌, ◌+◌, ◌*◌, ◌++◌, ◌∷◌, ℕ, Bool, true, false, List, [], length, sum_by, ⊤, Option, None, Some}
 use Rattle.gl_base.specs.declared.entries.Entry.{Entry}
 use Rattle.gl_base.specs.declared.jobs.FailureAt.{FailureAt}
 use Rattle.gl_base.specs.declared.numbers.Vertex.{Vertex}
@@ -16,15 +17,18 @@ use Rattle.job_files.specs.JobTexts.{DescribeJobGraph, HasStart}
 use Rattle.job_files.specs.declared.jobs.JobVerb.{JobVerb}
 use Rattle.job_files.specs.declared.jobs.JobVerb.TheVariants as verb
 use Rattle.job_runs.specs.Plays.{IsPlacement}
+use Rattle.job_runs.specs.declared.runs.RunPlan.{RunPlan}
 use Rattle.job_stores.specs.JobHeaders.{header_for}
 use Rattle.job_stores.specs.NewStores.{IfDisksTold}
 use Rattle.seq_run.specs.Orders.{IsFinished, replay}
 use Rattle.seq_run.specs.Runs.{AreNumbers}
+use Rattle.seq_run.specs.StepBound.{step_bound}
 use Rattle.store_format.specs.Stores.{StandsFor}
 use Rattle.store_format.specs.declared.header.Header.{Header}
 use Rattle.stored_answers.specs.declared.runs.SnapLine.{SnapLine}
 use Rattle.stored_answers.specs.declared.runs.StoredEnd.{StoredEnd}
 use Rattle.stored_answers.specs.declared.runs.StoredEnd.TheVariants.{DiskFault, Finished, Full, Spent}
+use Rattle.stored_answers.specs.declared.runs.StoredPlan.{StoredPlan}
 use Rattle.stored_answers.specs.declared.runs.StoredRun.{StoredRun}
 use Rattle.engine_cli.specs.declared.ended.Ended.{Ended}
 use Rattle.engine_cli.specs.Plays.{AreResults, CountsByMachine, RunsTo, update_of}
@@ -49,6 +53,24 @@ lists_of_run run = record { order = run.order.items; lost = run.lost.items; done
 
 abbrev pub lists_of_call : Ended → CallLists
 lists_of_call ended = record { order = ended.order.items; lost = ended.lost.items; done = ended.done.items; fired = ended.fired.items; snapshots = ended.snapshots.items }
+
+-- ---- what is enough for a run of a job
+
+-- the budget has as many updates as the algorithm may need on this graph, for the first attempt and for one behind each failure
+abbrev pub HasEnough : JobSayings → DataGraph → Type 0
+HasEnough job g = (1 + length job.failures) * step_bound g job.fields.algorithm ≤ job.fields.budget
+
+-- how the job is run
+abbrev pub plan_for : JobSayings → RunPlan
+plan_for job = record { atoms = job.fields.atoms; machines = job.fields.machines; pipeline = job.fields.pipeline; budget = job.fields.budget }
+
+-- and with this window
+abbrev pub plan_with : JobSayings → ℕ → StoredPlan
+plan_with job window = record { run = plan_for job; window = window }
+
+-- the store with these snapshots has room for the job's run on this graph
+abbrev pub HasRoomForJob : JobSayings → DataGraph → List (List ℕ) → Type 0
+HasRoomForJob job g opened = HasRoomFor g (plan_with job job.fields.window) (length job.failures) (length opened) (65 + records_size opened)
 
 -- ---- without a store
 
@@ -83,7 +105,7 @@ shared_by job g owner =
     record { graph = g; program = update_of job.fields.algorithm job.fields.source; owner = owner; failures = job.failures }
 
 -- A run with failures from the start, which none of them outlasts: it keeps to the budget, and its numbers are the replay of its order. Where it left
--- no task, they are what the algorithm is to find; and else the budget is spent.
+-- no task, they are what the algorithm is to find; and else the budget is spent, which was not enough.
 pub record BeginsAgain (job : JobSayings) (shared : Shared) (run : StoredRun) : Type 0 where
   pub is : IsRunWithFailures shared job.fields.machines [] false 0 (lists_of run)
   pub few : sum_by (λ count. count) run.done.items ≤ job.fields.budget
@@ -91,9 +113,11 @@ pub record BeginsAgain (job : JobSayings) (shared : Shared) (run : StoredRun) : 
   pub finished : run.end ≡ Finished → IsFinished shared.graph shared.program run.order.items
   pub results : run.end ≡ Finished → AreResults job.fields.algorithm job.fields.source shared.graph run.numbers.items
   pub spent : (left : Vertex) → run.end ≡ Spent left → SpendsRun shared job.fields.budget left.0 0 (lists_of run)
+  pub enough : HasEnough job shared.graph → (left : Vertex) → run.end ≡ Spent left → ⊥
 
--- A run without a store in which machines fail as the job orders. No snapshot is taken, so after each failure it begins again from the start.
+-- A run without a store in which machines fail as the job orders, on a graph that is placed. No snapshot is taken, so after each failure it begins again from the start.
 pub record RunsThroughFailures (job : JobSayings) (g : DataGraph) (run : StoredRun) : Type 0 where
+  pub placed : (owner : ℕ → ℕ) × IsPlacement g job.fields.atoms job.fields.machines owner
   pub goes : (owner : ℕ → ℕ) → IsPlacement g job.fields.atoms job.fields.machines owner → BeginsAgain job (shared_by job g owner) run
   pub ended : IsEndAlone run.end
   pub snapshots : run.snapshots.items ≡ []
@@ -118,12 +142,15 @@ pub record KeepsStore (shared : Shared) (header : Header) (front opened : List (
   pub at_end : (image : List ℕ) → IsImage new.now image → HoldsGood shared header (opened ++ added) image
 
 -- A run that goes on from a store of the opened snapshots, resumed or not: it is one with failures that keeps to the window and ends as it says,
--- and the store keeps all that it had. Where it left no task, the numbers are what the algorithm is to find.
+-- and the store keeps all that it had. Where it left no task, the numbers are what the algorithm is to find. It spends no budget that is enough, and
+-- fills no store that has room for it.
 pub record GoesOnFrom (job : JobSayings) (shared : Shared) (resumed : Bool) (header : Header) (front opened : List (List ℕ)) (old new : DiskPast) (run : StoredRun) : Type 0 where
   pub snapshots : List (List Entry)
   pub is : IsStoredRun shared job.fields.machines job.fields.window job.fields.budget (length opened) (stored_order opened) resumed snapshots run
   pub keeps : KeepsStore shared header front opened snapshots old new
   pub results : run.end ≡ Finished → AreResults job.fields.algorithm job.fields.source shared.graph run.numbers.items
+  pub enough : HasEnough job shared.graph → (left : Vertex) → run.end ≡ Spent left → ⊥
+  pub roomy : HasRoomForJob job shared.graph opened → (stored bytes : ℕ) → run.end ≡ Full stored bytes → ⊥
 
 -- the snapshots that the store of a job on this graph has by what its disk reads
 abbrev pub snapshots_on : JobSayings → DataGraph → DiskPast → List (List ℕ)

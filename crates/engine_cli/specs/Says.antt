@@ -1,14 +1,17 @@
 -- What each status of a run says: of the job's file and the texts, of the counts of faults, of the store, of the order's file, and of
 -- what `out` gained.
-use Rattle.std.specs.Prelude.{◌≡◌, ◌⊎◌, ◌≤◌, ℕ, Bool, IsTrue, is_some, List, [], Option, None, Some, Ok, IfSome, take}
+use Rattle.std.specs.Prelude.{◌≡◌, ◌⊎◌, ℕ, Bool, IsTrue, false, is_some, length, List, Option, None, Some, Ok, IfSome, take}
 use Rattle.std.specs.Io.KnownBytes.{Appends}
 use Rattle.gl_outside.specs.Disk.{DiskPast}
 use Rattle.gl_outside.specs.Faults.{Rose}
 use Rattle.gl_outside.specs.FilesState.{FilesState}
 use Rattle.gl_outside.specs.Fronts.{AppendsFront}
 use Rattle.graph_core.specs.DataGraph.{DataGraph}
+use Rattle.job_config.specs.Fields.{JobFields}
 use Rattle.job_config.specs.Jobs.{JobSayings}
-use Rattle.seq_run.specs.StepBound.{step_bound}
+use Rattle.job_runs.specs.Plays.{IsPlacement}
+use Rattle.job_stores.specs.JobHeaders.{header_for}
+use Rattle.store_format.specs.Stores.{StandsFor}
 use Rattle.stored_answers.specs.declared.runs.StoredEnd.{StoredEnd}
 use Rattle.whole_files.specs.AtomNames.{index_name}
 use Rattle.whole_files.specs.Leaves.{KeepsOrGives}
@@ -19,7 +22,7 @@ use Rattle.job_files.specs.declared.jobs.JobVerb.{JobVerb}
 use Rattle.engine_cli.specs.declared.status.Status.{Status}
 use Rattle.engine_cli.specs.declared.status.Status.TheVariants.{Done, Usage, BadJob, BadGraph, BadAtoms, ReadFault, WriteFault, DiskFault, BadStore, BudgetSpent, SnapshotsFull, NoMemory}
 use Rattle.engine_cli.specs.Answer.{IsAnswer, IsValid, Printed}
-use Rattle.engine_cli.specs.JobRuns.{CallLists, MakesRun, no_lists}
+use Rattle.engine_cli.specs.JobRuns.{AreGoodImages, CallLists, HasEnough, HasRoomForJob, MakesRun, is_resumed, no_lists, shared_by, snapshots_on}
 use Rattle.engine_cli.specs.JobStores.{HasOtherStore, KeepsAllImages, NamesStore, RefusesJobStore, RunsOutOnStore}
 use Rattle.stored_answers.specs.declared.runs.StoredEnd.TheVariants as end
 
@@ -113,15 +116,46 @@ pub record IsReadable (asked : JobVerb) (files : FilesState) (file : List ℕ) :
   pub edges_told : files.contents job.fields.edges ≡ Some edges
   pub valid : IsValid job.fields vertices edges
 
--- Input of a run without a store and without failures that is told and valid: the budget is no less than the step bound, and the atoms, where the job names them,
+-- the atoms, where the job names them, are told and have no fault on each graph that the texts tell
+abbrev pub HasSoundAtoms : FilesState → JobFields → List ℕ → List ℕ → Type 0
+HasSoundAtoms files job vertices edges =
+    (prefix : List ℕ) (g : DataGraph) → job.atoms_at ≡ Some prefix → DescribeJobGraph job vertices edges g
+    → IsTrue (is_some files.sources.names) × (atoms_fault g (given_bytes files (index_name prefix)) (atom_files files prefix) ≡ None)
+
+-- Input of a run without a store that is told and valid: the budget is no less than the step bound for each attempt, and the atoms, where the job names them,
 -- are told and have no fault. No count rose.
 pub record IsSound (asked : JobVerb) (file : List ℕ) (before now : Moment) : Type 0 where
   pub input : IsReadable asked before.files file
   pub alone : input.job.fields.store ≡ None
-  pub none_fails : input.job.failures ≡ []
-  pub enough : (g : DataGraph) → DescribeJobGraph input.job.fields input.vertices input.edges g → step_bound g input.job.fields.algorithm ≤ input.job.fields.budget
-  pub atoms : (prefix : List ℕ) (g : DataGraph) → input.job.fields.atoms_at ≡ Some prefix → DescribeJobGraph input.job.fields input.vertices input.edges g
-      → IsTrue (is_some before.files.sources.names) × (atoms_fault g (given_bytes before.files (index_name prefix)) (atom_files before.files prefix) ≡ None)
+  pub enough : (g : DataGraph) → DescribeJobGraph input.job.fields input.vertices input.edges g → HasEnough input.job g
+  pub atoms : HasSoundAtoms before.files input.job.fields input.vertices input.edges
   pub no_read_fault : Rose before.files.sources.faults now.files.sources.faults → ⊥
   pub no_write_fault : Rose before.files.sinks.faults now.files.sinks.faults → ⊥
   pub no_fault_of_out : Rose before.faults now.faults → ⊥
+
+-- A disk is a store from which the job's run on this graph can come to its end, resumed or not. Its bytes are those of a store for them, without snapshots unless the
+-- run is resumed; whatever a crash would leave is good for the placed graph; and budget and room are enough.
+pub record HasSoundStore (resumed : Bool) (job : JobSayings) (g : DataGraph) (past : DiskPast) : Type 0 where
+  pub stands : StandsFor (header_for job.fields g) (snapshots_on job g past) past.now.seen
+  pub fresh : resumed ≡ false → length (snapshots_on job g past) ≡ 0
+  pub owner : ℕ → ℕ
+  pub placed : IsPlacement g job.fields.atoms job.fields.machines owner
+  pub front : List (List ℕ)
+  pub good : AreGoodImages (shared_by job g owner) (header_for job.fields g) front past
+  pub enough : HasEnough job g
+  pub room : HasRoomForJob job g (snapshots_on job g past)
+
+-- Input of a run on a store that is told and valid: it is told which names disks have and what they hold, the job's store is sound for each graph that the texts
+-- tell, and the atoms, where the job names them, are told and have no fault. No count rose.
+pub record IsSoundOnStore (told : Bool) (asked : JobVerb) (file : List ℕ) (before now : Moment) : Type 0 where
+  pub input : IsReadable asked before.files file
+  pub held : IsTrue told
+  pub named : IsTrue (is_some before.files.disks.names)
+  pub name : List ℕ
+  pub name_is : input.job.fields.store ≡ Some name
+  pub store : (g : DataGraph) → DescribeJobGraph input.job.fields input.vertices input.edges g → HasSoundStore (is_resumed asked) input.job g (before.files.pasts name)
+  pub atoms : HasSoundAtoms before.files input.job.fields input.vertices input.edges
+  pub no_read_fault : Rose before.files.sources.faults now.files.sources.faults → ⊥
+  pub no_write_fault : Rose before.files.sinks.faults now.files.sinks.faults → ⊥
+  pub no_fault_of_out : Rose before.faults now.faults → ⊥
+  pub no_disk_fault : Rose before.files.disks.faults now.files.disks.faults → ⊥

@@ -21,7 +21,7 @@ use Rattle.engine_cli.specs.NamesWritten.{HandsWritten, IsWrittenName}
 use Rattle.job_files.specs.NamesRead.{HandsForRun, names_of}
 use Rattle.graph_files.specs.Made.{LeavesFront, edges_name, vertices_name}
 use Rattle.engine_cli.specs.Made.{Makes}
-use Rattle.engine_cli.specs.Says.{IsReadable, IsSound, Moment, Says}
+use Rattle.engine_cli.specs.Says.{IsReadable, IsSound, IsSoundOnStore, Moment, Says}
 use Rattle.engine_cli.specs.Status.{IsBeforeMaking, IsBeforeWriting, IsDoneOrNoMemory, IsRefusedInput}
 use Rattle.job_files.specs.declared.jobs.JobVerb.TheVariants as verb
 
@@ -31,6 +31,7 @@ use Rattle.job_files.specs.declared.jobs.JobVerb.TheVariants as verb
 pub record IsRun (told : Bool) (asked : JobVerb) (file : List ℕ) (report : Bool) (before now : Moment) (tells : List ℕ → Type 0) (lists : CallLists) (status : Status) : Type 0 where
   pub says : Says told asked file report before now tells lists status
   pub complete : IsSound asked file before now → IsDoneOrNoMemory status
+  pub complete_on_store : IsSoundOnStore told asked file before now → IsDoneOrNoMemory status
   pub sources : HandsForRun asked before.files now.files file
   pub refused : IsRefusedInput status → HandsOver before.files.sources.names now.files.sources.names (names_of asked before.files file)
   pub sinks : HandsWritten asked before.files now.files file

@@ -122,7 +122,15 @@ fn run_on_journal<R: Wait, D: Disk>(
         return Err(NoStore::BadStore(StoreFault::Used(count)));
     }
     let window = input.job.window;
-    match run_stored_on(rt, alloc, &input.graph, &input.job, window, journal, resumed) {
+    match run_stored_on(
+        rt,
+        alloc,
+        &input.graph,
+        &input.job,
+        window,
+        journal,
+        resumed,
+    ) {
         Ok(run) => Ok(run),
         Err(fault) => Err(why_not_run(fault)),
     }

@@ -79,6 +79,9 @@ pub fn run_stored<R: Wait, D: Disk, P: Program>(
         (bound : ℕ) → BoundsSteps graph.now (P.meaning program) bound → (1 + length failures.now) * bound ≤ plan.run.budget →
         HasRoomForRun graph.now plan (length failures.now) journal.old.count journal.old.length → (Rose (D.faults journal.old.disk) (D.faults journal.new.disk) → ⊥) → IsFinishedOrNoMemory result }
 
+    // The graph is placed for it, in the one way that there is.
+    ensures placed { IfOk result (λ run. (owner : ℕ → ℕ) × IsPlacement graph.now plan.run.atoms plan.run.machines owner) }
+
     ensures by { IfOk result (λ run. EndsBy journal.new (D.faults journal.old.disk) (D.faults journal.new.disk) run.end) }
     ensures numbers { IfOk result (λ run. length run.numbers.items ≡ size graph.now) }
     ensures entries { IfOk result (λ run. All (IsEntryOf graph.now) run.order.items) }

@@ -1,6 +1,7 @@
 -- What running a job on its store answers, at each of its steps.
-use Rattle.std.specs.Prelude.{◌≡◌, ◌⊎◌, ◌+◌, ◌^◌, ◌<◌, ◌≤◌, ℕ, Bool, false, List, length}
+use Rattle.std.specs.Prelude.{◌≡◌, ◌⊎◌, ◌+◌, ◌*◌, ◌^◌, ◌<◌, ◌≤◌, ℕ, Bool, false, List, length}
 use Rattle.gl_base.specs.declared.entries.Entry.{Entry}
+use Rattle.gl_base.specs.declared.numbers.Vertex.{Vertex}
 use Rattle.gl_outside.specs.Disk.{DiskPast}
 use Rattle.gl_outside.specs.Faults.{Rose}
 use Rattle.gl_outside.specs.FilesState.{FilesState}
@@ -22,18 +23,24 @@ use Rattle.stored_answers.specs.Images.{IsGoodStore, KeepsGood}
 use Rattle.stored_answers.specs.declared.runs.StoredEnd.TheVariants as end
 use Rattle.stored_answers.specs.declared.runs.StoredRun.{StoredRun}
 use Rattle.update_api.specs.Updates.{Update}
-use Rattle.engine_cli.specs.JobRuns.{IsStoredRun, RunsOnStore, Shared, records_size, snapshots_on, stored_order}
+use Rattle.engine_cli.specs.JobRuns.{BoundsSteps, HasRoomFor, IsStoredRun, RunsOnStore, Shared, plan_with, records_size, snapshots_on, stored_order}
 use Rattle.engine_cli.specs.JobStores.{IsOtherStore, KeepsGoing, KeepsImages, RefusesStore}
 
 -- what all attempts of a run of this program share
 abbrev pub shared_with : JobSayings → DataGraph → Update → (ℕ → ℕ) → Shared
 shared_with job g p owner = record { graph = g; program = p; owner = owner; failures = job.failures }
 
--- A run of this program with this window, from an opened store with these snapshots, which are so many. From one that is good for the placed graph it is one that goes on from it.
+-- A run of this program with this window on the placed graph, from an opened store with these snapshots, which are so many. From one that is good for it the run is one that goes on
+-- from it; it spends no budget that has the steps of each attempt, and fills no store that has room for it.
 pub record IsRunFrom (job : JobSayings) (g : DataGraph) (p : Update) (window : ℕ) (resumed : Bool) (count : ℕ) (bodies : List (List ℕ)) (old new : DiskPast) (run : StoredRun) : Type 0 where
   pub goes_on : (owner : ℕ → ℕ) → IsPlacement g job.fields.atoms job.fields.machines owner → IsGoodStore (shared_with job g p owner) (header_for job.fields g) bodies →
       (snapshots : List (List Entry)) × IsStoredRun (shared_with job g p owner) job.fields.machines window job.fields.budget count (stored_order bodies) resumed snapshots run
       × KeepsGood (shared_with job g p owner) (header_for job.fields g) bodies snapshots old new
+  pub placed : (owner : ℕ → ℕ) × IsPlacement g job.fields.atoms job.fields.machines owner
+  pub enough : (owner : ℕ → ℕ) → IsPlacement g job.fields.atoms job.fields.machines owner → IsGoodStore (shared_with job g p owner) (header_for job.fields g) bodies →
+      (bound : ℕ) → BoundsSteps g p bound → (1 + length job.failures) * bound ≤ job.fields.budget → (left : Vertex) → run.end ≡ end.Spent left → ⊥
+  pub roomy : (owner : ℕ → ℕ) → IsPlacement g job.fields.atoms job.fields.machines owner → IsGoodStore (shared_with job g p owner) (header_for job.fields g) bodies →
+      HasRoomFor g (plan_with job window) (length job.failures) count (65 + records_size bodies) → (stored bytes : ℕ) → run.end ≡ end.Full stored bytes → ⊥
   pub full : (stored bytes : ℕ) → run.end ≡ end.Full stored bytes → (stored ≡ length (snapshots_on job g new)) × (bytes ≡ 65 + records_size (snapshots_on job g new))
 
 -- a good store with these snapshots may have got others, and keeps what it had

@@ -2,7 +2,7 @@ use Rattle.std.proofs.Common.{IsTrue, ℕ, ◌+◌, ◌^◌, ◌≤◌, Err, sym
 use Rattle.job_config.specs.Views.{job_view}
 use Rattle.recovery.specs.Journals.{records_size, snapshots_in}
 use Rattle.snap_journal.specs.declared.faults.JournalFault.{JournalFault}
-use Rattle.engine_cli.proofs.StoredBy.{IfErr-is, IfOk-map, IfOk-two, fault-by, full-by, run-from, why-not-stored}
+use Rattle.engine_cli.proofs.StoredBy.{IfErr-is, IfOk-both, IfOk-map, IfOk-two, fault-by, full-by, run-from, why-not-stored}
 use Rattle.engine_cli.proofs.storing.run_stored_by.Goals as goal
 
 pub returns-clause-run : goal.returns-clause-run
@@ -12,12 +12,15 @@ returns-clause-run g c told =
     let old = g.D.Disk.past c.args.journal.now.disk in
     let after = c.run_stored-run.new.journal in
     let new = g.D.Disk.past after.disk in
+    let says = IfOk-both c.run_stored-run.result _ _ (IfOk-both c.run_stored-run.result _ _ (c.run_stored-run.ensures.run told) c.run_stored-run.ensures.placed)
+    (IfOk-both c.run_stored-run.result _ _ (c.run_stored-run.ensures.enough told) (c.run_stored-run.ensures.roomy told)) in
     IfOk-two c.run_stored-run.result _ _ _
-    (λ run goes by.
+    (λ run said by.
     run-from job c.args.graph.now (g.P.Program.meaning c.args.program) bodies old new c.plan_of.result c.deref.result.now c.args.journal.now.header after.header
-    c.requires.header c.run_stored-run.ensures.header c.plan_of.ensures c.deref.ensures.value c.args.window c.args.resumed c.args.journal.now.count run goes
+    c.requires.header c.run_stored-run.ensures.header c.plan_of.ensures c.deref.ensures.value c.args.window c.args.resumed c.args.journal.now.count c.args.journal.now.length run
+    (sym c.length-short.ensures.length ∙ c.length-short.ensures.stored told c.requires.well) said.0.0 said.0.1 said.1.0 said.1.1
     (full-by g.D.Disk.past (IsTrue g.D.Disk.told) after c.count-stored.result c.length-long.result _ _ c.count-stored.ensures.count c.count-stored.ensures.stored c.length-long.ensures.length c.length-long.ensures.stored told run.end by))
-    (c.run_stored-run.ensures.run told) c.run_stored-run.ensures.by
+    says c.run_stored-run.ensures.by
 
 pub returns-clause-fault : goal.returns-clause-fault
 returns-clause-fault g c =

@@ -40,6 +40,9 @@ returns-clause-run g c = λ told.
     c.in_ok-end.end run c.args.journal.now.count (c.in_ok-end.ensures.ends told) c.in_ok-end.ensures.call.places counted is)
     c.gathered.ensures.run
 
+pub returns-clause-placed : goal.returns-clause-placed
+returns-clause-placed g c = ok_then c.gathered.result _ _ (λ run is. (_, c.in_ok-call.ensures.places.placement)) c.gathered.ensures.end
+
 pub returns-clause-by : goal.returns-clause-by
 returns-clause-by g c =
     ok_then c.gathered.result _ _
