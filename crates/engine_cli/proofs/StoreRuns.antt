@@ -24,7 +24,7 @@ use Rattle.stored_answers.specs.declared.runs.StoredEnd.{StoredEnd}
 use Rattle.stored_answers.specs.declared.runs.StoredEnd.TheVariants as end
 use Rattle.stored_answers.specs.declared.runs.StoredRun.{StoredRun}
 use Rattle.update_api.specs.Updates.{Update}
-use Rattle.engine_cli.specs.Inner.Storing.{IsKept, IsNotGood, IsRunFrom, IsWhyNotOnDisk, IsWhyNotOnJournal, IsWhyNotStored, no_store_of_journal}
+use Rattle.engine_cli.specs.Inner.Storing.{IsStoreKept, IsNotGood, IsStoreRunFrom, IsWhyNotOnDisk, IsWhyNotOnJournal, IsWhyNoneStored, no_store_of_journal}
 use Rattle.engine_cli.specs.JobRuns.{AreGoodImages, GoesOnFrom, KeepsStore, RunsOnStore, records_size, shared_by, snapshots_on}
 use Rattle.engine_cli.specs.JobStores.{IsOtherStore, KeepsGoing, KeepsImages}
 use Rattle.engine_cli.specs.Plays.{AreResults, update_of}
@@ -97,7 +97,7 @@ module _ (job : JobSayings) (g : DataGraph) (old mid new : DiskPast) (bodies : L
 
   -- the run is one on its store
   pub runs-on-store : (resumed : Bool) (run : StoredRun) → IsDataGraph g → HasStart job.fields.algorithm job.fields.source g → (resumed ≡ false → length bodies ≡ 0)
-      → IsRunFrom job g program job.fields.window resumed (length bodies) bodies mid new run → RunsOnStore resumed job g old new run
+      → IsStoreRunFrom job g program job.fields.window resumed (length bodies) bodies mid new run → RunsOnStore resumed job g old new run
   runs-on-store resumed run is start fresh from =
       let same : bodies ≡ snapshots_on job g old = sym (stands_are header old.now.seen bodies stands) in
       record {
@@ -120,7 +120,7 @@ module _ (job : JobSayings) (g : DataGraph) (old mid new : DiskPast) (bodies : L
       }
 
   -- memory ran out
-  keeps-going : IsKept job g program bodies mid new → KeepsGoing job g old new
+  keeps-going : IsStoreKept job g program bodies mid new → KeepsGoing job g old new
   keeps-going kept owner placed front good =
       let same : bodies ≡ snapshots_on job g old = sym (stands_are header old.now.seen bodies stands) in
       let shared = shared_by job g owner in
@@ -167,7 +167,7 @@ not-opened told resumed job g old new before now journal.NoMemory refused left =
 
 -- why there is none, where the run could not begin or wanted memory
 pub not-stored : (told : Type 0) (resumed : Bool) (job : JobSayings) (g : DataGraph) (bodies : List (List ℕ)) (old new : DiskPast) (before now : ℕ) (fault : JournalFault)
-    → IsWhyNotStored told job g (update_of job.fields.algorithm job.fields.source) bodies old new before now fault
+    → IsWhyNoneStored told job g (update_of job.fields.algorithm job.fields.source) bodies old new before now fault
     → IsWhyNotOnJournal told resumed job g (update_of job.fields.algorithm job.fields.source) bodies old new before now (no_store_of_journal fault)
 not-stored told resumed job g bodies old new before now journal.DiskFault refused = refused
 not-stored told resumed job g bodies old new before now (journal.BadStore fault) refused = λ is. inr (refused is)

@@ -18,7 +18,7 @@ use Rattle.job_stores.specs.declared.making.NoStore.TheVariants as no_store
 use Rattle.job_stores.proofs.DisksUsed.{always-told, told-at-end}
 use Rattle.stored_answers.specs.declared.runs.StoredEnd.TheVariants as end
 use Rattle.stored_answers.specs.declared.runs.StoredRun.{StoredRun}
-use Rattle.engine_cli.specs.Inner.Storing.{IsRunIntoStore, IsWhyNoStoredRun, IsWhyNotOnDisk, no_store_of}
+use Rattle.engine_cli.specs.Inner.Storing.{IsRunIntoStore, IsWhyNoStoredRun, IsWhyNotOnDisk, no_store_of_open}
 use Rattle.engine_cli.specs.JobRuns.{RunsOnStore}
 use Rattle.engine_cli.specs.JobStores.{IsOtherStore, KeepsGoing, KeepsImages, RefusesStore}
 use Rattle.engine_cli.proofs.DisksLeft.{leaves-same}
@@ -59,13 +59,13 @@ module _ (old mid was last new : FilesState) (name : List ℕ) (file : FileNo) (
 
 -- the file was not opened
 pub why-unopened : (told resumed : Bool) (old new : FilesState) (name : List ℕ) (input : Input) (fault : OpenFault) → OpensDisk old new name (Err fault)
-    → ((let r : Result FileNo OpenFault = Err fault in r) ≡ Err open_fault.Failed → Rose old.disks.faults new.disks.faults) → IsWhyNoStoredRun told resumed name input old new (no_store_of fault)
+    → ((let r : Result FileNo OpenFault = Err fault in r) ≡ Err open_fault.Failed → Rose old.disks.faults new.disks.faults) → IsWhyNoStoredRun told resumed name input old new (no_store_of_open fault)
 why-unopened told resumed old new name input fault opens failed = go fault failed
   where
     same : new.pasts name ≡ old.pasts name
     same = ap (λ (s : FilesState). s.pasts name) opens
 
-    go : (fault : OpenFault) → ((let r : Result FileNo OpenFault = Err fault in r) ≡ Err open_fault.Failed → Rose old.disks.faults new.disks.faults) → IsWhyNoStoredRun told resumed name input old new (no_store_of fault)
+    go : (fault : OpenFault) → ((let r : Result FileNo OpenFault = Err fault in r) ≡ Err open_fault.Failed → Rose old.disks.faults new.disks.faults) → IsWhyNoStoredRun told resumed name input old new (no_store_of_open fault)
     go open_fault.Failed failed = (failed refl, always-told told old (KeepsImages (old.pasts name) (new.pasts name)) (leaves-same (old.pasts name) (new.pasts name) same))
     go open_fault.NoMemory failed =
         always-told told old (KeepsImages (old.pasts name) (new.pasts name) ⊎ KeepsGoing (job_view input.job) input.graph (old.pasts name) (new.pasts name)) (inl (leaves-same (old.pasts name) (new.pasts name) same))

@@ -26,8 +26,8 @@ use Rattle.stored_calls.specs.Calls.{EndsBy}
 use Rattle.stored_calls.specs.Runs.{IsWhyNoRun, owned_shared}
 use Rattle.update_api.specs.Updates.{Update}
 use Rattle.engine_cli.specs.Inner.Prepares.{IsPrintable}
-use Rattle.engine_cli.specs.Inner.Storing.{IsKept, IsNotGood, IsRunFrom, IsWhyNotStored, shared_with}
-use Rattle.engine_cli.specs.JobRuns.{BoundsSteps, HasRoomFor, plan_for}
+use Rattle.engine_cli.specs.Inner.Storing.{IsStoreKept, IsNotGood, IsStoreRunFrom, IsWhyNoneStored, shared_with}
+use Rattle.engine_cli.specs.JobRuns.{BoundsSteps, HasRoomForRun, plan_for}
 
 pub IfOk-map : {T E : Type 0} (r : Result T E) (P Q : T → Type 0) → ((x : T) → P x → Q x) → IfOk r P → IfOk r Q
 IfOk-map (Ok x) P Q step p = step x p
@@ -75,7 +75,7 @@ EnoughBy g p bodies run plan failures header =
 abbrev pub RoomyBy : DataGraph → Update → ℕ → ℕ → ℕ → List (List ℕ) → StoredRun → RunPlan → List FailureAt → Header → Type 0
 RoomyBy g p window count long bodies run plan failures header =
     (owner : ℕ → ℕ) → IsPlacement g plan.atoms plan.machines owner → IsGoodStore (owned_shared g p owner failures) header bodies →
-    HasRoomFor g (record { run = plan; window = window }) (length failures) count long → (stored bytes : ℕ) → run.end ≡ end.Full stored bytes → ⊥
+    HasRoomForRun g (record { run = plan; window = window }) (length failures) count long → (stored bytes : ℕ) → run.end ≡ end.Full stored bytes → ⊥
 
 abbrev pub KeepsBy : DataGraph → Update → List (List ℕ) → DiskPast → DiskPast → RunPlan → List FailureAt → Header → Type 0
 KeepsBy g p bodies old new plan failures header =
@@ -134,7 +134,7 @@ module _ (job : JobSayings) (g : DataGraph) (p : Update) (bodies : List (List �
 
   pub run-from : (window : ℕ) (resumed : Bool) (count long : ℕ) (run : StoredRun) → long ≡ 65 + records_size bodies → GoesBy g p window resumed count bodies old new run plan failures header
       → PlacedBy g plan failures header → EnoughBy g p bodies run plan failures header → RoomyBy g p window count long bodies run plan failures header → FullBy after new run.end
-      → IsRunFrom job g p window resumed count bodies old new run
+      → IsStoreRunFrom job g p window resumed count bodies old new run
   run-from window resumed count long run long_is goes placed enough roomy full = record {
     goes_on = of-job (GoesBy g p window resumed count bodies old new run) goes;
     placed = of-job (PlacedBy g) placed;
@@ -144,14 +144,14 @@ module _ (job : JobSayings) (g : DataGraph) (p : Update) (bodies : List (List �
     full = subst (λ (h : Header). FullBy h new run.end) (still ∙ header_is) full;
   }
 
-  kept-by : KeepsBy g p bodies old new plan failures header → IsKept job g p bodies old new
+  kept-by : KeepsBy g p bodies old new plan failures header → IsStoreKept job g p bodies old new
   kept-by keeps = of-job (KeepsBy g p bodies old new) keeps
 
   not-good-by : NotGoodBy g p bodies plan failures header → IsNotGood job g p bodies
   not-good-by not = of-job (NotGoodBy g p bodies) not
 
   pub why-not-stored : (told : Type 0) (before now : ℕ) (fault : JournalFault) → IsWhyNoRun told old new before now (KeepsBy g p bodies old new plan failures header) fault
-      → ((why : StoreFault) → fault ≡ journal.BadStore why → told → NotGoodBy g p bodies plan failures header) → IsWhyNotStored told job g p bodies old new before now fault
+      → ((why : StoreFault) → fault ≡ journal.BadStore why → told → NotGoodBy g p bodies plan failures header) → IsWhyNoneStored told job g p bodies old new before now fault
   why-not-stored told before now journal.DiskFault refused not = refused
   why-not-stored told before now (journal.BadStore why) refused not = λ is. not-good-by (not why refl is)
   why-not-stored told before now (journal.Full stored length) refused not = refused
@@ -160,5 +160,5 @@ module _ (job : JobSayings) (g : DataGraph) (p : Update) (bodies : List (List �
 
 -- the same of another name of the program
 pub by-program : (r : Result StoredRun JournalFault) (told : Type 0) (job : JobSayings) (g : DataGraph) (p q : Update) (bodies : List (List ℕ)) (old new : DiskPast) (before now : ℕ) → p ≡ q
-    → IfErr r (IsWhyNotStored told job g p bodies old new before now) → IfErr r (IsWhyNotStored told job g q bodies old new before now)
-by-program r told job g p q bodies old new before now same refused = subst (λ (u : Update). IfErr r (IsWhyNotStored told job g u bodies old new before now)) same refused
+    → IfErr r (IsWhyNoneStored told job g p bodies old new before now) → IfErr r (IsWhyNoneStored told job g q bodies old new before now)
+by-program r told job g p q bodies old new before now same refused = subst (λ (u : Update). IfErr r (IsWhyNoneStored told job g u bodies old new before now)) same refused

@@ -21,7 +21,7 @@ use Rattle.stored_answers.specs.declared.runs.StoredEnd.TheVariants as end
 use Rattle.stored_answers.specs.declared.runs.StoredRun.{StoredRun}
 use Rattle.engine_cli.specs.Inner.Failing.{IsRunWithoutSnapshots}
 use Rattle.engine_cli.specs.Inner.Prepares.{IsPrintable}
-use Rattle.engine_cli.specs.Inner.Storing.{IsRunFrom}
+use Rattle.engine_cli.specs.Inner.Storing.{IsStoreRunFrom}
 use Rattle.engine_cli.specs.JobRuns.{BeginsAgain, HasEnough, IsEndAlone, IsRunWithFailures, IsStoredRun, RunsThroughFailures, lists_of, shared_by}
 use Rattle.engine_cli.specs.Plays.{AreResults, update_of}
 use Rattle.engine_cli.proofs.Bounds.{bound-of}
@@ -62,7 +62,7 @@ module _ (job : JobSayings) (g : DataGraph) (owner : ℕ → ℕ) (window stored
 
 -- a run from a store that has no snapshot
 pub through-failures : (job : JobSayings) (g : DataGraph) (window count : ℕ) (bodies : List (List ℕ)) (old new : DiskPast) (was run : StoredRun) → IsDataGraph g
-    → HasStart job.fields.algorithm job.fields.source g → bodies ≡ [] → IsRunFrom job g (update_of job.fields.algorithm job.fields.source) window false count bodies old new was
+    → HasStart job.fields.algorithm job.fields.source g → bodies ≡ [] → IsStoreRunFrom job g (update_of job.fields.algorithm job.fields.source) window false count bodies old new was
     → IsRunWithoutSnapshots was run → RunsThroughFailures job g run
 through-failures job g window count bodies old new was run is start none from alone =
     let R : StoredRun → Type 0 = λ r. (owner : ℕ → ℕ) → IsPlacement g job.fields.atoms job.fields.machines owner → BeginsAgain job (shared_by job g owner) r in

@@ -2,7 +2,7 @@
 pub use Rattle.recovery.specs.Journals.{records_size, stored_in, stored_order}
 pub use Rattle.stored_answers.specs.Images.{HoldsGood, orders_behind}
 pub use Rattle.stored_answers.specs.Runs.{IsRunWithFailures, IsStoredRun, Shared, lists_of}
-pub use Rattle.stored_calls.specs.Runs.{BoundsSteps, HasRoomFor}
+pub use Rattle.stored_calls.specs.Runs.{BoundsSteps, HasRoomForRun}
 use Rattle.std.specs.Prelude.{◌≡◌, ◌≤◌, ◌+◌, ◌*◌, ◌++◌, ◌∷◌, ℕ, Bool, true, false, List, [], length, sum_by, ⊤, Option, None, Some}
 use Rattle.gl_base.specs.declared.entries.Entry.{Entry}
 use Rattle.gl_base.specs.declared.jobs.FailureAt.{FailureAt}
@@ -70,7 +70,7 @@ plan_with job window = record { run = plan_for job; window = window }
 
 -- the store with these snapshots has room for the job's run on this graph
 abbrev pub HasRoomForJob : JobSayings → DataGraph → List (List ℕ) → Type 0
-HasRoomForJob job g opened = HasRoomFor g (plan_with job job.fields.window) (length job.failures) (length opened) (65 + records_size opened)
+HasRoomForJob job g opened = HasRoomForRun g (plan_with job job.fields.window) (length job.failures) (length opened) (65 + records_size opened)
 
 -- ---- without a store
 

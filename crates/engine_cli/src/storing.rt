@@ -13,7 +13,7 @@ ghost use Rattle.gl_outside.specs.Frames.{ChangesDisk};
 ghost use Rattle.whole_calls.specs.Following.{AreJobFailures};
 ghost use Rattle.engine_cli.specs.JobRuns.{RunsOnStore};
 ghost use Rattle.engine_cli.specs.Inner.Prepares.{IsPrintable, IsRunnable};
-ghost use Rattle.engine_cli.specs.Inner.Storing.{IsRunFrom, IsRunIntoStore, IsWhyNoStoredRun, IsWhyNotOnDisk, IsWhyNotOnJournal, IsWhyNotStored, no_store_of, no_store_of_journal};
+ghost use Rattle.engine_cli.specs.Inner.Storing.{IsStoreRunFrom, IsRunIntoStore, IsWhyNoStoredRun, IsWhyNotOnDisk, IsWhyNotOnJournal, IsWhyNoneStored, no_store_of_open, no_store_of_journal};
 ghost use Rattle.engine_cli.specs.Plays.{update_of};
 
 use crate::playing::{plan_of, source_of};
@@ -108,7 +108,7 @@ fn run_on_journal<R: Wait, D: Disk>(
     requires header { journal.old.header ≡ header_for (job_view input.now.job).fields input.now.graph }
     requires well { journal.old.failed ≡ false }
     ensures fresh { IsTrue D.told → IfOk result (λ run. resumed ≡ false → length (snapshots_in D.past journal.old) ≡ 0) }
-    ensures run { IsTrue D.told → IfOk result (IsRunFrom (job_view input.now.job) input.now.graph (update_of input.now.job.algorithm input.now.job.source) input.now.job.window resumed
+    ensures run { IsTrue D.told → IfOk result (IsStoreRunFrom (job_view input.now.job) input.now.graph (update_of input.now.job.algorithm input.now.job.source) input.now.job.window resumed
         (length (snapshots_in D.past journal.old)) (snapshots_in D.past journal.old) (D.past journal.old.disk) (D.past journal.new.disk)) }
     ensures fault { IfOk result (λ run. run.end ≡ DiskFault → Rose (D.faults journal.old.disk) (D.faults journal.new.disk)) }
     ensures printable { IfOk result (IsPrintable input.now.graph) }
@@ -153,11 +153,11 @@ pub fn run_stored_on<R: Wait, D: Disk>(
     requires header { journal.old.header ≡ header_for (job_view job.now).fields graph.now }
     requires fresh { resumed ≡ false → journal.old.count ≡ 0 }
     requires well { journal.old.failed ≡ false }
-    ensures run { IsTrue D.told → IfOk result (IsRunFrom (job_view job.now) graph.now (update_of job.now.algorithm job.now.source) window resumed
+    ensures run { IsTrue D.told → IfOk result (IsStoreRunFrom (job_view job.now) graph.now (update_of job.now.algorithm job.now.source) window resumed
         journal.old.count (snapshots_in D.past journal.old) (D.past journal.old.disk) (D.past journal.new.disk)) }
     ensures fault { IfOk result (λ run. run.end ≡ DiskFault → Rose (D.faults journal.old.disk) (D.faults journal.new.disk)) }
     ensures printable { IfOk result (IsPrintable graph.now) }
-    ensures refused { IfErr result (IsWhyNotStored (IsTrue D.told) (job_view job.now) graph.now (update_of job.now.algorithm job.now.source)
+    ensures refused { IfErr result (IsWhyNoneStored (IsTrue D.told) (job_view job.now) graph.now (update_of job.now.algorithm job.now.source)
         (snapshots_in D.past journal.old) (D.past journal.old.disk) (D.past journal.new.disk) (D.faults journal.old.disk) (D.faults journal.new.disk)) }
     ensures same { D.same journal.old.disk journal.new.disk }
     ensures later { D.faults journal.old.disk ≤ D.faults journal.new.disk }
@@ -200,11 +200,11 @@ fn run_stored_by<R: Wait, D: Disk, P: Program>(
     requires header { journal.old.header ≡ header_for (job_view job.now).fields graph.now }
     requires fresh { resumed ≡ false → journal.old.count ≡ 0 }
     requires well { journal.old.failed ≡ false }
-    ensures run { IsTrue D.told → IfOk result (IsRunFrom (job_view job.now) graph.now (P.meaning program) window resumed
+    ensures run { IsTrue D.told → IfOk result (IsStoreRunFrom (job_view job.now) graph.now (P.meaning program) window resumed
         journal.old.count (snapshots_in D.past journal.old) (D.past journal.old.disk) (D.past journal.new.disk)) }
     ensures fault { IfOk result (λ run. run.end ≡ DiskFault → Rose (D.faults journal.old.disk) (D.faults journal.new.disk)) }
     ensures printable { IfOk result (IsPrintable graph.now) }
-    ensures refused { IfErr result (IsWhyNotStored (IsTrue D.told) (job_view job.now) graph.now (P.meaning program)
+    ensures refused { IfErr result (IsWhyNoneStored (IsTrue D.told) (job_view job.now) graph.now (P.meaning program)
         (snapshots_in D.past journal.old) (D.past journal.old.disk) (D.past journal.new.disk) (D.faults journal.old.disk) (D.faults journal.new.disk)) }
     ensures same { D.same journal.old.disk journal.new.disk }
     ensures later { D.faults journal.old.disk ≤ D.faults journal.new.disk }
@@ -232,7 +232,7 @@ fn run_stored_by<R: Wait, D: Disk, P: Program>(
 
 /// Why there is no run where the store's file was not opened.
 fn not_opened(fault: OpenFault) -> NoStore
-    ensures { result ≡ no_store_of fault }
+    ensures { result ≡ no_store_of_open fault }
 {
     match fault {
         OpenFault::Failed => NoStore::DiskFault,

@@ -23,7 +23,7 @@ use Rattle.stored_answers.specs.Images.{IsGoodStore, KeepsGood}
 use Rattle.stored_answers.specs.declared.runs.StoredEnd.TheVariants as end
 use Rattle.stored_answers.specs.declared.runs.StoredRun.{StoredRun}
 use Rattle.update_api.specs.Updates.{Update}
-use Rattle.engine_cli.specs.JobRuns.{BoundsSteps, HasRoomFor, IsStoredRun, RunsOnStore, Shared, plan_with, records_size, snapshots_on, stored_order}
+use Rattle.engine_cli.specs.JobRuns.{BoundsSteps, HasRoomForRun, IsStoredRun, RunsOnStore, Shared, plan_with, records_size, snapshots_on, stored_order}
 use Rattle.engine_cli.specs.JobStores.{IsOtherStore, KeepsGoing, KeepsImages, RefusesStore}
 
 -- what all attempts of a run of this program share
@@ -32,7 +32,7 @@ shared_with job g p owner = record { graph = g; program = p; owner = owner; fail
 
 -- A run of this program with this window on the placed graph, from an opened store with these snapshots, which are so many. From one that is good for it the run is one that goes on
 -- from it; it spends no budget that has the steps of each attempt, and fills no store that has room for it.
-pub record IsRunFrom (job : JobSayings) (g : DataGraph) (p : Update) (window : ℕ) (resumed : Bool) (count : ℕ) (bodies : List (List ℕ)) (old new : DiskPast) (run : StoredRun) : Type 0 where
+pub record IsStoreRunFrom (job : JobSayings) (g : DataGraph) (p : Update) (window : ℕ) (resumed : Bool) (count : ℕ) (bodies : List (List ℕ)) (old new : DiskPast) (run : StoredRun) : Type 0 where
   pub goes_on : (owner : ℕ → ℕ) → IsPlacement g job.fields.atoms job.fields.machines owner → IsGoodStore (shared_with job g p owner) (header_for job.fields g) bodies →
       (snapshots : List (List Entry)) × IsStoredRun (shared_with job g p owner) job.fields.machines window job.fields.budget count (stored_order bodies) resumed snapshots run
       × KeepsGood (shared_with job g p owner) (header_for job.fields g) bodies snapshots old new
@@ -40,12 +40,12 @@ pub record IsRunFrom (job : JobSayings) (g : DataGraph) (p : Update) (window : �
   pub enough : (owner : ℕ → ℕ) → IsPlacement g job.fields.atoms job.fields.machines owner → IsGoodStore (shared_with job g p owner) (header_for job.fields g) bodies →
       (bound : ℕ) → BoundsSteps g p bound → (1 + length job.failures) * bound ≤ job.fields.budget → (left : Vertex) → run.end ≡ end.Spent left → ⊥
   pub roomy : (owner : ℕ → ℕ) → IsPlacement g job.fields.atoms job.fields.machines owner → IsGoodStore (shared_with job g p owner) (header_for job.fields g) bodies →
-      HasRoomFor g (plan_with job window) (length job.failures) count (65 + records_size bodies) → (stored bytes : ℕ) → run.end ≡ end.Full stored bytes → ⊥
+      HasRoomForRun g (plan_with job window) (length job.failures) count (65 + records_size bodies) → (stored bytes : ℕ) → run.end ≡ end.Full stored bytes → ⊥
   pub full : (stored bytes : ℕ) → run.end ≡ end.Full stored bytes → (stored ≡ length (snapshots_on job g new)) × (bytes ≡ 65 + records_size (snapshots_on job g new))
 
 -- a good store with these snapshots may have got others, and keeps what it had
-abbrev pub IsKept : JobSayings → DataGraph → Update → List (List ℕ) → DiskPast → DiskPast → Type 0
-IsKept job g p bodies old new =
+abbrev pub IsStoreKept : JobSayings → DataGraph → Update → List (List ℕ) → DiskPast → DiskPast → Type 0
+IsStoreKept job g p bodies old new =
     (owner : ℕ → ℕ) → IsPlacement g job.fields.atoms job.fields.machines owner → IsGoodStore (shared_with job g p owner) (header_for job.fields g) bodies →
     (snapshots : List (List Entry)) × KeepsGood (shared_with job g p owner) (header_for job.fields g) bodies snapshots old new
 
@@ -56,19 +56,19 @@ IsNotGood job g p bodies =
     → 65 + records_size bodies ≤ 2 ^ 30 → ⊥
 
 -- Why there is no run of this program. Where it is told what the disk holds, a store is refused only where it is not good.
-abbrev pub IsWhyNotStored : Type 0 → JobSayings → DataGraph → Update → List (List ℕ) → DiskPast → DiskPast → ℕ → ℕ → JournalFault → Type 0
-IsWhyNotStored told job g p bodies old new before now journal.DiskFault = Rose before now × (told → new ≡ old)
-IsWhyNotStored told job g p bodies old new before now (journal.BadStore fault) = told → IsNotGood job g p bodies
-IsWhyNotStored told job g p bodies old new before now (journal.Full stored length) = ⊥
-IsWhyNotStored told job g p bodies old new before now journal.Failed = ⊥
-IsWhyNotStored told job g p bodies old new before now journal.NoMemory = told → (new ≡ old) ⊎ IsKept job g p bodies old new
+abbrev pub IsWhyNoneStored : Type 0 → JobSayings → DataGraph → Update → List (List ℕ) → DiskPast → DiskPast → ℕ → ℕ → JournalFault → Type 0
+IsWhyNoneStored told job g p bodies old new before now journal.DiskFault = Rose before now × (told → new ≡ old)
+IsWhyNoneStored told job g p bodies old new before now (journal.BadStore fault) = told → IsNotGood job g p bodies
+IsWhyNoneStored told job g p bodies old new before now (journal.Full stored length) = ⊥
+IsWhyNoneStored told job g p bodies old new before now journal.Failed = ⊥
+IsWhyNoneStored told job g p bodies old new before now journal.NoMemory = told → (new ≡ old) ⊎ IsStoreKept job g p bodies old new
 
 -- the same of the job, from a store that may have to be new
 abbrev pub IsWhyNotOnJournal : Type 0 → Bool → JobSayings → DataGraph → Update → List (List ℕ) → DiskPast → DiskPast → ℕ → ℕ → NoStore → Type 0
 IsWhyNotOnJournal told resumed job g p bodies old new before now (no_store.BadStore fault) =
     told → ((resumed ≡ false) × (0 < length bodies) × (fault ≡ Used (length bodies)) × (new ≡ old)) ⊎ IsNotGood job g p bodies
 IsWhyNotOnJournal told resumed job g p bodies old new before now no_store.DiskFault = Rose before now × (told → new ≡ old)
-IsWhyNotOnJournal told resumed job g p bodies old new before now no_store.NoMemory = told → (new ≡ old) ⊎ IsKept job g p bodies old new
+IsWhyNotOnJournal told resumed job g p bodies old new before now no_store.NoMemory = told → (new ≡ old) ⊎ IsStoreKept job g p bodies old new
 
 -- the same, from what the disk has
 abbrev pub IsWhyNotOnDisk : Type 0 → Bool → JobSayings → DataGraph → DiskPast → DiskPast → ℕ → ℕ → NoStore → Type 0
@@ -93,9 +93,9 @@ pub record IsRunIntoStore (told resumed : Bool) (name : List ℕ) (input : Input
   pub fault : run.end ≡ end.DiskFault → Rose old.disks.faults new.disks.faults
 
 -- a store was not opened whose file was not
-abbrev pub no_store_of : OpenFault → NoStore
-no_store_of open_fault.Failed = no_store.DiskFault
-no_store_of open_fault.NoMemory = no_store.NoMemory
+abbrev pub no_store_of_open : OpenFault → NoStore
+no_store_of_open open_fault.Failed = no_store.DiskFault
+no_store_of_open open_fault.NoMemory = no_store.NoMemory
 
 -- a store could not be used; one that is open is not full before the run
 abbrev pub no_store_of_journal : JournalFault → NoStore
