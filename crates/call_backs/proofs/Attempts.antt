@@ -14,6 +14,7 @@ use Rattle.cluster_model.specs.Totals.{total}
 use Rattle.cluster_records.specs.Recorded.{HaveSameNumbers}
 use Rattle.cluster_runs.specs.Attempts.{Shared}
 use Rattle.cluster_runs.specs.Recorded.{shared_of}
+use Rattle.coord_core.specs.declared.steps.Engine.TheVariants.{Locking}
 use Rattle.graph_core.specs.DataGraph.{DataGraph, IsDataGraph, size}
 use Rattle.placed_savers.proofs.LawLemmas.{attempt_begins}
 use Rattle.placed_savers.specs.declared.savers.Places.{Places}
@@ -39,7 +40,7 @@ use Rattle.call_backs.specs.Returning.{ArePlacesOf, BaseView, GoesBackSo, HasFai
 pub starts_so : {P : Type 0} (meaning : P → Update) (g : DataGraph) (program : Update) (places : Places) (many : ℕ) (base : Base) (serials : List ℕ) (machines : List (SaverView P)) (next left : ℕ) → IsDataGraph g → ArePlacesOf g many places → IsBaseFor g base →
     ((st : Setting) (view : BaseView) (before : Cluster) → IsRunAt g program places st → IsBaseOf st base view → HaveAdmitted st serials before → AreSaversOf meaning st view before machines) →
     (store : StoreView) → store.vertices ≡ size g → store.edges ≡ length g.edges → store.newest ≡ base.number →
-    (st : Setting) × (to : BaseView) × (before : Cluster) × StartsSaving (IsSaverOf meaning) machines store next left st to before
+    (st : Setting) × (to : BaseView) × (before : Cluster) × StartsSaving (IsSaverOf meaning) machines Locking store next left st to before
 starts_so meaning g program places many base serials machines next left graph placed for stand store vertices edges newest =
     let owner : ℕ → ℕ = placed_owner places.of.items places.owner.items in
     let at : IsAttemptFrom g program owner places.run base serials next left store.store_end =
@@ -50,6 +51,7 @@ starts_so meaning g program places many base serials machines next left graph pl
       at.before,
       record {
         setting = at.runs.setting;
+        led = at.runs.locks;
         many = are.many;
         each = are.each;
         vertices = ap size at.runs.placed.graph ∙ sym vertices;
@@ -202,7 +204,7 @@ module _ {P : Type 0} (meaning : P → Update) (g : DataGraph) (program : Update
         pub goes_so : GoesBackSo meaning v machines store base.order.items lost later front ahead st o events c
         goes_so = record {
           to = to;
-          back = go_back st o events meaning v c to store machines is back_to.5 has.running has.each (stand to run_here of_base)
+          back = go_back st o events meaning v c to store machines is runs.locks back_to.5 has.running has.each (stand to run_here of_base)
               (ap size graph_is ∙ sym vertices) (ap (λ (x : DataGraph). length x.edges) graph_is ∙ sym edges) (of_base.number ∙ sym newest) store_end_is;
           number = back_to.1;
           order_is = order_is;

@@ -3,6 +3,7 @@ use Rattle.std.proofs.Common.{◌≡◌, ℕ, ◌+◌, ◌*◌, ◌<◌, ◌≤�
 use Rattle.gl_base.specs.declared.entries.Entry.{Entry}
 use Rattle.gl_base.specs.declared.jobs.FailureAt.{FailureAt}
 use Rattle.call_courses.specs.Courses.{HasGoneBack, first_setting}
+use Rattle.coord_core.specs.declared.steps.Engine.TheVariants.{Locking}
 use Rattle.call_courses.proofs.Passing.{pass_fronts, pass_lost, pass_records, recover_fronts, recover_lost, recover_records}
 use Rattle.cluster_model.specs.Events as law
 use Rattle.cluster_model.specs.Leading.{Coordinator, Snapshot}
@@ -99,7 +100,7 @@ module _ {M : Type 0} (stands : Setting → ℕ → Machine → M → Type 0) (o
 module _ {P : Type 0} (meaning : P → Update) (old new : CourseView (SaverView P)) (failures : new.failures ≡ old.failures) (header : Header) (start bodies : List (List ℕ)) (lost later stored front ahead before order : List Entry) (st : Setting) (o : CallOpening)
     (machines : List (SaverView P)) (store : StoreView) where
   pub known_back : (known : IsKnownCourse (IsSaverOf meaning) old header start bodies lost stored front before st o) → GoesBackSo meaning old machines store order lost later front ahead st o known.was.events known.was.cluster →
-      HasGoneBack (IsSaverOf meaning) old machines store new → IsKnownCourse (IsSaverOf meaning) new header start bodies later stored ahead order st o
+      HasGoneBack (IsSaverOf meaning) old machines Locking store new → IsKnownCourse (IsSaverOf meaning) new header start bodies later stored ahead order st o
   known_back known goes gone_back =
       let events : List law.Event = known.was.events in
       let c : Cluster = known.was.cluster in

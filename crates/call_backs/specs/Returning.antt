@@ -10,6 +10,7 @@ use Rattle.gl_base.specs.declared.entries.Entry.{Entry}
 use Rattle.gl_base.specs.declared.snapshots.Base.{Base}
 use Rattle.graph_core.specs.DataGraph.{size}
 use Rattle.cluster_model.specs.Events as law
+use Rattle.coord_core.specs.declared.steps.Engine.TheVariants.{Locking}
 use Rattle.recovery.specs.Orders.{AreNumbers, Shared, replay}
 use Rattle.snap_journal.specs.Disks.{Rose}
 use Rattle.snap_journal.specs.declared.faults.JournalFault.{JournalFault}
@@ -37,7 +38,7 @@ pub record IsBaseBehind (shared : Shared) (header : Header) (bodies : List (List
 -- attempt begins with these restarts, one more than before for each failure.
 pub record GoesBackSo {P : Type 0} (meaning : P → Update) (v : CourseView (SaverView P)) (machines : List (SaverView P)) (store : StoreView) (order lost later before front : List Entry) (st : Setting) (o : CallOpening) (events : List law.Event) (c : Cluster) : Type 0 where
   pub to : BaseView
-  pub back : GoesBackWith (IsSaverOf meaning) v machines store st o events c to
+  pub back : GoesBackWith (IsSaverOf meaning) v machines Locking store st o events c to
   pub number : to.number ≡ c.coordinator.acknowledged
   pub order_is : to.order ≡ order
   pub gone : List Entry

@@ -9,7 +9,7 @@ ghost use Rattle.snap_journal.specs.Journals.{snapshots_in};
 
 use crate::failing::fail_reached;
 use crate::next_attempts::next_attempt;
-use call_courses::Course;
+use call_courses::{Course, Engine};
 use call_returns::Restarts;
 use gl_base::Entry;
 use gl_outside::Disk;
@@ -72,7 +72,7 @@ pub fn go_back<D: Disk, P: Program>(
     let next = next_attempt(
         alloc, course, journal, graph, program, places, restarts, lost,
     )?;
-    course.recover(alloc, next.machines, next.store)?;
+    course.recover(alloc, next.machines, Engine::Locking, next.store)?;
     restarts.front = next.front;
     *lost = next.lost;
     Ok(next.order)

@@ -4,6 +4,7 @@ ghost use Rattle.std.specs.List.{AllByRecursion};
 ghost use Rattle.call_backs.specs.Returning.{ArePlacesOf, BaseView, Begins, CallOpening, Cluster, GoesBackSo, HasFailures, Header, InEachCourse, IsBaseBehind, IsBaseFor, IsCourseNow, IsKnownCourse, IsRunAt, IsSaverOf, IsWhyNotBack, Setting, StartsSaving, StoreView, is_restart, newest_setting, restarts};
 ghost use Rattle.cluster_model.specs.Events.{Event, GoesBackTo, failures_in};
 ghost use Rattle.coord_core.specs.Stores.{store_view};
+ghost use Rattle.coord_core.specs.declared.steps.Engine.TheVariants.{Locking};
 ghost use Rattle.graph_core.specs.DataGraph.{IsDataGraph, size};
 ghost use Rattle.gl_base.specs.declared.entries.Entry.{Entry};
 ghost use Rattle.whole_calls.specs.Lost.{TakesAway};
@@ -54,7 +55,7 @@ pub(crate) fn next_attempt<D: Disk, P: Program>(
     requires places { ArePlacesOf graph.now (length course.now.now.machines.items) places.now }
     requires header { IsHeaderOf graph.now journal.old.header }
     requires first { Begins restarts.now.stored.items restarts.now.front.items }
-    ensures start { IfOk result (λ next. (st : Setting) × (base : BaseView) × (before : Cluster) × StartsSaving (IsSaverOf P.meaning) next.machines.items (store_view next.store) course.now.now.next course.now.now.left st base before) }
+    ensures start { IfOk result (λ next. (st : Setting) × (base : BaseView) × (before : Cluster) × StartsSaving (IsSaverOf P.meaning) next.machines.items Locking (store_view next.store) course.now.now.next course.now.now.left st base before) }
     ensures many { IfOk result (λ next. length next.machines.items ≡ length course.now.now.machines.items) }
     ensures newest { IfOk result (λ next. next.store.newest + 1 < 2 ^ 32) }
     ensures short { IfOk result (λ next. next.store.length < 2 ^ 32) }
@@ -137,7 +138,7 @@ fn attempt_from<P: Program>(
     ensures stand { IfOk result (λ next. InEachCourse (IsSaverOf P.meaning) course.now (λ st o events c. (to : BaseView) → IsRunAt graph.now (P.meaning program) places.now (newest_setting st o events) → IsBaseOf (newest_setting st o events) base to →
         AreSaversOf P.meaning (newest_setting st o events) to c next.machines.items)) }
     ensures start { IfOk result (λ next. (store : StoreView) → store.vertices ≡ size graph.now → store.edges ≡ length graph.now.edges → store.newest ≡ base.number →
-        (st : Setting) × (to : BaseView) × (before : Cluster) × StartsSaving (IsSaverOf P.meaning) next.machines.items store course.now.now.next course.now.now.left st to before) }
+        (st : Setting) × (to : BaseView) × (before : Cluster) × StartsSaving (IsSaverOf P.meaning) next.machines.items Locking store course.now.now.next course.now.now.left st to before) }
 {
     let gone = taken_away(alloc, course, &base.order)?;
     let lost = list_behind(alloc, lost, &gone)?;

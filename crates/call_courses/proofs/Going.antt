@@ -11,8 +11,8 @@ use Rattle.cluster_model.specs.Machines.{completed}
 use Rattle.cluster_records.specs.LineOfFour.{after_events}
 use Rattle.cluster_attempts.proofs.Joining.{done_kept}
 use Rattle.cluster_ending.proofs.Courses.{setting_same}
-use Rattle.cluster_whole.specs.Whole.{AreColoured, IsNoRecovery, setting_behind}
-use Rattle.call_courses.specs.Courses.{BaseView, CallOpening, Cluster, CourseView, CourseGoesOn, GoesBackWith, HasCourse, HasGoneBack, InEachCourse, IsCourseNow, IsSameAttempt, IsSavingClusterOf, IsSnapSetting, Machine, OpensCall, Parts, ArePassing, IsPassing, Setting, StartsCall, StartsSaving, StoreView, as_since, first_cluster, first_setting, newest_setting}
+use Rattle.cluster_whole.specs.Whole.{IsNoRecovery, setting_behind}
+use Rattle.call_courses.specs.Courses.{BaseView, CallOpening, Cluster, CourseView, CourseGoesOn, Engine, GoesBackWith, HasCourse, HasGoneBack, InEachCourse, IsCourseNow, IsSameAttempt, IsSavingClusterOf, IsSnapSetting, Machine, OpensCall, Parts, ArePassing, IsPassing, Setting, StartsCall, StartsSaving, StoreView, as_since, first_cluster, first_setting, newest_setting}
 use Rattle.call_courses.specs.Events.{CanHappenInCall, CanNotHappenInCall, HappensInCall, IsHeldBack, GoesOnBy, StaysThere, watched}
 use Rattle.snap_clusters.specs.Clusters.{GoesOnWith, StandsForSameSaving}
 use Rattle.snap_clusters.specs.Events.{CanTakePlace, CanNotTakePlace, IsNamedEvent, IsNoStop, NamesItsMachines, TakesPlace}
@@ -40,7 +40,7 @@ pub setting_now : (st : Setting) (o : CallOpening) (events : List law.Event) →
 setting_now st o events setting =
     let last : Setting = newest_setting st o events in
     subst IsSnapSetting (sym (behind_since events (first_setting st o)))
-    (record { is = record { graph = setting.is.graph; owner = setting.is.owner }; locks = setting.locks; stored = setting.stored })
+    (record { is = record { graph = setting.is.graph; owner = setting.is.owner }; coloured = setting.coloured; stored = setting.stored })
 
 -- ---- events that are no recovery
 
@@ -53,6 +53,7 @@ named_other (event.Local (local.Section a)) e is = λ base so. absurd (cc)
 named_other (event.Local (local.Fail a)) e is = λ base so. absurd (cc)
 named_other (event.Lead lead.Record) e is = λ base so. absurd (cc)
 named_other (event.Lead lead.Begin) e is = λ base so. absurd (cc)
+named_other (event.Lead lead.Step) e is = λ base so. absurd (cc)
 named_other (event.Lead lead.Wave) e is = λ base so. absurd (cc)
 named_other (event.Lead lead.Stop) e is = λ base so. absurd (cc)
 named_other (event.Passage (passage.Send p q)) e is = λ base so. absurd (cc)
@@ -71,6 +72,7 @@ named_quiet (event.Local (local.Section a)) e none is = λ so. absurd (cc)
 named_quiet (event.Local (local.Fail a)) e none is = λ so. absurd (cc)
 named_quiet (event.Lead lead.Record) e none is = absurd none
 named_quiet (event.Lead lead.Begin) e none is = λ so. absurd (cc)
+named_quiet (event.Lead lead.Step) e none is = λ so. absurd (cc)
 named_quiet (event.Lead lead.Wave) e none is = λ so. absurd (cc)
 named_quiet (event.Lead lead.Stop) e none is = absurd none
 named_quiet (event.Passage (passage.Send p q)) e none is = λ so. absurd (cc)
@@ -223,6 +225,7 @@ module _ (failures : List FailureAt) (st : Setting) (o : CallOpening) (events : 
   free_others (event.Local (local.Section a)) none e is = subst at_event (sym is) tt
   free_others (event.Lead lead.Record) none e is = subst at_event (sym is) tt
   free_others (event.Lead lead.Begin) none e is = subst at_event (sym is) tt
+  free_others (event.Lead lead.Step) none e is = subst at_event (sym is) tt
   free_others (event.Lead lead.Wave) none e is = subst at_event (sym is) tt
   free_others (event.Lead lead.Stop) none e is = subst at_event (sym is) tt
   free_others (event.Passage (passage.Send p q)) none e is = subst at_event (sym is) tt
@@ -294,10 +297,10 @@ module _ {M : Type 0} (stands : Setting → ℕ → Machine → M → Type 0) (o
 
 -- ---- where it begins
 
-module _ {M : Type 0} (stands : Setting → ℕ → Machine → M → Type 0) (xs : List M) (store : StoreView) (next left : ℕ) (p : Parts M)
-    (began : (st : Setting) (base : BaseView) (before : Cluster) → StartsSaving stands xs store next left st base before → IsSavingClusterOf stands (going_on st base.numbers base.number) p (law.recovers st base before))
+module _ {M : Type 0} (stands : Setting → ℕ → Machine → M → Type 0) (xs : List M) (engine : Engine) (store : StoreView) (next left : ℕ) (p : Parts M)
+    (began : (st : Setting) (base : BaseView) (before : Cluster) → StartsSaving stands xs engine store next left st base before → IsSavingClusterOf stands (going_on st base.numbers base.number) p (law.recovers st base before))
     (failures : List FailureAt) where
-  pub opens_call : (st : Setting) (o : CallOpening) → StartsCall stands xs store next left failures st o → OpensCall stands p failures st o
+  pub opens_call : (st : Setting) (o : CallOpening) → StartsCall stands xs engine store next left failures st o → OpensCall stands p failures st o
   opens_call st o starts = record { setting = starts.starts.setting; opened = starts.opened; code = began st o.base o.first starts.starts }
 
 -- no machine has completed an update yet
@@ -350,10 +353,10 @@ record_free stands v st o events c is = others_held v.failures st o events c (ev
 
 -- ---- where it goes back
 
-module _ {M : Type 0} (stands : Setting → ℕ → Machine → M → Type 0) (old new : CourseView M) (failures : new.failures ≡ old.failures) (xs : List M) (store : StoreView)
+module _ {M : Type 0} (stands : Setting → ℕ → Machine → M → Type 0) (old new : CourseView M) (failures : new.failures ≡ old.failures) (xs : List M) (engine : Engine) (store : StoreView)
     (dones : (a : ℕ) → a < length old.now.machines.items → InEachCourse stands old (λ st o events c. slice_index_or new.done a 0 ≡ completed (c.machine a)))
-    (recovered : (st : Setting) (c : Cluster) (base : BaseView) → GoesOnWith stands old.now xs store st c base → IsSavingClusterOf stands (going_on st base.numbers base.number) new.now (law.recovers st base c)) where
-  module _ (st : Setting) (o : CallOpening) (events : List law.Event) (c : Cluster) (base : BaseView) (goes : GoesBackWith stands old xs store st o events c base) where
+    (recovered : (st : Setting) (c : Cluster) (base : BaseView) → GoesOnWith stands old.now xs engine store st c base → IsSavingClusterOf stands (going_on st base.numbers base.number) new.now (law.recovers st base c)) where
+  module _ (st : Setting) (o : CallOpening) (events : List law.Event) (c : Cluster) (base : BaseView) (goes : GoesBackWith stands old xs engine store st o events c base) where
     abbrev before : Setting
     before = newest_setting st o events
 
@@ -363,7 +366,7 @@ module _ {M : Type 0} (stands : Setting → ℕ → Machine → M → Type 0) (o
     abbrev first : Cluster
     first = law.recovers before base c
 
-    pub goes_on_with : GoesOnWith stands old.now xs store before c base
+    pub goes_on_with : GoesOnWith stands old.now xs engine store before c base
     goes_on_with = record { stood = goes.is.code; may = goes.may; starts = goes.starts }
 
     ends_here : c ≡ after_events (first_setting st o) events (first_cluster st o)
@@ -393,29 +396,29 @@ module _ {M : Type 0} (stands : Setting → ℕ → Machine → M → Type 0) (o
       done = λ a low. sym (dones a (below a low) st o events c goes.is);
     }
 
-  pub gone_back : HasGoneBack stands old xs store new
+  pub gone_back : HasGoneBack stands old xs engine store new
   gone_back st o events c base goes = back_now st o events c base goes
 
 -- what the type shows of it
-module _ {M : Type 0} (stands : Setting → ℕ → Machine → M → Type 0) (v own : CourseView M) (view_is : v ≡ own) (xs : List M) (store : StoreView) where
-  pub again_seen : (st : Setting) × (base : BaseView) × (before : Cluster) × StartsSaving stands xs store own.now.next own.now.left st base before →
-      (st : Setting) × (base : BaseView) × (before : Cluster) × StartsSaving stands xs store v.now.next v.now.left st base before
-  again_seen = subst (λ (x : CourseView M). (st : Setting) × (base : BaseView) × (before : Cluster) × StartsSaving stands xs store x.now.next x.now.left st base before) (sym view_is)
+module _ {M : Type 0} (stands : Setting → ℕ → Machine → M → Type 0) (v own : CourseView M) (view_is : v ≡ own) (xs : List M) (engine : Engine) (store : StoreView) where
+  pub again_seen : (st : Setting) × (base : BaseView) × (before : Cluster) × StartsSaving stands xs engine store own.now.next own.now.left st base before →
+      (st : Setting) × (base : BaseView) × (before : Cluster) × StartsSaving stands xs engine store v.now.next v.now.left st base before
+  again_seen = subst (λ (x : CourseView M). (st : Setting) × (base : BaseView) × (before : Cluster) × StartsSaving stands xs engine store x.now.next x.now.left st base before) (sym view_is)
 
   module _ (counts : List ℕ) (since cluster : Parts M)
       (dones : (a : ℕ) → a < length own.now.machines.items → InEachCourse stands own (λ st o events c. slice_index_or counts a 0 ≡ completed (c.machine a)))
-      (recovered : (st : Setting) (c : Cluster) (base : BaseView) → GoesOnWith stands v.now xs store st c base → IsSavingClusterOf stands (going_on st base.numbers base.number) cluster (law.recovers st base c)) where
+      (recovered : (st : Setting) (c : Cluster) (base : BaseView) → GoesOnWith stands v.now xs engine store st c base → IsSavingClusterOf stands (going_on st base.numbers base.number) cluster (law.recovers st base c)) where
     abbrev back_view : CourseView M
     back_view = record v { done = counts; since = since; now = cluster }
 
     dones_inside : (a : ℕ) → a < length v.now.machines.items → InEachCourse stands v (λ st o events c. slice_index_or counts a 0 ≡ completed (c.machine a))
     dones_inside = subst (λ (x : CourseView M). (a : ℕ) → a < length x.now.machines.items → InEachCourse stands x (λ st o events c. slice_index_or counts a 0 ≡ completed (c.machine a))) (sym view_is) dones
 
-    gone_inside : HasGoneBack stands v xs store back_view
-    gone_inside = gone_back stands v back_view refl xs store dones_inside recovered
+    gone_inside : HasGoneBack stands v xs engine store back_view
+    gone_inside = gone_back stands v back_view refl xs engine store dones_inside recovered
 
-    pub gone_seen : HasGoneBack stands own xs store back_view
-    gone_seen = subst (λ (x : CourseView M). HasGoneBack stands x xs store back_view) view_is gone_inside
+    pub gone_seen : HasGoneBack stands own xs engine store back_view
+    gone_seen = subst (λ (x : CourseView M). HasGoneBack stands x xs engine store back_view) view_is gone_inside
 
 -- it goes on in the same attempt
 pub attempt_seen : {M : Type 0} (v own : CourseView M) → v ≡ own → (cluster : Parts M) → length cluster.machines.items ≡ length v.now.machines.items → cluster.stopped ≡ v.now.stopped → IsSameAttempt own (record v { now = cluster })
@@ -444,6 +447,7 @@ pub no_stop : (what : Event) → GoesOnBy what → IsNoStop what
 no_stop (event.Local what) none = tt
 no_stop (event.Lead lead.Record) none = absurd none
 no_stop (event.Lead lead.Begin) none = tt
+no_stop (event.Lead lead.Step) none = tt
 no_stop (event.Lead lead.Wave) none = tt
 no_stop (event.Lead lead.Stop) none = absurd none
 no_stop (event.Passage what) none = tt
@@ -471,7 +475,7 @@ pub begun_now : {M : Type 0} (stands : Setting → ℕ → Machine → M → Typ
     (st : Setting) (o : CallOpening) → OpensCall stands v.start v.failures st o → IsCourseNow stands v st o [] (first_cluster st o)
 begun_now stands v none same st o opens = record {
   setting = opens.setting;
-  course = record { is = opens.setting.is; coloured = subst (AreColoured st) (sym opens.setting.locks) tt; opened = opens.opened; course = refl; follows = tt };
+  course = record { is = opens.setting.is; coloured = opens.setting.coloured; opened = opens.opened; course = refl; follows = tt };
   code = subst (λ p. IsSavingClusterOf stands (first_setting st o) p (first_cluster st o)) (sym same) opens.code;
   done = λ a low. opens.opened.done a ∙ sym (none a);
 }

@@ -3,7 +3,7 @@ pub use Rattle.cluster_model.specs.Clusters.{BaseView, Cluster}
 pub use Rattle.cluster_model.specs.Machines.{Machine}
 pub use Rattle.cluster_core.specs.Settings.{Setting}
 pub use Rattle.coord_core.specs.Coordinators.{StoreView}
-pub use Rattle.snap_clusters.specs.Clusters.{IsSavingClusterOf, IsSnapSetting, StartsSaving}
+pub use Rattle.snap_clusters.specs.Clusters.{Engine, IsSavingClusterOf, IsSnapSetting, StartsSaving}
 pub use Rattle.snap_clusters.specs.declared.parts.Parts.{Parts}
 use Rattle.std.specs.List.{AllByRecursion}
 use Rattle.std.specs.Prelude.{Bool, List, [], length, slice_index_or, ℕ, ◌++◌, ◌<◌, ◌∷◌, ◌≡◌, ◌≢◌}
@@ -92,22 +92,22 @@ pub record IsSameAttempt {M : Type 0} (old new : CourseView M) : Type 0 where
 
 -- ---- where it goes back
 
--- Recover may occur in this course and follows the job, and the machines begin again from its base, with this store.
-pub record GoesBackWith {M : Type 0} (stands : Setting → ℕ → Machine → M → Type 0) (old : CourseView M) (xs : List M) (store : StoreView) (st : Setting) (o : CallOpening) (events : List law.Event) (c : Cluster) (base : BaseView) : Type 0 where
+-- Recover may occur in this course and follows the job, and the machines begin again from its base, with this engine and this store.
+pub record GoesBackWith {M : Type 0} (stands : Setting → ℕ → Machine → M → Type 0) (old : CourseView M) (xs : List M) (engine : Engine) (store : StoreView) (st : Setting) (o : CallOpening) (events : List law.Event) (c : Cluster) (base : BaseView) : Type 0 where
   pub is : IsCourseNow stands old st o events c
   pub may : law.MayOccur (newest_setting st o events) c (law.Recover base)
   pub follows : FollowsJob (newest_setting st o events) old.failures c (law.Recover base)
-  pub starts : StartsSaving stands xs store old.now.next old.now.left (newest_setting st o events) base c
+  pub starts : StartsSaving stands xs engine store old.now.next old.now.left (newest_setting st o events) base c
 
 -- each that may has gone back
-abbrev pub HasGoneBack : {M : Type 0} → (Setting → ℕ → Machine → M → Type 0) → CourseView M → List M → StoreView → CourseView M → Type 0
-HasGoneBack stands old xs store new =
-    (st : Setting) (o : CallOpening) (events : List law.Event) (c : Cluster) (base : BaseView) → GoesBackWith stands old xs store st o events c base →
+abbrev pub HasGoneBack : {M : Type 0} → (Setting → ℕ → Machine → M → Type 0) → CourseView M → List M → Engine → StoreView → CourseView M → Type 0
+HasGoneBack stands old xs engine store new =
+    (st : Setting) (o : CallOpening) (events : List law.Event) (c : Cluster) (base : BaseView) → GoesBackWith stands old xs engine store st o events c base →
     IsCourseNow stands new st o (events ++ law.Recover base ∷ []) (law.recovers (newest_setting st o events) base c)
 
 -- ---- where it begins
 
--- The machines begin the call's first attempt, with this store, in this setting.
-pub record StartsCall {M : Type 0} (stands : Setting → ℕ → Machine → M → Type 0) (xs : List M) (store : StoreView) (next left : ℕ) (failures : List FailureAt) (st : Setting) (o : CallOpening) : Type 0 where
-  pub starts : StartsSaving stands xs store next left st o.base o.first
+-- The machines begin the call's first attempt, with this engine and this store, in this setting.
+pub record StartsCall {M : Type 0} (stands : Setting → ℕ → Machine → M → Type 0) (xs : List M) (engine : Engine) (store : StoreView) (next left : ℕ) (failures : List FailureAt) (st : Setting) (o : CallOpening) : Type 0 where
+  pub starts : StartsSaving stands xs engine store next left st o.base o.first
   pub opened : IsOpened st failures o.kept o.resumed o.base o.first

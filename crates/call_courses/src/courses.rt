@@ -16,7 +16,9 @@ ghost use Rattle.whole_calls.specs.Saved.{MayFollow};
 
 use crate::failing::{is_count_reached, watched};
 use gl_base::{Entry, FailureAt, MachineNo, NoMemory, Record, Refused, ScopeId, Vertex};
-use snap_clusters::{Coordinator, Due, Event, Lead, Local, SavingMachine, SnapCluster, Store};
+use snap_clusters::{
+    Coordinator, Due, Engine, Event, Lead, Local, SavingMachine, SnapCluster, Store,
+};
 use std::alloc::Global;
 use std::marker::Model;
 use std::snapshot::Snapshot;
@@ -46,17 +48,18 @@ impl<M: SavingMachine> Model for Course<M> {
 }
 
 impl<M: SavingMachine> Course<M> {
-    /// A call opens: its machines begin their first attempt, each at its place, with this store. The first update gets the ticket `next`,
-    /// and there are `left` of them. Of the base only what the machines have of it is asked.
+    /// A call opens: its machines begin their first attempt, each at its place, with this engine and this store. The first update gets the
+    /// ticket `next`, and there are `left` of them. Of the base only what the machines have of it is asked.
     pub fn open(
         alloc: Global,
         machines: Vec<M>,
+        engine: Engine,
         store: Store,
         next: u64,
         left: u64,
         failures: Vec<FailureAt>,
     ) -> Result<Course<M>, NoMemory>
-        requires start { (st : Setting) × (base : BaseView) × (before : Cluster) × StartsSaving M.stands machines.items (store_view store) next left st base before }
+        requires start { (st : Setting) × (base : BaseView) × (before : Cluster) × StartsSaving M.stands machines.items engine (store_view store) next left st base before }
         requires many { length machines.items < 65535 }
         requires few { next + left < 2 ^ 64 }
         requires newest { store.newest + 1 < 2 ^ 32 }
@@ -66,12 +69,12 @@ impl<M: SavingMachine> Course<M> {
         ensures machines { IfOk result (λ c. length c.now.machines.items ≡ length machines.items) }
         ensures runs { IfOk result (λ c. c.now.stopped ≡ false) }
         // It is an opening of the law, in each setting in which the machines start.
-        ensures opened { IfOk result (λ c. (st : Setting) (o : CallOpening) → StartsCall M.stands machines.items (store_view store) next left failures.items st o → OpensCall M.stands c.start c.failures st o) }
+        ensures opened { IfOk result (λ c. (st : Setting) (o : CallOpening) → StartsCall M.stands machines.items engine (store_view store) next left failures.items st o → OpensCall M.stands c.start c.failures st o) }
         // Nothing has happened yet.
         ensures begun { IfOk result (λ c. (st : Setting) (o : CallOpening) → OpensCall M.stands c.start c.failures st o → IsCourseNow M.stands c st o [] (first_cluster st o)) }
     {
         let done = Vec::from_elem(alloc, 0, machines.len())?;
-        let cluster = SnapCluster::new(alloc, machines, store, next, left)?;
+        let cluster = SnapCluster::new(alloc, machines, engine, store, next, left)?;
         let start = Snapshot::of(&cluster);
         let since = Snapshot::of(&cluster);
         Ok(Course {
@@ -102,7 +105,7 @@ impl<M: SavingMachine> Course<M> {
 
     /// A vertex of the machine is updated at once, where the one that the machine looks at may be now and the machine has reached the count of
     /// no failure: a scope of it is admitted, each of its locks is granted in turn, and its update is made, all on this machine. Of the
-    /// vertices that may be admitted the machine looks at one of its choice.
+    /// vertices that may be admitted the machine looks at one of its choice. Where scopes take no locks none is.
     pub fn update_at_once(&mut self, at: MachineNo) -> Result<Vertex, Refused>
         requires { at.0 < length self.old.now.machines.items }
         ensures made { IfOk result (λ v. HappensAtOnceInCall M.stands self.old at.0 v.0 self.new) }
@@ -130,19 +133,25 @@ impl<M: SavingMachine> Course<M> {
 
     /// All machines go back to a base: the call goes on with these machines, which begin its next attempt from it. Of the base only what the
     /// machines have of it is asked.
-    pub fn recover(&mut self, alloc: Global, machines: Vec<M>, store: Store) -> Result<(), NoMemory>
-        requires again { (st : Setting) × (base : BaseView) × (before : Cluster) × StartsSaving M.stands machines.items (store_view store) self.old.now.next self.old.now.left st base before }
+    pub fn recover(
+        &mut self,
+        alloc: Global,
+        machines: Vec<M>,
+        engine: Engine,
+        store: Store,
+    ) -> Result<(), NoMemory>
+        requires again { (st : Setting) × (base : BaseView) × (before : Cluster) × StartsSaving M.stands machines.items engine (store_view store) self.old.now.next self.old.now.left st base before }
         requires many { length machines.items ≡ length self.old.now.machines.items }
         requires newest { store.newest + 1 < 2 ^ 32 }
         requires length { store.length < 2 ^ 32 }
-        ensures recovered { OnOk result (HasGoneBack M.stands self.old machines.items (store_view store) self.new) }
+        ensures recovered { OnOk result (HasGoneBack M.stands self.old machines.items engine (store_view store) self.new) }
         ensures since { OnOk result (self.new.since ≡ self.new.now) }
         ensures runs { OnOk result (self.new.now.stopped ≡ false) }
         ensures unchanged { OnErr result (self.new ≡ self.old) }
         ensures same { (self.new.start ≡ self.old.start) × (self.new.failures ≡ self.old.failures) × (length self.new.now.machines.items ≡ length self.old.now.machines.items) }
     {
         let done = self.all_completed(alloc)?;
-        self.cluster.recover(alloc, machines, store)?;
+        self.cluster.recover(alloc, machines, engine, store)?;
         self.done = done;
         self.since = Snapshot::of(&self.cluster);
         Ok(())
@@ -220,8 +229,8 @@ impl<M: SavingMachine> Course<M> {
         self.cluster.machines()
     }
 
-    /// What is due: a record, the next snapshot, the end, or a wave. Where it is the end the call has ended; and the snapshot of a record
-    /// that is due may follow those of the call.
+    /// What is due: a record, the next snapshot, the end, a step, or a wave. Where it is the end the call has ended; and the snapshot of a
+    /// record that is due may follow those of the call.
     pub fn due(&self) -> Due
         ensures due { IsDueOf self.now.now.coordinator result }
         ensures ended { result ≡ Due.Ended → OfTheCall M.stands self.now (λ st o c call. HasEndedCall st call) }

@@ -7,4 +7,6 @@ mod laws;
 
 pub use courses::Course;
 pub use laws::courses_add_up;
-pub use snap_clusters::{Coordinator, Due, Event, Lead, Local, Passage, SavingMachine, Store};
+pub use snap_clusters::{
+    Coordinator, Due, Engine, Event, Lead, Local, Passage, SavingMachine, Store,
+};

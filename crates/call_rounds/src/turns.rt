@@ -9,8 +9,8 @@ use gl_base::{MachineNo, NoMemory};
 /// How many tasks a machine takes up in one turn.
 const TASKS_IN_A_TURN: u32 = 16;
 
-/// Each machine has its turn, and then the coordinator: a snapshot begins where one is due, and where nothing else moved a wave is put out
-/// where one is due. Says whether anything moved.
+/// Each machine has its turn, and then the coordinator: a snapshot or a step begins where one is due, and where nothing else moved a wave is
+/// put out where one is due. Says whether anything moved.
 pub(crate) fn round<M: SavingMachine>(course: &mut Course<M>) -> Result<bool, NoMemory>
     ensures { IsSameAttempt course.old course.new }
 {
@@ -29,6 +29,7 @@ fn lead<M: SavingMachine>(course: &mut Course<M>, moved: bool) -> Result<bool, N
 {
     match course.due() {
         Due::Snapshot(_) => happens(course, Event::Lead(Lead::Begin)),
+        Due::Step(_) => happens(course, Event::Lead(Lead::Step)),
         Due::Wave => {
             if moved {
                 Ok(true)

@@ -4,12 +4,13 @@ use Rattle.std.specs.declared.alloc.Global.{Global}
 use Rattle.std.specs.declared.vec.Vec.{Vec}
 use Rattle.call_courses.specs.Courses.{CallOpening, CourseView, IsCourseNow, OpensCall, StartsCall, StartsSaving, StoreView, first_cluster}
 use Rattle.call_starts.specs.Inner.Openings.{CanOpenWith, IsStoreOf, OpensWith, base_with}
-use Rattle.call_starts.specs.Starting.{Base, IsBaseFor, IsRunAt, IsSaverOf, SaverView, Setting, opening_from}
+use Rattle.call_starts.specs.Starting.{Base, IsSaverOf, SaverView, Setting, opening_from}
 use Rattle.coord_core.specs.Stores.{store_view}
+use Rattle.coord_core.specs.declared.steps.Engine.TheVariants as engine
 use Rattle.coord_core.specs.declared.stores.Store.{Store}
 use Rattle.gl_base.specs.declared.entries.Entry.{Entry}
 use Rattle.gl_base.specs.declared.jobs.FailureAt.{FailureAt}
-use Rattle.graph_core.specs.DataGraph.{DataGraph, IsDataGraph, size}
+use Rattle.graph_core.specs.DataGraph.{DataGraph, size}
 use Rattle.opened_bases.specs.Opening.{base_opened, cluster_before, ticket_above}
 use Rattle.placed_savers.specs.Beginning.{AreSaversOf, BaseView, Cluster, HaveAdmitted, IsAttemptFrom, IsBaseOf, IsSavingRunOf}
 use Rattle.placed_savers.specs.declared.savers.SavingRun.{SavingRun}
@@ -27,7 +28,7 @@ none_admitted (suc n) (suc a) = none_admitted n a
 module _ {P : Type 0} (meaning : P → Update) (g : DataGraph) (program : Update) (owner : ℕ → ℕ) (run : SavingRun) (base : Base) (serials : List ℕ) (store : Store) (of_store : IsStoreOf g base store) (savers : List (SaverView P))
     (stand : (st : Setting) (view : BaseView) (before : Cluster) → IsSavingRunOf g program owner run st → IsBaseOf st base view → HaveAdmitted st serials before → AreSaversOf meaning st view before savers) where
   -- they begin an attempt of the law
-  pub starts_some : (next left : ℕ) → IsAttemptFrom g program owner run base serials next left store.length → (st : Setting) × (view : BaseView) × (before : Cluster) × StartsSaving (IsSaverOf meaning) savers (store_view store) next left st view before
+  pub starts_some : (next left : ℕ) → IsAttemptFrom g program owner run base serials next left store.length → (st : Setting) × (view : BaseView) × (before : Cluster) × StartsSaving (IsSaverOf meaning) savers engine.Locking (store_view store) next left st view before
   starts_some next left is =
       let are : AreSaversOf meaning is.st is.view is.before savers = stand is.st is.view is.before is.runs is.of_base is.admitted in (
         is.st,
@@ -35,6 +36,7 @@ module _ {P : Type 0} (meaning : P → Update) (g : DataGraph) (program : Update
         is.before,
         record {
           setting = is.runs.setting;
+          led = is.runs.locks;
           many = are.many;
           each = are.each;
           vertices = ap size is.runs.placed.graph ∙ sym of_store.vertices;
@@ -70,12 +72,12 @@ module _ {P : Type 0} (meaning : P → Update) (g : DataGraph) (program : Update
         λ i. record { vertices = vertices i; edges = edges i; newest = newest i; store_end = long i }
 
     -- they start the call
-    pub starts_call : StartsCall (IsSaverOf meaning) savers (store_view store) next left failures st (opening_from st resumed first budget)
+    pub starts_call : StartsCall (IsSaverOf meaning) savers engine.Locking (store_view store) next left failures st (opening_from st resumed first budget)
     starts_call =
-        subst (λ (s : StoreView). StartsCall (IsSaverOf meaning) savers s next left failures st (opening_from st resumed first budget)) store_is
-        (subst (λ (n : ℕ). StartsCall (IsSaverOf meaning) savers (store_from st first) n left failures st (opening_from st resumed first budget)) (sym can.next_is)
-        (subst (λ (n : ℕ). StartsCall (IsSaverOf meaning) savers (store_from st first) (ticket_above kept.items) n failures st (opening_from st resumed first budget)) (sym (all can.few))
-        (start_call meaning st failures resumed first budget savers runs.setting can.good can.ordered can.begins
+        subst (λ (s : StoreView). StartsCall (IsSaverOf meaning) savers engine.Locking s next left failures st (opening_from st resumed first budget)) store_is
+        (subst (λ (n : ℕ). StartsCall (IsSaverOf meaning) savers engine.Locking (store_from st first) n left failures st (opening_from st resumed first budget)) (sym can.next_is)
+        (subst (λ (n : ℕ). StartsCall (IsSaverOf meaning) savers engine.Locking (store_from st first) (ticket_above kept.items) n failures st (opening_from st resumed first budget)) (sym (all can.few))
+        (start_call meaning st failures resumed first budget savers runs.setting runs.locks can.good can.ordered can.begins
         (stand st (base_opened resumed first) (cluster_before st (ticket_above kept.items) budget base.length) runs view_of admitted))))
 
 -- what is opened

@@ -4,12 +4,11 @@ use Rattle.std.specs.declared.alloc.Global.{Global}
 use Rattle.std.specs.declared.vec.Vec.{Vec}
 use Rattle.std.proofs.lemmas.List.Elements.{filter-append}
 use Rattle.attempts.specs.Entries.{is_restart}
-use Rattle.call_courses.specs.Courses.{CallOpening, CourseView, IsCourseNow, first_cluster}
+use Rattle.call_courses.specs.Courses.{CallOpening, CourseView, first_cluster}
 use Rattle.call_starts.proofs.TicketLemmas.{tickets_low}
-use Rattle.call_starts.specs.Inner.Openings.{CanOpenWith, IsBaseOpened, IsOpeningOf, OpensWith, base_with}
+use Rattle.call_starts.specs.Inner.Openings.{CanOpenWith, IsOpeningOf, OpensWith, base_with}
 use Rattle.call_starts.specs.Starting.{AreJobFailures, ArePlacesOf, Base, HasStarted, IsGoodStore, IsHeaderOf, IsKnownCourse, IsRunAt, IsSaverOf, SaverView, Setting, opening_from, placed_owner, restart_room, run_shared, shared_of}
 use Rattle.call_starts.specs.declared.openings.Opening.{Opening}
-use Rattle.call_starts.specs.declared.starting.Started.{Started}
 use Rattle.cluster_core.specs.Settings.{Locking}
 use Rattle.cluster_model.specs.Totals.{total}
 use Rattle.gl_base.specs.declared.entries.Entry.{Entry}
@@ -24,7 +23,7 @@ use Rattle.recovery.specs.Recovered.{IsRecovered}
 use Rattle.seq_run.specs.Orders.{replay}
 use Rattle.seq_run.specs.Runs.{AreNumbers}
 use Rattle.store_format.specs.declared.header.Header.{Header}
-use Rattle.stored_courses.specs.Stores.{IsStoreFor, IsStoredCourse}
+use Rattle.stored_courses.specs.Stores.{IsStoredCourse}
 use Rattle.update_api.specs.Updates.{Update}
 use Rattle.wave_counts.proofs.CountLemmas.{total_from-nothing}
 
@@ -98,7 +97,8 @@ some_setting g program places machines failures graph are =
     } in (
       st,
       record {
-        setting = record { is = record { graph = graph; owner = owner_low g places.run.machines places.of.items places.owner.items are.each are.atoms are.owners }; locks = refl; stored = refl };
+        setting = record { is = record { graph = graph; owner = owner_low g places.run.machines places.of.items places.owner.items are.each are.atoms are.owners }; coloured = tt; stored = refl };
+        locks = refl;
         placed = record { graph = refl; machines = refl; owners = λ v inside. refl };
         program_is = refl;
         pipeline = refl;

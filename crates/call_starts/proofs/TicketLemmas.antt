@@ -1,7 +1,6 @@
 -- The tickets of a store are low, whatever its bytes are.
-use Rattle.std.proofs.Common.{◌≡◌, ℕ, zero, suc, ◌+◌, ◌*◌, ◌<◌, ◌≤◌, ◌==◌, ◌&&◌, Bool, true, false, if◌then◌else◌, List, [], ◌∷◌, ◌++◌, Option, None, Some, Result, Ok, Err, refl, sym, ap, ◌∙◌, subst, take, drop, max, arith}
+use Rattle.std.proofs.Common.{◌≡◌, ℕ, zero, suc, ◌+◌, ◌*◌, ◌<◌, ◌≤◌, ◌==◌, ◌&&◌, Bool, true, false, if◌then◌else◌, List, [], ◌∷◌, Option, None, Some, Result, Ok, Err, refl, sym, ap, ◌∙◌, subst, take, drop, max, arith}
 use Rattle.std.specs.List.{AllByRecursion}
-use Rattle.std.specs.Option.{option_or}
 use Rattle.std.specs.Prelude.{nat_le, nat_lt, slice_index}
 use Rattle.std.specs.Result.{result_unwrap_or}
 use Rattle.std.proofs.lemmas.Bool.{ltb-true}
@@ -13,10 +12,10 @@ use Rattle.store_format.specs.Bodies.{body_fault, entry_count, number_fault, sec
 use Rattle.store_format.specs.Entries.{entries_fault, entry_fault, kind_at, limit_of_kind, rank_at}
 use Rattle.store_format.specs.Fields.{bad_outside, field}
 use Rattle.store_format.specs.Headers.{store_header_fault}
-use Rattle.store_format.specs.Records.{bodies_from, body_in, length_in, stored_fault, unless_bad, with_body}
+use Rattle.store_format.specs.Records.{bodies_from, body_in, length_in, stored_fault, unless_bad}
 use Rattle.store_format.specs.Sections.{sections_fault}
 use Rattle.store_format.specs.StoredOrders.{body_entries, entries_from, entry_at, entry_rank, order_behind, put_in_order, stored_order, with_entries}
-use Rattle.store_format.specs.Stores.{read_store, stored_in, unless_refused}
+use Rattle.store_format.specs.Stores.{read_store, stored_in}
 use Rattle.store_format.specs.declared.faults.StoreFault.{StoreFault}
 use Rattle.store_format.specs.declared.header.Header.{Header}
 use Rattle.store_format.proofs.NumberLemmas.{both_none}

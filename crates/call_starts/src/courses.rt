@@ -9,7 +9,7 @@ ghost use Rattle.graph_core.specs.DataGraph.{IsDataGraph};
 
 use crate::openings::Opening;
 use crate::tickets::tickets_from;
-use call_courses::{Course, Store};
+use call_courses::{Course, Engine, Store};
 use gl_base::{Base, FailureAt, NoMemory};
 use graph_core::Graph;
 use placed_savers::{Places, attempts_can_begin, placed_savers};
@@ -53,7 +53,15 @@ pub(crate) fn course_of<P: Program>(
     let listed = Vec::from_slice(alloc, failures)?;
     let store = store_of(graph, &opening.base);
     let left = tickets_from(opening.next, budget);
-    Course::open(alloc, machines, store, opening.next, left, listed)
+    Course::open(
+        alloc,
+        machines,
+        Engine::Locking,
+        store,
+        opening.next,
+        left,
+        listed,
+    )
 }
 
 /// What the coordinator knows of the store of this base.

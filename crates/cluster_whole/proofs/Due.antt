@@ -46,11 +46,11 @@ sums_are f (w ∷ ws) k g is =
 nothing_more : (sent received told_sent told_received flow : ℕ) → sent ≡ received + flow → told_sent ≡ sent → told_received ≤ received → told_received ≡ told_sent → flow ≡ 0
 nothing_more sent received told_sent told_received flow one two three four = omega arith
 
-none_between : (machines steps p q : ℕ) (ms : List Message) → AllByRecursion (ComesBetween machines steps p q) ms → ((p < machines) × (q < machines) × (0 < steps) → ⊥) → ms ≡ []
-none_between machines steps p q [] all off = refl
-none_between machines steps p q (Ask s v rest ∷ ms) all off = absurd all.0
-none_between machines steps p q (Ready s ∷ ms) all off = absurd all.0
-none_between machines steps p q (Done s news ∷ ms) all off = absurd (off all.0)
+none_between : (st : Setting) (steps p q : ℕ) (ms : List Message) → AllByRecursion (ComesBetween st steps p q) ms → ((p < st.machines) × (q < st.machines) × (0 < steps) → ⊥) → ms ≡ []
+none_between st steps p q [] all off = refl
+none_between st steps p q (Ask s v rest ∷ ms) all off = absurd all.0
+none_between st steps p q (Ready s ∷ ms) all off = absurd all.0
+none_between st steps p q (Done s news ∷ ms) all off = absurd (off all.0.within)
 
 since_some : (n : ℕ) → 2 ≤ n → 0 < n
 since_some n low = omega arith
@@ -116,16 +116,16 @@ module _ (st : Setting) (colour : ℕ → ℕ) (c : Cluster) (t : AreInTurn st c
         ⊎_elim
         (λ (p_low : p < st.machines). ⊎_elim
         (λ (q_low : q < st.machines). nothing_under_way st (world_of c) none_flows p q p_low q_low)
-        (λ (q_high : st.machines ≤ q). none_between st.machines rounds.steps p q (way (world_of c) p q) (t.between p q) (λ in_range. not_low q st.machines q_high in_range.1))
+        (λ (q_high : st.machines ≤ q). none_between st rounds.steps p q (way (world_of c) p q) (t.between p q) (λ in_range. not_low q st.machines q_high in_range.1))
         (cases_lt q st.machines))
-        (λ (p_high : st.machines ≤ p). none_between st.machines rounds.steps p q (way (world_of c) p q) (t.between p q) (λ in_range. not_low p st.machines p_high in_range.0))
+        (λ (p_high : st.machines ≤ p). none_between st rounds.steps p q (way (world_of c) p q) (t.between p q) (λ in_range. not_low p st.machines p_high in_range.0))
         (cases_lt p st.machines)
 
   module _ (due : StepIsDue st.engine rounds) where
     pub due_ways : (p q : ℕ) → way (world_of c) p q ≡ []
     due_ways p q =
         ⊎_elim
-        (λ (none : rounds.steps ≡ 0). none_between st.machines rounds.steps p q (way (world_of c) p q) (t.between p q) (λ in_range. none_positive rounds.steps none in_range.2))
+        (λ (none : rounds.steps ≡ 0). none_between st rounds.steps p q (way (world_of c) p q) (t.between p q) (λ in_range. none_positive rounds.steps none in_range.2))
         (λ (even : AreEven rounds). even_ways due.whole even p q)
         due.over
 

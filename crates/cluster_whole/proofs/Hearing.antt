@@ -184,7 +184,7 @@ module _ (st : Setting) (colour : ℕ → ℕ) (c : Cluster) (t : AreInTurn st c
           closed = λ s. set_at-holds (λ (b : ℕ) (x : Machine). s.home.0 ≡ b → x.part.closed ≡ true → x.part.flight s ≡ None) c.machine a stepped s.home.0
               (λ home closed. absurd (both_ways false refl closed)) (λ off home closed. t.closed s closed) refl;
           queues = λ b. set_at-holds (λ (b : ℕ) (x : Machine). (y : ℕ) → x.part.queue y ≡ []) c.machine a stepped b (t.queues a) (λ off. t.queues b);
-          between = λ p q. subst (AllByRecursion (ComesBetween st.machines rounds.steps p q)) (sym (ways_same p q)) (t.between p q);
+          between = λ p q. subst (AllByRecursion (ComesBetween st rounds.steps p q)) (sym (ways_same p q)) (t.between p q);
           balanced =
               (λ i. total st.machines (λ b. set_at-kept (λ (x : Machine). x.sent) c.machine a stepped refl b i)) ∙ t.balanced
               ∙ λ i. total st.machines (λ b. sym (set_at-kept (λ (x : Machine). x.received) c.machine a stepped refl b) i) + sym (same_flows st (world_of c) (world_of (heard (Step seen))) ways_same) i;
@@ -245,7 +245,7 @@ module _ (st : Setting) (colour : ℕ → ℕ) (c : Cluster) (t : AreInTurn st c
           closed = λ s. set_at-holds (λ (b : ℕ) (x : Machine). s.home.0 ≡ b → x.part.closed ≡ true → x.part.flight s ≡ None) c.machine a waved s.home.0
               (λ home. subst (λ (b : ℕ). (c.machine b).part.closed ≡ true → (c.machine b).part.flight s ≡ None) home (t.closed s)) (λ off home closed. t.closed s closed) refl;
           queues = λ b. set_at-holds (λ (b : ℕ) (x : Machine). (y : ℕ) → x.part.queue y ≡ []) c.machine a waved b (t.queues a) (λ off. t.queues b);
-          between = λ p q. subst (AllByRecursion (ComesBetween st.machines rounds.steps p q)) (sym (wave_ways p q)) (t.between p q);
+          between = λ p q. subst (AllByRecursion (ComesBetween st rounds.steps p q)) (sym (wave_ways p q)) (t.between p q);
           balanced =
               (λ i. total st.machines (λ b. set_at-kept (λ (x : Machine). x.sent) c.machine a waved refl b i)) ∙ t.balanced
               ∙ λ i. total st.machines (λ b. sym (set_at-kept (λ (x : Machine). x.received) c.machine a waved refl b) i) + sym (same_flows st (world_of c) (world_of (heard (Wave seen))) wave_ways) i;

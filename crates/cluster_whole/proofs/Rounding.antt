@@ -107,7 +107,7 @@ module _ (st : Setting) (colour : ℕ → ℕ) (c : Cluster) (t : AreInTurn st c
           };
           closed = t.closed;
           queues = t.queues;
-          between = λ p q. subst (AllByRecursion (ComesBetween st.machines stepped.steps p q)) (sym (due_ways st colour c t due p q)) tt;
+          between = λ p q. subst (AllByRecursion (ComesBetween st stepped.steps p q)) (sym (due_ways st colour c t due p q)) tt;
           balanced = t.balanced;
         }
 

@@ -21,6 +21,7 @@ use Rattle.cluster_core.proofs.Nearness.{part_low}
 use Rattle.cluster_core.proofs.Taking.{same_way, sent-way, taken, taken-here, taken-there}
 use Rattle.cluster_places.proofs.StepsKept.{action_stays}
 use Rattle.cluster_places.specs.Steps.{IsInStep}
+use Rattle.graph_core.specs.DataGraph.{size}
 use Rattle.cluster_model.specs.Calls.{Begin, Call, Committed, Count, Report, Saved, Step, Want, Wave, begins_in, sections_in}
 use Rattle.cluster_model.specs.Clusters.{BaseView, Cluster, call_way, report_way}
 use Rattle.cluster_model.specs.Events.{Event, Admit, DeliverCall, DeliverReport, Deliver, Fail, Grant, Mark, MayDo, PutBegin, PutStep, PutWave, Record, Recover, Section, Send, SendCall, SendReport, Stop, Update, after_event, delivers_call, delivers_message, delivers_report, makes, saves, sends_call, sends_message, sends_report}
@@ -28,7 +29,7 @@ use Rattle.cluster_model.specs.Machines.{Machine, gained}
 use Rattle.cluster_model.specs.Rounds.{Rounds}
 use Rattle.cluster_model.specs.Totals.{total}
 use Rattle.cluster_model.specs.Working.{admits, asks_more, commits, fails, hands, hands_report, makes_mark, makes_update, prompt, receives, sections, takes_call, works_on}
-use Rattle.cluster_whole.specs.Steps.{AreInTurn, ComesBetween, counts_in, rounds_in, under_way}
+use Rattle.cluster_whole.specs.Steps.{AreInTurn, ComesBetween, IsWordBetween, counts_in, rounds_in, under_way}
 use Rattle.cluster_whole.specs.Views.{world_of}
 use Rattle.cluster_whole.specs.Windows.{AreWithin, StaysWithin}
 use Rattle.cluster_whole.proofs.Flows.{below_all, gained_none, part_flows, same_flows, taken_flows, total_from-more}
@@ -72,17 +73,17 @@ more_low : (n : ℕ) → n ≤ n + 1
 more_low n = omega arith
 
 -- the first of what is on a way is word of an update
-front_between : (machines steps p q : ℕ) (m : Message) (behind link : List Message) → link ≡ m ∷ behind → (out : List Message) → AllByRecursion (ComesBetween machines steps p q) (link ++ out) → ComesBetween machines steps p q m
-front_between machines steps p q m behind link first out all =
-    (subst (λ (ms : List Message). AllByRecursion (ComesBetween machines steps p q) (ms ++ out)) first all).0
+pub front_between : (st : Setting) (steps p q : ℕ) (m : Message) (behind link : List Message) → link ≡ m ∷ behind → (out : List Message) → AllByRecursion (ComesBetween st steps p q) (link ++ out) → ComesBetween st steps p q m
+front_between st steps p q m behind link first out all =
+    (subst (λ (ms : List Message). AllByRecursion (ComesBetween st steps p q) (ms ++ out)) first all).0
 
 -- and so it is where one more is told
-told_between : (machines steps p q : ℕ) (s : ScopeId) (news : News) (test : Bool) → (test ≡ true → (p < machines) × (q < machines) × (0 < steps)) → (link out : List Message) →
-    AllByRecursion (ComesBetween machines steps p q) (link ++ out) → AllByRecursion (ComesBetween machines steps p q) (link ++ (if test then out ++ Done s news ∷ [] else out))
-told_between machines steps p q s news true fits link out all =
-    subst (AllByRecursion (ComesBetween machines steps p q)) (append_assoc link out (Done s news ∷ []))
-    (each-append (ComesBetween machines steps p q) (link ++ out) (Done s news ∷ []) all (fits refl, tt))
-told_between machines steps p q s news false fits link out all = all
+told_between : (st : Setting) (steps p q : ℕ) (s : ScopeId) (news : News) (test : Bool) → (test ≡ true → IsWordBetween st steps p q s news) → (link out : List Message) →
+    AllByRecursion (ComesBetween st steps p q) (link ++ out) → AllByRecursion (ComesBetween st steps p q) (link ++ (if test then out ++ Done s news ∷ [] else out))
+told_between st steps p q s news true fits link out all =
+    subst (AllByRecursion (ComesBetween st steps p q)) (append_assoc link out (Done s news ∷ []))
+    (each-append (ComesBetween st steps p q) (link ++ out) (Done s news ∷ []) all (fits refl, tt))
+told_between st steps p q s news false fits link out all = all
 
 tell_longer : (test : Bool) (out : List Message) (m : Message) → length out ≤ length (if test then out ++ m ∷ [] else out)
 tell_longer true out m = subst (λ (n : ℕ). length out ≤ n) (sym (length-append out (m ∷ []))) (more_low (length out))
@@ -132,7 +133,7 @@ module _ (st : Setting) (is : IsSetting st) (colour : ℕ → ℕ) (colours : �
         IsInStep st colour rounds.colour (world_of (changed st c a m1 link calls next left)) →
         ((s : ScopeId) → s.home.0 ≡ a → m1.part.closed ≡ true → m1.part.flight s ≡ None) →
         ((x : ℕ) → m1.part.queue x ≡ []) →
-        ((p q : ℕ) → AllByRecursion (ComesBetween st.machines rounds.steps p q) (way (world_of (changed st c a m1 link calls next left)) p q)) →
+        ((p q : ℕ) → AllByRecursion (ComesBetween st rounds.steps p q) (way (world_of (changed st c a m1 link calls next left)) p q)) →
         total st.machines (λ b. (set_at c.machine a m1 b).sent) ≡ total st.machines (λ b. (set_at c.machine a m1 b).received) + under_way st (world_of (changed st c a m1 link calls next left)) →
         InTurn (changed st c a (prompt st a m1) link calls next left)
     work m1 link calls next left in_window held closed shut counts heard step flights queues between balanced =
@@ -161,7 +162,7 @@ module _ (st : Setting) (is : IsSetting st) (colour : ℕ → ℕ) (colours : �
         let new : Cluster = changed st c a m1 c.link calls c.next c.left in
         let ways : (p q : ℕ) → way (world_of new) p q ≡ way w p q = λ p q. ap (λ (ms : List Message). c.link p q ++ ms) (set_at-kept (λ (x : Machine). x.part.out q) c.machine a m1 (ap (λ (f : ℕ → List Message). f q) out) p) in
         work m1 c.link calls c.next c.left in_window held closed (λ is_closed. (sent, le_of_eq (sym received))) counts heard step flights queues
-        (λ p q. subst (AllByRecursion (ComesBetween st.machines rounds.steps p q)) (sym (ways p q)) (t.between p q))
+        (λ p q. subst (AllByRecursion (ComesBetween st rounds.steps p q)) (sym (ways p q)) (t.between p q))
         ((λ i. total st.machines (λ b. set_at-kept (λ (x : Machine). x.sent) c.machine a m1 sent b i)) ∙ t.balanced
         ∙ λ i. total st.machines (λ b. sym (set_at-kept (λ (x : Machine). x.received) c.machine a m1 received b) i) + sym (same_flows st w (world_of new) ways) i)
 
@@ -191,24 +192,31 @@ module _ (st : Setting) (is : IsSetting st) (colour : ℕ → ℕ) (colours : �
     -- ---- a scope ends
 
     ended_turn : (s : ScopeId) (v : ℕ) (news : ℕ → News) (m1 : Machine) (next left : ℕ) → StaysWithin st a m1 → s.home.0 ≡ a → m.part.flight s ≡ Some v →
-        m1.held ≡ m.held → m1.part.closed ≡ m.part.closed → m1.part.queue ≡ m.part.queue → m1.part.out ≡ tell st a v s news m.part.out →
+        m1.held ≡ m.held → m1.part.closed ≡ m.part.closed → m1.part.queue ≡ m.part.queue → m1.part.out ≡ tell st a v s news m.part.out → ((q : ℕ) → (news q).centre ≡ v) →
         m1.sent ≡ m.sent + gained st m.part m1.part → m1.received ≡ m.received →
         counts_in (c.reports a ++ m1.out) ≡ counts_in (c.reports a ++ m.out) → sections_in (c.reports a ++ m1.out) ≡ sections_in (c.reports a ++ m.out) →
         IsInStep st colour rounds.colour (world_of (changed st c a m1 c.link c.calls next left)) →
         InTurn (changed st c a (prompt st a m1) c.link c.calls next left)
-    ended_turn s v news m1 next left in_window home flies held closed queue out sent received counts same step =
+    ended_turn s v news m1 next left in_window home flies held closed queue out centre sent received counts same step =
         let open_ : m.part.closed ≡ true → ⊥ = λ is_closed. none_some v (sym (own_closed s home is_closed) ∙ flies) in
         let steps : 0 < rounds.steps = some_steps rounds.steps (λ none. open_ (t.first none a)) in
         let more : ℕ = gained st m.part m1.part in
         let longer : (q : ℕ) → length (m.part.out q) ≤ length (m1.part.out q) = λ q. subst (λ (f : ℕ → List Message). length (m.part.out q) ≤ length (f q)) (sym out) (tell_longer (takes_part st v q && not (q == a)) (m.part.out q) (Done s (news q))) in
+        let word_told : (q : ℕ) → takes_part st v q ≡ true → IsWordBetween st rounds.steps a q s (news q) = λ q takes.
+        record {
+          within = (low, part_low st is v q takes, steps);
+          home = home;
+          vertex = subst (λ (u : ℕ). u < size st.graph) (sym (centre q)) (t.step.flights s v (ap (λ (b : ℕ). (c.machine b).part.flight s) home ∙ flies)).0;
+          part_of = ap (λ (u : ℕ). takes_part st u q) (centre q) ∙ takes;
+        } in
         let world_is = one_machine st c a m1 c.link c.calls w.orders next left same (λ b. refl) in
         let flows : under_way st (world_of (changed st c a m1 c.link c.calls next left)) ≡ under_way st w + more = ap (under_way st) world_is ∙ part_flows st w a m1.part low longer in
         work m1 c.link c.calls next left in_window held closed (λ is_closed. absurd (open_ is_closed)) counts (λ b. refl) step
         (λ r own is_closed. absurd (open_ (sym closed ∙ is_closed)))
         (λ x. ap (λ (f : ℕ → List Claim). f x) queue ∙ t.queues a x)
-        (λ p q. set_at-holds (λ (p : ℕ) (x : Machine). AllByRecursion (ComesBetween st.machines rounds.steps p q) (c.link p q ++ x.part.out q)) c.machine a m1 p
-        (subst (λ (f : ℕ → List Message). AllByRecursion (ComesBetween st.machines rounds.steps a q) (c.link a q ++ f q)) (sym out)
-        (told_between st.machines rounds.steps a q s (news q) (takes_part st v q && not (q == a)) (λ told. (low, part_low st is v q (and_parts (takes_part st v q) (not (q == a)) told).0, steps)) (c.link a q) (m.part.out q) (t.between a q)))
+        (λ p q. set_at-holds (λ (p : ℕ) (x : Machine). AllByRecursion (ComesBetween st rounds.steps p q) (c.link p q ++ x.part.out q)) c.machine a m1 p
+        (subst (λ (f : ℕ → List Message). AllByRecursion (ComesBetween st rounds.steps a q) (c.link a q ++ f q)) (sym out)
+        (told_between st rounds.steps a q s (news q) (takes_part st v q && not (q == a)) (λ told. word_told q (and_parts (takes_part st v q) (not (q == a)) told).0) (c.link a q) (m.part.out q) (t.between a q)))
         (λ off. t.between p q))
         (total_from-more 0 st.machines (λ b. (c.machine b).sent) (λ b. (set_at c.machine a m1 b).sent) a more (zero_low a) (below_all a st.machines low) (ap (λ (x : Machine). x.sent) (set_at-same c.machine a m1) ∙ sent) (λ b off. ap (λ (x : Machine). x.sent) (set_at-other c.machine a m1 b off))
         ∙ both_more (total st.machines (λ b. (c.machine b).sent)) (total st.machines (λ b. (c.machine b).received)) (under_way st w) more t.balanced
@@ -217,8 +225,8 @@ module _ (st : Setting) (is : IsSetting st) (colour : ℕ → ℕ) (colours : �
     -- ---- word of an update comes
 
     took : (p : ℕ) → p < st.machines → (message : Message) (behind : List Message) → c.link p a ≡ message ∷ behind → InTurn (delivers_message st c p a (message ∷ behind))
-    took p p_low (Ask s v rest) behind first = absurd (front_between st.machines rounds.steps p a (Ask s v rest) behind (c.link p a) first ((c.machine p).part.out a) (t.between p a))
-    took p p_low (Ready s) behind first = absurd (front_between st.machines rounds.steps p a (Ready s) behind (c.link p a) first ((c.machine p).part.out a) (t.between p a))
+    took p p_low (Ask s v rest) behind first = absurd (front_between st rounds.steps p a (Ask s v rest) behind (c.link p a) first ((c.machine p).part.out a) (t.between p a))
+    took p p_low (Ready s) behind first = absurd (front_between st rounds.steps p a (Ready s) behind (c.link p a) first ((c.machine p).part.out a) (t.between p a))
     took p p_low (Done s news) behind first =
         let m1 : Machine = receives st a (Done s news) m in
         let link : ℕ → ℕ → List Message = set_at c.link p (set_at (c.link p) a behind) in
@@ -230,12 +238,12 @@ module _ (st : Setting) (is : IsSetting st) (colour : ℕ → ℕ) (colours : �
         work m1 link c.calls c.next c.left (received_within st a m (within a) (Done s news)) refl refl (λ is_closed. (sent, suc_low m.received)) refl (λ b. refl)
         (acted m1 (act.Deliver p a) link c.calls w.orders c.next c.left (record { message = Done s news; behind = behind; first = first }) (ap (delivers st w p a) first) refl (λ b. refl))
         own_closed (t.queues a)
-        (λ p' q'. subst (AllByRecursion (ComesBetween st.machines rounds.steps p' q')) (sym (ways p' q'))
+        (λ p' q'. subst (AllByRecursion (ComesBetween st rounds.steps p' q')) (sym (ways p' q'))
         (⊎_elim
         (λ (at : (p' ≡ p) × (q' ≡ a)).
-        let whole : AllByRecursion (ComesBetween st.machines rounds.steps p a) (Done s news ∷ way mid p a) = subst (AllByRecursion (ComesBetween st.machines rounds.steps p a)) here (t.between p a) in
-        subst (λ (x : ℕ). AllByRecursion (ComesBetween st.machines rounds.steps x q') (way mid x q')) (sym at.0) (subst (λ (y : ℕ). AllByRecursion (ComesBetween st.machines rounds.steps p y) (way mid p y)) (sym at.1) whole.1))
-        (λ (off : (p' ≢ p) ⊎ (q' ≢ a)). subst (AllByRecursion (ComesBetween st.machines rounds.steps p' q')) (sym (taken-there w p a (Done s news) behind first p' q' off)) (t.between p' q'))
+        let whole : AllByRecursion (ComesBetween st rounds.steps p a) (Done s news ∷ way mid p a) = subst (AllByRecursion (ComesBetween st rounds.steps p a)) here (t.between p a) in
+        subst (λ (x : ℕ). AllByRecursion (ComesBetween st rounds.steps x q') (way mid x q')) (sym at.0) (subst (λ (y : ℕ). AllByRecursion (ComesBetween st rounds.steps p y) (way mid p y)) (sym at.1) whole.1))
+        (λ (off : (p' ≢ p) ⊎ (q' ≢ a)). subst (AllByRecursion (ComesBetween st rounds.steps p' q')) (sym (taken-there w p a (Done s news) behind first p' q' off)) (t.between p' q'))
         (same_way p a p' q')))
         ((λ i. total st.machines (λ b. set_at-kept (λ (x : Machine). x.sent) c.machine a m1 sent b i))
         ∙ one_taken (total st.machines (λ b. (c.machine b).sent)) (total st.machines (λ b. (c.machine b).received)) (under_way st w) (under_way st (world_of new)) (total st.machines (λ b. (set_at c.machine a m1 b).received))
@@ -366,7 +374,7 @@ module _ (st : Setting) (is : IsSetting st) (colour : ℕ → ℕ) (colours : �
       let same = asked st c a done (asks_more st done) in
       subst (λ (flight : Option ℕ). Kept (makes st c s flight)) (sym may.1.flight)
       (ended_turn a may.0.machine s v (news_for st m.part v) m1 (suc c.next) (pred c.left) (made_within st a m (within a) s v entry may.1.flight may.1.not_pending) refl may.1.flight
-      refl refl refl refl refl refl (counts_told (asks_more st done) (c.reports a) m.out (Want m.acknowledged) refl) same
+      refl refl refl refl (λ q. refl) refl refl (counts_told (asks_more st done) (c.reports a) m.out (Want m.acknowledged) refl) same
       (acted a may.0.machine m1 (act.Update s) c.link c.calls w.orders (suc c.next) (pred c.left) may.1 (ap (updates st w s) may.1.flight) same (λ b. refl)))
   event_turn (Mark s) may other =
       let a : ℕ = s.home.0 in
@@ -375,7 +383,7 @@ module _ (st : Setting) (is : IsSetting st) (colour : ℕ → ℕ) (colours : �
       let m1 : Machine = makes_mark st a s v m in
       subst (λ (flight : Option ℕ). Kept (saves st c s flight)) (sym may.1.flight)
       (ended_turn a may.0.machine s v (mark_news st m.part v) m1 c.next c.left (marked_within st a m (within a) s v may.1.flight) refl may.1.flight
-      refl refl refl refl refl refl refl refl
+      refl refl refl refl (λ q. refl) refl refl refl refl
       (acted a may.0.machine m1 (act.Mark s) c.link c.calls w.orders c.next c.left may.1 (ap (marks st w s) may.1.flight) refl (λ b. refl)))
   event_turn (Section a) may other =
       let m : Machine = c.machine a in

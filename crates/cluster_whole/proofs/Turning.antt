@@ -90,7 +90,7 @@ module _ (st : Setting) (colour : ℕ → ℕ) (rounds : Rounds) (c : Cluster) (
   pub calm_turn : (new : Cluster) → IsCalm st c new → IsInStep st colour rounds.colour (world_of new) →
       ((s : ScopeId) → (new.machine s.home.0).part.closed ≡ true → (new.machine s.home.0).part.flight s ≡ None) →
       ((a x : ℕ) → (new.machine a).part.queue x ≡ []) →
-      ((p q : ℕ) → AllByRecursion (ComesBetween st.machines rounds.steps p q) (way (world_of new) p q)) →
+      ((p q : ℕ) → AllByRecursion (ComesBetween st rounds.steps p q) (way (world_of new) p q)) →
       total st.machines (λ a. (new.machine a).sent) ≡ total st.machines (λ a. (new.machine a).received) + under_way st (world_of new) →
       AreInTurn st colour rounds new
   calm_turn new calm step closed queues between balanced =
@@ -122,7 +122,7 @@ module _ (st : Setting) (colour : ℕ → ℕ) (rounds : Rounds) (c : Cluster) (
       (in_step_like st colour rounds.colour (world_of c) (world_of new) t.step (λ a open_. colours a ∙ t.step.machines a (sym (calm.closed a) ∙ open_)) (λ s. λ i. flights s.home.0 i s) ways)
       (λ s closed. (λ i. flights s.home.0 i s) ∙ t.closed s (sym (calm.closed s.home.0) ∙ closed))
       (λ a x. (λ i. queues a i x) ∙ t.queues a x)
-      (λ p q. subst (AllByRecursion (ComesBetween st.machines rounds.steps p q)) (sym (ways p q)) (t.between p q))
+      (λ p q. subst (AllByRecursion (ComesBetween st rounds.steps p q)) (sym (ways p q)) (t.between p q))
       ((λ i. total st.machines (λ a. sent a i)) ∙ t.balanced ∙ λ i. total st.machines (λ a. sym (received a) i) + sym (same_flows st (world_of c) (world_of new) ways) i)
 
 -- ---- a machine answers where it may
@@ -258,7 +258,7 @@ module _ (st : Setting) (colour : ℕ → ℕ) (colours : ℕ) (chromatic : st.e
               (λ home closed. now_free s home)
               (λ off home closed. t.closed s closed) refl;
           queues = λ b. set_at-holds (λ (b : ℕ) (x : Machine). (y : ℕ) → x.part.queue y ≡ []) c.machine a told b (t.queues a) (λ off. t.queues b);
-          between = λ p q. subst (AllByRecursion (ComesBetween st.machines rounds.steps p q)) (sym (ways_same p q)) (t.between p q);
+          between = λ p q. subst (AllByRecursion (ComesBetween st rounds.steps p q)) (sym (ways_same p q)) (t.between p q);
           balanced =
               (λ i. total st.machines (λ b. set_at-kept (λ (x : Machine). x.sent) c.machine a told refl b i)) ∙ t.balanced
               ∙ λ i. total st.machines (λ b. sym (set_at-kept (λ (x : Machine). x.received) c.machine a told refl b) i) + sym (same_flows st (world_of c) (world_of (answering true)) ways_same) i;

@@ -3,7 +3,8 @@ use Rattle.std.specs.List.{AllByRecursion}
 use Rattle.std.specs.Prelude.{Bool, List, None, Option, Some, [], false, if◌then◌else◌, length, pred, slice_index_or, true, ℕ, ⊤, ◌++◌, ◌+◌, ◌<◌, ◌∷◌, ◌≡◌, ◌≤◌}
 use Rattle.gl_base.specs.declared.scopes.Counted.{Counted}
 use Rattle.gl_base.specs.declared.scopes.ScopeId.{ScopeId}
-use Rattle.cluster_core.specs.Messages.{Ask, Done, Message, Ready}
+use Rattle.cluster_core.specs.Messages.{Ask, Done, Message, News, Ready}
+use Rattle.cluster_core.specs.Scopes.{takes_part}
 use Rattle.cluster_core.specs.Settings.{Setting}
 use Rattle.cluster_core.specs.Worlds.{World, way}
 use Rattle.cluster_model.specs.Calls.{Begin, Call, Committed, Count, Report, Saved, Step, Want, Wave}
@@ -14,6 +15,7 @@ use Rattle.cluster_model.specs.Totals.{total}
 use Rattle.cluster_model.specs.TwoWaves.{turned}
 use Rattle.cluster_places.specs.Steps.{IsInStep}
 use Rattle.cluster_whole.specs.Views.{world_of}
+use Rattle.graph_core.specs.DataGraph.{size}
 
 -- the steps and waves among what the coordinator told
 abbrev pub rounds_in : List Call → List Call
@@ -114,11 +116,18 @@ pub record IsAt (rounds : Rounds) (c : Cluster) (a : ℕ) (made : Bool) (turn : 
 
 -- ---- what is on the way between machines
 
--- with colours there is no other message than word of an update
-abbrev pub ComesBetween : ℕ → ℕ → ℕ → ℕ → Message → Type 0
-ComesBetween machines steps p q (Ask s v rest) = ⊥
-ComesBetween machines steps p q (Ready s) = ⊥
-ComesBetween machines steps p q (Done s news) = (p < machines) × (q < machines) × (0 < steps)
+-- Word of an update comes from machine p, by a scope of its own, to a machine that takes part in the scope, once a step was begun.
+pub record IsWordBetween (st : Setting) (steps p q : ℕ) (s : ScopeId) (news : News) : Type 0 where
+  pub within : (p < st.machines) × (q < st.machines) × (0 < steps)
+  pub home : s.home.0 ≡ p
+  pub vertex : news.centre < size st.graph
+  pub part_of : takes_part st news.centre q ≡ true
+
+-- with colours there is no other message
+abbrev pub ComesBetween : Setting → ℕ → ℕ → ℕ → Message → Type 0
+ComesBetween st steps p q (Ask s v rest) = ⊥
+ComesBetween st steps p q (Ready s) = ⊥
+ComesBetween st steps p q (Done s news) = IsWordBetween st steps p q s news
 
 -- ---- all of it
 
@@ -142,6 +151,6 @@ pub record AreInTurn (st : Setting) (colour : ℕ → ℕ) (rounds : Rounds) (c 
   pub closed : (s : ScopeId) → (c.machine s.home.0).part.closed ≡ true → (c.machine s.home.0).part.flight s ≡ None
   -- nobody waits for a lock
   pub queues : (a x : ℕ) → (c.machine a).part.queue x ≡ []
-  pub between : (p q : ℕ) → AllByRecursion (ComesBetween st.machines rounds.steps p q) (way (world_of c) p q)
+  pub between : (p q : ℕ) → AllByRecursion (ComesBetween st rounds.steps p q) (way (world_of c) p q)
   -- what was sent was received or is on its way
   pub balanced : total st.machines (λ a. (c.machine a).sent) ≡ total st.machines (λ a. (c.machine a).received) + under_way st (world_of c)

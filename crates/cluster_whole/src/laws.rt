@@ -26,7 +26,7 @@ ghost use Rattle.cluster_model.specs.Machines.{outside};
 ghost use Rattle.cluster_model.specs.Rounds.{StepIsDue};
 ghost use Rattle.cluster_model.specs.Totals.{total};
 ghost use Rattle.cluster_whole.specs.Logged.{IsLogged, Logged, entries_to};
-ghost use Rattle.cluster_whole.specs.Steps.{under_way};
+ghost use Rattle.cluster_whole.specs.Steps.{ComesBetween, under_way};
 ghost use Rattle.cluster_whole.specs.Views.{IsMove, world_of};
 ghost use Rattle.cluster_whole.specs.Windows.{AreWithin};
 ghost use Rattle.cluster_whole.specs.Whole.{AreColoured, IsNoRecovery, IsWhole, setting_behind};
@@ -153,7 +153,8 @@ pub fn whole_updates_are_fresh()
 {}
 
 /// With locks the first message on each link between machines meets what its receiver may rely on. With colours a step that comes is
-/// the newest and finds no scope in flight, a wave finds none held, and counts are of the newest wave and missing.
+/// the newest and finds no scope in flight, a wave finds none held, counts are of the newest wave and missing, and machines tell each other
+/// nothing but of updates of vertices in whose scopes both take part.
 pub fn fronts_may_be_received()
     ensures messages { (st : Setting) (c : Cluster) (p q : ℕ) (message : Message) (behind : List Message) →
         IsSetting st → IsWhole st c → st.engine ≡ Locking → c.link p q ≡ message ∷ behind → MayReceive st p q (c.machine q).part message }
@@ -165,4 +166,6 @@ pub fn fronts_may_be_received()
     ensures counts { (st : Setting) (c : Cluster) (colour : ℕ → ℕ) (colours a k : ℕ) (counts : Counted) (behind : List Report) →
         IsWhole st c → st.engine ≡ Chromatic colour colours → a < st.machines → c.reports a ≡ Count k counts ∷ behind →
         MayBeCounted c.coordinator.rounds.counting a k }
+    ensures words { (st : Setting) (c : Cluster) (colour : ℕ → ℕ) (colours p q : ℕ) (message : Message) (behind : List Message) →
+        IsWhole st c → st.engine ≡ Chromatic colour colours → c.link p q ≡ message ∷ behind → ComesBetween st c.coordinator.rounds.steps p q message }
 {}

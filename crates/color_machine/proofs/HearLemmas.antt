@@ -1,10 +1,10 @@
 -- What word of an update elsewhere leaves in a step is what the cluster's effect makes of the machine's part.
-use Rattle.std.proofs.Common.{◌≡◌, ℕ, zero, suc, ◌+◌, ◌<◌, ◌≤◌, ◌==◌, ◌&&◌, ◌||◌, Bool, true, false, true≢false, if◌then◌else◌, Option, Some, None, List, length, max, get_or, refl, sym, ap, ◌∙◌, subst, arith, inl, inr}
+use Rattle.std.proofs.Common.{◌≡◌, ℕ, ◌≤◌, ◌==◌, ◌||◌, Bool, true, false, true≢false, if◌then◌else◌, Option, Some, None, List, length, max, get_or, refl, sym, ap, ◌∙◌, subst, arith, inl, inr}
 use Rattle.std.specs.Prelude.{is_some, nat_lt, slice_get}
 use Rattle.std.specs.List.{All, list_any}
 use Rattle.std.proofs.Math.Nat.{max-zero}
-use Rattle.std.proofs.lemmas.Bool.{cases_Bool, ne_eqb, or_cases}
-use Rattle.std.proofs.lemmas.Option.{slice_get-get_or, get_or_from_slice_get, slice_get_within}
+use Rattle.std.proofs.lemmas.Bool.{ne_eqb, or_cases}
+use Rattle.std.proofs.lemmas.Option.{get_or_from_slice_get, slice_get_within}
 use Rattle.gl_base.specs.declared.atoms.GhostLine.{GhostLine}
 use Rattle.gl_base.specs.declared.numbers.Vertex.{Vertex}
 use Rattle.gl_base.specs.declared.scopes.Datum.{Datum}
@@ -12,9 +12,7 @@ use Rattle.gl_base.specs.declared.scopes.Mode.{Mode}
 use Rattle.gl_base.specs.declared.scopes.ScopeId.{ScopeId}
 use Rattle.scope_lists.specs.Scopes.{is_scope, set_for}
 use Rattle.wire_msgs.specs.declared.messages.Done.{Done}
-use Rattle.graph_core.specs.DataGraph.{size}
 use Rattle.cluster_core.specs.Effects.{applied, nothing_saved, first_unmarked, first_pending, seed_if, is_at, knows, newer_datum}
-use Rattle.cluster_core.specs.Ranges.{first_passing}
 use Rattle.cluster_core.proofs.Basics.{same_truth}
 use Rattle.machine_numbers.specs.declared.keeping.Numbers.{Numbers}
 use Rattle.machine_numbers.specs.Views.{TasksView, AreTasksOf, flag_there, ghost_datum, news_of, is_named}
@@ -26,11 +24,12 @@ use Rattle.machine_updates.proofs.SeedLemmas.{no_seed, not_below, seed_none}
 use Rattle.machine_scopes.proofs.PickLemmas.{flag_inside, free_parts, free_from}
 use Rattle.task_sched.specs.Tasks.{is_flagged, is_free}
 use Rattle.color_parts.specs.declared.cores.ColorCore.{ColorCore}
+use Rattle.color_parts.specs.Enlisting.{HasEnlisted}
+use Rattle.color_parts.specs.declared.enlisting.Which.TheVariants.{Tasks}
 use Rattle.color_parts.specs.Order.{IsInStepOrder}
-use Rattle.color_parts.specs.Parts.{LinesView, LocalView, Part, is_in_line, place_at, is_own, sides_at, datum_here, pending_here, admitted_here, part_in_steps}
+use Rattle.color_parts.specs.Parts.{LinesView, LocalView, is_in_line, place_at, is_own, sides_at, datum_here, pending_here, admitted_here, part_in_steps}
 use Rattle.color_parts.specs.Settings.{Setting, IsLocalOf, IsPartInSteps, StaysInSettings}
 use Rattle.color_machine.specs.Hearing.{CanHear, HasHeardDone}
-use Rattle.color_machine.specs.Inner.Enlisting.{HasEnlisted}
 use Rattle.color_machine.proofs.PlaceLemmas.{vertex_at}
 
 abbrev pub no_mode : Option Mode
@@ -49,7 +48,7 @@ or_true false = refl
 
 module _ (m : ColorCore) (n : Numbers) (lines : LinesView) (done : Done) (is : IsInStepOrder m) (can : CanHear m done) (learned : HasLearned m.numbers n (news_of done))
     (local : n.local ≡ record m.numbers.local { numbers = n.local.numbers }) (tasks : n.tasks ≡ record m.numbers.tasks { task = n.tasks.task }) (many : length n.tasks.task ≡ length m.numbers.tasks.task)
-    (colours : lines.colours ≡ m.lines.colours) (enlisted : HasEnlisted n m.lines lines done.wakes.items (length done.wakes.items)) where
+    (colours : lines.colours ≡ m.lines.colours) (enlisted : HasEnlisted Tasks n m.lines lines done.wakes.items (length done.wakes.items)) where
   abbrev heard : ColorCore
   heard = record m { numbers = n; lines = lines }
 
@@ -91,13 +90,13 @@ module _ (m : ColorCore) (n : Numbers) (lines : LinesView) (done : Done) (is : I
             let at = stands_in done.wakes.items v.0 named in
             let same : get_or done.wakes.items at.0 v ≡ record { 0 = v.0 } = get_or_from_slice_get done.wakes.items at.0 (record { 0 = v.0 }) v at.1 in
             enlisted.each at.0 k v (slice_get_within done.wakes.items at.0 (record { 0 = v.0 }) at.1)
-            (ap (λ (w : Vertex). place_at n.local w.0) same ∙ place v.0 ∙ is.places.place k v one.1) free
+            (ap (λ (w : Vertex). place_at n.local w.0) same ∙ place v.0 ∙ is.places.place k v one.1) inside free
         | inr task ↦ enlisted.kept k (is.lines.in_line k ∙ free_from m.numbers.tasks.task m.numbers.tasks.admitted k task (sym (ap (λ (fs : List Bool). is_flagged fs k) flags) ∙ parts.1))
       ]
 
   in_line_now : (k : ℕ) → is_in_line lines k ≡ is_free n.tasks.task n.tasks.admitted k
   in_line_now k = same_truth (is_in_line lines k) (is_free n.tasks.task n.tasks.admitted k)
-      (λ now. elim (enlisted.free k now) [ inl was ↦ free_grows k (sym (is.lines.in_line k) ∙ was) | inr free ↦ free ])
+      (λ now. elim (enlisted.free k now) [ inl was ↦ free_grows k (sym (is.lines.in_line k) ∙ was) | inr both ↦ both.1 ])
       (free_stands k)
 
   -- ---- the machine

@@ -2,7 +2,6 @@ pub mod DueLemmas
 pub mod FlyLemmas
 pub mod StepLemmas
 pub mod CloseLemmas
-pub mod EnlistLemmas
 pub mod PlaceLemmas
 pub mod HearLemmas
 pub mod UpdateLemmas

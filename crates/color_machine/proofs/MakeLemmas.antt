@@ -1,5 +1,5 @@
 -- An update that is made of a machine's numbers, from its start to what is told of it.
-use Rattle.std.proofs.Common.{◌≡◌, ℕ, ◌+◌, ◌<◌, ◌≤◌, ◌==◌, ◌&&◌, Bool, true, not, if◌then◌else◌, Option, Some, List, length, map, refl, sym, ap, ◌∙◌, subst, arith, vec_len, vec_capacity}
+use Rattle.std.proofs.Common.{◌≡◌, ℕ, ◌≤◌, ◌==◌, ◌&&◌, true, not, if◌then◌else◌, Some, List, length, map, sym, ap, ◌∙◌, subst}
 use Rattle.std.specs.List.{list_any}
 use Rattle.std.proofs.lemmas.List.{length-map}
 use Rattle.gl_base.specs.declared.entries.Entry.{Entry}
@@ -7,12 +7,10 @@ use Rattle.gl_base.specs.declared.numbers.Vertex.{Vertex}
 use Rattle.gl_base.specs.declared.scopes.Peer.TheVariants.{Machine}
 use Rattle.gl_base.specs.declared.scopes.ScopeId.{ScopeId}
 use Rattle.cluster_core.specs.Effects.{news_for, tell}
-use Rattle.cluster_core.specs.Messages.{Message}
 use Rattle.local_graph.specs.declared.sides.Side.{Side}
 use Rattle.local_graph.specs.declared.works.Outcome.{Outcome}
 use Rattle.local_graph.specs.declared.works.Work.{Work}
 use Rattle.update_api.specs.Updates.{Update}
-use Rattle.update_api.specs.declared.links.Link.{Link}
 use Rattle.machine_numbers.specs.declared.keeping.Numbers.{Numbers}
 use Rattle.machine_numbers.specs.Steps.{HasTakenOut, HasRun, HasUpdated, TellsOf}
 use Rattle.machine_numbers.specs.Settings.{IsMadeOfWork, IsOutcomeOf, with_numbers}

@@ -1,6 +1,5 @@
 -- A scope in flight can be run.
-use Rattle.std.proofs.Common.{◌≡◌, true, Some, None, length, sym, ap, ◌∙◌}
-use Rattle.std.specs.Prelude.{is_some}
+use Rattle.std.proofs.Common.{◌≡◌, Some}
 use Rattle.gl_base.specs.declared.numbers.Vertex.{Vertex}
 use Rattle.gl_base.specs.declared.scopes.ScopeId.{ScopeId}
 use Rattle.color_parts.specs.declared.cores.ColorCore.{ColorCore}

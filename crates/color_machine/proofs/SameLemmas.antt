@@ -1,20 +1,17 @@
 -- A machine of which no number has changed: it is in order as before, and stands for the same part.
-use Rattle.std.proofs.Common.{◌≡◌, ℕ, ◌≤◌, true, List, length, map, refl, sym, ap, ◌∙◌, subst}
+use Rattle.std.proofs.Common.{◌≡◌, ℕ, ◌≤◌, List, length, map, refl, sym, ap, ◌∙◌, subst}
 use Rattle.gl_base.specs.declared.entries.Entry.{Entry}
-use Rattle.gl_base.specs.declared.numbers.Vertex.{Vertex}
 use Rattle.gl_base.specs.declared.scopes.Peer.TheVariants.{Machine}
-use Rattle.local_graph.specs.declared.sides.Side.{Side}
 use Rattle.machine_numbers.specs.declared.keeping.Numbers.{Numbers}
-use Rattle.machine_numbers.specs.Settings.{IsRowOf}
 use Rattle.machine_numbers.specs.Views.{edge_here}
 use Rattle.machine_parts.specs.Order.{IsGraphInOrder}
 use Rattle.machine_parts.specs.Rooms.{HaveSameMessages}
-use Rattle.machine_updates.proofs.GraphLemmas.{SameGraph, graph_kept, sides_kept}
+use Rattle.machine_updates.proofs.GraphLemmas.{SameGraph, graph_kept}
 use Rattle.machine_updates.proofs.OrderLemmas.{HaveTheirRows, local_kept}
 use Rattle.color_parts.specs.declared.cores.ColorCore.{ColorCore}
 use Rattle.color_parts.specs.Order.{IsInStepOrder}
 use Rattle.machine_parts.specs.Parts.{message_of}
-use Rattle.color_parts.specs.Parts.{OutboxesView, part_in_steps, is_own, links_at}
+use Rattle.color_parts.specs.Parts.{OutboxesView, part_in_steps, links_at}
 use Rattle.color_parts.specs.Settings.{Setting, IsLocalOf, IsPartInSteps, StaysInSettings}
 use Rattle.color_machine.specs.Inner.Making.{HasSameNumbers}
 

@@ -1,18 +1,17 @@
 -- What the update of a scope in a step leaves is what the cluster's effect makes of the machine's part.
-use Rattle.std.proofs.Common.{◌≡◌, ◌≢◌, ℕ, suc, pred, ◌+◌, ◌<◌, ◌≤◌, ◌==◌, ◌&&◌, ◌||◌, ◌++◌, Bool, true, false, true≢false, not, if◌then◌else◌, Option, Some, None, List, [], ◌∷◌, length, set, get_or, refl, sym, ap, ◌∙◌, subst, arith, inl, inr, All, add-one, length-append, length-set, get_or-set_other, get_or-set_same}
+use Rattle.std.proofs.Common.{◌≡◌, ◌≢◌, ℕ, suc, pred, ◌+◌, ◌<◌, ◌≤◌, ◌==◌, ◌&&◌, ◌||◌, Bool, true, false, true≢false, not, if◌then◌else◌, Option, Some, None, List, [], ◌∷◌, length, set, get_or, refl, sym, ap, ◌∙◌, subst, arith, inl, inr, add-one, length-append, length-set, get_or-set_other}
 use Rattle.std.specs.Prelude.{is_some, slice_get}
 use Rattle.std.specs.List.{list_any}
 use Rattle.std.proofs.Math.Bool.{or-true}
-use Rattle.std.proofs.lemmas.Bool.{and_parts, cases_eq, eq-eqb, eqb-true, ne_eqb, or_cases}
+use Rattle.std.proofs.lemmas.Bool.{and_parts, eq-eqb, eqb-true, ne_eqb, or_cases}
 use Rattle.gl_base.specs.declared.atoms.GhostLine.{GhostLine}
-use Rattle.gl_base.specs.declared.entries.Entry.{Entry}
 use Rattle.gl_base.specs.declared.entries.Entry.TheVariants.{Go}
 use Rattle.gl_base.specs.declared.numbers.Vertex.{Vertex}
 use Rattle.gl_base.specs.declared.scopes.Datum.{Datum}
 use Rattle.gl_base.specs.declared.scopes.ScopeId.{ScopeId}
 use Rattle.scope_lists.specs.Scopes.{is_scope, set_for}
 use Rattle.scope_lists.proofs.SameScope.{one_or_two, set_for-here, set_for-there}
-use Rattle.cluster_core.specs.Effects.{news_for, tell, updated}
+use Rattle.cluster_core.specs.Effects.{updated}
 use Rattle.cluster_core.proofs.Basics.{same_truth, set_at-cases}
 use Rattle.ghost_cache.specs.Caches.{CacheView}
 use Rattle.local_graph.specs.declared.sides.Side.{Side}
@@ -32,11 +31,12 @@ use Rattle.machine_updates.proofs.OrderLemmas.{HaveTheirRows, local_kept}
 use Rattle.task_sched.specs.Tasks.{is_flagged, is_free}
 use Rattle.color_tasks.specs.Scopes.{HasLeftStep}
 use Rattle.color_parts.specs.declared.cores.ColorCore.{ColorCore}
-use Rattle.color_parts.specs.Order.{IsInStepOrder, AreScopesInOrder, AreLinesInOrder, HasScope}
-use Rattle.color_parts.specs.Parts.{LinesView, LocalView, OutboxesView, ScopesView, is_in_line, place_at, is_own, links_at, sides_at, datum_here, pending_here, admitted_here, centre_in_step, flying_count, messages_for, next_serial, number_of, part_in_steps}
+use Rattle.color_parts.specs.Enlisting.{HasEnlisted, ends_of}
+use Rattle.color_parts.specs.declared.enlisting.Which.TheVariants.{Tasks}
+use Rattle.color_parts.specs.Order.{IsInStepOrder, AreScopesInOrder, AreLinesInOrder}
+use Rattle.color_parts.specs.Parts.{LinesView, OutboxesView, ScopesView, is_in_line, place_at, is_own, sides_at, datum_here, pending_here, admitted_here, centre_in_step, flying_count, number_of, part_in_steps}
 use Rattle.color_parts.specs.Settings.{Setting, IsLocalOf, IsPartInSteps, StaysInSettings}
 use Rattle.color_machine.specs.Updating.{HasUpdatedInStep, IsSetting}
-use Rattle.color_machine.specs.Inner.Enlisting.{HasEnlisted, ends_of}
 use Rattle.color_machine.specs.Inner.Making.{HasMadeAndTold}
 use Rattle.color_machine.proofs.CloseLemmas.{home_of, may_update}
 use Rattle.color_machine.proofs.HearLemmas.{none_held}
@@ -87,7 +87,7 @@ not_true false is = refl
 
 module _ (m : ColorCore) (n : Numbers) (lines : LinesView) (scopes : ScopesView) (out : OutboxesView) (program : Update) (s : ScopeId) (v : Vertex) (ticket : ℕ) (is : IsInStepOrder m) (flies : centre_in_step m.scopes s ≡ Some v)
     (made : HasMadeAndTold program m.numbers n m.out out s v (Go s.home v ticket)) (left : HasLeftStep m.scopes scopes s) (colours : lines.colours ≡ m.lines.colours)
-    (enlisted : HasEnlisted n m.lines lines (ends_of (sides_at n.local v.0)) (length (sides_at n.local v.0))) where
+    (enlisted : HasEnlisted Tasks n m.lines lines (ends_of (sides_at n.local v.0)) (length (sides_at n.local v.0))) where
   abbrev pub updated_core : ColorCore
   updated_core = record m { numbers = n; lines = lines; scopes = scopes; out = out }
 
@@ -221,7 +221,7 @@ module _ (m : ColorCore) (n : Numbers) (lines : LinesView) (scopes : ScopesView)
             let low = side.1 in
             let long : length (sides_at n.local v.0) ≡ length (sides_at m.numbers.local v.0) = ap length same_sides in
             let end : (get_or (ends_of (sides_at n.local v.0)) side.0 x).0 ≡ x.0 = ap (λ (ss : List Side). (get_or (ends_of ss) side.0 x).0) same_sides ∙ side.2 x in
-            enlisted.each side.0 j x (omega (arith, low, long)) (ap (place_at n.local) end ∙ place x.0 ∙ is.places.place j x one.1) free
+            enlisted.each side.0 j x (omega (arith, low, long)) (ap (place_at n.local) end ∙ place x.0 ∙ is.places.place j x one.1) inside free
         | inr task ↦
             let both = and_parts (is_flagged m.numbers.tasks.task j) (not (x.0 == v.0)) task in
             let off : x.0 ≢ v.0 = λ same. true≢false (sym (eq-eqb x.0 v.0 same) ∙ not_true (x.0 == v.0) both.1) in
@@ -234,7 +234,7 @@ module _ (m : ColorCore) (n : Numbers) (lines : LinesView) (scopes : ScopesView)
     flags = many_flags ∙ is.lines.flags ∙ sym made.many;
     none_pending = λ u. ap (λ (fs : List Bool). is_flagged fs u) pendings ∙ is.lines.none_pending u;
     in_line = λ j. same_truth (is_in_line lines j) (is_free n.tasks.task n.tasks.admitted j)
-        (λ now. elim (enlisted.free j now) [ inl stood ↦ free_grows j (sym (is.lines.in_line j) ∙ stood) | inr free ↦ free ])
+        (λ now. elim (enlisted.free j now) [ inl stood ↦ free_grows j (sym (is.lines.in_line j) ∙ stood) | inr both ↦ both.1 ])
         (free_stands j);
   }
 

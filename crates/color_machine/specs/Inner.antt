@@ -1,4 +1,3 @@
 -- What the clauses of private functions cite. Who reads the public clauses need not read it.
 pub mod Flying
-pub mod Enlisting
 pub mod Making

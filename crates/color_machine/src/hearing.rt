@@ -3,8 +3,7 @@ ghost use Rattle.std.specs.Prelude.{◌≡◌};
 ghost use Rattle.color_machine.specs.Admitting.{IsInStepOrder, StaysInSettings};
 ghost use Rattle.color_machine.specs.Hearing.{CanHear, HasHeardDone};
 
-use crate::enlisting::enlist_all;
-use color_parts::ColorCore;
+use color_parts::{ColorCore, Which, enlist_all};
 use wire_msgs::Done;
 
 /// Word of an update elsewhere has come: its numbers are kept, and the vertices that it wakes are tasks, each in the line of its colour. It
@@ -19,5 +18,5 @@ pub fn receive_done(core: &mut ColorCore, done: &Done)
     ensures rest { core.new ≡ record core.old { numbers = core.new.numbers; lines = core.new.lines } }
 {
     core.numbers.learn(done);
-    enlist_all(&mut core.lines, &core.numbers, &done.wakes);
+    enlist_all(&mut core.lines, &core.numbers, &done.wakes, Which::Tasks);
 }

@@ -3,7 +3,6 @@
 
 mod admitting;
 mod closing;
-mod enlisting;
 mod hearing;
 mod making;
 mod stepping;

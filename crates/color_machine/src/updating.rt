@@ -4,9 +4,8 @@ ghost use Rattle.color_parts.specs.Parts.{links_at};
 ghost use Rattle.color_machine.specs.Admitting.{IsInStepOrder, StaysInSettings, part_in_steps};
 ghost use Rattle.color_machine.specs.Updating.{HasEachRow, HasUpdatedInStep, MayUpdate};
 
-use crate::enlisting::enlist_near;
 use crate::making::{Ticketed, make};
-use color_parts::ColorCore;
+use color_parts::{ColorCore, Which, enlist_near};
 use gl_base::{NoMemory, Refused, ScopeId};
 use machine_updates::Spares;
 use std::alloc::Global;
@@ -55,7 +54,7 @@ pub fn update<P: Program>(
     ) {
         Ok(()) => {
             core.scopes.end(scope);
-            enlist_near(&mut core.lines, &core.numbers, vertex);
+            enlist_near(&mut core.lines, &core.numbers, vertex, Which::Tasks);
             Ok(())
         }
         Err(NoMemory) => Err(Refused::NoMemory),

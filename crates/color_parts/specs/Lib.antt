@@ -1,3 +1,4 @@
 pub mod Parts
 pub mod Settings
 pub mod Order
+pub mod Enlisting

@@ -2,5 +2,7 @@
 #![tactic(auto)]
 
 mod cores;
+mod enlisting;
 
 pub use cores::ColorCore;
+pub use enlisting::{Which, enlist, enlist_all, enlist_at, enlist_near};

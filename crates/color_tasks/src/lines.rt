@@ -1,5 +1,5 @@
 //! Vertices in line, by colour.
-ghost use Rattle.std.specs.Prelude.{◌≡◌, ◌≢◌, ℕ, ◌+◌, ◌<◌, ◌≤◌, ◌==◌, ◌&&◌, ◌||◌, ◌++◌, ◌∷◌, [], true, false, not, Some, length, map, slice_get, slice_set, slice_index_or, IfOk, IfSome, OnErr, OnOk, IfNone};
+ghost use Rattle.std.specs.Prelude.{◌≡◌, ◌≢◌, ℕ, ◌+◌, ◌<◌, ◌≤◌, ◌==◌, ◌&&◌, ◌||◌, ◌++◌, ◌∷◌, [], true, false, not, Some, length, map, nat_lt, slice_get, slice_set, slice_index_or, IfOk, IfSome, OnErr, OnOk, IfNone};
 ghost use Rattle.std.specs.List.{All};
 ghost use Rattle.color_tasks.specs.Lines.{HasColour, is_in_line};
 ghost use Rattle.color_tasks.specs.Inner.Seats.{AreSeats, AreQueues, HasJoined, colour_row, colour_rows};
@@ -56,6 +56,19 @@ impl ColorLines {
             rows,
             queues,
         })
+    }
+
+    /// The same lines, in which each vertex stands.
+    pub fn full(alloc: Global, colours: &[u32]) -> Result<ColorLines, NoMemory>
+        requires few { length colours.now < 4294967296 }
+        ensures colours { IfOk result (λ l. l.colours ≡ colours.now) }
+        ensures all { IfOk result (λ l. (u : ℕ) → is_in_line l u ≡ nat_lt u (length colours.now)) }
+    {
+        let mut lines = ColorLines::new(alloc, colours)?;
+        for place in 0..colours.len() {
+            lines.add(Vertex(place as u32));
+        }
+        Ok(lines)
     }
 
     /// The vertex stands in the line of its colour, behind the others where it stood in none.

@@ -8,17 +8,21 @@ use Rattle.std.specs.List.{list_all}
 use Rattle.std.proofs.lemmas.Bool.{and_parts}
 use Rattle.update_api.specs.declared.woken.Woken.TheVariants.{Nobody}
 use Rattle.cluster_core.specs.Parts.{Part}
+use Rattle.cluster_core.specs.Settings as law
 use Rattle.cluster_model.specs.Calls.{Begin, Committed, Wave, Step}
 use Rattle.cluster_model.specs.Leading.{Come, Snapshot, entries_held}
 use Rattle.cluster_model.specs.Machines.{Machine}
+use Rattle.cluster_model.specs.Rounds.{Rounds}
 use Rattle.cluster_model.specs.Totals.{total, total_from}
 use Rattle.graph_core.specs.DataGraph.{DataEdge}
 use Rattle.snap_update.specs.Holding.{last_of_edge, last_of_vertex}
 use Rattle.wire_msgs.specs.Views as wire
-use Rattle.coord_core.specs.Coordinators.{AreCalls, Call, Cluster, Coordinator, CoordinatorView, HasCluster, IsComeOf, Locking, MessageView, OutboxesView, Setting, TellsCall, waiting_at}
-use Rattle.coord_core.specs.Inner.Kept.{IsSavingKept}
+use Rattle.coord_core.specs.Coordinators.{AreCalls, AreStepsOf, Call, Cluster, Coordinator, CoordinatorView, HasCluster, IsComeOf, IsEngineOf, MessageView, OutboxesView, Setting, StepsView, TellsCall, waiting_at}
+use Rattle.coord_core.specs.Inner.Kept.{AreStepsKept, IsSavingKept}
 use Rattle.coord_core.specs.Saving.{SavingView, SectionView, come_at}
 use Rattle.coord_core.specs.Inner.Asking.{AreOutboxesOf, is_call}
+use Rattle.coord_core.specs.declared.steps.Engine.{Engine}
+use Rattle.coord_core.specs.declared.steps.Engine.TheVariants.{Chromatic, Locking}
 
 -- ---- as events change them
 
@@ -49,16 +53,29 @@ all_told (m ∷ messages) all = let parts = and_parts (is_call m) (list_all is_c
 abbrev some_edge : DataEdge
 some_edge = record { from = 0; to = 0; weight = 0 }
 
+-- an engine with so many colours
+abbrev some_engine : Engine → law.Engine
+some_engine Locking = law.Locking
+some_engine (Chromatic colours) = law.Chromatic (λ v. 0) colours
+
+is_engine : (engine : Engine) → IsEngineOf engine (some_engine engine)
+is_engine Locking = refl
+is_engine (Chromatic colours) = ((λ v. 0), refl)
+
+some_steps : (engine : Engine) (s : StepsView) (rounds : Rounds) → rounds.steps ≡ s.colour → rounds.colour ≡ s.colour → rounds.since ≡ s.since → s.since ≤ 2 → AreStepsOf engine s rounds
+some_steps Locking s rounds steps colour since few = tt
+some_steps (Chromatic colours) s rounds steps colour since few = record { first = ((λ none. sym steps ∙ none), (λ none. steps ∙ none)); colour = colour; since = omega arith }
+
 -- a graph of this size on so many machines
-abbrev some_setting : SavingView → ℕ → Setting
-some_setting s machines =
+abbrev some_setting : SavingView → law.Engine → ℕ → Setting
+some_setting s engine machines =
     record {
       graph = record { ids = replicate s.vertices 0; edges = replicate s.edges (some_edge); directed = false };
       program = record { start = λ id. 0; number = λ own nears. own; mark = λ own near. 0; woken = λ old new. Nobody };
       owner = λ v. 0;
       machines = machines;
       pipeline = 1;
-      engine = Locking;
+      engine = engine;
       stored = s.stored;
       window = 0;
       start = record { vertex = λ v. 0; edge = λ e. 0 };
@@ -88,7 +105,7 @@ some_snapshots false many = []
 abbrev some_coordinator : CoordinatorView → ℕ → Coordinator
 some_coordinator view machines =
     record {
-      rounds = record { counting = view.counting; steps = 0; colour = 0; since = 0 };
+      rounds = record { counting = view.counting; steps = view.steps.colour; colour = view.steps.colour; since = view.steps.since };
       begun = view.saving.begun;
       acknowledged = view.saving.acknowledged;
       come = λ a. option_map come_of (come_at view.saving.come a);
@@ -192,13 +209,13 @@ none_saved : (saved : Bool) (many : ℕ) → (some_snapshots saved many ≡ []) 
 none_saved true many = ((λ is. absurd (cc)), (λ is. absurd (cc)))
 none_saved false many = ((λ is. refl), (λ is. refl))
 
-pub has_cluster : (view : CoordinatorView) (machines : ℕ) → AreOutboxesOf view.out machines → length view.saving.come ≡ machines → IsSavingKept view.saving → HasCluster view
-has_cluster view machines are come kept = (
-  some_setting view.saving machines,
+pub has_cluster : (view : CoordinatorView) (machines : ℕ) → AreOutboxesOf view.out machines → length view.saving.come ≡ machines → IsSavingKept view.saving → AreStepsKept view.steps → HasCluster view
+has_cluster view machines are come kept steps = (
+  some_setting view.saving (some_engine view.steps.engine) machines,
   some_cluster view machines,
   record {
     machines = are.many;
-    engine = refl;
+    engine = is_engine view.steps.engine;
     stored = refl;
     none = kept.plain;
     saving = λ _. record {
@@ -209,11 +226,12 @@ has_cluster view machines are come kept = (
       machines = come;
       come = λ a _. comes (come_at view.saving.come a);
       wanted = refl;
-      entries = held_once (some_setting view.saving machines) machines view.saving.saved view.saving.entries refl (λ is. kept.lone (come ∙ is)) kept.first;
+      entries = held_once (some_setting view.saving (some_engine view.steps.engine) machines) machines view.saving.saved view.saving.entries refl (λ is. kept.lone (come ∙ is)) kept.first;
       first = none_saved view.saving.saved view.saving.entries;
       store_end = refl;
     };
     counting = refl;
+    steps = some_steps view.steps.engine view.steps (some_coordinator view machines).rounds refl refl refl steps.since;
     out = λ a _. all_told (waiting_at view.out a) (are.calls a);
   },
 )

@@ -1,50 +1,110 @@
 -- What is due, as the law has it.
-use Rattle.std.proofs.Common.{◌≡◌, ◌≢◌, ℕ, suc, ◌+◌, ◌<◌, true, false, inl, inr, refl, sym, ap, add-one, arith, subst, ◌∙◌}
+use Rattle.std.proofs.Common.{◌≡◌, ℕ, suc, ◌+◌, ◌<◌, true, false, inl, inr, refl, sym, ap, add-one, arith, subst, ◌∙◌}
 use Rattle.std.specs.Prelude.{◌⊎◌}
-use Rattle.cluster_core.specs.Settings.{Engine, Setting}
-use Rattle.cluster_model.specs.Clusters.{Cluster}
-use Rattle.cluster_model.specs.Events.{MayDo, PutBegin, PutWave, Record}
-use Rattle.cluster_model.specs.Leading.{Coordinator, HasSeenTheEnd, IsWaveTime, RecordIsDue, SnapshotIsDue}
+use Rattle.cluster_core.specs.Settings as law
+use Rattle.cluster_model.specs.Events.{MayDo, PutBegin, PutStep, PutWave, Record}
+use Rattle.cluster_model.specs.Leading.{IsWaveTime, RecordIsDue, SnapshotIsDue}
+use Rattle.cluster_model.specs.Rounds.{StepIsDue, with_step}
 use Rattle.coord_core.specs.declared.leading.Due.TheVariants as due
-use Rattle.coord_core.specs.Calls.{IsDueOf}
-use Rattle.coord_core.specs.Coordinators.{Counting, CoordinatorView, IsCoordinatorOf}
+use Rattle.coord_core.specs.declared.steps.Engine.{Engine}
+use Rattle.coord_core.specs.declared.steps.Engine.TheVariants.{Chromatic, Locking}
+use Rattle.coord_core.specs.Calls.{EndIsDue, IsDueOf}
+use Rattle.coord_core.specs.Coordinators.{Cluster, Coordinator, Counting, CoordinatorView, IsCoordinatorOf, IsEngineOf, SavingView, Setting}
 use Rattle.coord_core.specs.Inner.Kept.{IsSavingKept}
-use Rattle.coord_core.specs.Inner.Seen.{HasShownTheEnd, WantsSnapshot}
+use Rattle.coord_core.specs.Inner.Seen.{SeesEnd, IsWaveTurn, WantsSnapshot, WantsStep}
 use Rattle.coord_core.specs.Saving.{HasRoomForRecord, IsRecordDue}
+use Rattle.coord_core.specs.Steps.{colour_in_turn}
 use Rattle.coord_core.proofs.SavingLemmas.{law_seen, may_record, own_may_record, own_record_due, own_seen, own_settled, own_snapshot_due, record_due, settled, snapshot_due, stored_where_due}
+use Rattle.coord_core.proofs.StepLemmas.{IsNext, colour_of, law_next, own_next}
 
 less_not : (x y : ℕ) → x < y → x ≡ y → ⊥
 less_not x y less same = omega arith
 
-module _ (view : CoordinatorView) (kept : IsSavingKept view.saving) where
-  time_is : (st : Setting) (c : Coordinator) → IsCoordinatorOf st view c → IsWaveTime st.engine c → c.acknowledged ≡ c.begun
-  time_is st c of time = subst (λ (engine : Engine). IsWaveTime engine c) of.engine time
+-- ---- whose turn it is
 
+law_time : (engine : Engine) (is : law.Engine) (s : SavingView) (c : Coordinator) → IsEngineOf engine is → (s.acknowledged ≡ s.begun → c.acknowledged ≡ c.begun) →
+    IsWaveTurn engine s → IsWaveTime is c
+law_time Locking is s c same settles time = subst (λ (e : law.Engine). IsWaveTime e c) (sym same) (settles time)
+law_time (Chromatic colours) is s c same settles time = subst (λ (e : law.Engine). IsWaveTime e c) (sym same.1) tt
+
+own_time : (engine : Engine) (is : law.Engine) (s : SavingView) (c : Coordinator) → IsEngineOf engine is → (c.acknowledged ≡ c.begun → s.acknowledged ≡ s.begun) →
+    IsWaveTime is c → IsWaveTurn engine s
+own_time Locking is s c same settles time = settles (subst (λ (e : law.Engine). IsWaveTime e c) same time)
+own_time (Chromatic colours) is s c same settles time = tt
+
+module _ (view : CoordinatorView) (kept : IsSavingKept view.saving) where
   whole_is : (st : Setting) (c : Coordinator) → IsCoordinatorOf st view c → c.rounds.counting.waiting ≡ view.counting.waiting
   whole_is st c of = ap (λ (counting : Counting). counting.waiting) of.counting
 
-  -- with locks a wave may be put out where no answer is missing, no snapshot is under way and none is due
-  pub may_put : view.counting.waiting ≡ false → view.saving.acknowledged ≡ view.saving.begun → (WantsSnapshot view → ⊥) →
+  -- ---- the end
+
+  law_end : (st : Setting) (c : Coordinator) → IsCoordinatorOf st view c → (WantsSnapshot view → ⊥) → SeesEnd view → EndIsDue st c
+  law_end st c of unwanted sees = (
+    (λ due. unwanted (own_snapshot_due view kept st c of due)),
+    settled view kept st c of sees.none,
+    law_seen view kept st c of sees.seen,
+  )
+
+  own_end : (st : Setting) (c : Coordinator) → IsCoordinatorOf st view c → EndIsDue st c → SeesEnd view
+  own_end st c of due = record { none = own_settled view kept st c of due.1; seen = own_seen view kept st c of due.2 }
+
+  -- ---- a step
+
+  step_due : (st : Setting) (c : Coordinator) → IsCoordinatorOf st view c → WantsStep view → StepIsDue st.engine c.rounds
+  step_due st c of wants =
+      law_next view.steps.engine st.engine view.steps c.rounds view.counting of.engine of.steps of.counting
+      (record { some = wants.some; whole = wants.whole; over = wants.over })
+
+  own_step_due : (st : Setting) (c : Coordinator) → IsCoordinatorOf st view c → StepIsDue st.engine c.rounds → WantsStep view
+  own_step_due st c of due =
+      let next : IsNext view.steps.engine view.steps view.counting =
+      own_next view.steps.engine st.engine view.steps c.rounds view.counting of.engine of.steps of.counting due
+      in
+      record { some = next.some; whole = next.whole; over = next.over }
+
+  -- a step may be put out where the next one is to begin and no snapshot is due
+  pub may_step : WantsStep view → (WantsSnapshot view → ⊥) → (st : Setting) (c : Cluster) → IsCoordinatorOf st view c.coordinator → MayDo st c PutStep
+  may_step wants unwanted st c of = ((λ due. unwanted (own_snapshot_due view kept st c.coordinator of due)), step_due st c.coordinator of wants)
+
+  -- and elsewhere none
+  pub may_not_step : WantsSnapshot view ⊎ (WantsStep view → ⊥) → (st : Setting) (c : Cluster) → IsCoordinatorOf st view c.coordinator → MayDo st c PutStep → ⊥
+  may_not_step why st c of may = elim why [
+    | inl wanted ↦ may.0 (snapshot_due view kept st c.coordinator of wanted)
+    | inr undue ↦ undue (own_step_due st c.coordinator of may.1)
+  ]
+
+  -- ---- a wave
+
+  -- a wave may be put out where no answers are missing, it is its turn, and neither a snapshot nor a step is due
+  pub may_put : view.counting.waiting ≡ false → IsWaveTurn view.steps.engine view.saving → (WantsSnapshot view → ⊥) → (WantsStep view → ⊥) →
       (st : Setting) (c : Cluster) → IsCoordinatorOf st view c.coordinator → MayDo st c PutWave
-  may_put whole none unwanted st c of = (
+  may_put whole turn unwanted undue st c of = (
     (λ due. unwanted (own_snapshot_due view kept st c.coordinator of due)),
-    (λ due. let by = due.by in let engine = of.engine in cc),
+    (λ due. undue (own_step_due st c.coordinator of due)),
     record {
-      time = subst (λ (engine : Engine). IsWaveTime engine c.coordinator) (sym of.engine) (settled view kept st c.coordinator of none);
+      time = law_time view.steps.engine st.engine view.saving c.coordinator of.engine (settled view kept st c.coordinator of) turn;
       whole = whole_is st c.coordinator of ∙ whole;
     },
   )
 
-  -- and elsewhere none
-  pub may_not_put : (view.counting.waiting ≡ true) ⊎ ((view.saving.acknowledged ≢ view.saving.begun) ⊎ WantsSnapshot view) →
+  -- answers are missing, or it is a snapshot's turn
+  no_wave : (view.counting.waiting ≡ true) ⊎ (IsWaveTurn view.steps.engine view.saving → ⊥) →
       (st : Setting) (c : Cluster) → IsCoordinatorOf st view c.coordinator → MayDo st c PutWave → ⊥
-  may_not_put why st c of may = elim why [
+  no_wave why st c of may = elim why [
     | inl missing ↦
         let whole : false ≡ true = sym may.2.whole ∙ whole_is st c.coordinator of ∙ missing in
         absurd (cc)
+    | inr early ↦ early (own_time view.steps.engine st.engine view.saving c.coordinator of.engine (own_settled view kept st c.coordinator of) may.2.time)
+  ]
+
+  -- and elsewhere none
+  pub may_not_put : ((view.counting.waiting ≡ true) ⊎ (IsWaveTurn view.steps.engine view.saving → ⊥)) ⊎ (WantsSnapshot view ⊎ WantsStep view) →
+      (st : Setting) (c : Cluster) → IsCoordinatorOf st view c.coordinator → MayDo st c PutWave → ⊥
+  may_not_put why st c of may = elim why [
+    | inl early ↦ no_wave early st c of may
     | inr other ↦ elim other [
-      | inl under ↦ under (own_settled view kept st c.coordinator of (time_is st c.coordinator of may.2.time))
-      | inr wanted ↦ may.0 (snapshot_due view kept st c.coordinator of wanted)
+      | inl wanted ↦ may.0 (snapshot_due view kept st c.coordinator of wanted)
+      | inr due ↦ may.1 (step_due st c.coordinator of due)
     ]
   ]
 
@@ -70,6 +130,9 @@ module _ (view : CoordinatorView) (kept : IsSavingKept view.saving) where
   next_is : WantsSnapshot view → (st : Setting) (c : Coordinator) → IsCoordinatorOf st view c → view.saving.begun + 1 ≡ suc c.begun
   next_is wants st c of = add-one view.saving.begun ∙ ap suc (sym (of.saving (of.stored ∙ wants.stored)).begun)
 
+  colour_is : WantsStep view → (st : Setting) (c : Coordinator) → IsCoordinatorOf st view c → colour_in_turn view.steps.engine view.steps.colour ≡ (with_step st.engine c.rounds).colour
+  colour_is wants st c of = sym (colour_of view.steps.engine st.engine view.steps c.rounds of.engine wants.some of.steps)
+
   pub due_record : IsRecordDue view.saving → IsDueOf view (due.Record view.saving.begun)
   due_record is = record {
     saved = λ st c k of.
@@ -85,77 +148,81 @@ module _ (view : CoordinatorView) (kept : IsSavingKept view.saving) where
       (λ same. absurd (cc)),
       (λ has. absurd (less_not c.acknowledged c.begun (record_due view kept st c of is).under has.1)),
     );
-    wave = λ st c of. (
-      (λ same. absurd (cc)),
-      (λ has. absurd (less_not c.coordinator.acknowledged c.coordinator.begun (record_due view kept st c.coordinator of is).under
-          (time_is st c.coordinator of has.1.2.time))),
-    );
+    step = λ st c k of. ((λ same. absurd (cc)), (λ has. absurd (has.0 (record_due view kept st c.coordinator of is))));
+    wave = λ st c of. ((λ same. absurd (cc)), (λ has. absurd (has.0 (record_due view kept st c.coordinator of is))));
   }
 
-  pub due_snapshot : (IsRecordDue view.saving → ⊥) → WantsSnapshot view → IsDueOf view (due.Snapshot (view.saving.begun + 1))
-  due_snapshot unsaved wants = record {
-    saved = λ st c k of. (
-      (λ same. absurd (cc)),
-      (λ has. absurd (unsaved (own_record_due view kept st c of has.0))),
-    );
-    snapshot = λ st c k of. (
-      (λ same. (snapshot_due view kept st c of wants, (let e : k ≡ view.saving.begun + 1 = cc in e) ∙ next_is wants st c of)),
-      (λ has. ap due.Snapshot (next_is wants st c of ∙ sym has.1)),
-    );
-    ended = λ st c of. (
-      (λ same. absurd (cc)),
-      (λ has. absurd (has.0 (snapshot_due view kept st c of wants))),
-    );
-    wave = λ st c of. (
-      (λ same. absurd (cc)),
-      (λ has. absurd (has.1.0 (snapshot_due view kept st c.coordinator of wants))),
-    );
-  }
-
-  module _ (unsaved : IsRecordDue view.saving → ⊥) (unwanted : WantsSnapshot view → ⊥) where
+  module _ (unsaved : IsRecordDue view.saving → ⊥) where
     no_record : (st : Setting) (c : Coordinator) → IsCoordinatorOf st view c → RecordIsDue st c → ⊥
     no_record st c of is = unsaved (own_record_due view kept st c of is)
 
-    no_snapshot : (st : Setting) (c : Coordinator) → IsCoordinatorOf st view c → SnapshotIsDue st c → ⊥
-    no_snapshot st c of is = unwanted (own_snapshot_due view kept st c of is)
-
-    not_wave : (view.counting.waiting ≡ true) ⊎ (view.saving.acknowledged ≢ view.saving.begun) →
-        (view.counting.waiting ≡ true) ⊎ ((view.saving.acknowledged ≢ view.saving.begun) ⊎ WantsSnapshot view)
-    not_wave (inl missing) = inl missing
-    not_wave (inr under) = inr (inl under)
-
-    not_ended : (view.counting.waiting ≡ true) ⊎ (view.saving.acknowledged ≢ view.saving.begun) →
-        (st : Setting) (c : Coordinator) → IsCoordinatorOf st view c → c.acknowledged ≡ c.begun → HasSeenTheEnd c → ⊥
-    not_ended why st c of none has = elim why [
-      | inl missing ↦
-          let whole : false ≡ true = sym has.whole ∙ whole_is st c of ∙ missing in
-          absurd (cc)
-      | inr under ↦ under (own_settled view kept st c of none)
-    ]
-
-    pub due_nothing : (view.counting.waiting ≡ true) ⊎ (view.saving.acknowledged ≢ view.saving.begun) → IsDueOf view due.Nothing
-    due_nothing why = record {
+    pub due_snapshot : WantsSnapshot view → IsDueOf view (due.Snapshot (view.saving.begun + 1))
+    due_snapshot wants = record {
       saved = λ st c k of. ((λ same. absurd (cc)), (λ has. absurd (no_record st c of has.0)));
-      snapshot = λ st c k of. ((λ same. absurd (cc)), (λ has. absurd (no_snapshot st c of has.0)));
-      ended = λ st c of. ((λ same. absurd (cc)), (λ has. absurd (not_ended why st c of has.1 has.2)));
-      wave = λ st c of. ((λ same. absurd (cc)), (λ has. absurd (may_not_put (not_wave why) st c of has.1)));
-    }
-
-    pub due_ended : view.saving.acknowledged ≡ view.saving.begun → HasShownTheEnd view.counting → IsDueOf view due.Ended
-    due_ended none shown = record {
-      saved = λ st c k of. ((λ same. absurd (cc)), (λ has. absurd (no_record st c of has.0)));
-      snapshot = λ st c k of. ((λ same. absurd (cc)), (λ has. absurd (no_snapshot st c of has.0)));
-      ended = λ st c of. ((λ same. (no_snapshot st c of, settled view kept st c of none, law_seen view kept st c of shown)), (λ has. refl));
-      wave = λ st c of. ((λ same. absurd (cc)), (λ has. absurd (has.0 (law_seen view kept st c.coordinator of shown))));
-    }
-
-    pub due_wave : view.counting.waiting ≡ false → view.saving.acknowledged ≡ view.saving.begun → (HasShownTheEnd view.counting → ⊥) → IsDueOf view due.Wave
-    due_wave whole none unseen = record {
-      saved = λ st c k of. ((λ same. absurd (cc)), (λ has. absurd (no_record st c of has.0)));
-      snapshot = λ st c k of. ((λ same. absurd (cc)), (λ has. absurd (no_snapshot st c of has.0)));
-      ended = λ st c of. ((λ same. absurd (cc)), (λ has. absurd (unseen (own_seen view kept st c of has.2))));
-      wave = λ st c of. (
-        (λ same. ((λ has. unseen (own_seen view kept st c.coordinator of has)), may_put whole none unwanted st c of)),
-        (λ has. refl),
+      snapshot = λ st c k of. (
+        (λ same. (snapshot_due view kept st c of wants, (let e : k ≡ view.saving.begun + 1 = cc in e) ∙ next_is wants st c of)),
+        (λ has. ap due.Snapshot (next_is wants st c of ∙ sym has.1)),
       );
+      ended = λ st c of. ((λ same. absurd (cc)), (λ has. absurd (has.0 (snapshot_due view kept st c of wants))));
+      step = λ st c k of. ((λ same. absurd (cc)), (λ has. absurd (has.2.0 (snapshot_due view kept st c.coordinator of wants))));
+      wave = λ st c of. ((λ same. absurd (cc)), (λ has. absurd (has.2.0 (snapshot_due view kept st c.coordinator of wants))));
     }
+
+    module _ (unwanted : WantsSnapshot view → ⊥) where
+      no_snapshot : (st : Setting) (c : Coordinator) → IsCoordinatorOf st view c → SnapshotIsDue st c → ⊥
+      no_snapshot st c of is = unwanted (own_snapshot_due view kept st c of is)
+
+      pub due_ended : SeesEnd view → IsDueOf view due.Ended
+      due_ended sees = record {
+        saved = λ st c k of. ((λ same. absurd (cc)), (λ has. absurd (no_record st c of has.0)));
+        snapshot = λ st c k of. ((λ same. absurd (cc)), (λ has. absurd (no_snapshot st c of has.0)));
+        ended = λ st c of. ((λ same. law_end st c of unwanted sees), (λ has. refl));
+        step = λ st c k of. ((λ same. absurd (cc)), (λ has. absurd (has.1 (law_end st c.coordinator of unwanted sees))));
+        wave = λ st c of. ((λ same. absurd (cc)), (λ has. absurd (has.1 (law_end st c.coordinator of unwanted sees))));
+      }
+
+      module _ (endless : SeesEnd view → ⊥) where
+        no_end : (st : Setting) (c : Coordinator) → IsCoordinatorOf st view c → EndIsDue st c → ⊥
+        no_end st c of has = endless (own_end st c of has)
+
+        pub due_step : WantsStep view → IsDueOf view (due.Step (colour_in_turn view.steps.engine view.steps.colour))
+        due_step wants = record {
+          saved = λ st c k of. ((λ same. absurd (cc)), (λ has. absurd (no_record st c of has.0)));
+          snapshot = λ st c k of. ((λ same. absurd (cc)), (λ has. absurd (no_snapshot st c of has.0)));
+          ended = λ st c of. ((λ same. absurd (cc)), (λ has. absurd (no_end st c of has)));
+          step = λ st c k of. (
+            (λ same. (
+              no_record st c.coordinator of,
+              no_end st c.coordinator of,
+              may_step wants unwanted st c of,
+              (let e : k ≡ colour_in_turn view.steps.engine view.steps.colour = cc in e) ∙ colour_is wants st c.coordinator of,
+            )),
+            (λ has. ap due.Step (colour_is wants st c.coordinator of ∙ sym has.3)),
+          );
+          wave = λ st c of. ((λ same. absurd (cc)), (λ has. absurd (has.2.1 (step_due st c.coordinator of wants))));
+        }
+
+        module _ (undue : WantsStep view → ⊥) where
+          no_step : (st : Setting) (c : Cluster) → IsCoordinatorOf st view c.coordinator → MayDo st c PutStep → ⊥
+          no_step st c of may = undue (own_step_due st c.coordinator of may.1)
+
+          pub due_wave : view.counting.waiting ≡ false → IsWaveTurn view.steps.engine view.saving → IsDueOf view due.Wave
+          due_wave whole turn = record {
+            saved = λ st c k of. ((λ same. absurd (cc)), (λ has. absurd (no_record st c of has.0)));
+            snapshot = λ st c k of. ((λ same. absurd (cc)), (λ has. absurd (no_snapshot st c of has.0)));
+            ended = λ st c of. ((λ same. absurd (cc)), (λ has. absurd (no_end st c of has)));
+            step = λ st c k of. ((λ same. absurd (cc)), (λ has. absurd (no_step st c of has.2)));
+            wave = λ st c of. (
+              (λ same. (no_record st c.coordinator of, no_end st c.coordinator of, may_put whole turn unwanted undue st c of)),
+              (λ has. refl),
+            );
+          }
+
+          pub due_nothing : (view.counting.waiting ≡ true) ⊎ (IsWaveTurn view.steps.engine view.saving → ⊥) → IsDueOf view due.Nothing
+          due_nothing early = record {
+            saved = λ st c k of. ((λ same. absurd (cc)), (λ has. absurd (no_record st c of has.0)));
+            snapshot = λ st c k of. ((λ same. absurd (cc)), (λ has. absurd (no_snapshot st c of has.0)));
+            ended = λ st c of. ((λ same. absurd (cc)), (λ has. absurd (no_end st c of has)));
+            step = λ st c k of. ((λ same. absurd (cc)), (λ has. absurd (no_step st c of has.2)));
+            wave = λ st c of. ((λ same. absurd (cc)), (λ has. absurd (no_wave early st c of has.2)));
+          }

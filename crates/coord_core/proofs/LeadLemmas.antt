@@ -7,63 +7,78 @@ use Rattle.std.proofs.lemmas.List.{get_or_past, length-set, set-get_or}
 use Rattle.std.proofs.lemmas.List.Folds.{list_all-append}
 use Rattle.cluster_core.proofs.Basics.{set_at-same, set_at-other}
 use Rattle.cluster_core.specs.Ranges.{set_at}
-use Rattle.cluster_model.specs.Calls.{Begin, Committed, Count, Saved, Want, Wave}
+use Rattle.cluster_model.specs.Calls.{Begin, Committed, Count, Saved, Step, Want, Wave}
+use Rattle.cluster_model.specs.Rounds.{Rounds, first_rounds, with_step, with_wave}
 use Rattle.gl_base.specs.declared.scopes.Counted.{Counted}
 use Rattle.outboxes.specs.Outboxes.{left_behind, without_first}
 use Rattle.wire_msgs.specs.declared.messages.Message.{Message}
 use Rattle.wire_msgs.specs.Views as wire
-use Rattle.coord_core.specs.Calls.{HasBegunNext, HasHandedOver, HasPutWave, HasRecorded, HasTakenReport, IsFirstOf, IsFirstWith, StaysCoordinator}
-use Rattle.coord_core.specs.Coordinators.{AreCalls, Call, Coordinator, CoordinatorView, Counting, IsCoordinatorOf, IsSavingOf, Report, Setting, TellsCall, MessageView, OutboxView, OutboxesView, acknowledges, begins_snapshot, count_answer, count_wave, first_coordinator, first_counting, hands_call, message_view, puts_wave, takes_report, waiting_at, no_outbox}
+use Rattle.coord_core.specs.Calls.{HasBegunNext, HasHandedOver, HasPutStep, HasPutWave, HasRecorded, HasTakenReport, IsFirstOf, IsFirstWith, StaysCoordinator}
+use Rattle.coord_core.specs.Coordinators.{AreCalls, Call, Coordinator, CoordinatorView, Counting, AreStepsOf, IsCoordinatorOf, IsEngineOf, IsSavingOf, Report, Setting, StepsView, TellsCall, MessageView, OutboxView, OutboxesView, acknowledges, begins_snapshot, count_answer, count_wave, first_coordinator, first_counting, hands_call, message_view, puts_step, puts_wave, takes_report, waiting_at, no_outbox}
 use Rattle.coord_core.specs.Inner.Asking.{AreOutboxesOf, SameMessages, is_call}
 use Rattle.coord_core.specs.Inner.Kept.{IsSavingKept}
 use Rattle.coord_core.specs.Inner.Seen.{IsFirstSaving}
 use Rattle.coord_core.specs.Saving.{IsRecordDue, SavingView, SectionView, StoreView, saving_nothing, saved_before, with_acknowledged, saving_begun, saving_section, with_want}
+use Rattle.coord_core.specs.Steps.{HasColours, colour_in_turn, first_steps, steps_asked, steps_begun}
+use Rattle.coord_core.specs.declared.steps.Engine.{Engine}
+use Rattle.coord_core.specs.declared.steps.Engine.TheVariants.{Locking}
 use Rattle.coord_core.proofs.BoxLemmas.{box_set}
 use Rattle.coord_core.proofs.SavingLemmas.{acknowledged_of, begun_of, first_saving, saving_stays, section_of, stored_where_due, want_of}
+use Rattle.coord_core.proofs.StepLemmas.{asked_of, colour_of, counted_of, none_of, stepped_of}
 
 -- what holds of the value holds of it otherwise
 pub if_ok : {X E : Type 0} {P Q : X → Type 0} (r : Result X E) → ((x : X) → P x → Q x) → IfOk r P → IfOk r Q
 if_ok (Ok x) turn holds = turn x holds
 if_ok (Err e) turn holds = holds
 
+-- ---- what is known of steps
+engine_by : (st : Setting) (s t : StepsView) → t ≡ s → IsEngineOf s.engine st.engine → IsEngineOf t.engine st.engine
+engine_by st s t same is = subst (λ (x : StepsView). IsEngineOf x.engine st.engine) (sym same) is
+
+steps_by : (rounds : Rounds) (s t : StepsView) → t ≡ s → AreStepsOf s.engine s rounds → AreStepsOf t.engine t rounds
+steps_by rounds s t same are = subst (λ (x : StepsView). AreStepsOf x.engine x rounds) (sym same) are
+
 -- ---- at first
 
 module _ (machines : ℕ) (view : CoordinatorView) where
-  pub first_part : IsFirstSaving machines (saving_nothing machines) view → IsFirstOf machines view
+  pub first_part : IsFirstSaving machines Locking (saving_nothing machines) view → IsFirstOf machines view
   first_part first st base long same engine plain =
       record {
         machines = first.many ∙ sym same;
-        engine = engine;
+        engine = engine_by st (first_steps Locking) view.steps first.steps engine;
         stored = plain ∙ ap (λ (s : SavingView). s.stored) (sym first.saving);
         none = λ _. refl;
         saving = λ stored. absurd (cc);
         counting = ap first_counting same ∙ sym first.counting;
+        steps = steps_by (first_rounds st.machines) (first_steps Locking) view.steps first.steps (none_of Locking (first_rounds st.machines) refl refl refl);
         out = λ a _. subst (λ (messages : List MessageView). AreCalls messages []) (sym (first.none a)) tt;
       }
 
-  pub first_with : (store : StoreView) → IsFirstSaving machines (saved_before machines store) view → IsFirstWith machines store view
-  first_with store first st same engine stored vertices edges =
+  pub first_with : (engine : Engine) (store : StoreView) → IsFirstSaving machines engine (saved_before machines store) view → IsFirstWith machines engine store view
+  first_with engine store first st same engine_is stored vertices edges =
       record {
         machines = first.many ∙ sym same;
-        engine = engine;
+        engine = engine_by st (first_steps engine) view.steps first.steps engine_is;
         stored = stored ∙ ap (λ (s : SavingView). s.stored) (sym first.saving);
         none = λ _. refl;
         saving = λ _. subst (λ (s : SavingView). IsSavingOf st s (first_coordinator st store.newest store.store_end)) (sym first.saving)
             (first_saving st machines store same vertices edges);
         counting = ap first_counting same ∙ sym first.counting;
+        steps = steps_by (first_rounds st.machines) (first_steps engine) view.steps first.steps (none_of engine (first_rounds st.machines) refl refl refl);
         out = λ a _. subst (λ (messages : List MessageView). AreCalls messages []) (sym (first.none a)) tt;
       }
 
 -- nothing that the cluster sees has changed
-pub stays_part : (old new : CoordinatorView) → new.counting ≡ old.counting → new.saving ≡ old.saving → SameMessages old.out new.out → StaysCoordinator old new
-stays_part old new counting saving same st c part =
+pub stays_part : (old new : CoordinatorView) → new.counting ≡ old.counting → new.steps ≡ old.steps → new.saving ≡ old.saving → SameMessages old.out new.out → StaysCoordinator old new
+stays_part old new counting steps saving same st c part =
     record {
       machines = same.many ∙ part.machines;
-      engine = part.engine;
+      engine = engine_by st old.steps new.steps steps part.engine;
       stored = part.stored ∙ ap (λ (s : SavingView). s.stored) (sym saving);
       none = part.none;
       saving = λ stored. subst (λ (s : SavingView). IsSavingOf st s c) (sym saving) (part.saving stored);
       counting = part.counting ∙ sym counting;
+      steps = steps_by c.rounds old.steps new.steps steps part.steps;
       out = λ a below. subst (λ (messages : List MessageView). AreCalls messages (c.out a)) (sym (same.each a)) (part.out a below);
     }
 
@@ -86,46 +101,68 @@ module _ (old new : CoordinatorView) (message : MessageView) (many : length new.
       subst (λ (messages : List MessageView). AreCalls messages (c.out a ++ call ∷ [])) (sym (told a inside))
       (calls_push (waiting_at old.out a) (c.out a) message call (part.out a below) tells)
 
-  pub has_put : new.counting ≡ count_wave old.counting → new.saving ≡ old.saving → message ≡ wire.Wave old.counting.put_out → HasPutWave old new
-  has_put counting saving is st c part =
+  pub has_put : new.counting ≡ count_wave old.counting → new.steps ≡ steps_asked old.steps → new.saving ≡ old.saving → message ≡ wire.Wave old.counting.put_out → HasPutWave old new
+  has_put counting steps saving is st c part =
       record {
         machines = many ∙ part.machines;
-        engine = part.engine;
+        engine = engine_by st (steps_asked old.steps) new.steps steps part.engine;
         stored = part.stored ∙ ap (λ (s : SavingView). s.stored) (sym saving);
         none = part.none;
         saving = λ stored. subst (λ (s : SavingView). IsSavingOf st s (puts_wave c)) (sym saving)
             (saving_stays st old.saving c (puts_wave c) refl refl refl refl refl refl (part.saving stored));
         counting = ap count_wave part.counting ∙ sym counting;
+        steps = steps_by (with_wave c.rounds) (steps_asked old.steps) new.steps steps (asked_of old.steps.engine old.steps c.rounds part.steps);
         out = calls_told st c (Wave c.rounds.counting.put_out) part
             (subst (λ (m : MessageView). TellsCall m (Wave c.rounds.counting.put_out)) (sym is) (ap (λ (counting : Counting). counting.put_out) (sym part.counting)));
       }
 
-  pub has_begun : new.counting ≡ old.counting → new.saving ≡ saving_begun old.saving → message ≡ wire.Begin (old.saving.begun + 1) → old.saving.stored ≡ true → HasBegunNext old new
-  has_begun counting saving is stored_is st c part =
+  pub has_stepped : new.counting ≡ old.counting → new.steps ≡ steps_begun old.steps → new.saving ≡ old.saving → HasColours old.steps.engine →
+      message ≡ wire.Step (colour_in_turn old.steps.engine old.steps.colour) → HasPutStep old new
+  has_stepped counting steps saving some is st c part =
+      let colour : (with_step st.engine c.rounds).colour ≡ colour_in_turn old.steps.engine old.steps.colour =
+      colour_of old.steps.engine st.engine old.steps c.rounds part.engine some part.steps
+      in
+      record {
+        machines = many ∙ part.machines;
+        engine = engine_by st (steps_begun old.steps) new.steps steps part.engine;
+        stored = part.stored ∙ ap (λ (s : SavingView). s.stored) (sym saving);
+        none = part.none;
+        saving = λ stored. subst (λ (s : SavingView). IsSavingOf st s (puts_step st c)) (sym saving)
+            (saving_stays st old.saving c (puts_step st c) refl refl refl refl refl refl (part.saving stored));
+        counting = part.counting ∙ sym counting;
+        steps = steps_by (with_step st.engine c.rounds) (steps_begun old.steps) new.steps steps (stepped_of old.steps.engine st.engine old.steps c.rounds part.engine some part.steps);
+        out = calls_told st c (Step (with_step st.engine c.rounds).colour) part
+            (subst (λ (m : MessageView). TellsCall m (Step (with_step st.engine c.rounds).colour)) (sym is) (sym colour));
+      }
+
+  pub has_begun : new.counting ≡ old.counting → new.steps ≡ old.steps → new.saving ≡ saving_begun old.saving → message ≡ wire.Begin (old.saving.begun + 1) → old.saving.stored ≡ true → HasBegunNext old new
+  has_begun counting steps saving is stored_is st c part =
       let own : IsSavingOf st old.saving c = part.saving (part.stored ∙ stored_is) in
       record {
         machines = many ∙ part.machines;
-        engine = part.engine;
+        engine = engine_by st old.steps new.steps steps part.engine;
         stored = part.stored ∙ ap (λ (s : SavingView). s.stored) (sym saving);
         none = λ plain. absurd (let both : false ≡ true = sym plain ∙ part.stored ∙ stored_is in cc);
         saving = λ stored. subst (λ (s : SavingView). IsSavingOf st s (begins_snapshot c)) (sym saving) (begun_of st old.saving c own);
         counting = part.counting ∙ sym counting;
+        steps = steps_by c.rounds old.steps new.steps steps part.steps;
         out = calls_told st c (Begin (suc c.begun)) part
             (subst (λ (m : MessageView). TellsCall m (Begin (suc c.begun))) (sym is) (add-one old.saving.begun ∙ ap suc (sym own.begun)));
       }
 
-  pub has_recorded : IsSavingKept old.saving → IsRecordDue old.saving → new.counting ≡ old.counting → new.saving ≡ with_acknowledged old.saving → message ≡ wire.Committed old.saving.begun →
+  pub has_recorded : IsSavingKept old.saving → IsRecordDue old.saving → new.counting ≡ old.counting → new.steps ≡ old.steps → new.saving ≡ with_acknowledged old.saving → message ≡ wire.Committed old.saving.begun →
       HasRecorded old new
-  has_recorded kept due counting saving is st c part =
+  has_recorded kept due counting steps saving is st c part =
       let stored_is : st.stored ≡ true = stored_where_due old kept st c part due in
       let own : IsSavingOf st old.saving c = part.saving stored_is in
       record {
         machines = many ∙ part.machines;
-        engine = part.engine;
+        engine = engine_by st old.steps new.steps steps part.engine;
         stored = part.stored ∙ ap (λ (s : SavingView). s.stored) (sym saving);
         none = λ plain. refl;
         saving = λ stored. subst (λ (s : SavingView). IsSavingOf st s (acknowledges st c)) (sym saving) (acknowledged_of st old.saving c own);
         counting = part.counting ∙ sym counting;
+        steps = steps_by c.rounds old.steps new.steps steps part.steps;
         out = calls_told st c (Committed c.begun) part
             (subst (λ (m : MessageView). TellsCall m (Committed c.begun)) (sym is) (sym own.begun));
       }
@@ -159,6 +196,7 @@ counts_taken old counting a counted k is st c report tells part =
       none = part.none;
       saving = λ stored. saving_stays st old.saving c (takes_report a (Count k counted) c) refl refl refl refl refl refl (part.saving stored);
       counting = ap (λ (had : Counting). count_answer had a counted) part.counting ∙ sym is;
+      steps = counted_of old.steps.engine old.steps c.rounds a counted part.steps;
       out = part.out;
     })
 
@@ -173,6 +211,7 @@ section_taken old a section inside st c (Saved number saved entries) tells part 
       saving = λ stored. section_of st old.saving c (part.saving stored) a section (record { section = saved; entries = entries }) (subst (λ (n : ℕ). a < n) part.machines inside)
           (record { saved = tells.1; entries = tells.2 });
       counting = part.counting;
+      steps = part.steps;
       out = part.out;
     }
 section_taken old a section inside st c (Count wave counts) tells part = absurd tells
@@ -188,6 +227,7 @@ want_taken old a k st c report tells part =
       none = part.none;
       saving = λ stored. want_of st old.saving c (part.saving stored) k;
       counting = part.counting;
+      steps = part.steps;
       out = part.out;
     })
 
@@ -222,14 +262,14 @@ none_first (m ∷ messages) is = absurd (cc)
 none_left : (box : OutboxView) → box.messages ≡ [] → without_first box ≡ box
 none_left box none = ap (λ (messages : List MessageView). left_behind messages box.room) none ∙ ap (λ (messages : List MessageView). record box { messages = messages }) (sym none)
 
-pub none_taken : (counting : Counting) (saving : SavingView) (out : OutboxesView) (a : ℕ) → slice_get (waiting_at out a) 0 ≡ None →
-    HasHandedOver (record { counting = counting; saving = saving; out = out }) (record { counting = counting; saving = saving; out = taken_from out a }) a None
-none_taken counting saving out a is =
+pub none_taken : (counting : Counting) (steps : StepsView) (saving : SavingView) (out : OutboxesView) (a : ℕ) → slice_get (waiting_at out a) 0 ≡ None →
+    HasHandedOver (record { counting = counting; steps = steps; saving = saving; out = out }) (record { counting = counting; steps = steps; saving = saving; out = taken_from out a }) a None
+none_taken counting steps saving out a is =
     let none : waiting_at out a ≡ [] = none_first (waiting_at out a) is in
     let same : slice_set out.machines a (without_first (slice_index_or out.machines a no_outbox)) ≡ out.machines =
     ap (λ (box : OutboxView). slice_set out.machines a box) (none_left (slice_index_or out.machines a no_outbox) none) ∙ set-get_or out.machines a no_outbox
     in (
-      ap (λ (boxes : List OutboxView). record { counting = counting; saving = saving; out = record out { machines = boxes } }) same,
+      ap (λ (boxes : List OutboxView). record { counting = counting; steps = steps; saving = saving; out = record out { machines = boxes } }) same,
       λ st c part below. no_call (c.out a) (subst (λ (messages : List MessageView). AreCalls messages (c.out a)) none (part.out a below)),
     )
 
@@ -249,9 +289,9 @@ is_inside out a m behind is = elim (cases_lt a (length out.machines)) [
   | inr outside ↦ absurd (let none = ap (λ (box : OutboxView). box.messages) (get_or_past out.machines a no_outbox outside) in cc)
 ]
 
-pub one_taken : (counting : Counting) (saving : SavingView) (out : OutboxesView) (a : ℕ) (m : Message) → Some (message_view m) ≡ slice_get (waiting_at out a) 0 →
-    HasHandedOver (record { counting = counting; saving = saving; out = out }) (record { counting = counting; saving = saving; out = taken_from out a }) a (Some m)
-one_taken counting saving out a m is st c part =
+pub one_taken : (counting : Counting) (steps : StepsView) (saving : SavingView) (out : OutboxesView) (a : ℕ) (m : Message) → Some (message_view m) ≡ slice_get (waiting_at out a) 0 →
+    HasHandedOver (record { counting = counting; steps = steps; saving = saving; out = out }) (record { counting = counting; steps = steps; saving = saving; out = taken_from out a }) a (Some m)
+one_taken counting steps saving out a m is st c part =
     let has : HasBehind (message_view m) (waiting_at out a) = has_behind (message_view m) (waiting_at out a) is in
     let inside : a < length out.machines = is_inside out a (message_view m) has.behind has.first in
     let below : a < st.machines = subst (λ (n : ℕ). a < n) part.machines inside in
@@ -274,6 +314,7 @@ one_taken counting saving out a m is st c part =
         none = part.none;
         saving = λ is_stored. saving_stays st saving c (hands_call a first.behind c) refl refl refl refl refl refl (part.saving is_stored);
         counting = part.counting;
+        steps = part.steps;
         out = λ b below_b.
             box_set (λ k one. k < st.machines → AreCalls one.messages (set_at c.out a first.behind k)) out.machines a b box inside
             (λ _. subst (λ (calls : List Call). AreCalls box.messages calls) (sym (set_at-same c.out a first.behind))
@@ -283,7 +324,7 @@ one_taken counting saving out a m is st c part =
       };
     }
 
-pub handed_over : (counting : Counting) (saving : SavingView) (out : OutboxesView) (a : ℕ) (result : Option Message) → option_map message_view result ≡ slice_get (waiting_at out a) 0 →
-    HasHandedOver (record { counting = counting; saving = saving; out = out }) (record { counting = counting; saving = saving; out = taken_from out a }) a result
-handed_over counting saving out a None is = none_taken counting saving out a (sym is)
-handed_over counting saving out a (Some m) is = one_taken counting saving out a m is
+pub handed_over : (counting : Counting) (steps : StepsView) (saving : SavingView) (out : OutboxesView) (a : ℕ) (result : Option Message) → option_map message_view result ≡ slice_get (waiting_at out a) 0 →
+    HasHandedOver (record { counting = counting; steps = steps; saving = saving; out = out }) (record { counting = counting; steps = steps; saving = saving; out = taken_from out a }) a result
+handed_over counting steps saving out a None is = none_taken counting steps saving out a (sym is)
+handed_over counting steps saving out a (Some m) is = one_taken counting steps saving out a m is

@@ -1,6 +1,7 @@
 pub mod BoxLemmas
 pub mod SavedLemmas
 pub mod SavingLemmas
+pub mod StepLemmas
 pub mod StoreLemmas
 pub mod KeptLemmas
 pub mod RecordLemmas

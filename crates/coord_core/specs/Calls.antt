@@ -8,13 +8,15 @@ use Rattle.cluster_core.specs.Messages.{Section}
 use Rattle.cluster_model.specs.Calls.{Count, Want}
 use Rattle.cluster_model.specs.Events as law
 use Rattle.cluster_model.specs.Leading.{RecordIsDue, Snapshot, SnapshotIsDue, come_or}
+use Rattle.cluster_model.specs.Rounds.{with_step}
 use Rattle.graph_core.specs.DataGraph.{size}
 use Rattle.snap_update.specs.Holding.{AreSavedIn, IsSectionReport}
 use Rattle.wire_msgs.specs.declared.messages.Message.{Message}
 use Rattle.wire_msgs.specs.Views as wire
 use Rattle.coord_core.specs.declared.leading.Due.{Due}
 use Rattle.coord_core.specs.declared.leading.Due.TheVariants as due
-use Rattle.coord_core.specs.Coordinators.{Call, Cluster, Coordinator, CoordinatorView, HasSeenTheEnd, IsCoordinatorOf, Locking, MayBeCounted, MessageView, Report, Setting, StoreView, TellsCall, acknowledges, begins_snapshot, first_coordinator, hands_call, message_view, no_outbox, puts_wave, takes_report}
+use Rattle.coord_core.specs.declared.steps.Engine.{Engine}
+use Rattle.coord_core.specs.Coordinators.{Call, Cluster, Coordinator, CoordinatorView, HasSeenTheEnd, IsCoordinatorOf, IsEngineOf, Locking, MayBeCounted, MessageView, Report, Setting, StoreView, TellsCall, acknowledges, begins_snapshot, first_coordinator, hands_call, message_view, no_outbox, puts_step, puts_wave, takes_report}
 use Rattle.coord_core.specs.Records.{AreByTicket}
 use Rattle.coord_core.specs.Saving.{HasRoomForRecord, IsApart, IsRecordDue}
 
@@ -24,10 +26,10 @@ IsFirstOf machines view =
     (st : Setting) (base long : ℕ) → st.machines ≡ machines → st.engine ≡ Locking → st.stored ≡ false →
     IsCoordinatorOf st view (first_coordinator st base long)
 
--- it is the one that an attempt with so many machines and this store begins with
-abbrev pub IsFirstWith : ℕ → StoreView → CoordinatorView → Type 0
-IsFirstWith machines store view =
-    (st : Setting) → st.machines ≡ machines → st.engine ≡ Locking → st.stored ≡ true → size st.graph ≡ store.vertices → length st.graph.edges ≡ store.edges →
+-- it is the one that an attempt with so many machines, this engine and this store begins with
+abbrev pub IsFirstWith : ℕ → Engine → StoreView → CoordinatorView → Type 0
+IsFirstWith machines engine store view =
+    (st : Setting) → st.machines ≡ machines → IsEngineOf engine st.engine → st.stored ≡ true → size st.graph ≡ store.vertices → length st.graph.edges ≡ store.edges →
     IsCoordinatorOf st view (first_coordinator st store.newest store.store_end)
 
 -- whose part it was its part it is
@@ -36,16 +38,22 @@ StaysCoordinator old new = (st : Setting) (c : Coordinator) → IsCoordinatorOf 
 
 -- ---- what is due
 
+-- no snapshot is due or under way, and the last two waves showed the end
+abbrev pub EndIsDue : Setting → Coordinator → Type 0
+EndIsDue st c = (SnapshotIsDue st c → ⊥) × (c.acknowledged ≡ c.begun) × HasSeenTheEnd c
+
 -- A record is due exactly where all sections of the snapshot under way have come, and a snapshot exactly where the next one may begin.
--- Else the end is due exactly where no snapshot is under way and the last two waves showed it; and else a wave exactly where one may
--- be put out.
+-- Else the end is due exactly where no snapshot is under way and the last two waves showed it; else a step exactly where the next one
+-- may begin, which has this colour; and else a wave exactly where one may be put out.
 pub record IsDueOf (view : CoordinatorView) (answer : Due) : Type 0 where
   pub saved : (st : Setting) (c : Coordinator) (k : ℕ) → IsCoordinatorOf st view c → (answer ≡ due.Record k) ↔ (RecordIsDue st c × (k ≡ c.begun))
   pub snapshot : (st : Setting) (c : Coordinator) (k : ℕ) → IsCoordinatorOf st view c → (answer ≡ due.Snapshot k) ↔ (SnapshotIsDue st c × (k ≡ suc c.begun))
-  pub ended : (st : Setting) (c : Coordinator) → IsCoordinatorOf st view c →
-      (answer ≡ due.Ended) ↔ ((SnapshotIsDue st c → ⊥) × (c.acknowledged ≡ c.begun) × HasSeenTheEnd c)
+  pub ended : (st : Setting) (c : Coordinator) → IsCoordinatorOf st view c → (answer ≡ due.Ended) ↔ EndIsDue st c
+  pub step : (st : Setting) (c : Cluster) (k : ℕ) → IsCoordinatorOf st view c.coordinator →
+      (answer ≡ due.Step k) ↔ ((RecordIsDue st c.coordinator → ⊥) × (EndIsDue st c.coordinator → ⊥) × law.MayDo st c law.PutStep
+      × (k ≡ (with_step st.engine c.coordinator.rounds).colour))
   pub wave : (st : Setting) (c : Cluster) → IsCoordinatorOf st view c.coordinator →
-      (answer ≡ due.Wave) ↔ ((HasSeenTheEnd c.coordinator → ⊥) × law.MayDo st c law.PutWave)
+      (answer ≡ due.Wave) ↔ ((RecordIsDue st c.coordinator → ⊥) × (EndIsDue st c.coordinator → ⊥) × law.MayDo st c law.PutWave)
 
 -- ---- an event of its own
 
@@ -66,6 +74,16 @@ MayNotPutWave view = MayNotLead law.PutWave view
 
 abbrev pub HasPutWave : CoordinatorView → CoordinatorView → Type 0
 HasPutWave old new = (st : Setting) (c : Coordinator) → IsCoordinatorOf st old c → IsCoordinatorOf st new (puts_wave c)
+
+-- the next step may begin; and it has begun
+abbrev pub MayPutStep : CoordinatorView → Type 0
+MayPutStep view = MayLead law.PutStep view
+
+abbrev pub MayNotPutStep : CoordinatorView → Type 0
+MayNotPutStep view = MayNotLead law.PutStep view
+
+abbrev pub HasPutStep : CoordinatorView → CoordinatorView → Type 0
+HasPutStep old new = (st : Setting) (c : Coordinator) → IsCoordinatorOf st old c → IsCoordinatorOf st new (puts_step st c)
 
 -- the next snapshot may begin; and it has begun
 abbrev pub MayLeadBegin : CoordinatorView → Type 0

@@ -4,8 +4,9 @@ pub use Rattle.cluster_core.specs.Settings.{Setting, Locking}
 pub use Rattle.cluster_model.specs.Calls.{Call, Report}
 pub use Rattle.cluster_model.specs.Clusters.{Cluster}
 pub use Rattle.cluster_model.specs.Counting.{Counting, MayBeCounted, count_answer, count_wave, first_counting}
-pub use Rattle.cluster_model.specs.Leading.{Come, Coordinator, HasSeenTheEnd, acknowledges, begins_snapshot, entries_in, first_coordinator, hands_call, puts_wave, takes_report}
+pub use Rattle.cluster_model.specs.Leading.{Come, Coordinator, HasSeenTheEnd, acknowledges, begins_snapshot, entries_in, first_coordinator, hands_call, puts_step, puts_wave, takes_report}
 pub use Rattle.coord_core.specs.Saving.{SavingView, StoreView, come_at}
+pub use Rattle.coord_core.specs.Steps.{AreStepsOf, IsEngineOf, StepsView}
 use Rattle.std.specs.Prelude.{◌≡◌, ℕ, ◌<◌, ◌↔◌, true, false, Option, None, Some, List, [], ◌∷◌, length, slice_index_or, ⊤}
 use Rattle.cluster_model.specs.Calls.{Begin, Committed, Wave, Step}
 use Rattle.graph_core.specs.DataGraph.{size}
@@ -13,9 +14,10 @@ use Rattle.snap_update.specs.Holding.{AreSavedIn}
 use Rattle.wire_msgs.specs.Views.{SectionView}
 use Rattle.wire_msgs.specs.Views as wire
 
--- What it has counted, what it knows of snapshots, and what waits to be sent.
+-- What it has counted, what it knows of steps and of snapshots, and what waits to be sent.
 pub record CoordinatorView : Type 0 where
   pub counting : Counting
+  pub steps : StepsView
   pub saving : SavingView
   pub out : OutboxesView
 
@@ -63,15 +65,16 @@ pub record IsSavingOf (st : Setting) (s : SavingView) (c : Coordinator) : Type 0
   pub first : (c.snapshots ≡ []) ↔ (s.saved ≡ false)
   pub store_end : c.store_end ≡ s.store_end
 
--- In a cluster with locks the coordinator has counted this, and these calls wait. Where snapshots are taken it knows this of them, and
--- where none are none is under way.
+-- In a cluster with this engine the coordinator has counted this, and these calls wait. By colours it knows this of its steps. Where
+-- snapshots are taken it knows this of them, and where none are none is under way.
 pub record IsCoordinatorOf (st : Setting) (view : CoordinatorView) (c : Coordinator) : Type 0 where
   pub machines : length view.out.machines ≡ st.machines
-  pub engine : st.engine ≡ Locking
+  pub engine : IsEngineOf view.steps.engine st.engine
   pub stored : st.stored ≡ view.saving.stored
   pub none : st.stored ≡ false → c.acknowledged ≡ c.begun
   pub saving : st.stored ≡ true → IsSavingOf st view.saving c
   pub counting : c.rounds.counting ≡ view.counting
+  pub steps : AreStepsOf view.steps.engine view.steps c.rounds
   pub out : (a : ℕ) → a < st.machines → AreCalls (waiting_at view.out a) (c.out a)
 
 -- there is such a cluster

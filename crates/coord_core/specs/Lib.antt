@@ -1,4 +1,5 @@
 pub mod Saving
+pub mod Steps
 pub mod Stores
 pub mod Records
 pub mod Coordinators

@@ -17,6 +17,8 @@ pub enum Word {
     Committed(u32),
     /// The machine is asked for its counts in this wave.
     Wave(u64),
+    /// The next step begins, of this colour.
+    Step(u32),
 }
 
 impl Word {
@@ -28,6 +30,7 @@ impl Word {
             Word::Begin(number) => Message::Begin { number },
             Word::Committed(number) => Message::Committed { number },
             Word::Wave(wave) => Message::Wave { wave },
+            Word::Step(colour) => Message::Step { colour },
         }
     }
 }

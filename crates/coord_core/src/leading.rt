@@ -2,13 +2,14 @@
 ghost use Rattle.std.specs.Prelude.{◌≡◌, ◌≢◌, ◌+◌, ◌^◌, ◌<◌, ◌≤◌, ◌↔◌, true, IfOk, IsErrOf, IsTrue, length, slice_index_or, OnOk, OnErr};
 ghost use Rattle.coord_core.specs.Coordinators.{HasCluster, MayBeCounted, message_view, no_outbox};
 ghost use Rattle.outboxes.specs.Outboxes.{has_waiting};
-ghost use Rattle.coord_core.specs.Calls.{HasBegunNext, HasHandedOver, HasPutWave, HasRecorded, HasTakenReport, IsDueOf, IsFirstOf, IsFirstWith, IsReadyToRecord, IsRecordDueOf, MayLeadBegin, MayNotBegin, MayNotPutWave, MayNotRecord, MayPutWave, MayLeadRecord, MayReport, StaysCoordinator};
+ghost use Rattle.coord_core.specs.Calls.{HasBegunNext, HasHandedOver, HasPutStep, HasPutWave, HasRecorded, HasTakenReport, IsDueOf, IsFirstOf, IsFirstWith, IsReadyToRecord, IsRecordDueOf, MayLeadBegin, MayNotBegin, MayNotPutStep, MayNotPutWave, MayNotRecord, MayPutStep, MayPutWave, MayLeadRecord, MayReport, StaysCoordinator};
 ghost use Rattle.coord_core.specs.Stores.{store_view};
 ghost use Rattle.coord_core.specs.Inner.Kept.{IsSavingKept};
-ghost use Rattle.coord_core.specs.Inner.Seen.{IsFirstSaving, WantsSnapshot};
+ghost use Rattle.coord_core.specs.Inner.Seen.{SeesEnd, HasShownTheEnd, IsFirstSaving, IsWaveTurn, WantsSnapshot, WantsStep};
 
 use crate::asking::{Word, reserve_each, tell_each};
 use crate::saving::Saving;
+use crate::steps::{Engine, Steps};
 use crate::stores::Store;
 use gl_base::{MachineNo, NoMemory, Peer, Record, Refused};
 use outboxes::Outboxes;
@@ -26,19 +27,22 @@ pub enum Due {
     Snapshot(u32),
     /// The run is over.
     Ended,
+    /// The next step is to begin, of this colour.
+    Step(u32),
     /// A wave is to be put out.
     Wave,
     Nothing,
 }
 
-/// The coordinator of a cluster with locks: how many waves it has put out, whether answers to the newest are missing, what the last
-/// two brought in, what it knows of snapshots, and what waits to be sent to each machine.
+/// The coordinator of a cluster: how many waves it has put out, whether answers to the newest are missing, what the last two brought
+/// in, what it knows of its steps and of snapshots, and what waits to be sent to each machine.
 #[derive(Drop)]
 pub struct Coordinator {
     machines: u16,
     put_out: u64,
     waiting: bool,
     waves: Waves,
+    steps: Steps,
     saving: Saving,
     out: Outboxes,
 }
@@ -47,37 +51,44 @@ impl Model for Coordinator {
     ghost use Rattle.std.specs.Prelude.{◌≡◌, length};
     ghost use Rattle.coord_core.specs.Coordinators.{CoordinatorView};
     ghost use Rattle.coord_core.specs.Inner.Asking.{AreOutboxesOf};
-    ghost use Rattle.coord_core.specs.Inner.Kept.{IsSavingKept};
+    ghost use Rattle.coord_core.specs.Inner.Kept.{AreStepsKept, IsSavingKept};
 
     ghost Value = { CoordinatorView };
 
-    ghost view = { λ c. record { counting = record { put_out = c.put_out; waiting = c.waiting; waves = c.waves }; saving = c.saving; out = c.out } };
+    ghost view = { λ c. record { counting = record { put_out = c.put_out; waiting = c.waiting; waves = c.waves }; steps = c.steps; saving = c.saving; out = c.out } };
 
-    ghost invariant = { λ c. AreOutboxesOf c.out c.machines × (length c.saving.come ≡ c.machines) × IsSavingKept c.saving };
+    ghost invariant = { λ c. AreOutboxesOf c.out c.machines × (length c.saving.come ≡ c.machines) × IsSavingKept c.saving × AreStepsKept c.steps };
 }
 
 impl Coordinator {
-    /// No wave was put out to so many machines, and nothing waits. No snapshots are taken.
+    /// No wave was put out to so many machines, which take locks, and nothing waits. No snapshots are taken.
     pub fn new(alloc: Global, machines: u16) -> Result<Coordinator, NoMemory>
         ensures { IfOk result (λ c. IsFirstOf machines c) }
     {
         let saving = Saving::none(alloc, machines)?;
-        Coordinator::first(alloc, machines, saving)
+        Coordinator::first(alloc, machines, Engine::Locking, saving)
     }
 
-    /// The same where snapshots are taken, behind the newest one of this store.
-    pub fn with_store(alloc: Global, machines: u16, store: Store) -> Result<Coordinator, NoMemory>
+    /// No wave and no step was put out to so many machines, whose updates are kept apart so, and nothing waits. Snapshots are taken,
+    /// behind the newest one of this store.
+    pub fn with_store(
+        alloc: Global,
+        machines: u16,
+        engine: Engine,
+        store: Store,
+    ) -> Result<Coordinator, NoMemory>
         requires newest { store.newest + 1 < 2 ^ 32 }
         requires length { store.length < 2 ^ 32 }
-        ensures { IfOk result (λ c. IsFirstWith machines (store_view store) c) }
+        ensures { IfOk result (λ c. IsFirstWith machines engine (store_view store) c) }
     {
         let saving = Saving::with_store(alloc, machines, store)?;
-        Coordinator::first(alloc, machines, saving)
+        Coordinator::first(alloc, machines, engine, saving)
     }
 
     /// What is due: a record where all sections of the snapshot under way have come, also where the store takes it no more; else a
-    /// snapshot where the next one is to begin; else the end where the last two waves showed it; else a wave where one may be put out.
-    /// Some cluster has this coordinator, so that what is said of all of them says something.
+    /// snapshot where the next one is to begin; else the end where no snapshot is under way and the last two waves showed it; else a
+    /// step where the next one may be put out; else a wave where one may. Some cluster has this coordinator, so that what is said of
+    /// all of them says something.
     pub fn due(&self) -> Due
         ensures due { IsDueOf self.now result }
         ensures cluster { HasCluster self.now }
@@ -88,13 +99,16 @@ impl Coordinator {
         if self.wants_snapshot() {
             return Due::Snapshot(self.saving.next_number());
         }
-        if self.waiting || !self.saving.is_settled() {
+        if self.sees_end() {
+            return Due::Ended;
+        }
+        if self.wants_step() {
+            return Due::Step(self.steps.next_colour());
+        }
+        if self.waiting || !self.is_wave_turn() {
             return Due::Nothing;
         }
-        match self.waves.verdict() {
-            Verdict::Quiet => Due::Ended,
-            Verdict::NotYet => Due::Wave,
-        }
+        Due::Wave
     }
 
     /// Begins the next snapshot: tells each machine. `NotNow` comes exactly where none is due.
@@ -114,15 +128,33 @@ impl Coordinator {
         Ok(())
     }
 
-    /// Puts the next wave out: asks each machine for its counts. `NotNow` comes exactly where answers to the last one are missing, or
-    /// a snapshot is under way or due; the end of its number is want of memory.
+    /// Puts the next step out: tells each machine its colour. `NotNow` comes exactly where there are no colours, where answers to the
+    /// last wave are missing, where the step before isn't over, or where a snapshot is due.
+    pub fn step(&mut self) -> Result<(), Refused>
+        ensures put_out { OnOk result (MayPutStep self.old × HasPutStep self.old self.new) }
+        ensures not_now { IsErrOf result Refused.NotNow → MayNotPutStep self.old }
+        ensures no_memory { IsErrOf result Refused.NoMemory → MayPutStep self.old }
+        ensures unchanged { OnErr result (StaysCoordinator self.old self.new) }
+    {
+        if self.wants_snapshot() || !self.wants_step() {
+            return Err(Refused::NotNow);
+        }
+        reserve_each(&mut self.out, self.machines)?;
+        let colour = self.steps.next_colour();
+        tell_each(&mut self.out, self.machines, Word::Step(colour));
+        self.steps.begin();
+        Ok(())
+    }
+
+    /// Puts the next wave out: asks each machine for its counts. `NotNow` comes exactly where answers to the last one are missing, a
+    /// snapshot or a step is due, or with locks a snapshot is under way; the end of its number is want of memory.
     pub fn wave(&mut self) -> Result<(), Refused>
         ensures put_out { OnOk result (MayPutWave self.old × HasPutWave self.old self.new) }
         ensures not_now { IsErrOf result Refused.NotNow → MayNotPutWave self.old }
         ensures no_memory { IsErrOf result Refused.NoMemory → MayPutWave self.old }
         ensures unchanged { OnErr result (StaysCoordinator self.old self.new) }
     {
-        if self.waiting || !self.saving.is_settled() || self.wants_snapshot() {
+        if self.waiting || !self.is_wave_turn() || self.wants_snapshot() || self.wants_step() {
             return Err(Refused::NotNow);
         }
         if self.put_out == u64::MAX {
@@ -132,6 +164,7 @@ impl Coordinator {
         tell_each(&mut self.out, self.machines, Word::Wave(self.put_out));
         self.put_out += 1;
         self.waiting = true;
+        self.steps.ask();
         Ok(())
     }
 
@@ -180,6 +213,13 @@ impl Coordinator {
         ensures { (result ≡ true) ↔ MayBeCounted self.now.counting from.0 wave }
     {
         self.waiting && wave < self.put_out && self.put_out - 1 == wave && self.waves.awaits(from)
+    }
+
+    /// How updates are kept apart.
+    pub fn engine(&self) -> Engine
+        ensures { result ≡ self.now.steps.engine }
+    {
+        self.steps.engine()
     }
 
     /// Whether it is the coordinator of this machine.
@@ -241,26 +281,63 @@ impl Coordinator {
     }
 
     /// The coordinator that an attempt begins with.
-    fn first(alloc: Global, machines: u16, saving: Saving) -> Result<Coordinator, NoMemory>
+    fn first(
+        alloc: Global,
+        machines: u16,
+        engine: Engine,
+        saving: Saving,
+    ) -> Result<Coordinator, NoMemory>
         requires come { length saving.come ≡ machines }
         requires kept { IsSavingKept saving }
-        ensures { IfOk result (λ c. IsFirstSaving machines saving c) }
+        ensures { IfOk result (λ c. IsFirstSaving machines engine saving c) }
     {
         Ok(Coordinator {
             machines,
             put_out: 0,
             waiting: false,
             waves: Waves::new(alloc, machines)?,
+            steps: Steps::none(engine),
             saving,
             out: Outboxes::new(alloc, machines)?,
         })
+    }
+
+    /// Whether all answers have come, and the last two waves showed the end.
+    fn is_quiet(&self) -> bool
+        ensures { IsTrue result ↔ HasShownTheEnd self.now.counting }
+    {
+        !self.waiting && self.waves.verdict() == Verdict::Quiet
     }
 
     /// Whether the next snapshot is to begin.
     fn wants_snapshot(&self) -> bool
         ensures { IsTrue result ↔ WantsSnapshot self.now }
     {
-        let quiet = !self.waiting && self.waves.verdict() == Verdict::Quiet;
-        self.saving.is_snapshot_due(quiet, self.waves.updates())
+        self.saving
+            .is_snapshot_due(self.is_quiet(), self.waves.updates())
+    }
+
+    /// Whether no snapshot is under way, and the last two waves showed the end.
+    fn sees_end(&self) -> bool
+        ensures { IsTrue result ↔ SeesEnd self.now }
+    {
+        self.saving.is_settled() && self.is_quiet()
+    }
+
+    /// Whether the next step is to begin, as far as snapshots go.
+    fn wants_step(&self) -> bool
+        ensures { IsTrue result ↔ WantsStep self.now }
+    {
+        !self.waiting && self.steps.is_due(self.waves.is_even())
+    }
+
+    /// Whether it is a wave's turn: with locks no snapshot is under way.
+    fn is_wave_turn(&self) -> bool
+        ensures { IsTrue result ↔ IsWaveTurn self.now.steps.engine self.now.saving }
+    {
+        match self.steps.engine() {
+            Engine::Locking => self.saving.is_settled(),
+            Engine::Chromatic(_) => true,
+        }
     }
 }

@@ -61,6 +61,7 @@ fn due_number(due: Due) -> u64 {
         Due::Nothing => 3,
         Due::Record(_) => 4,
         Due::Snapshot(_) => 5,
+        Due::Step(_) => 6,
     }
 }
 

@@ -182,6 +182,7 @@ fn due_word(due: Due) -> &'static str {
         Due::Nothing => "nothing",
         Due::Record(_) => "record",
         Due::Snapshot(_) => "snapshot",
+        Due::Step(_) => "step",
     }
 }
 

@@ -1,6 +1,7 @@
 pub mod RowSums
 pub mod IdRanges
 pub mod RowLemmas
+pub mod PushLemmas
 pub mod IdLemmas
 pub mod HalvesLaws
 pub mod SortLemmas

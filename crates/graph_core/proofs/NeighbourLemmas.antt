@@ -1,5 +1,5 @@
 -- Neighbours: the other ends of half-edges, each once and ascending.
-use Rattle.std.proofs.Common.{◌≡◌, ℕ, zero, suc, ◌+◌, ◌<◌, ◌≤◌, Bool, true, false, ◌||◌, ◌&&◌, List, [], ◌∷◌, length, map, get_or, eqb, nat_cmp, refl, sym, ap, ◌∙◌, subst, ⊎_elim, Contains, All, AllPairs, arith}
+use Rattle.std.proofs.Common.{◌≡◌, ℕ, zero, suc, ◌+◌, ◌<◌, ◌≤◌, Bool, true, false, ◌||◌, ◌&&◌, List, [], ◌∷◌, length, map, get_or, eqb, nat_cmp, IsTrue, MatchBool, ◌↔◌, refl, sym, ap, ◌∙◌, subst, ⊎_elim, Contains, All, AllPairs, arith}
 use Rattle.std.specs.List.{filter, list_any, dedup, dedup_from, range_with_len}
 use Rattle.std.specs.List.Sorted.{IsPermutation, IsNonDecreasingBy, IsSorted}
 use Rattle.std.specs.Ordering.{is_lt}
@@ -18,7 +18,9 @@ use Rattle.graph_core.specs.DataGraph.{DataEdge, DataGraph, IsDataGraph, IsEdge,
 use Rattle.graph_core.specs.Colourings.{joins}
 use Rattle.graph_core.specs.Halves.{half_at, halves_from, halves_of}
 use Rattle.graph_core.specs.HalfRows.{data_half}
-use Rattle.graph_core.specs.Inner.HalfPairs.{AreDistinctOf, AreOthers}
+use Rattle.gl_base.specs.Lists.{Ascends}
+use Rattle.graph_core.specs.Distinct.{AreDistinctOf}
+use Rattle.graph_core.specs.Inner.HalfPairs.{AreOthers}
 use Rattle.graph_core.specs.Neighbours.{neighbours_of}
 use Rattle.graph_core.proofs.EdgeLemmas.{map-map, eqb_flips}
 use Rattle.graph_core.specs.Inner.SortedKeys.{Rises}
@@ -108,6 +110,40 @@ pub filter_is : (p : ℕ → Bool) (n : ℕ) (xs : List ℕ) → AllPairs (λ u 
 filter_is p n xs up same high =
     filter_from p n 0 xs (record { up = up; low = λ u had. omega arith; same = λ u l. same u; high = λ u l had. omega (arith, high u had) })
 
+-- two lists that rise and contain the same are one
+pub rising_same : (xs ys : List ℕ) → AllPairs (λ u v. u < v) xs → AllPairs (λ u v. u < v) ys → ((u : ℕ) → list_any (eqb u) xs ≡ list_any (eqb u) ys) → xs ≡ ys
+rising_same [] [] up up' same = refl
+rising_same [] (y ∷ ys) up up' same = absurd (false≢true (same y ∙ any_head y y ys refl))
+rising_same (x ∷ xs) [] up up' same = absurd (false≢true (sym (same x) ∙ any_head x x xs refl))
+rising_same (x ∷ xs) (y ∷ ys) up up' same =
+    ap (λ n. n ∷ xs) heads ∙ ap (λ ns. y ∷ ns) (rising_same xs ys (pairs_tail x xs up) (pairs_tail y ys up') rest)
+  where
+    heads : x ≡ y
+    heads =
+        ⊎_elim
+        (λ e. e)
+        (λ e. let had : list_any (eqb x) ys ≡ true = sym (any_tail x y ys e) ∙ sym (same x) ∙ any_head x x xs refl in
+        let had' : list_any (eqb y) xs ≡ true = sym (any_tail y x xs (λ q. e (sym q))) ∙ same y ∙ any_head y y ys refl in
+        let above = any_above x y ys up' had in
+        let above' = any_above y x xs up had' in
+        absurd (omega arith))
+        (cases_eq x y)
+
+    -- a number that a rising list has behind its first is another one
+    none_behind : (u z : ℕ) (zs : List ℕ) → AllPairs (λ a b. a < b) (z ∷ zs) → u ≡ z → list_any (eqb u) zs ≡ false
+    none_behind u z zs rises is =
+        ⊎_elim
+        (λ (had : list_any (eqb u) zs ≡ true). let above = any_above u z zs rises had in absurd (omega arith))
+        (λ (none : list_any (eqb u) zs ≡ false). none)
+        (cases_Bool (list_any (eqb u) zs))
+
+    rest : (u : ℕ) → list_any (eqb u) xs ≡ list_any (eqb u) ys
+    rest u =
+        ⊎_elim
+        (λ e. none_behind u x xs up e ∙ sym (none_behind u y ys up' (e ∙ heads)))
+        (λ e. sym (any_tail u x xs e) ∙ same u ∙ any_tail u y ys (λ q. e (q ∙ sym heads)))
+        (cases_eq u x)
+
 -- ---- a list sorted and each once
 
 map-dedup_from : {X : Type 0} (E : X → X → Bool) (f : X → ℕ) → ((a b : X) → E a b ≡ eqb (f a) (f b)) → (x : X) (xs : List X) → map f (dedup_from E x xs) ≡ dedup_from eqb (f x) (map f xs)
@@ -180,6 +216,18 @@ distinct_already f (x ∷ xs) up =
       same = λ u. refl;
       few = omega arith;
     }
+
+pub ascend_exactly : {X : Type 0} (f : X → ℕ) (xs : List X) (b : Bool) → MatchBool b (Rises f xs) (¬ Rises f xs) → IsTrue b ↔ Ascends (map f xs)
+ascend_exactly f xs true up = (λ h. λ i j l m. (distinct_already f xs up).ascending i j 0 l m, λ h. refl)
+ascend_exactly {X} f xs false not_up = (λ h. absurd (false≢true h), λ up. absurd (not_up (back up)))
+  where
+    back : Ascends (map f xs) → Rises f xs
+    back up = λ i j d l m.
+        let len = length-map xs f in
+        let first = get_or-map f xs i d 0 (omega arith) in
+        let second = get_or-map f xs j d 0 m in
+        let below = up i j l (omega arith) in
+        omega arith
 
 -- ---- the other ends of half-edges
 

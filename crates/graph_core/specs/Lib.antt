@@ -9,6 +9,7 @@ pub mod IdTable
 pub mod GraphLists
 pub mod Edges
 pub mod Neighbours
+pub mod Distinct
 pub mod HalfRows
 pub mod Graphs
 pub mod GraphLaws

@@ -41,7 +41,7 @@ impl Graph {
     ghost use Rattle.graph_core.specs.DataGraph.{DataGraph, IsDataGraph, size};
     ghost use Rattle.graph_core.specs.GraphLists.{IsGraphOf, graph_fault, NamesFirstFault};
     ghost use Rattle.graph_core.specs.Halves.{halves_of};
-    ghost use Rattle.graph_core.specs.HalfRows.{data_half};
+    ghost use Rattle.graph_core.specs.HalfRows.{AreHalfRows, data_half};
     ghost use Rattle.graph_core.specs.IdTable.{IsVertexWith};
     ghost use Rattle.graph_core.specs.Neighbours.{neighbours_of};
     ghost use Rattle.graph_core.specs.Graphs.{HasEnds, IsEdgeLine};
@@ -130,6 +130,13 @@ impl Graph {
         ensures { map data_half result.now ≡ halves_of self.now v.0 }
     {
         self.halves.row(v.0 as usize)
+    }
+
+    /// The edges at each vertex, ascending.
+    pub fn half_rows(&self) -> &Rows<Half>
+        ensures { AreHalfRows self.now result.now }
+    {
+        &self.halves
     }
 
     /// Where an edge begins and where it ends.

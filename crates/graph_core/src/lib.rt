@@ -27,5 +27,6 @@ pub use laws::{
     levels_are_unique, levels_of_small_graphs, neighbours_are_ends, numbers_bound_walks,
     walks_join, walks_stay,
 };
+pub use neighbours::{ascend, make_distinct};
 pub use rows::{Keyed, Rows};
 pub use vertex_lists::sorted_ids;

@@ -1,6 +1,9 @@
 //! The neighbours of a vertex, from the half-edges at it.
-ghost use Rattle.std.specs.Prelude.{◌≡◌, map, OnErr, OnOk};
-ghost use Rattle.graph_core.specs.Inner.HalfPairs.{AreDistinctOf, AreOthers};
+ghost use Rattle.std.specs.Prelude.{◌≡◌, ◌↔◌, map, IsTrue, OnErr, OnOk};
+ghost use Rattle.gl_base.specs.Lists.{Ascends};
+ghost use Rattle.graph_core.specs.Distinct.{AreDistinctOf};
+ghost use Rattle.graph_core.specs.Growth.{numbers_of};
+ghost use Rattle.graph_core.specs.Inner.HalfPairs.{AreOthers};
 
 use crate::halves::Half;
 use crate::sorting::rises;
@@ -30,11 +33,18 @@ fn list_others(list: &mut Vec<Vertex>, halves: &[Half]) -> Result<(), NoMemory>
 }
 
 /// Puts the vertices in order, and each one once. Those of a graph without direction are so already.
-fn make_distinct(list: &mut Vec<Vertex>)
-    ensures { AreDistinctOf (map (λ v. v.0) list.old.items) (map (λ v. v.0) list.new.items) }
+pub fn make_distinct(list: &mut Vec<Vertex>)
+    ensures { AreDistinctOf (numbers_of list.old.items) (numbers_of list.new.items) }
 {
     if !rises(list) {
         list.sort_unstable_by_key(|v| v.0);
         list.dedup();
     }
+}
+
+/// Whether the numbers of the vertices ascend.
+pub fn ascend(vertices: &[Vertex]) -> bool
+    ensures { IsTrue result ↔ Ascends (numbers_of vertices.now) }
+{
+    rises(vertices)
 }

@@ -1,5 +1,5 @@
 //! Lists by key in one flat list, each with its place there.
-ghost use Rattle.std.specs.Prelude.{◌≡◌, ℕ, suc, ◌+◌, ◌^◌, ◌<◌, List, [], length, slice_index, slice_index_or, slice_range, slice_get, sum, take, All, IfOk, Some};
+ghost use Rattle.std.specs.Prelude.{◌≡◌, ℕ, suc, ◌+◌, ◌^◌, ◌<◌, ◌++◌, ◌∷◌, List, [], length, slice_index, slice_index_or, slice_range, slice_get, sum, take, All, IfOk, OnErr, OnOk, Some};
 ghost use Rattle.graph_core.specs.Rows.{with_key};
 ghost use Rattle.graph_core.specs.Inner.RowSteps.{count_below, AreRowsAt, AreRowsFrom, AreStarts, place_in};
 
@@ -68,6 +68,31 @@ impl<T: Copy> Rows<T> {
         let mut starts = row_ends(alloc, count, keyed)?;
         let items = placed(alloc, &mut starts, keyed)?;
         Ok(Rows { starts, items })
+    }
+
+    /// No row, with room for so many rows and so many items.
+    pub fn none(alloc: Global, rows: usize, items: usize) -> Result<Rows<T>, NoMemory>
+        ensures { IfOk result (λ rows. rows ≡ []) }
+    {
+        let mut starts = Vec::with_capacity(alloc, rows.saturating_add(1))?;
+        starts.push(0)?;
+        let items = Vec::with_capacity(alloc, items)?;
+        Ok(Rows { starts, items })
+    }
+
+    /// One more row behind the others. More than 4,294,967,295 items find no memory. After `NoMemory` the rows are unchanged.
+    pub fn push(&mut self, row: &[T]) -> Result<(), NoMemory>
+        ensures pushed { OnOk result (self.new ≡ self.old ++ row.now ∷ []) }
+        ensures unchanged { OnErr result (self.new ≡ self.old) }
+    {
+        let end = self.items.len().saturating_add(row.len());
+        if end > u32::MAX as usize {
+            return Err(NoMemory);
+        }
+        self.starts.reserve(1)?;
+        self.items.extend_from_slice(row)?;
+        self.starts.push_reserved(end as u32);
+        Ok(())
     }
 }
 

@@ -5,5 +5,5 @@ pub mod EndLemmas
 pub mod ListLemmas
 pub mod ScopeLemmas
 pub mod LowLemmas
+pub mod MakeLemmas
 pub mod PlayLemmas
-pub mod MadeLemmas

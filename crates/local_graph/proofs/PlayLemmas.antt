@@ -1,9 +1,11 @@
 -- What was made by place is what `play` promises by vertex.
-use Rattle.std.proofs.Common.{◌≡◌, ℕ, ◌+◌, ◌<◌, ◌≤◌, ◌==◌, ◌||◌, ◌++◌, Bool, true, false, if◌then◌else◌, min, Option, Some, None, is_some, List, [], ◌∷◌, length, get_or, map, replicate, refl, sym, ap, ◌∙◌, subst, All, arith, inl, inr}
-use Rattle.std.specs.List.{filter, flat_map, list_any, range_with_len}
+use Rattle.std.proofs.Common.{◌≡◌, ℕ, ◌+◌, ◌<◌, ◌==◌, ◌&&◌, ◌||◌, ◌++◌, Bool, true, false, if◌then◌else◌, min, Option, Some, None, is_some, List, [], ◌∷◌, length, get_or, map, replicate, refl, sym, ap, ◌∙◌, subst, All, arith, inl, inr}
+use Rattle.std.specs.List.{filter, list_any, range_with_len}
 use Rattle.std.specs.List.Sorted.{IsPermutation}
-use Rattle.std.proofs.lemmas.Bool.{cases_eq, cases_lt, true≢false}
+use Rattle.std.proofs.lemmas.Bool.{cases_lt, true≢false}
 use Rattle.std.proofs.lemmas.List.{length-append, length-map, length-replicate, get_or_past, get_or_append_left, get_or-map}
+use Rattle.std.proofs.lemmas.List.FromFn.{get_or-map-range_with_len, length-map-range_with_len}
+use Rattle.std.proofs.lemmas.List.Folds.{list_any-append}
 use Rattle.std.proofs.lemmas.List.Sorted.{All-permutation, IsPermutation-sym}
 use Rattle.std.proofs.lemmas.List.Elements.{All-nil, All-cons, All-map, All-filter, All-head, All-tail}
 use Rattle.gl_base.specs.declared.atoms.EdgeLine.{EdgeLine}
@@ -15,41 +17,76 @@ use Rattle.gl_base.specs.declared.numbers.Vertex.{Vertex}
 use Rattle.graph_core.specs.declared.halves.Half.{Half}
 use Rattle.graph_core.specs.Growth.{numbers_of}
 use Rattle.graph_core.specs.Rows.{with_key}
+use Rattle.local_graph.specs.declared.making.ByPlace.{ByPlace}
 use Rattle.local_graph.specs.declared.outlines.Outline.{Outline}
+use Rattle.local_graph.specs.declared.playing.Beside.{Beside}
 use Rattle.local_graph.specs.declared.sides.Side.{Side}
-use Rattle.local_graph.specs.Lines.{halves_of_lines, line_out, line_into, links_from}
+use Rattle.local_graph.specs.Lines.{half_of_line, halves_of_lines, line_out, line_into, links_from}
 use Rattle.local_graph.specs.Locals.{LocalView, AreTheirPlaces, at_place, got_at, place_of_vertex, is_own, links_at, sides_at, parts_at, part_at, machine_numbers}
-use Rattle.local_graph.specs.Played.{IsPlayedFrom, leads_to, meets, no_datum, place_or, side_of}
-use Rattle.local_graph.specs.Inner.ByPlace.{halves_here, known_vertices}
+use Rattle.local_graph.specs.Played.{IsPlayedFrom, leads_to, meets, no_datum, side_of}
+use Rattle.local_graph.specs.Inner.AtPlaces.{halves_known, stands_near, machines_of, row_at, scope_numbers, sides_known}
+use Rattle.local_graph.specs.Inner.Beside.{AreBeside}
+use Rattle.local_graph.specs.Inner.ByPlace.{AreHalvesOf, AreMadeTo, HaveEdgesBelow, known_vertices}
 use Rattle.local_graph.specs.Inner.Ends.{end_pairs}
-use Rattle.local_graph.specs.Inner.Kept.{HasAsMany, IsWellKept}
-use Rattle.local_graph.specs.Inner.Pairs.{parts_in, scope_in}
-use Rattle.local_graph.proofs.EndLemmas.{ends_at, key_is}
-use Rattle.local_graph.proofs.ListLemmas.{length-links, range_key}
+use Rattle.local_graph.specs.Inner.Kept.{HasAsMany, IsWellKept, links_of}
+use Rattle.local_graph.proofs.EndLemmas.{ends_at}
+use Rattle.local_graph.proofs.ListLemmas.{length-links}
 use Rattle.local_graph.proofs.RowLemmas.{own_place}
-use Rattle.local_graph.proofs.ScopeLemmas.{has, places_near, scopes_key}
 
--- the lists as they were made by place
-pub record IsMade (me : MachineNo) (lines : Lines) (outline : Outline) (order : List VertexLine) (none : ℕ) (l : LocalView) : Type 0 where
+-- the lists as they were made by place, from vertices and ghosts and the half-edges at each vertex
+pub record IsMade (me : MachineNo) (own : List VertexLine) (ghosts : List GhostLine) (outline : Outline) (halves : List (List Half)) (order : List VertexLine) (l : LocalView) : Type 0 where
   pub machine : l.me ≡ me
-  pub owned : l.owned ≡ map (λ v. v.vertex) lines.vertices.items
-  pub ghosts : l.ghosts ≡ lines.ghosts.items
-  pub same : IsPermutation lines.vertices.items order
-  pub places : AreTheirPlaces l.places (known_vertices order lines.ghosts.items)
-  pub count : none ≡ length (known_vertices order lines.ghosts.items)
-  pub small : none < 4294967295
+  pub owned : l.owned ≡ map (λ v. v.vertex) own
+  pub are_ghosts : l.ghosts ≡ ghosts
+  pub same : IsPermutation own order
+  pub places : AreTheirPlaces l.places (known_vertices order ghosts)
+  pub below : All (λ v. v.0 < outline.vertices) (known_vertices order ghosts)
   pub ids : l.ids ≡ map (λ v. v.id) order
   pub kept : l.kept ≡ replicate (length order) no_datum
-  pub many_rows : length l.rows ≡ length order
-  pub rows : (k : ℕ) → k < length order → get_or l.rows k None ≡ Some (links_from 0 (halves_here lines outline (known_vertices order lines.ghosts.items) k))
-  pub many_sides : length l.sides ≡ none + 1
-  pub sides : (k : ℕ) → k < none → get_or l.sides k [] ≡ map (side_of me (length order) lines.ghosts.items l.places) (halves_here lines outline (known_vertices order lines.ghosts.items) k)
-  pub last_sides : get_or l.sides none [] ≡ []
-  pub many_parts : length l.parts ≡ length order
-  pub parts : (k : ℕ) → k < length order → get_or l.parts k [] ≡ with_key k (flat_map (parts_in l.sides me outline.machines) (range_with_len 0 (length order)))
-  pub many_part : length l.part ≡ none + 1
-  pub part : (k : ℕ) → k < none + 1 → get_or l.part k [] ≡ with_key k (flat_map (scope_in l.sides l.places none) l.owned)
+  pub rows : l.rows ≡ map (row_at halves (known_vertices order ghosts)) (range_with_len 0 (length order))
+  pub parts : l.parts ≡ map (λ k. machines_of me outline.machines (sides_known (side_of me (length order) ghosts l.places) halves (known_vertices order ghosts) k)) (range_with_len 0 (length order))
+  pub sides : l.sides ≡ map (sides_known (side_of me (length order) ghosts l.places) halves (known_vertices order ghosts)) (range_with_len 0 (length (known_vertices order ghosts)))
+  pub part : map numbers_of l.part ≡ map (λ k. scope_numbers l.owned (get_or (known_vertices order ghosts) k (record { 0 = 0 })).0 (sides_known (side_of me (length order) ghosts l.places) halves (known_vertices order ghosts) k)) (range_with_len 0 (length (known_vertices order ghosts)))
   pub numbers : l.numbers ≡ replicate outline.edges 0
+
+-- the lists with these parts
+abbrev pub joined : MachineNo → List Vertex → List (Option ℕ) → ByPlace → Beside → LocalView
+joined me owned places lists beside =
+    record {
+      me = me;
+      owned = owned;
+      ghosts = beside.ghosts.items;
+      places = places;
+      ids = beside.ids.items;
+      kept = beside.kept.items;
+      rows = map links_of lists.rows.items;
+      sides = lists.sides;
+      parts = lists.parts;
+      part = lists.part;
+      numbers = beside.numbers.items;
+    }
+
+pub joined_made : (me : MachineNo) (own : List VertexLine) (ghosts : List GhostLine) (outline : Outline) (halves : List (List Half)) (order : List VertexLine) (known owned : List Vertex) (places : List (Option ℕ)) (lists : ByPlace) (beside : Beside)
+    → known ≡ known_vertices order ghosts → owned ≡ map (λ v. v.vertex) own → IsPermutation own order → AreTheirPlaces places known → All (λ v. v.0 < outline.vertices) known
+    → AreMadeTo (side_of me (length order) ghosts places) me outline.machines halves known owned (length order) (length known) lists → AreBeside ghosts order outline.edges beside
+    → IsMade me own ghosts outline halves order (joined me owned places lists beside)
+joined_made me own ghosts outline halves order known owned places lists beside is is_owned same stand below made are =
+    let made_there = subst (λ (ks : List Vertex). AreMadeTo (side_of me (length order) ghosts places) me outline.machines halves ks owned (length order) (length ks) lists) is made in
+    record {
+      machine = refl;
+      owned = is_owned;
+      are_ghosts = are.ghosts_are;
+      same = same;
+      places = subst (AreTheirPlaces places) is stand;
+      below = subst (All (λ (v : Vertex). v.0 < outline.vertices)) is below;
+      ids = are.ids;
+      kept = are.kept;
+      rows = made_there.rows;
+      parts = made_there.parts;
+      sides = made_there.sides;
+      part = made_there.part;
+      numbers = are.numbers;
+    }
 
 some_place : (o : Option ℕ) → is_some o ≡ true → (k : ℕ) × (o ≡ Some k)
 some_place None is = absurd (true≢false (sym is))
@@ -61,15 +98,6 @@ no_vertex = record { 0 = 0 }
 numbers_back : (xs : List ℕ) → machine_numbers (map (λ a. record { 0 = a }) xs) ≡ xs
 numbers_back [] = refl
 numbers_back (x ∷ xs) = ap (λ (ys : List ℕ). x ∷ ys) (numbers_back xs)
-
-numbers-filter : (p : ℕ → Bool) (vs : List Vertex) → numbers_of (filter (λ (v : Vertex). p v.0) vs) ≡ filter p (numbers_of vs)
-numbers-filter p [] = refl
-numbers-filter p (v ∷ vs) = here (p v.0) (numbers-filter p vs)
-  where
-    here : (b : Bool) → numbers_of (filter (λ (v : Vertex). p v.0) vs) ≡ filter p (numbers_of vs)
-        → numbers_of (if b then v ∷ filter (λ (v : Vertex). p v.0) vs else filter (λ (v : Vertex). p v.0) vs) ≡ (if b then v.0 ∷ filter p (numbers_of vs) else filter p (numbers_of vs))
-    here true rest = ap (λ (ys : List ℕ). v.0 ∷ ys) rest
-    here false rest = rest
 
 filter_same : {X : Type 0} (p q : X → Bool) (xs : List X) → All (λ x. p x ≡ q x) xs → filter p xs ≡ filter q xs
 filter_same p q [] same = refl
@@ -96,163 +124,222 @@ ends_listed directed none m (e ∷ edges) all =
     let into : ℕ × Half = (min e.to.0 none, line_into directed e) in
     All-cons (λ (p : ℕ × Half). p.1.edge.0 < m) out (into ∷ more) here (All-cons (λ (p : ℕ × Half). p.1.edge.0 < m) into more here rest)
 
-halves_listed : (directed : Bool) (m v : ℕ) (edges : List EdgeLine) → All (λ e. e.edge.0 < m) edges → All (λ (h : Half). h.edge.0 < m) (halves_of_lines directed edges v)
+pub halves_listed : (directed : Bool) (m v : ℕ) (edges : List EdgeLine) → All (λ e. e.edge.0 < m) edges → All (λ (h : Half). h.edge.0 < m) (halves_of_lines directed edges v)
 halves_listed directed m v edges all =
     subst (All (λ (h : Half). h.edge.0 < m)) (ends_at directed (v + 1) v edges (omega arith))
     (all_keyed (λ (h : Half). h.edge.0 < m) v (end_pairs directed (v + 1) edges) (ends_listed directed (v + 1) m edges all))
 
-module _ (me : MachineNo) (lines : Lines) (outline : Outline) (order : List VertexLine) (none : ℕ) (l : LocalView) (made : IsMade me lines outline order none l) where
-  -- the half-edges at the vertex with place k
-  abbrev here : ℕ → List Half
-  here k = halves_here lines outline (known_vertices order lines.ghosts.items) k
+-- ---- whoever has a neighbour is its neighbour
+
+if_any : {X : Type 0} (p : X → Bool) (b : Bool) (x : X) → list_any p (if b then x ∷ [] else []) ≡ (b && p x)
+if_any p false x = refl
+if_any p true x = or_none (p x)
+  where
+    or_none : (c : Bool) → (c || false) ≡ c
+    or_none true = refl
+    or_none false = refl
+
+-- the edge of a line leads from v to x as often as from x to v
+line_back : (directed : Bool) (e : EdgeLine) (v x : ℕ) → list_any (λ (h : Half). h.other.0 == x) (half_of_line directed v e) ≡ list_any (λ (h : Half). h.other.0 == v) (half_of_line directed x e)
+line_back directed e v x =
+    there v x ∙ swapped (e.from.0 == v) (e.to.0 == x) (e.to.0 == v) (e.from.0 == x) ∙ sym (there x v)
+  where
+    there : (v x : ℕ) → list_any (λ (h : Half). h.other.0 == x) (half_of_line directed v e) ≡ ((e.from.0 == v && e.to.0 == x) || (e.to.0 == v && e.from.0 == x))
+    there v x =
+        let p : Half → Bool = λ h. h.other.0 == x in
+        let out : List Half = if e.from.0 == v then line_out directed e ∷ [] else [] in
+        let into : List Half = if e.to.0 == v then line_into directed e ∷ [] else [] in
+        list_any-append p out into
+        ∙ ap (λ b. b || list_any p into) (if_any p (e.from.0 == v) (line_out directed e))
+        ∙ ap (λ b. (e.from.0 == v && e.to.0 == x) || b) (if_any p (e.to.0 == v) (line_into directed e))
+
+    swapped : (a b c d : Bool) → ((a && b) || (c && d)) ≡ ((d && c) || (b && a))
+    swapped true true true true = refl
+    swapped true true true false = refl
+    swapped true true false true = refl
+    swapped true true false false = refl
+    swapped true false true true = refl
+    swapped true false true false = refl
+    swapped true false false true = refl
+    swapped true false false false = refl
+    swapped false true true true = refl
+    swapped false true true false = refl
+    swapped false true false true = refl
+    swapped false true false false = refl
+    swapped false false true true = refl
+    swapped false false true false = refl
+    swapped false false false true = refl
+    swapped false false false false = refl
+
+halves_back : (directed : Bool) (edges : List EdgeLine) (v x : ℕ) → list_any (λ (h : Half). h.other.0 == x) (halves_of_lines directed edges v) ≡ list_any (λ (h : Half). h.other.0 == v) (halves_of_lines directed edges x)
+halves_back directed [] v x = refl
+halves_back directed (e ∷ edges) v x =
+    list_any-append (λ (h : Half). h.other.0 == x) (half_of_line directed v e) (halves_of_lines directed edges v)
+    ∙ ap (λ b. b || list_any (λ (h : Half). h.other.0 == x) (halves_of_lines directed edges v)) (line_back directed e v x)
+    ∙ ap (λ b. list_any (λ (h : Half). h.other.0 == v) (half_of_line directed x e) || b) (halves_back directed edges v x)
+    ∙ sym (list_any-append (λ (h : Half). h.other.0 == v) (half_of_line directed x e) (halves_of_lines directed edges x))
+
+sides_any : (me : MachineNo) (many : ℕ) (ghosts : List GhostLine) (places : List (Option ℕ)) (x : ℕ) (hs : List Half)
+    → list_any (λ (s : Side). s.other.0 == x) (map (side_of me many ghosts places) hs) ≡ list_any (λ (h : Half). h.other.0 == x) hs
+sides_any me many ghosts places x [] = refl
+sides_any me many ghosts places x (h ∷ hs) = ap (λ b. (h.other.0 == x) || b) (sides_any me many ghosts places x hs)
+
+module _ (me : MachineNo) (own : List VertexLine) (ghosts : List GhostLine) (outline : Outline) (halves : List (List Half)) (order : List VertexLine) (l : LocalView) (made : IsMade me own ghosts outline halves order l) where
+  abbrev known : List Vertex
+  known = known_vertices order ghosts
 
   abbrev as_side : Half → Side
-  as_side = side_of me (length order) lines.ghosts.items l.places
+  as_side = side_of me (length order) ghosts l.places
 
-  long : none ≡ length order + length lines.ghosts.items
+  long : length known ≡ length order + length ghosts
   long =
-      made.count ∙ length-append (map (λ (v : VertexLine). v.vertex) order) (map (λ (g : GhostLine). g.vertex) lines.ghosts.items)
-      ∙ ap (λ (n : ℕ). n + length (map (λ (g : GhostLine). g.vertex) lines.ghosts.items)) (length-map order (λ (v : VertexLine). v.vertex))
-      ∙ ap (λ (n : ℕ). length order + n) (length-map lines.ghosts.items (λ (g : GhostLine). g.vertex))
+      length-append (map (λ (v : VertexLine). v.vertex) order) (map (λ (g : GhostLine). g.vertex) ghosts)
+      ∙ ap (λ (n : ℕ). n + length (map (λ (g : GhostLine). g.vertex) ghosts)) (length-map order (λ (v : VertexLine). v.vertex))
+      ∙ ap (λ (n : ℕ). length order + n) (length-map ghosts (λ (g : GhostLine). g.vertex))
 
   many_kept : length l.kept ≡ length order
   many_kept = ap length made.kept ∙ length-replicate (length order) no_datum
 
-  inside : (x k : ℕ) → place_of_vertex l.places x ≡ Some k → k < none
-  inside x k at = subst (λ (n : ℕ). k < n) (sym made.count) (made.places.inside x k at)
-
   apart : (x y k : ℕ) → place_of_vertex l.places x ≡ Some k → place_of_vertex l.places y ≡ Some k → x ≡ y
   apart x y k here there = sym (made.places.stands x k no_vertex here) ∙ made.places.stands y k no_vertex there
-
-  here_is : (v k : ℕ) → place_of_vertex l.places v ≡ Some k → here k ≡ halves_of_lines outline.directed lines.edges.items v
-  here_is v k at = ap (halves_of_lines outline.directed lines.edges.items) (made.places.stands v k no_vertex at)
-
-  sides_is : (v k : ℕ) → place_of_vertex l.places v ≡ Some k → sides_at l v ≡ map as_side (halves_of_lines outline.directed lines.edges.items v)
-  sides_is v k at = ap (λ o. at_place l.sides o []) at ∙ made.sides k (inside v k at) ∙ ap (map as_side) (here_is v k at)
 
   own_inside : (v k : ℕ) → place_of_vertex l.places v ≡ Some k → is_own l v ≡ true → k < length order
   own_inside v k at own = subst (λ (n : ℕ). k < n) many_kept (own_place l.kept (place_of_vertex l.places v) k at own)
 
-  row_is : (v k : ℕ) → place_of_vertex l.places v ≡ Some k → k < length order → links_at l v ≡ Some (links_from 0 (halves_of_lines outline.directed lines.edges.items v))
+  sides_here : (k : ℕ) → k < length known → get_or l.sides k [] ≡ sides_known as_side halves known k
+  sides_here k low =
+      ap (λ (ss : List (List Side)). get_or ss k []) made.sides ∙ get_or-map-range_with_len (sides_known as_side halves known) 0 (length known) k k [] low (omega arith)
+
+  -- the half-edges at the vertex with place k
+  halves_here : (v k : ℕ) → place_of_vertex l.places v ≡ Some k → halves_known halves known k ≡ get_or halves v []
+  halves_here v k at = ap (λ (n : ℕ). get_or halves n []) (made.places.stands v k no_vertex at)
+
+  sides_are : (v k : ℕ) → place_of_vertex l.places v ≡ Some k → sides_at l v ≡ map as_side (get_or halves v [])
+  sides_are v k at = ap (λ o. at_place l.sides o []) at ∙ sides_here k (made.places.inside v k at) ∙ ap (map as_side) (halves_here v k at)
+
+  row_is : (v k : ℕ) → place_of_vertex l.places v ≡ Some k → k < length order → links_at l v ≡ Some (links_from 0 (get_or halves v []))
   row_is v k at low =
-      ap (λ o. at_place l.rows o None) at ∙ made.rows k low ∙ ap (λ (hs : List Half). Some (links_from 0 hs)) (here_is v k at)
+      ap (λ o. at_place l.rows o None) at
+      ∙ ap (λ rows. get_or rows k None) made.rows ∙ get_or-map-range_with_len (row_at halves known) 0 (length order) k k None low (omega arith)
+      ∙ ap (λ (hs : List Half). Some (links_from 0 hs)) (halves_here v k at)
 
   parts_is : (v k : ℕ) → place_of_vertex l.places v ≡ Some k → k < length order → machine_numbers (parts_at l v) ≡ filter (meets me (sides_at l v)) (range_with_len 0 outline.machines)
   parts_is v k at low =
-      let machine : ℕ → MachineNo = λ a. record { 0 = a } in
+      let all : ℕ → List MachineNo = λ j. machines_of me outline.machines (sides_known as_side halves known j) in
       ap (λ o. machine_numbers (at_place l.parts o [])) at
-      ∙ ap machine_numbers (made.parts k low ∙ range_key machine (λ j. filter (meets me (get_or l.sides j [])) (range_with_len 0 outline.machines)) k 0 (length order) (omega arith) (omega arith))
-      ∙ numbers_back (filter (meets me (get_or l.sides k [])) (range_with_len 0 outline.machines))
-      ∙ ap (λ o. filter (meets me (at_place l.sides o [])) (range_with_len 0 outline.machines)) (sym at)
+      ∙ ap machine_numbers (ap (λ (ps : List (List MachineNo)). get_or ps k []) made.parts ∙ get_or-map-range_with_len all 0 (length order) k k [] low (omega arith))
+      ∙ numbers_back (filter (meets me (sides_known as_side halves known k)) (range_with_len 0 outline.machines))
+      ∙ ap (λ (ss : List Side). filter (meets me ss) (range_with_len 0 outline.machines)) (ap (map as_side) (halves_here v k at) ∙ sym (sides_are v k at))
 
-  -- a side leads to v exactly where its place is that of v
-  near_one : (v k : ℕ) → place_of_vertex l.places v ≡ Some k → (h : Half) → (place_or none (Some (as_side h).place) == k) ≡ ((as_side h).other.0 == v)
-  near_one v k at h =
-      ap (λ (n : ℕ). n == k) (same (place_of_vertex l.places h.other.0)) ∙ key_is l.places none v k h.other.0 (inside v k at) apart at
-    where
-      same : (o : Option ℕ) → place_or none (Some (place_or 4294967295 o)) ≡ place_or none o
-      same None = let small = made.small in omega arith
-      same (Some j) = let small = made.small in omega arith
-
-  near_all : (v k : ℕ) → place_of_vertex l.places v ≡ Some k → (hs : List Half) → has (places_near none (map as_side hs)) k ≡ list_any (λ (s : Side). s.other.0 == v) (map as_side hs)
-  near_all v k at [] = refl
-  near_all v k at (h ∷ hs) =
-      ap (λ b. b || has (places_near none (map as_side hs)) k) (near_one v k at h) ∙ ap (λ b. ((as_side h).other.0 == v) || b) (near_all v k at hs)
-
-  -- x leads to v, as it was listed by place
-  leads_is : (v k : ℕ) → place_of_vertex l.places v ≡ Some k → (x : ℕ) → is_some (place_of_vertex l.places x) ≡ true
-      → (let j = place_or none (place_of_vertex l.places x) in (j == k) || has (places_near none (get_or l.sides j [])) k) ≡ leads_to l v x
-  leads_is v k at x known =
-      let j = (some_place (place_of_vertex l.places x) known).0 in
-      let there : place_of_vertex l.places x ≡ Some j = (some_place (place_of_vertex l.places x) known).1 in
-      let low = inside x j there in
-      let is : place_or none (place_of_vertex l.places x) ≡ j = ap (place_or none) there ∙ omega arith in
-      let sides = made.sides j low in
-      let near : has (places_near none (get_or l.sides j [])) k ≡ list_any (λ (s : Side). s.other.0 == v) (sides_at l x) =
-      ap (λ (ss : List Side). has (places_near none ss) k) sides ∙ near_all v k at (here j)
-      ∙ ap (list_any (λ (s : Side). s.other.0 == v)) (sym sides ∙ ap (λ o. at_place l.sides o []) (sym there)) in
-      ap (λ b. b || has (places_near none (get_or l.sides (place_or none (place_of_vertex l.places x)) [])) k) (key_is l.places none v k x (inside v k at) apart at)
-      ∙ ap (λ (n : ℕ). (x == v) || has (places_near none (get_or l.sides n [])) k) is ∙ ap (λ b. (x == v) || b) near
+  scope_at : (v k : ℕ) → place_of_vertex l.places v ≡ Some k → numbers_of (part_at l v) ≡ scope_numbers l.owned v (sides_at l v)
+  scope_at v k at =
+      let low = made.places.inside v k at in
+      let all : ℕ → List ℕ = λ j. scope_numbers l.owned (get_or known j no_vertex).0 (sides_known as_side halves known j) in
+      let many : length l.part ≡ length known = sym (length-map l.part numbers_of) ∙ ap length made.part ∙ length-map-range_with_len all 0 (length known) in
+      ap (λ o. numbers_of (at_place l.part o [])) at
+      ∙ sym (get_or-map numbers_of l.part k [] [] (omega arith))
+      ∙ ap (λ (ns : List (List ℕ)). get_or ns k []) made.part ∙ get_or-map-range_with_len all 0 (length known) k k [] low (omega arith)
+      ∙ ap (λ (n : ℕ). scope_numbers l.owned n (sides_known as_side halves known k)) (made.places.stands v k no_vertex at)
+      ∙ ap (scope_numbers l.owned v) (ap (map as_side) (halves_here v k at) ∙ sym (sides_are v k at))
 
   order_known : All (λ (v : VertexLine). is_some (place_of_vertex l.places v.vertex.0) ≡ true) order
   order_known = λ k d low.
       let vs = map (λ (v : VertexLine). v.vertex) order in
-      let gs = map (λ (g : GhostLine). g.vertex) lines.ghosts.items in
+      let gs = map (λ (g : GhostLine). g.vertex) ghosts in
       let within : k < length vs = omega (arith, length-map order (λ (v : VertexLine). v.vertex)) in
       let read : get_or (vs ++ gs) k d.vertex ≡ (get_or order k d).vertex = get_or_append_left vs gs d.vertex k within ∙ get_or-map (λ (v : VertexLine). v.vertex) order k d d.vertex low in
       subst (λ (v : Vertex). is_some (place_of_vertex l.places v.0) ≡ true) read
       (made.places.placed k d.vertex (omega (arith, length-append vs gs)))
 
-  owned_known : All (λ (v : Vertex). is_some (place_of_vertex l.places v.0) ≡ true) l.owned
+  owned_known : All (λ (x : ℕ). is_some (place_of_vertex l.places x) ≡ true) (numbers_of l.owned)
   owned_known =
-      subst (All (λ (v : Vertex). is_some (place_of_vertex l.places v.0) ≡ true)) (sym made.owned)
-      (All-map (λ (v : Vertex). is_some (place_of_vertex l.places v.0) ≡ true) (λ (v : VertexLine). v.vertex) lines.vertices.items
-      (All-permutation (λ (v : VertexLine). is_some (place_of_vertex l.places v.vertex.0) ≡ true) order lines.vertices.items (IsPermutation-sym lines.vertices.items order made.same) order_known))
+      All-map (λ (x : ℕ). is_some (place_of_vertex l.places x) ≡ true) (λ (v : Vertex). v.0) l.owned
+      (subst (All (λ (v : Vertex). is_some (place_of_vertex l.places v.0) ≡ true)) (sym made.owned)
+      (All-map (λ (v : Vertex). is_some (place_of_vertex l.places v.0) ≡ true) (λ (v : VertexLine). v.vertex) own
+      (All-permutation (λ (v : VertexLine). is_some (place_of_vertex l.places v.vertex.0) ≡ true) order own (IsPermutation-sym own order made.same) order_known)))
 
-  part_is : (v k : ℕ) → place_of_vertex l.places v ≡ Some k → numbers_of (part_at l v) ≡ filter (leads_to l v) (numbers_of l.owned)
-  part_is v k at =
-      let low = inside v k at in
-      let p = λ (x : Vertex). let j = place_or none (place_of_vertex l.places x.0) in (j == k) || has (places_near none (get_or l.sides j [])) k in
-      let q = λ (x : Vertex). leads_to l v x.0 in
-      ap (λ o. numbers_of (at_place l.part o [])) at
-      ∙ ap numbers_of (made.part k (omega arith) ∙ scopes_key l.sides l.places none k l.owned ∙ filter_same p q l.owned (λ i d in_list. leads_is v k at (get_or l.owned i d).0 (owned_known i d in_list)))
-      ∙ numbers-filter (leads_to l v) l.owned
+  -- a vertex with a place is below the number of vertices
+  low : (v k : ℕ) → place_of_vertex l.places v ≡ Some k → v < outline.vertices
+  low v k at = subst (λ (n : ℕ). n < outline.vertices) (made.places.stands v k no_vertex at) (made.below k no_vertex (made.places.inside v k at))
 
-  pub made_played : IsPlayedFrom me lines outline l
-  made_played =
+  -- the half-edges are those of lines
+  module _ (lines : Lines) (vertices : lines.vertices.items ≡ own) (are_ghosts : lines.ghosts.items ≡ ghosts) (are : AreHalvesOf lines outline halves) where
+    abbrev at_vertex : ℕ → List Half
+    at_vertex v = halves_of_lines outline.directed lines.edges.items v
+
+    part_is : (v k : ℕ) → place_of_vertex l.places v ≡ Some k → numbers_of (part_at l v) ≡ filter (leads_to l v) (numbers_of l.owned)
+    part_is v k at =
+        scope_at v k at
+        ∙ filter_same (stands_near v (sides_at l v)) (leads_to l v) (numbers_of l.owned) (λ i d inside. same (get_or (numbers_of l.owned) i d) (owned_known i d inside))
+      where
+        same : (x : ℕ) → is_some (place_of_vertex l.places x) ≡ true → stands_near v (sides_at l v) x ≡ leads_to l v x
+        same x there =
+            let p = some_place (place_of_vertex l.places x) there in
+            ap (λ b. (x == v) || b)
+            (ap (list_any (λ (s : Side). s.other.0 == x)) (sides_are v k at) ∙ sides_any me (length order) ghosts l.places x (get_or halves v [])
+            ∙ ap (list_any (λ (h : Half). h.other.0 == x)) (are v (low v k at)) ∙ halves_back outline.directed lines.edges.items v x
+            ∙ ap (list_any (λ (h : Half). h.other.0 == v)) (sym (are x (low x p.0 p.1)))
+            ∙ sym (ap (list_any (λ (s : Side). s.other.0 == v)) (sides_are x p.0 p.1) ∙ sides_any me (length order) ghosts l.places v (get_or halves x [])))
+
+    pub made_played : IsPlayedFrom me lines outline l
+    made_played =
+        record {
+          machine = made.machine;
+          owned = made.owned ∙ ap (map (λ (v : VertexLine). v.vertex)) (sym vertices);
+          ghosts = made.are_ghosts ∙ sym are_ghosts;
+          order = order;
+          same = subst (λ (vs : List VertexLine). IsPermutation vs order) (sym vertices) made.same;
+          places = subst (λ (gs : List GhostLine). AreTheirPlaces l.places (known_vertices order gs)) (sym are_ghosts) made.places;
+          ids = made.ids;
+          kept = made.kept;
+          sides = λ v placed. let p = some_place (place_of_vertex l.places v) placed in
+              sides_are v p.0 p.1 ∙ ap (map as_side) (are v (low v p.0 p.1))
+              ∙ ap (λ (gs : List GhostLine). map (side_of me (length order) gs l.places) (at_vertex v)) (sym are_ghosts);
+          rows = λ v own. let p = some_place (place_of_vertex l.places v) (own_known v own) in
+              row_is v p.0 p.1 (own_inside v p.0 p.1 own) ∙ ap (λ (hs : List Half). Some (links_from 0 hs)) (are v (low v p.0 p.1));
+          parts = λ v own. let p = some_place (place_of_vertex l.places v) (own_known v own) in parts_is v p.0 p.1 (own_inside v p.0 p.1 own);
+          part = λ v placed. let p = some_place (place_of_vertex l.places v) placed in part_is v p.0 p.1;
+          numbers = made.numbers;
+        }
+      where
+        own_some : (o : Option ℕ) → is_some (got_at l.kept o) ≡ true → is_some o ≡ true
+        own_some None is = is
+        own_some (Some k) is = refl
+
+        own_known : (v : ℕ) → is_own l v ≡ true → is_some (place_of_vertex l.places v) ≡ true
+        own_known v own = own_some (place_of_vertex l.places v) own
+
+  pub made_sound : HaveEdgesBelow outline.vertices outline.edges halves → IsWellKept l
+  made_sound edges =
       record {
-        machine = made.machine;
-        owned = made.owned;
-        ghosts = made.ghosts;
-        order = order;
-        same = made.same;
-        places = made.places;
-        ids = made.ids;
-        kept = made.kept;
-        sides = λ v known. let p = some_place (place_of_vertex l.places v) known in sides_is v p.0 p.1;
-        rows = λ v own. let p = some_place (place_of_vertex l.places v) (own_known v own) in row_is v p.0 p.1 (own_inside v p.0 p.1 own);
-        parts = λ v own. let p = some_place (place_of_vertex l.places v) (own_known v own) in parts_is v p.0 p.1 (own_inside v p.0 p.1 own);
-        part = λ v known. let p = some_place (place_of_vertex l.places v) known in part_is v p.0 p.1;
-        numbers = made.numbers;
-      }
-    where
-      own_some : (o : Option ℕ) → is_some (got_at l.kept o) ≡ true → is_some o ≡ true
-      own_some None is = is
-      own_some (Some k) is = refl
-
-      own_known : (v : ℕ) → is_own l v ≡ true → is_some (place_of_vertex l.places v) ≡ true
-      own_known v own = own_some (place_of_vertex l.places v) own
-
-  pub made_sound : All (λ (e : EdgeLine). e.edge.0 < outline.edges) lines.edges.items → IsWellKept l
-  made_sound below =
-      record {
-        inside = λ x k at. let low = inside x k at in omega (arith, made.many_sides);
+        inside = λ x k at. let inside = made.places.inside x k at in omega (arith, many_sides);
         apart = apart;
-        own = omega (arith, many_kept, made.many_sides, long);
-        part = made.many_part ∙ sym made.many_sides;
+        own = omega (arith, many_kept, many_sides, long);
+        part = sym (length-map l.part numbers_of) ∙ ap length made.part ∙ length-map-range_with_len (λ (j : ℕ). scope_numbers l.owned (get_or known j no_vertex).0 (sides_known as_side halves known j)) 0 (length known) ∙ sym many_sides;
         ids = ap length made.ids ∙ length-map order (λ (v : VertexLine). v.id) ∙ sym many_kept;
-        rows = made.many_rows ∙ sym many_kept;
-        parts = made.many_parts ∙ sym many_kept;
-        fit = λ k low.
-            let own_low : k < length order = omega (arith, made.many_rows) in
-            let side_low : k < none = omega (arith, long) in
-            let many : length (links_from 0 (here k)) ≡ length (get_or l.sides k []) =
-            length-links 0 (here k) ∙ sym (ap length (made.sides k side_low) ∙ length-map (here k) as_side) in
-            subst (HasAsMany (length (get_or l.sides k []))) (sym (made.rows k own_low)) many;
-        edges = λ k. elim (cases_lt k none) [
-          | inl low ↦
-              let v = (get_or (known_vertices order lines.ghosts.items) k no_vertex).0 in
-              let listed = halves_listed outline.directed (length l.numbers) v lines.edges.items (subst (λ (m : ℕ). All (λ (e : EdgeLine). e.edge.0 < m) lines.edges.items) (sym many_numbers) below) in
-              subst (All (λ (s : Side). s.edge.0 < length l.numbers)) (sym (made.sides k low)) (All-map (λ (s : Side). s.edge.0 < length l.numbers) as_side (here k) listed)
-          | inr past ↦ subst (All (λ (s : Side). s.edge.0 < length l.numbers)) (sym (none_past k past)) (All-nil (λ (s : Side). s.edge.0 < length l.numbers))
+        rows = many_rows ∙ sym many_kept;
+        parts = ap length made.parts ∙ length-map-range_with_len (λ (j : ℕ). machines_of me outline.machines (sides_known as_side halves known j)) 0 (length order) ∙ sym many_kept;
+        fit = λ k inside.
+            let own_low : k < length order = omega (arith, many_rows) in
+            let side_low : k < length known = omega (arith, long) in
+            let row : get_or l.rows k None ≡ row_at halves known k =
+            ap (λ rows. get_or rows k None) made.rows ∙ get_or-map-range_with_len (row_at halves known) 0 (length order) k k None own_low (omega arith) in
+            let many : length (links_from 0 (halves_known halves known k)) ≡ length (get_or l.sides k []) =
+            length-links 0 (halves_known halves known k) ∙ sym (ap length (sides_here k side_low) ∙ length-map (halves_known halves known k) as_side) in
+            subst (HasAsMany (length (get_or l.sides k []))) (sym row) many;
+        edges = λ k. elim (cases_lt k (length known)) [
+          | inl inside ↦
+              let listed = subst (λ (m : ℕ). All (λ (h : Half). h.edge.0 < m) (halves_known halves known k)) (sym many_numbers) (edges (get_or known k no_vertex).0 (made.below k no_vertex inside)) in
+              subst (All (λ (s : Side). s.edge.0 < length l.numbers)) (sym (sides_here k inside)) (All-map (λ (s : Side). s.edge.0 < length l.numbers) as_side (halves_known halves known k) listed)
+          | inr past ↦ subst (All (λ (s : Side). s.edge.0 < length l.numbers)) (sym (get_or_past l.sides k [] (omega (arith, many_sides)))) (All-nil (λ (s : Side). s.edge.0 < length l.numbers))
         ];
       }
     where
+      many_sides : length l.sides ≡ length known
+      many_sides = ap length made.sides ∙ length-map-range_with_len (sides_known as_side halves known) 0 (length known)
+
+      many_rows : length l.rows ≡ length order
+      many_rows = ap length made.rows ∙ length-map-range_with_len (row_at halves known) 0 (length order)
+
       many_numbers : length l.numbers ≡ outline.edges
       many_numbers = ap length made.numbers ∙ length-replicate outline.edges 0
-
-      none_past : (k : ℕ) → none ≤ k → get_or l.sides k [] ≡ []
-      none_past k past = elim (cases_eq k none) [
-        | inl same ↦ ap (λ (n : ℕ). get_or l.sides n []) same ∙ made.last_sides
-        | inr other ↦ get_or_past l.sides k [] (omega (arith, made.many_sides))
-      ]

@@ -1,183 +1,191 @@
--- The own vertices behind the places of their scopes, each once.
-use Rattle.std.proofs.Common.{◌≡◌, ℕ, ◌+◌, ◌<◌, ◌≤◌, ◌==◌, ◌||◌, ◌++◌, Bool, true, false, min, if◌then◌else◌, Option, Some, List, [], ◌∷◌, length, get_or, set, map, take, refl, sym, ap, ◌∙◌, arith, inl, inr}
-use Rattle.std.specs.List.{filter, flat_map, list_any}
-use Rattle.std.proofs.lemmas.Bool.{cases_eq, eq-eqb, ne_eqb}
-use Rattle.std.proofs.lemmas.List.{append-nil, append_assoc, map-append, map_more, get_or-set_same, get_or-set_other, length-set}
+-- The own vertices in the scope of a vertex, from its sides.
+use Rattle.std.proofs.Common.{◌≡◌, ℕ, ◌<◌, ◌==◌, ◌&&◌, ◌||◌, ◌++◌, Bool, true, false, nat_lt, min, Option, Some, None, List, [], ◌∷◌, length, map, get_or, AllPairs, All, refl, sym, ap, ◌∙◌, subst, arith, inl, inr}
+use Rattle.std.specs.List.{list_any}
+use Rattle.std.specs.List.Sorted.{IsPermutation}
+use Rattle.std.proofs.lemmas.Cmp.{nat_eq_equiv}
+use Rattle.std.proofs.lemmas.List.Sorted.{IsPermutation-map, list_any-IsPermutation}
+use Rattle.std.proofs.lemmas.Bool.{cases_eq, cases_lt, ne_eqb, eqb-true, le-ltb, lt-ltb, false≢true}
+use Rattle.std.proofs.lemmas.List.{get_or-map, get_or_append_left, get_or_default, length-map}
+use Rattle.std.proofs.lemmas.List.Elements.{All-nil, All-cons, All-head, All-tail}
 use Rattle.std.proofs.lemmas.List.Folds.{list_any-append}
+use Rattle.std.proofs.lemmas.List.Kept.{AllPairs-filter}
+use Rattle.std.proofs.lemmas.Map.Views.{any-filter_same, list_any-from_Contains}
+use Rattle.gl_base.specs.Lists.{Ascends}
+use Rattle.gl_base.specs.declared.atoms.GhostLine.{GhostLine}
+use Rattle.gl_base.specs.declared.atoms.VertexLine.{VertexLine}
+use Rattle.gl_base.specs.declared.numbers.MachineNo.{MachineNo}
 use Rattle.gl_base.specs.declared.numbers.Vertex.{Vertex}
-use Rattle.graph_core.specs.Rows.{with_key}
+use Rattle.graph_core.specs.declared.halves.Half.{Half}
+use Rattle.graph_core.specs.Distinct.{AreDistinctOf}
+use Rattle.graph_core.proofs.NeighbourLemmas.{rising_same}
 use Rattle.local_graph.specs.declared.sides.Side.{Side}
-use Rattle.local_graph.specs.Locals.{place_of_vertex}
-use Rattle.local_graph.specs.Played.{place_or}
-use Rattle.local_graph.specs.Inner.Pairs.{once, with_new, scope_in}
-use Rattle.local_graph.proofs.EndLemmas.{one_key, key-append}
+use Rattle.local_graph.specs.Locals.{AreTheirPlaces, place_of_vertex}
+use Rattle.local_graph.specs.Played.{numbers_of, place_or, side_of}
+use Rattle.local_graph.specs.Inner.ByPlace.{known_vertices}
+use Rattle.local_graph.specs.Inner.AtPlaces.{ArePlain, IsSideTo, number_among, is_first_place, stands_near, scope_numbers}
 
-once-append : (seen ts : List ℕ) (t : ℕ) → once seen (ts ++ t ∷ []) ≡ with_new (once seen ts) t
-once-append seen [] t = refl
-once-append seen (u ∷ ts) t = once-append (with_new seen u) ts t
+-- ---- Booleans
 
-abbrev pub places_near : ℕ → List Side → List ℕ
-places_near none sides = map (λ s. place_or none (Some s.place)) sides
+same_truth : (a b : Bool) → (a ≡ true → b ≡ true) → (b ≡ true → a ≡ true) → a ≡ b
+same_truth true b to back = sym (to refl)
+same_truth false true to back = back refl
+same_truth false false to back = refl
 
--- the places that were seen at the first i sides
-abbrev pub seen_at : ℕ → ℕ → List Side → ℕ → List ℕ
-seen_at key none sides i = once (key ∷ []) (places_near none (take i sides))
+none_or : (b : Bool) → (b || false) ≡ b
+none_or true = refl
+none_or false = refl
 
-abbrev pub has : List ℕ → ℕ → Bool
-has seen t = list_any (λ u. u == t) seen
+-- ---- plain vertices
 
-or_none : (b : Bool) → (b || false) ≡ b
-or_none true = refl
-or_none false = refl
+pairs_from : (xs : List ℕ) → Ascends xs → AllPairs (λ u v. u < v) xs
+pairs_from xs up = λ i j d l m.
+    let below = up i j l m in
+    let first : get_or xs i d ≡ get_or xs i 0 = get_or_default xs i d 0 (omega arith) in
+    let second : get_or xs j d ≡ get_or xs j 0 = get_or_default xs j d 0 m in
+    omega (arith, first, second, below)
 
-or_true : (b : Bool) → (b || true) ≡ true
-or_true true = refl
-or_true false = refl
-
-or_assoc : (a b c : Bool) → (a || (b || c)) ≡ ((a || b) || c)
-or_assoc true b c = refl
-or_assoc false b c = refl
-
-has_push : (seen : List ℕ) (t k : ℕ) → has (seen ++ t ∷ []) k ≡ (has seen k || (t == k))
-has_push seen t k = list_any-append (λ (u : ℕ). u == k) seen (t ∷ []) ∙ ap (λ b. has seen k || b) (or_none (t == k))
-
--- the vertex stands behind the places that were seen, which have the stamp
-pub record IsPushed (old pairs : List (ℕ × Vertex)) (v : Vertex) (last : List ℕ) (stamp : ℕ) (seen : List ℕ) (room : ℕ) : Type 0 where
-  pub many : length last ≡ room
-  pub older : (t : ℕ) → get_or last t 0 ≤ stamp
-  pub marked : (t : ℕ) → t < room → (get_or last t 0 == stamp) ≡ has seen t
-  pub is : pairs ≡ old ++ map (λ t. let p : ℕ × Vertex = (t, v) in p) seen
-
-pub pushed_first : (old pairs : List (ℕ × Vertex)) (v : Vertex) (last : List ℕ) (stamp key room : ℕ) → length last ≡ room → key < room → ((t : ℕ) → get_or last t 0 < stamp)
-    → pairs ≡ old ++ (key, v) ∷ [] → IsPushed old pairs v (set last key stamp) stamp (key ∷ []) room
-pushed_first old pairs v last stamp key room many inside older is =
-    record {
-      many = length-set last key stamp ∙ many;
-      older = λ t. elim (cases_eq t key) [
-        | inl same ↦ let at : get_or (set last key stamp) t 0 ≡ stamp = ap (λ (k : ℕ). get_or (set last key stamp) k 0) same ∙ get_or-set_same last key stamp 0 (omega arith) in omega arith
-        | inr other ↦ let at = get_or-set_other last key t stamp 0 other in let low = older t in omega arith
-      ];
-      marked = λ t low. elim (cases_eq t key) [
-        | inl same ↦
-            let at : get_or (set last key stamp) t 0 ≡ stamp = ap (λ (k : ℕ). get_or (set last key stamp) k 0) same ∙ get_or-set_same last key stamp 0 (omega arith) in
-            eq-eqb (get_or (set last key stamp) t 0) stamp at ∙ sym (or_none (key == t) ∙ eq-eqb key t (sym same))
-        | inr other ↦
-            let at = get_or-set_other last key t stamp 0 other in
-            let below = older t in
-            ne_eqb (get_or (set last key stamp) t 0) stamp (λ e. omega arith) ∙ sym (or_none (key == t) ∙ ne_eqb key t (λ e. other (sym e)))
-      ];
-      is = is;
-    }
-
-new_or_old : (b : Bool) (old : List (ℕ × Vertex)) (v : Vertex) (pairs : List (ℕ × Vertex)) (seen : List ℕ) (t : ℕ) → pairs ≡ old ++ map (λ t. let p : ℕ × Vertex = (t, v) in p) seen
-    → (if b then pairs else pairs ++ (t, v) ∷ []) ≡ old ++ map (λ t. let p : ℕ × Vertex = (t, v) in p) (if b then seen else seen ++ t ∷ [])
-new_or_old true old v pairs seen t is = is
-new_or_old false old v pairs seen t is =
-    let f : ℕ → ℕ × Vertex = λ t. (t, v) in
-    ap (λ (ps : List (ℕ × Vertex)). ps ++ (t, v) ∷ []) is ∙ append_assoc old (map f seen) ((t, v) ∷ []) ∙ ap (λ (ps : List (ℕ × Vertex)). old ++ ps) (sym (map-append f seen (t ∷ [])))
-
-seen_more : (b : Bool) (seen : List ℕ) (t k : ℕ) → has seen t ≡ b → (t == k) ≡ false → has (if b then seen else seen ++ t ∷ []) k ≡ has seen k
-seen_more true seen t k is other = refl
-seen_more false seen t k is other = has_push seen t k ∙ ap (λ b. has seen k || b) other ∙ or_none (has seen k)
-
-seen_here : (b : Bool) (seen : List ℕ) (t : ℕ) → has seen t ≡ b → has (if b then seen else seen ++ t ∷ []) t ≡ true
-seen_here true seen t is = is
-seen_here false seen t is = has_push seen t t ∙ ap (λ b. has seen t || b) (eq-eqb t t refl) ∙ or_true (has seen t)
-
-pub pushed_more : (old pairs more : List (ℕ × Vertex)) (v : Vertex) (last : List ℕ) (stamp t room : ℕ) (seen : List ℕ) → t < room → IsPushed old pairs v last stamp seen room
-    → more ≡ (if get_or last t 0 == stamp then pairs else pairs ++ (t, v) ∷ []) → IsPushed old more v (set last t stamp) stamp (with_new seen t) room
-pushed_more old pairs more v last stamp t room seen inside pushed are =
-    record {
-      many = length-set last t stamp ∙ pushed.many;
-      older = λ u. elim (cases_eq u t) [
-        | inl same ↦ let at : get_or (set last t stamp) u 0 ≡ stamp = ap (λ (k : ℕ). get_or (set last t stamp) k 0) same ∙ get_or-set_same last t stamp 0 (omega (arith, pushed.many)) in omega arith
-        | inr other ↦ let at = get_or-set_other last t u stamp 0 other in let low = pushed.older u in omega arith
-      ];
-      marked = λ u low. elim (cases_eq u t) [
-        | inl same ↦
-            let at : get_or (set last t stamp) u 0 ≡ stamp = ap (λ (k : ℕ). get_or (set last t stamp) k 0) same ∙ get_or-set_same last t stamp 0 (omega (arith, pushed.many)) in
-            eq-eqb (get_or (set last t stamp) u 0) stamp at ∙ sym (ap (has (with_new seen t)) same ∙ seen_here (has seen t) seen t refl)
-        | inr other ↦
-            ap (λ (x : ℕ). x == stamp) (get_or-set_other last t u stamp 0 other) ∙ pushed.marked u low
-            ∙ sym (seen_more (has seen t) seen t u refl (ne_eqb t u (λ e. other (sym e))))
-      ];
-      is = are ∙ ap (λ b. if b then pairs else pairs ++ (t, v) ∷ []) (pushed.marked t inside) ∙ new_or_old (has seen t) old v pairs seen t pushed.is;
-    }
-
-pub seen_step : (key none : ℕ) (sides : List Side) (i : ℕ) (s : Side) → i < length sides → s ≡ get_or sides i s → seen_at key none sides (i + 1) ≡ with_new (seen_at key none sides i) (min s.place none)
-seen_step key none sides i s inside is =
-    ap (once (key ∷ [])) (map_more (λ (s : Side). place_or none (Some s.place)) sides i s inside)
-    ∙ once-append (key ∷ []) (places_near none (take i sides)) (min (get_or sides i s).place none)
-    ∙ ap (λ (t : Side). with_new (seen_at key none sides i) (min t.place none)) (sym is)
-
--- ---- by key
-
-abbrev behind : Vertex → ℕ → ℕ × Vertex
-behind x t = (t, x)
-
--- the vertex stands once behind k, where that was seen
-abbrev IsOnce : Vertex → ℕ → List ℕ → Type 0
-IsOnce x k seen = with_key k (map (behind x) seen) ≡ (if has seen k then x ∷ [] else [])
-
-once_push : (x : Vertex) (k t : ℕ) (seen : List ℕ) (b : Bool) → has seen t ≡ b → IsOnce x k seen → IsOnce x k (if b then seen else seen ++ t ∷ [])
-once_push x k t seen true is once_there = once_there
-once_push x k t seen false is once_there =
-    ap (with_key k) (map-append (behind x) seen (t ∷ [])) ∙ key-append k (map (behind x) seen) (behind x t ∷ [])
-    ∙ ap (λ (vs : List Vertex). vs ++ with_key k (behind x t ∷ [])) once_there
-    ∙ elim (cases_eq t k) as (λ _. (if has seen k then x ∷ [] else []) ++ with_key k (behind x t ∷ []) ≡ (if has (seen ++ t ∷ []) k then x ∷ [] else [])) [
-      | inl same ↦
-          let absent : has seen k ≡ false = ap (has seen) (sym same) ∙ is in
-          ap (λ b. (if b then x ∷ [] else []) ++ with_key k (behind x t ∷ [])) absent ∙ one_key (t == k) t k x [] refl ∙ append-nil (if t == k then x ∷ [] else [])
-          ∙ ap (λ b. if b then x ∷ [] else []) (sym (has_push seen t k ∙ ap (λ b. b || (t == k)) absent))
-      | inr other ↦
-          let no = ne_eqb t k other in
-          ap (λ (vs : List Vertex). (if has seen k then x ∷ [] else []) ++ vs) (one_key (t == k) t k x [] refl ∙ ap (λ b. (if b then x ∷ [] else []) ++ with_key k (let none : List (ℕ × Vertex) = [] in none)) no)
-          ∙ append-nil (if has seen k then x ∷ [] else [])
-          ∙ ap (λ b. if b then x ∷ [] else []) (sym (has_push seen t k ∙ ap (λ b. has seen k || b) no ∙ or_none (has seen k)))
-    ]
-
-once_all : (x : Vertex) (k : ℕ) (seen ts : List ℕ) → IsOnce x k seen → IsOnce x k (once seen ts)
-once_all x k seen [] there = there
-once_all x k seen (t ∷ ts) there = once_all x k (with_new seen t) ts (once_push x k t seen (has seen t) refl there)
-
-has_new : (b : Bool) (seen : List ℕ) (t k : ℕ) → has seen t ≡ b → has (if b then seen else seen ++ t ∷ []) k ≡ (has seen k || (t == k))
-has_new false seen t k is = has_push seen t k
-has_new true seen t k is = elim (cases_eq t k) [
-  | inl same ↦ ap (has seen) (sym same) ∙ is ∙ sym (ap (λ b. has seen k || b) (eq-eqb t k same) ∙ or_true (has seen k))
-  | inr other ↦ sym (ap (λ b. has seen k || b) (ne_eqb t k other) ∙ or_none (has seen k))
+-- what holds of each of some vertices holds of each number among theirs
+among : (P : ℕ → Type 0) (vs : List Vertex) (x : ℕ) → All (λ (v : Vertex). P v.0) vs → number_among x (numbers_of vs) ≡ true → P x
+among P [] x all had = absurd (false≢true had)
+among P (v ∷ vs) x all had = elim (cases_eq x v.0) [
+  | inl same ↦ subst P (sym same) (All-head (λ (u : Vertex). P u.0) v vs all)
+  | inr other ↦ among P vs x (All-tail (λ (u : Vertex). P u.0) v vs all) (sym (ap (λ b. b || number_among x (numbers_of vs)) (ne_eqb x v.0 other)) ∙ had)
 ]
 
-has_once : (k : ℕ) (seen ts : List ℕ) → has (once seen ts) k ≡ (has seen k || has ts k)
-has_once k seen [] = sym (or_none (has seen k))
-has_once k seen (t ∷ ts) =
-    has_once k (with_new seen t) ts ∙ ap (λ b. b || has ts k) (has_new (has seen t) seen t k refl) ∙ sym (or_assoc (has seen k) (t == k) (has ts k))
+pub plain_from : (owned : List Vertex) (many : ℕ) (places : List (Option ℕ)) → Ascends (numbers_of owned)
+    → ((x : ℕ) → is_first_place many (place_of_vertex places x) ≡ true → number_among x (numbers_of owned) ≡ true)
+    → All (λ (v : Vertex). is_first_place many (place_of_vertex places v.0) ≡ true) owned → ArePlain owned many places
+plain_from owned many places up back to =
+    record {
+      ascend = up;
+      first = λ x. same_truth (number_among x (numbers_of owned)) (is_first_place many (place_of_vertex places x))
+          (among (λ (y : ℕ). is_first_place many (place_of_vertex places y) ≡ true) owned x to) (back x);
+    }
 
-scope_key : (x : Vertex) (k j : ℕ) (ts : List ℕ) → with_key k (map (behind x) (once (j ∷ []) ts)) ≡ (if (j == k) || has ts k then x ∷ [] else [])
-scope_key x k j ts =
-    once_all x k (j ∷ []) ts first ∙ ap (λ b. if b then x ∷ [] else []) (has_once k (j ∷ []) ts ∙ ap (λ b. b || has ts k) (or_none (j == k)))
+-- a vertex that has one of the first places is one of the own vertices, which have those
+pub first_owned : (own order : List VertexLine) (ghosts : List GhostLine) (places : List (Option ℕ)) (x : ℕ) → IsPermutation own order → AreTheirPlaces places (known_vertices order ghosts)
+    → is_first_place (length order) (place_of_vertex places x) ≡ true → number_among x (numbers_of (map (λ v. v.vertex) own)) ≡ true
+first_owned own order ghosts places x same stand first =
+    list_any-IsPermutation (λ (y : ℕ). x == y) (numbers own) (numbers order) (IsPermutation-map (λ (v : Vertex). v.0) (vertices own) (vertices order) (IsPermutation-map (λ (v : VertexLine). v.vertex) own order same))
+    ∙ list_any-from_Contains nat_eq_equiv x (numbers order) (p, inside, read)
   where
-    first : with_key k (map (behind x) (j ∷ [])) ≡ (if has (j ∷ []) k then x ∷ [] else [])
-    first = one_key (j == k) j k x [] refl ∙ append-nil (if j == k then x ∷ [] else []) ∙ ap (λ b. if b then x ∷ [] else []) (sym (or_none (j == k)))
+    vertices : List VertexLine → List Vertex
+    vertices lines = map (λ v. v.vertex) lines
 
--- the vertices behind a place are those that pass, in their order
-pub scopes_key : (sides : List (List Side)) (places : List (Option ℕ)) (none k : ℕ) (own : List Vertex)
-    → with_key k (flat_map (scope_in sides places none) own)
-    ≡ filter (λ x. let j = place_or none (place_of_vertex places x.0) in (j == k) || has (places_near none (get_or sides j [])) k) own
-scopes_key sides places none k [] = refl
-scopes_key sides places none k (x ∷ own) =
-    let j = place_or none (place_of_vertex places x.0) in
-    let passes = (j == k) || has (places_near none (get_or sides j [])) k in
-    key-append k (scope_in sides places none x) (flat_map (scope_in sides places none) own)
-    ∙ ap (λ (vs : List Vertex). vs ++ with_key k (flat_map (scope_in sides places none) own)) (scope_key x k j (places_near none (get_or sides j [])))
-    ∙ ap (λ (vs : List Vertex). (if passes then x ∷ [] else []) ++ vs) (scopes_key sides places none k own)
-    ∙ joined (filter (λ y. let j = place_or none (place_of_vertex places y.0) in (j == k) || has (places_near none (get_or sides j [])) k) own) passes
+    numbers : List VertexLine → List ℕ
+    numbers lines = numbers_of (vertices lines)
+
+    at : (o : Option ℕ) → is_first_place (length order) o ≡ true → (k : ℕ) × (o ≡ Some k) × (k < length order)
+    at None is = absurd (false≢true is)
+    at (Some k) is = elim (cases_lt k (length order)) [
+      | inl low ↦ (k, refl, low)
+      | inr past ↦ absurd (false≢true (sym (le-ltb k (length order) past) ∙ is))
+    ]
+
+    p : ℕ
+    p = (at (place_of_vertex places x) first).0
+
+    inside : p < length (numbers order)
+    inside = let low = (at (place_of_vertex places x) first).2 in omega (arith, length-map (vertices order) (λ (v : Vertex). v.0), length-map order (λ (v : VertexLine). v.vertex))
+
+    read : get_or (numbers order) p x ≡ x
+    read =
+        let d : Vertex = record { 0 = x } in
+        let within : p < length (vertices order) = omega (arith, inside, length-map (vertices order) (λ (v : Vertex). v.0)) in
+        get_or-map (λ (v : Vertex). v.0) (vertices order) p d x within
+        ∙ ap (λ (v : Vertex). v.0) (sym (get_or_append_left (vertices order) (map (λ (g : GhostLine). g.vertex) ghosts) d p within))
+        ∙ stand.stands x p d (at (place_of_vertex places x) first).1
+
+-- sides have the places of their other ends
+pub sides_lead : (me : MachineNo) (many : ℕ) (ghosts : List GhostLine) (places : List (Option ℕ)) (halves : List Half) → All (IsSideTo places) (map (side_of me many ghosts places) halves)
+sides_lead me many ghosts places [] = All-nil (IsSideTo places)
+sides_lead me many ghosts places (h ∷ halves) =
+    All-cons (IsSideTo places) (side_of me many ghosts places h) (map (side_of me many ghosts places) halves) refl (sides_lead me many ghosts places halves)
+
+-- ---- those near
+
+-- the place of a side that leads to x is among the first so many where x has such a place
+place_there : (many : ℕ) (o : Option ℕ) → many < 4294967295 → nat_lt (place_or 4294967295 o) many ≡ is_first_place many o
+place_there many None few = le-ltb 4294967295 many (omega arith)
+place_there many (Some k) few = elim (cases_lt k many) [
+  | inl low ↦ lt-ltb (min k 4294967295) many (omega arith) ∙ sym (lt-ltb k many low)
+  | inr past ↦ le-ltb (min k 4294967295) many (omega arith) ∙ sym (le-ltb k many past)
+]
+
+module _ (places : List (Option ℕ)) (many : ℕ) (few : many < 4294967295) (x : ℕ) where
+  abbrev here : Bool
+  here = is_first_place many (place_of_vertex places x)
+
+  one_near : (s : Side) → IsSideTo places s → (nat_lt s.place many && s.other.0 == x) ≡ (here && s.other.0 == x)
+  one_near s is = elim (cases_eq s.other.0 x) [
+    | inl same ↦
+        ap (λ b. b && (s.other.0 == x)) (ap (λ (n : ℕ). nat_lt n many) (is ∙ ap (λ (y : ℕ). place_or 4294967295 (place_of_vertex places y)) same) ∙ place_there many (place_of_vertex places x) few)
+    | inr other ↦
+        ap (λ b. nat_lt s.place many && b) (ne_eqb s.other.0 x other) ∙ no (nat_lt s.place many) here ∙ sym (ap (λ b. here && b) (ne_eqb s.other.0 x other))
+  ]
+    where
+      no : (a b : Bool) → (a && false) ≡ (b && false)
+      no true true = refl
+      no true false = refl
+      no false true = refl
+      no false false = refl
+
+  all_near : (sides : List Side) → All (IsSideTo places) sides → list_any (λ (s : Side). nat_lt s.place many && s.other.0 == x) sides ≡ (here && list_any (λ (s : Side). s.other.0 == x) sides)
+  all_near [] all = none here
+    where
+      none : (a : Bool) → false ≡ (a && false)
+      none true = refl
+      none false = refl
+  all_near (s ∷ sides) all =
+      ap (λ b. b || list_any (λ (s : Side). nat_lt s.place many && s.other.0 == x) sides) (one_near s (All-head (IsSideTo places) s sides all))
+      ∙ ap (λ b. (here && s.other.0 == x) || b) (all_near sides (All-tail (IsSideTo places) s sides all))
+      ∙ joined here (s.other.0 == x) (list_any (λ (s : Side). s.other.0 == x) sides)
+    where
+      joined : (a b c : Bool) → ((a && b) || (a && c)) ≡ (a && (b || c))
+      joined true b c = refl
+      joined false b c = refl
+
+  own_near : (v : ℕ) → (is_first_place many (place_of_vertex places v) && x == v) ≡ (here && x == v)
+  own_near v = elim (cases_eq x v) [
+    | inl same ↦ ap (λ (y : ℕ). is_first_place many (place_of_vertex places y) && x == v) (sym same)
+    | inr other ↦ ap (λ b. is_first_place many (place_of_vertex places v) && b) (ne_eqb x v other) ∙ no (is_first_place many (place_of_vertex places v)) here ∙ sym (ap (λ b. here && b) (ne_eqb x v other))
+  ]
+    where
+      no : (a b : Bool) → (a && false) ≡ (b && false)
+      no true true = refl
+      no true false = refl
+      no false true = refl
+      no false false = refl
+
+-- the list of those near, each once and ascending, has those of the own vertices that are in the scope
+pub scope_is : (owned : List Vertex) (many : ℕ) (places : List (Option ℕ)) (v : ℕ) (sides : List Side) (near made : List ℕ)
+    → ArePlain owned many places → many < 4294967295 → All (IsSideTo places) sides
+    → ((x : ℕ) → number_among x near ≡ ((is_first_place many (place_of_vertex places v) && x == v) || list_any (λ (s : Side). nat_lt s.place many && s.other.0 == x) sides))
+    → AreDistinctOf near made → made ≡ scope_numbers owned v sides
+scope_is owned many places v sides near made plain few placed has distinct =
+    rising_same made (scope_numbers owned v sides) distinct.ascending
+    (AllPairs-filter (λ a b. a < b) (stands_near v sides) (numbers_of owned) (pairs_from (numbers_of owned) plain.ascend)) same
   where
-    joined : (vs : List Vertex) (b : Bool) → (if b then x ∷ [] else []) ++ vs ≡ (if b then x ∷ vs else vs)
-    joined vs true = refl
-    joined vs false = refl
+    same : (x : ℕ) → number_among x made ≡ number_among x (scope_numbers owned v sides)
+    same x =
+        distinct.same x ∙ has x
+        ∙ ap (λ b. b || list_any (λ (s : Side). nat_lt s.place many && s.other.0 == x) sides) (own_near places many few x v)
+        ∙ ap (λ b. (is_first_place many (place_of_vertex places x) && x == v) || b) (all_near places many few x sides placed)
+        ∙ joined (is_first_place many (place_of_vertex places x)) (x == v) (list_any (λ (s : Side). s.other.0 == x) sides)
+        ∙ ap (λ b. stands_near v sides x && b) (sym (plain.first x))
+        ∙ sym (any-filter_same (λ (y : ℕ). x == y) (stands_near v sides) (stands_near v sides x) (λ y is. ap (stands_near v sides) (sym (eqb-true x y is))) (numbers_of owned))
+      where
+        joined : (a b c : Bool) → ((a && b) || (a && c)) ≡ ((b || c) && a)
+        joined true true c = refl
+        joined true false true = refl
+        joined true false false = refl
+        joined false true c = refl
+        joined false false true = refl
+        joined false false false = refl
 
--- the first i vertices stand behind the places of their scopes, and no stamp is newer
-pub record AreListed (sides : List (List Side)) (places : List (Option ℕ)) (none : ℕ) (own : List Vertex) (pairs : List (ℕ × Vertex)) (last : List ℕ) (i : ℕ) : Type 0 where
-  pub many : length last ≡ none + 1
-  pub older : (t : ℕ) → get_or last t 0 ≤ i
-  pub is : pairs ≡ flat_map (scope_in sides places none) (take i own)
+-- the vertex that waited is put at the end, or none waits
+pub none_waits : (a b c : Bool) → b ≡ false → (a || (b && c)) ≡ a
+none_waits a b c is = ap (λ w. a || (w && c)) is ∙ none_or a
+
+pub last_put : (numbers : List ℕ) (x v : ℕ) → number_among x (numbers ++ v ∷ []) ≡ (number_among x numbers || x == v)
+last_put numbers x v = list_any-append (λ (y : ℕ). x == y) numbers (v ∷ []) ∙ ap (λ b. number_among x numbers || b) (none_or (x == v))

@@ -2,5 +2,6 @@
 pub mod Kept
 pub mod Views
 pub mod Ends
-pub mod Pairs
+pub mod AtPlaces
+pub mod Beside
 pub mod ByPlace

@@ -114,23 +114,3 @@ fn owner_of(place: usize, me: MachineNo, many: usize, ghosts: &[GhostLine]) -> M
         None => me,
     }
 }
-
-/// Items behind their places, in a list.
-#[derive(Drop)]
-pub struct PairsOf<'a, T> {
-    pub pairs: &'a [(u32, T)],
-}
-
-impl<'a, T: Copy> Keyed for PairsOf<'a, T> {
-    type Item = T;
-
-    ghost list = { λ p. p.pairs.now };
-
-    fn len(&self) -> usize {
-        self.pairs.len()
-    }
-
-    fn at(&self, place: usize) -> (u32, T) {
-        self.pairs[place]
-    }
-}

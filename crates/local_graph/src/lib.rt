@@ -7,6 +7,7 @@ mod graphs;
 mod grouping;
 mod linking;
 mod machines;
+mod making;
 mod moving;
 mod numbers;
 mod order;

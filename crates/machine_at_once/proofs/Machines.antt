@@ -126,14 +126,14 @@ module _ (m : Core) (new : Numbers) (k : ℕ) (later : m.pipe.serial ≤ k) (kee
   flag : (u : ℕ) → admitted_here new u ≡ admitted_here m.numbers u
   flag u = ap (λ (o : Option ℕ). flag_there new.tasks.admitted o) (place_kept m.numbers.local new.local graph u) ∙ ap (λ (fs : List Bool). flag_there fs (place_at m.numbers.local u)) flags
 
-  locks : AreLocksInOrder m.numbers.local m.locks m.pipe nobody → AreLocksInOrder new.local m.locks now.pipe nobody
+  locks : AreLocksInOrder m.terms.locks m.numbers.local m.locks m.pipe nobody → AreLocksInOrder m.terms.locks new.local m.locks now.pipe nobody
   locks are =
       record {
         owned = λ x. are.owned x ∙ sym (keeps.own x);
         queues = λ x j d low. let c = are.queues x j d low in record { come = c.come; still = c.still; asked = c.asked };
         holds = are.holds;
         only = λ s c x flies holds. part c.0 x ∙ are.only s c x flies holds;
-        ready = λ s c x flies is_ready mine. are.ready s c x flies is_ready (sym (part c.0 x) ∙ mine);
+        ready = λ takes s c x flies is_ready mine. are.ready takes s c x flies is_ready (sym (part c.0 x) ∙ mine);
         admitted = λ s x home holds. let low = are.admitted s x home holds in omega (arith, later);
       }
 

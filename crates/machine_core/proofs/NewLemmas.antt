@@ -36,7 +36,7 @@ new_is st m setting part new = record {
     queues = λ x. subst (All (StandsAtLock m.pipe nobody x)) (sym (new.unclaimed.queue x)) (λ k d low. absurd (omega arith));
     holds = λ s e j y at. absurd (nothing e _ (new.empty.entered s) at);
     only = λ s c x flies. absurd (nothing c _ (new.empty.flight s) flies);
-    ready = λ s c x flies. absurd (nothing c _ (new.empty.flight s) flies);
+    ready = λ takes s c x flies. absurd (nothing c _ (new.empty.flight s) flies);
     admitted = λ s x home holds. absurd (unheld _ (new.unclaimed.holder x s) holds);
   };
   flights = record {

@@ -89,6 +89,7 @@ module _ (before out : OutboxesView) (to : MachineNo) (behind : out ≡ with_out
 -- as many outboxes: the machine is in order as it was
 pub order_stays : (m : Core) (out : OutboxesView) → length out.machines ≡ length m.out.machines → IsMachine m → IsMachine (record m { out = out })
 order_stays m out many is = record {
+  locks = is.locks;
   orderly = record {
     graph = subst (IsGraphInOrder m.numbers.local) (sym many) is.orderly.graph;
     numbers = is.orderly.numbers;

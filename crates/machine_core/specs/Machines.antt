@@ -22,8 +22,9 @@ use Rattle.machine_parts.specs.Parts.{is_own, is_owned, datum_here}
 use Rattle.scope_pipe.specs.Pipes.{IsEmpty}
 use Rattle.vertex_locks.specs.Tables.{IsUnclaimed}
 
--- its parts go together, and it knows the vertices at the places of its tasks: so a machine is between its calls
+-- scopes take locks, its parts go together, and it knows the vertices at the places of its tasks: so a machine is between its calls
 pub record IsMachine (m : Core) : Type 0 where
+  pub locks : m.terms.locks ≡ true
   pub orderly : IsOrderly m
   pub places : KnowsPlaces m
 

@@ -1,5 +1,5 @@
 //! A machine.
-ghost use Rattle.std.specs.Prelude.{◌≡◌, ℕ, ◌<◌, IfOk, IfErr, IfSome, IfNone, OnOk, OnErr, IsErrOf};
+ghost use Rattle.std.specs.Prelude.{◌≡◌, ℕ, ◌<◌, true, IfOk, IfErr, IfSome, IfNone, OnOk, OnErr, IsErrOf};
 ghost use Rattle.machine_core.specs.Machines.{IsMachine, IsOrderly, KnowsPlaces, SameSettings, HasOnlyMadeRoom, part_of, come, next_scope, machine_numbers, MayGrantLock, MayNotGrantLock, HasGrantedInTurn, HasGrantedLock, WaitsFirst, WantedNext, IsNewAt, AreMachinesFor, CanBecomeReady, HasReceivedMessage, Ask, Ready, CanAdmitPick, MayAdmitNone, HasAdmittedPick};
 
 use gl_base::{MachineNo, Refused, ScopeId, Vertex};
@@ -8,7 +8,7 @@ use machine_scopes::Moved;
 use std::alloc::Global;
 use std::marker::Model;
 
-/// A machine, whose parts go together. Contracts see the parts.
+/// A machine at which scopes take locks, whose parts go together. Contracts see the parts.
 #[derive(Drop)]
 pub struct Machine {
     pub(crate) core: Core,
@@ -28,6 +28,7 @@ impl Model for Machine {
 impl Machine {
     /// A machine of these parts.
     pub fn new(core: Core) -> Machine
+        requires locks { core.terms.locks ≡ true }
         requires orderly { IsOrderly core }
         requires places { KnowsPlaces core }
         ensures { result ≡ core }

@@ -35,13 +35,13 @@ settings_room old new room = λ st is. subst (IsPartOf st) (sym room.rest)
 -- ---- the machine in order
 
 -- the locks of a machine have the same claims
-pub locks_same : (local : LocalView) (old new : List (Option LockView)) (pipe : PipeView) (moving : ScopeId → Bool) → HaveSameClaims old new → AreLocksInOrder local old pipe moving → AreLocksInOrder local new pipe moving
-locks_same local old new pipe moving same are = record {
+pub locks_same : (locking : Bool) (local : LocalView) (old new : List (Option LockView)) (pipe : PipeView) (moving : ScopeId → Bool) → HaveSameClaims old new → AreLocksInOrder locking local old pipe moving → AreLocksInOrder locking local new pipe moving
+locks_same locking local old new pipe moving same are = record {
   owned = λ x. same.owned x ∙ are.owned x;
   queues = λ x. subst (All (StandsAtLock pipe moving x)) (sym (same.queue x)) (are.queues x);
   holds = λ s e j y come at. ap is_some (same.holder y.0 s) ∙ are.holds s e j y come at;
   only = λ s c x flies holds. are.only s c x flies (sym (ap is_some (same.holder x s)) ∙ holds);
-  ready = λ s c x flies is_ready one. ap is_some (same.holder x s) ∙ are.ready s c x flies is_ready one;
+  ready = λ takes s c x flies is_ready one. ap is_some (same.holder x s) ∙ are.ready takes s c x flies is_ready one;
   admitted = λ s x home holds. are.admitted s x home (sym (ap is_some (same.holder x s)) ∙ holds);
 }
 
@@ -62,7 +62,7 @@ orderly_room moving old new room is = subst (IsOrderlyBut moving) (sym room.rest
       graph = subst (IsGraphInOrder old.numbers.local) (sym room.out.machines) is.graph;
       numbers = numbers_same old.numbers (record old.numbers { log = new.numbers.log }) old.terms.base refl room.log is.numbers;
       entered = λ s e come. subst (λ (k : ℕ). HasComeRight old.numbers.local old.pipe k (moving s) s e) (sym room.out.machines) (is.entered s e come);
-      locks = locks_same old.numbers.local old.locks new.locks old.pipe moving room.locks is.locks;
+      locks = locks_same old.terms.locks old.numbers.local old.locks new.locks old.pipe moving room.locks is.locks;
       flights = record {
         home = is.flights.home;
         given = is.flights.given;

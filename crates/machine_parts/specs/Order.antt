@@ -70,15 +70,15 @@ pub record HasComeRight (local : LocalView) (pipe : PipeView) (machines : ℕ) (
 -- ---- locks
 
 -- Each own vertex has a lock. Who waits for one has come and asked for it last, a scope that has come holds just the locks that it
--- got; a scope in flight holds locks of its own scope alone, and a ready one holds all of them; and scopes of this home that hold a
--- lock or have come were admitted.
-pub record AreLocksInOrder (local : LocalView) (locks : List (Option LockView)) (pipe : PipeView) (moving : ScopeId → Bool) : Type 0 where
+-- got; a scope in flight holds locks of its own scope alone, and where scopes take locks a ready one holds all of them; and scopes of
+-- this home that hold a lock or have come were admitted.
+pub record AreLocksInOrder (locking : Bool) (local : LocalView) (locks : List (Option LockView)) (pipe : PipeView) (moving : ScopeId → Bool) : Type 0 where
   pub owned : (x : ℕ) → is_owned locks x ≡ is_own local x
   pub queues : (x : ℕ) → All (StandsAtLock pipe moving x) (queue_at locks x)
   pub holds : (s : ScopeId) (e : EnteredView) (j : ℕ) (y : Vertex) → entered_at pipe s ≡ Some e → slice_get e.part j ≡ Some y →
       is_some (holder_at locks y.0 s) ≡ nat_lt j (got (moving s) e.place)
   pub only : (s : ScopeId) (c : Vertex) (x : ℕ) → flight_at pipe s ≡ Some c → is_some (holder_at locks x s) ≡ true → is_one_of (part_at local c.0) x ≡ true
-  pub ready : (s : ScopeId) (c : Vertex) (x : ℕ) → flight_at pipe s ≡ Some c → is_ready pipe s ≡ true → is_one_of (part_at local c.0) x ≡ true →
+  pub ready : locking ≡ true → (s : ScopeId) (c : Vertex) (x : ℕ) → flight_at pipe s ≡ Some c → is_ready pipe s ≡ true → is_one_of (part_at local c.0) x ≡ true →
       is_some (holder_at locks x s) ≡ true
   pub admitted : (s : ScopeId) (x : ℕ) → s.home.0 ≡ pipe.home.0 → is_some (holder_at locks x s) ≡ true → s.serial < pipe.serial
 
@@ -108,7 +108,7 @@ pub record IsOrderlyBut (moving : ScopeId → Bool) (m : Core) : Type 0 where
   pub graph : IsGraphInOrder m.numbers.local (length m.out.machines)
   pub numbers : AreNumbersInOrder m.numbers m.terms.base
   pub entered : (s : ScopeId) (e : EnteredView) → entered_at m.pipe s ≡ Some e → HasComeRight m.numbers.local m.pipe (length m.out.machines) (moving s) s e
-  pub locks : AreLocksInOrder m.numbers.local m.locks m.pipe moving
+  pub locks : AreLocksInOrder m.terms.locks m.numbers.local m.locks m.pipe moving
   pub flights : AreFlightsInOrder m.numbers m.pipe
   pub width : m.pipe.width ≡ m.terms.pipeline
 

@@ -6,12 +6,13 @@ use outboxes::Outboxes;
 use scope_pipe::ScopePipe;
 use vertex_locks::LockTable;
 
-/// What a machine goes by through a run: how many of its scopes may be in flight, and the number of the snapshot that the run
-/// began with.
+/// What a machine goes by through a run: how many of its scopes may be in flight, the number of the snapshot that the run
+/// began with, and whether scopes take locks; else vertices go by colours, and a scope is ready as soon as it is admitted.
 #[derive(Clone, Copy, Debug, PartialEq, Eq)]
 pub struct Terms {
     pub pipeline: u16,
     pub base: u32,
+    pub locks: bool,
 }
 
 /// The parts of a machine: its numbers, its own vertices in the order of their places there, the scopes that it admitted and those

@@ -10,7 +10,7 @@ use Rattle.gl_base.specs.declared.scopes.ScopeId.{ScopeId}
 use Rattle.cluster_core.specs.Effects.{admitted_by, in_flight, next_scope, sets_out}
 use Rattle.cluster_core.specs.Settings.{Engine}
 use Rattle.local_graph.specs.Locals.{LocalView, place_at}
-use Rattle.scope_pipe.specs.Pipes.{PipeView, HasAdmitted, flight_at, flight_count, next_id}
+use Rattle.scope_pipe.specs.Pipes.{PipeView, HasAdmitted, flight_at, flight_count, is_ready, next_id}
 use Rattle.task_sched.specs.Tasks.{TasksView, IsNextPick, is_flagged}
 use Rattle.task_sched.specs.declared.task_sets.Pick.{Pick}
 use Rattle.machine_numbers.specs.Views.{flag_there}
@@ -25,7 +25,7 @@ use Rattle.machine_scopes.specs.Asking.{IsNewAt}
 use Rattle.machine_scopes.specs.Inner.Picking.{CanTake, IsPutBack, IsUnplanned}
 use Rattle.machine_scopes.specs.Inner.Setting.{HasSetOut}
 use Rattle.machine_scopes.proofs.ComeLemmas.{new_room}
-use Rattle.machine_scopes.proofs.FlownLemmas.{admitted_is, numbers_picked, orderly_flown, outside_stays, part_flown, pending_stays, scope_is_new, task_stays, window_stays}
+use Rattle.machine_scopes.proofs.FlownLemmas.{admitted_is, numbers_picked, orderly_flown, outside_stays, part_flown, pending_stays, scope_is_new, scope_waits, task_stays, window_stays}
 use Rattle.machine_scopes.proofs.PickLemmas.{may_pick, pick_kind, pick_own, pick_room}
 
 -- ---- what stays of places
@@ -76,6 +76,9 @@ module _ (m : Core) (pick : Pick) (v : Vertex) (tasks : TasksView) (now : Core) 
 
   pub admit_new : (s : ScopeId) → s ≡ next_id m.pipe → IsNewAt flown s v
   admit_new s same = subst (λ (t : ScopeId). IsNewAt flown t v) (sym same) (new_room base flown (next_id m.pipe) v room_flown (scope_is_new m pick v pipe is knows can at new_here has_here rest_here))
+
+  pub admit_waits : (s : ScopeId) → s ≡ next_id m.pipe → is_ready flown.pipe s ≡ false
+  admit_waits s same = ap (is_ready pipe) same ∙ scope_waits m pick v pipe is knows can at new_here has_here rest_here
 
   pub admit_own : is_own flown.numbers.local v.0 ≡ true
   admit_own = ap (λ (n : Core). is_own n.numbers.local v.0) room.rest ∙ pick_own m pick v is knows can at

@@ -20,6 +20,7 @@ use Rattle.machine_parts.specs.Rooms.{HasOnlyMadeRoom}
 use Rattle.machine_parts.proofs.RoomLemmas.{part_room, settings_room}
 use Rattle.machine_scopes.specs.Asking.{IsNewAt, AreMachinesFor, CanBecomeReady, HasReceivedMessage}
 use Rattle.machine_scopes.specs.Inner.Going.{HasGoneOn}
+use Rattle.machine_scopes.proofs.FlownLemmas.{ready_flies}
 use Rattle.machine_scopes.proofs.HeldLemmas.{last_is, one_of, some_of}
 use Rattle.machine_scopes.proofs.KeepLemmas.{come_keeps, flights_keep}
 use Rattle.machine_scopes.proofs.MoveLemmas.{is_this, entered_here, entered_there, entered_is, home_same, flight_same, ready_same, flights_same, stands_keep}
@@ -29,6 +30,16 @@ none_is : {X : Type 0} (e : X) (o : Option X) → o ≡ None → o ≡ Some e �
 none_is e o none some = true≢false (sym (ap is_some some) ∙ ap is_some none)
 
 -- ---- a scope that comes
+
+-- it isn't ready where scopes take locks, since it holds none
+pub not_ready : (m : Core) (s : ScopeId) (v : Vertex) → IsNewAt m s v → m.terms.locks ≡ true → IsOrderly m → is_ready m.pipe s ≡ false
+not_ready m s v is_new takes is = ⊎_elim
+    (λ (yes : is_ready m.pipe s ≡ true).
+    let one = some_of (flight_at m.pipe s) (ready_flies m.pipe s yes) in
+    let own = is.flights.own s one.0 one.1 in
+    absurd (true≢false (sym (is.locks.ready takes s one.0 one.0.0 one.1 yes (is.graph.self one.0.0 own)) ∙ ap is_some (is_new.holds_not one.0.0))))
+    (λ (waits : is_ready m.pipe s ≡ false). waits)
+    (cases_Bool (is_ready m.pipe s))
 
 module _ (m : Core) (s : ScopeId) (v : Vertex) (part : List Vertex) (rest : List MachineNo) (pipe : PipeView) (is_new : IsNewAt m s v) (come : HasCome m.pipe pipe s (Some (comes s v part rest))) (kept : pipe ≡ record m.pipe { entered = pipe.entered }) where
   abbrev one : EnteredView
@@ -44,21 +55,8 @@ module _ (m : Core) (s : ScopeId) (v : Vertex) (part : List Vertex) (rest : List
       (λ (other : is_scope t s ≡ false). other)
       (one_or_two t s)
 
-  -- it isn't ready, since it holds no lock
-  pub not_ready : IsOrderly m → s.home.0 ≡ m.pipe.home.0 → is_ready m.pipe s ≡ false
-  not_ready is home = ⊎_elim
-      (λ (away : s.home.0 ≢ m.pipe.home.0). absurd (away home))
-      (λ (flies : flight_at m.pipe s ≡ Some v).
-      ⊎_elim
-      (λ (yes : is_ready m.pipe s ≡ true).
-      let own = is.flights.own s v flies in
-      absurd (true≢false (sym (is.locks.ready s v v.0 flies yes (is.graph.self v.0 own)) ∙ ap is_some (is_new.holds_not v.0))))
-      (λ (waits : is_ready m.pipe s ≡ false). waits)
-      (cases_Bool (is_ready m.pipe s)))
-      is_new.flight
-
-  pub orderly_come : IsOrderly m → AreMachinesFor m s rest → part ≡ part_at m.numbers.local v.0 → IsOrderlyBut (is_this s) (record m { pipe = pipe })
-  orderly_come is machines listed =
+  pub orderly_come : IsOrderly m → is_ready m.pipe s ≡ false → AreMachinesFor m s rest → part ≡ part_at m.numbers.local v.0 → IsOrderlyBut (is_this s) (record m { pipe = pipe })
+  orderly_come is not_ready machines listed =
       let home = home_same m.pipe pipe kept in
       let flight = flight_same m.pipe pipe kept in
       let ready = ready_same m.pipe pipe kept in
@@ -69,7 +67,7 @@ module _ (m : Core) (s : ScopeId) (v : Vertex) (part : List Vertex) (rest : List
         home = machines.home;
         stands = λ waits. absurd (true≢false (sym (same_scope s) ∙ waits));
         flight = λ at. flight s ∙ ⊎_elim (λ (away : s.home.0 ≢ m.pipe.home.0). absurd (away (at ∙ ap (λ (a : MachineNo). a.0) home))) (λ (flies : flight_at m.pipe s ≡ Some v). flies) is_new.flight;
-        waits = λ at. ready s ∙ not_ready is (at ∙ ap (λ (a : MachineNo). a.0) home);
+        waits = λ at. ready s ∙ not_ready;
       } in
       record {
         graph = is.graph;
@@ -95,7 +93,7 @@ module _ (m : Core) (s : ScopeId) (v : Vertex) (part : List Vertex) (rest : List
             | inr other ↦ is.locks.holds t f j z (sym (there t other) ∙ at) within ∙ sym (ap (λ (b : Bool). nat_lt j (got b f.place)) other)
           ];
           only = λ t c x flies holds. is.locks.only t c x (sym (flight t) ∙ flies) holds;
-          ready = λ t c x flies readied within. is.locks.ready t c x (sym (flight t) ∙ flies) (sym (ready t) ∙ readied) within;
+          ready = λ takes t c x flies readied within. is.locks.ready takes t c x (sym (flight t) ∙ flies) (sym (ready t) ∙ readied) within;
           admitted = λ t x at holds. subst (λ (k : ℕ). t.serial < k) (sym (ap (λ (p : PipeView). p.serial) kept)) (is.locks.admitted t x (at ∙ ap (λ (a : MachineNo). a.0) home) holds);
         };
         flights = flights_keep m.numbers m.pipe pipe (flights_same m.pipe pipe kept) is.flights;
@@ -134,7 +132,7 @@ new_room m now s v room is = subst (λ (n : Core). IsNewAt n s v) (sym room.rest
 -- ---- a scope that becomes ready
 
 pub orderly_readied : (m : Core) (pipe : PipeView) (s : ScopeId) (c : Vertex) → IsOrderly m → entered_at m.pipe s ≡ None → flight_at m.pipe s ≡ Some c
-    → ((x : ℕ) → is_one_of (part_at m.numbers.local c.0) x ≡ true → is_some (holder_at m.locks x s) ≡ true)
+    → (m.terms.locks ≡ true → (x : ℕ) → is_one_of (part_at m.numbers.local c.0) x ≡ true → is_some (holder_at m.locks x s) ≡ true)
     → HasReadied m.pipe pipe s → pipe ≡ record m.pipe { waiting = pipe.waiting; ready = pipe.ready } → IsOrderly (record m { pipe = pipe })
 orderly_readied m pipe s c is gone flies all readied kept =
     let home : pipe.home ≡ m.pipe.home = ap (λ (p : PipeView). p.home) kept in
@@ -154,11 +152,11 @@ orderly_readied m pipe s c is gone flies all readied kept =
             stands_keep m.pipe pipe nobody nobody x (get_or (queue_at m.locks x) k d) (same (get_or (queue_at m.locks x) k d).scope) refl (is.locks.queues x k d low);
         holds = λ t f j z at within. is.locks.holds t f j z (sym (same t) ∙ at) within;
         only = λ t d x flown holds. is.locks.only t d x (sym (readied.flight t) ∙ flown) holds;
-        ready = λ t d x flown yes within. elim (one_or_two t s) [
+        ready = λ takes t d x flown yes within. elim (one_or_two t s) [
           | inl one ↦
               let centre : c ≡ d = same_Some c d (sym flies ∙ ap (flight_at m.pipe) (sym one) ∙ sym (readied.flight t) ∙ flown) in
-              ap (λ (u : ScopeId). is_some (holder_at m.locks x u)) one ∙ all x (subst (λ (u : Vertex). is_one_of (part_at m.numbers.local u.0) x ≡ true) (sym centre) within)
-          | inr apart ↦ is.locks.ready t d x (sym (readied.flight t) ∙ flown) (sym (readied.ready t ∙ set_for-there (is_ready m.pipe) s t true apart) ∙ yes) within
+              ap (λ (u : ScopeId). is_some (holder_at m.locks x u)) one ∙ all takes x (subst (λ (u : Vertex). is_one_of (part_at m.numbers.local u.0) x ≡ true) (sym centre) within)
+          | inr apart ↦ is.locks.ready takes t d x (sym (readied.flight t) ∙ flown) (sym (readied.ready t ∙ set_for-there (is_ready m.pipe) s t true apart) ∙ yes) within
         ];
         admitted = λ t x at holds. subst (λ (k : ℕ). t.serial < k) (sym readied.serial) (is.locks.admitted t x (at ∙ ap (λ (a : MachineNo). a.0) home) holds);
       };

@@ -84,7 +84,7 @@ numbers_picked n new base many outside are = record {
 -- ---- scopes in flight
 
 -- a ready scope is in flight
-ready_flies : (p : PipeView) (s : ScopeId) → is_ready p s ≡ true → is_some (flight_at p s) ≡ true
+pub ready_flies : (p : PipeView) (s : ScopeId) → is_ready p s ≡ true → is_some (flight_at p s) ≡ true
 ready_flies p s = by (by_scope flight_scope p.waiting s) (by_scope flight_scope p.ready s)
   where
     by : (o q : Option Flight) → is_some q ≡ true → is_some (option_map (λ (f : Flight). f.centre) (either o q)) ≡ true
@@ -226,11 +226,11 @@ module _ (m : Core) (pick : Pick) (v : Vertex) (pipe : PipeView) (is : IsOrderly
         | inl new ↦ absurd (not_held x (ap (λ (u : ScopeId). is_some (holder_at m.locks x u)) (sym new.0) ∙ holds))
         | inr old ↦ is.locks.only t c x old holds
       ];
-      ready = λ t c x flies readied one.
+      ready = λ takes t c x flies readied one.
           let was = sym (has.ready t) ∙ readied in
           elim (flies_or t c flies) [
             | inl new ↦ absurd (true≢false (sym (ready_flies m.pipe t was) ∙ ap is_some (ap (flight_at m.pipe) new.0 ∙ is_new)))
-            | inr old ↦ is.locks.ready t c x old was one
+            | inr old ↦ is.locks.ready takes t c x old was one
           ];
       admitted = λ t x at_home holds. subst (λ (k : ℕ). t.serial < k) (sym has.serial) (let less = is.locks.admitted t x (at_home ∙ ap (λ (a : MachineNo). a.0) home) holds in omega arith);
     };
@@ -249,6 +249,14 @@ module _ (m : Core) (pick : Pick) (v : Vertex) (pipe : PipeView) (is : IsOrderly
       by : {X : Type 0} (o : Option X) → (is_some o ≡ true → ⊥) → o ≡ None
       by None nothing = refl
       by (Some x) nothing = absurd (nothing refl)
+
+  -- it isn't ready, since it was not in flight
+  pub scope_waits : is_ready pipe s ≡ false
+  scope_waits = has.ready s ∙ not_yet (is_ready m.pipe s) refl
+    where
+      not_yet : (b : Bool) → is_ready m.pipe s ≡ b → b ≡ false
+      not_yet true readied = absurd (true≢false (sym (ready_flies m.pipe s readied) ∙ ap is_some is_new))
+      not_yet false waits = refl
 
   -- as the cluster sees it
   pub part_flown : part_of (record m { numbers = n; pipe = pipe }) ≡ in_flight m.numbers.local.me.0 v.0 (part_of m)

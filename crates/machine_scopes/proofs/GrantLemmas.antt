@@ -137,7 +137,7 @@ module _ (m : Core) (x : ℕ) (c : Claim) (is : IsOrderly m) (first : IsNext (ho
                 (subst (λ (v : Vertex). is_one_of (part_at m.numbers.local v.0) x ≡ true) centre
                 (subst (λ (p : List Vertex). is_one_of p x ≡ true) was.part (one_of e.part i (record { 0 = x }) stands_before.2)))
           ];
-          ready = λ t d z flies readied one. holds_still m.locks locks x c taken z t (is.locks.ready t d z flies readied one);
+          ready = λ takes t d z flies readied one. holds_still m.locks locks x c taken z t (is.locks.ready takes t d z flies readied one);
           admitted = λ t z home holds. elim (held_or m.locks locks x c taken z t holds) [
             | inl held ↦ is.locks.admitted t z home held
             | inr one ↦

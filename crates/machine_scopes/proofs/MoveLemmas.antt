@@ -98,7 +98,7 @@ orderly_moved m pipe locks s o is come rest owned holder queues still =
               ap is_some (holder z.0 t) ∙ is.locks.holds t f j z (sym (there t other) ∙ at) part ∙ ap (λ (b : Bool). nat_lt j (got b f.place)) other
         ];
         only = λ t c x flies holds. is.locks.only t c x (sym (flight t) ∙ flies) (sym (ap is_some (holder x t)) ∙ holds);
-        ready = λ t c x flies readied one. ap is_some (holder x t) ∙ is.locks.ready t c x (sym (flight t) ∙ flies) (sym (ready t) ∙ readied) one;
+        ready = λ takes t c x flies readied one. ap is_some (holder x t) ∙ is.locks.ready takes t c x (sym (flight t) ∙ flies) (sym (ready t) ∙ readied) one;
         admitted = λ t x at holds. subst (λ (k : ℕ). t.serial < k) (sym (ap (λ (p : PipeView). p.serial) rest))
             (is.locks.admitted t x (at ∙ ap (λ (a : MachineNo). a.0) home) (sym (ap is_some (holder x t)) ∙ holds));
       };

@@ -6,7 +6,7 @@ pub use Rattle.machine_parts.specs.Parts.{part_of, pending_here}
 pub use Rattle.machine_parts.specs.Settings.{IsPartOf, SameSettings}
 pub use Rattle.scope_pipe.specs.Pipes.{come, next_id}
 pub use Rattle.task_sched.specs.Tasks.{TasksView, is_flagged, is_open, IsNextPick}
-use Rattle.std.specs.Prelude.{◌≡◌, ◌⊎◌, ℕ, ◌+◌, true, false, Some, if◌then◌else◌, drop, slice_get, slice_set}
+use Rattle.std.specs.Prelude.{◌≡◌, ◌⊎◌, ℕ, ◌+◌, ◌<◌, true, false, Some, if◌then◌else◌, drop, length, slice_get, slice_set}
 use Rattle.gl_base.specs.declared.numbers.Vertex.{Vertex}
 use Rattle.cluster_core.specs.Settings.{Setting}
 use Rattle.machine_parts.specs.declared.cores.Core.{Core}
@@ -31,6 +31,14 @@ pub record CanAdmitPick (m : Core) : Type 0 where
 abbrev pub MayAdmitNone : Core → Type 0
 MayAdmitNone m =
     (st : Setting) → IsPartOf st m → (v : ℕ) → (pending_here m.numbers v ≡ true) ⊎ (is_open m.numbers.tasks ≡ true) → MayAdmit st m.numbers.local.me.0 v (part_of m) → ⊥
+
+-- the vertex at the place that is picked is pending, or a task where the window has room, and not admitted
+pub record CanTake (t : TasksView) (pick : Pick) : Type 0 where
+  pub within : pick.vertex.0 < length t.task
+  pub free : is_flagged t.admitted pick.vertex.0 ≡ false
+  pub due : (is_flagged t.pending pick.vertex.0 ≡ true) ⊎ (is_flagged t.task pick.vertex.0 ≡ true)
+  pub kind : is_flagged t.pending pick.vertex.0 ≡ pick.snapshot
+  pub room : (is_flagged t.pending pick.vertex.0 ≡ true) ⊎ (is_open t ≡ true)
 
 -- the pick is admitted in the tasks
 abbrev pub with_pick : TasksView → Pick → TasksView

@@ -1,6 +1,6 @@
 //! Scopes that come to a machine.
-ghost use Rattle.std.specs.Prelude.{◌≡◌, ◌<◌, slice_get, IfErr, OnOk, OnErr};
-ghost use Rattle.machine_scopes.specs.Asking.{IsOrderly, SameSettings, HasOnlyMadeRoom, IsNewAt, AreMachinesFor, HasReceivedMessage, Ask, come, part_of, part_at, machine_numbers};
+ghost use Rattle.std.specs.Prelude.{◌≡◌, ◌<◌, true, false, slice_get, IfErr, OnOk, OnErr};
+ghost use Rattle.machine_scopes.specs.Asking.{IsOrderly, SameSettings, HasOnlyMadeRoom, IsNewAt, AreMachinesFor, HasReceivedMessage, Ask, come, part_of, part_at, machine_numbers, is_ready};
 ghost use Rattle.machine_scopes.specs.Inner.Going.{HasNextRoom, mode_at, next_at};
 
 use crate::going::{go_on, reserve_next};
@@ -10,7 +10,8 @@ use scope_pipe::Next;
 use std::alloc::Global;
 
 /// The scope of this centre has come, and has the machines `rest` still to come: it asks for its locks here, or goes on at once
-/// where there is none. Where there is not enough memory, or as many scopes have come as may, `rest` comes back.
+/// where there is none. Scopes take locks at the machine. Where there is not enough memory, or as many scopes have come as may,
+/// `rest` comes back.
 pub fn receive_ask(
     alloc: Global,
     core: &mut Core,
@@ -19,6 +20,7 @@ pub fn receive_ask(
     rest: Vec<MachineNo>,
 ) -> Result<(), Vec<MachineNo>>
     requires orderly { IsOrderly core.old }
+    requires locks { core.old.terms.locks ≡ true }
     requires is_new { IsNewAt core.old scope centre }
     requires machines { AreMachinesFor core.old scope rest.items }
     ensures orderly { IsOrderly core.new }
@@ -43,7 +45,7 @@ pub fn receive_ask(
     Ok(())
 }
 
-/// The scope comes, where there is room for what it wants first, and goes on.
+/// The scope, which isn't ready, comes, where there is room for what it wants first, and goes on.
 pub fn come_here(
     core: &mut Core,
     scope: ScopeId,
@@ -54,6 +56,7 @@ pub fn come_here(
 )
     requires orderly { IsOrderly core.old }
     requires is_new { IsNewAt core.old scope centre }
+    requires waits { is_ready core.old.pipe scope ≡ false }
     requires machines { AreMachinesFor core.old scope rest.items }
     requires few { come core.old.pipe < 4096 }
     requires part { part.items ≡ part_at core.old.numbers.local centre.0 }

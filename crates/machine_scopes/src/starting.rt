@@ -1,6 +1,6 @@
 //! How new scopes set out.
-ghost use Rattle.std.specs.Prelude.{◌≡◌, ◌<◌, ◌∷◌, ℕ, true, length, IfOk, OnOk};
-ghost use Rattle.machine_scopes.specs.Asking.{IsOrderly, SameSettings, HasOnlyMadeRoom, IsNewAt};
+ghost use Rattle.std.specs.Prelude.{◌≡◌, ◌<◌, ◌∷◌, ℕ, true, false, length, IfOk, OnOk};
+ghost use Rattle.machine_scopes.specs.Asking.{IsOrderly, SameSettings, HasOnlyMadeRoom, IsNewAt, is_ready};
 ghost use Rattle.machine_scopes.specs.Inner.Setting.{IsGraphInOrder, CanSetOut, HasSetOut, is_own, is_owned, parts_at};
 
 use crate::asking::{come_here, wants_first};
@@ -80,10 +80,11 @@ fn prepare_here(
     Ok(Start::Here { part, rest, next })
 }
 
-/// A new scope of v sets out.
+/// A new scope of v, which isn't ready, sets out.
 pub fn set_out(core: &mut Core, scope: ScopeId, v: Vertex, start: Start)
     requires orderly { IsOrderly core.old }
     requires is_new { IsNewAt core.old scope v }
+    requires waits { is_ready core.old.pipe scope ≡ false }
     requires own { is_own core.old.numbers.local v.0 ≡ true }
     requires home { scope.home.0 < length core.old.out.machines }
     requires can { CanSetOut core.old scope v start }

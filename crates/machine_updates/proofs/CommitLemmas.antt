@@ -28,7 +28,7 @@ use Rattle.machine_parts.specs.Parts.{LocalView, Part, PipeView, place_at, is_ow
 use Rattle.machine_parts.specs.Order.{IsOrderly}
 use Rattle.machine_parts.specs.Settings.{Setting, IsLocalOf, IsPartOf}
 use Rattle.machine_updates.specs.declared.reserving.Prepared.{Prepared}
-use Rattle.machine_updates.specs.Works.{IsOut, HasItsRow}
+use Rattle.machine_updates.specs.Works.{IsOut}
 use Rattle.machine_updates.specs.Reserving.{IsReserved, is_to_be_told}
 use Rattle.machine_updates.specs.Committing.{done_told, after_told, entry_logged, HasCommitted}
 use Rattle.machine_updates.specs.Telling.{HasWord}

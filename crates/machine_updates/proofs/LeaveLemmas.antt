@@ -1,6 +1,7 @@
 -- A scope that is over: what else is in order stays so.
 use Rattle.std.proofs.Common.{◌≡◌, ℕ, zero, suc, ◌<◌, ◌==◌, Bool, true, false, true≢false, if◌then◌else◌, Option, Some, None, List, [], ◌∷◌, get_or, set, refl, sym, ap, ◌∙◌, subst, inl, inr, All, get_or-set_other}
-use Rattle.std.specs.Prelude.{is_some}
+use Rattle.std.specs.Prelude.{is_some, slice_get}
+use Rattle.std.proofs.lemmas.Option.{slice_get-get_or}
 use Rattle.std.proofs.lemmas.Bool.{eq-eqb, ne_eqb}
 use Rattle.gl_base.specs.declared.numbers.MachineNo.{MachineNo}
 use Rattle.gl_base.specs.declared.numbers.Vertex.{Vertex}
@@ -14,8 +15,9 @@ use Rattle.vertex_locks.specs.Locks.{LockView}
 use Rattle.update_api.specs.declared.links.Link.{Link}
 use Rattle.machine_numbers.specs.declared.keeping.Numbers.{Numbers}
 use Rattle.machine_numbers.specs.Views.{AreTasksOf}
+use Rattle.machine_parts.specs.declared.cores.Core.{Core}
 use Rattle.machine_parts.specs.Parts.{LocalView, PipeView, EnteredView, place_at, is_own, links_at, part_at, flag_there, admitted_here, flight_at, is_ready, entered_at, is_owned, holder_at, queue_at}
-use Rattle.machine_parts.specs.Order.{StandsAtLock, HasComeRight, AreLocksInOrder, AreFlightsInOrder, nobody, is_one_of}
+use Rattle.machine_parts.specs.Order.{StandsAtLock, HasComeRight, AreLocksInOrder, AreFlightsInOrder, IsOrderly, nobody, is_one_of}
 use Rattle.machine_updates.proofs.GraphLemmas.{SameGraph, place_kept, part_kept, me_kept}
 
 pub some_none : {X : Type 0} (x : X) → Some x ≡ None → ⊥
@@ -24,6 +26,12 @@ some_none x e = true≢false (ap is_some e)
 pub none_or : {X : Type 0} (o : Option X) → ((x : X) → o ≡ Some x → ⊥) → o ≡ None
 none_or None never = refl
 none_or (Some x) never = absurd (never x refl)
+
+-- the own vertices of a scope have locks here
+pub part_owned : (m : Core) (v : ℕ) (part : List Vertex) → IsOrderly m → part ≡ part_at m.numbers.local v → All (λ x. is_owned m.locks x.0 ≡ true) part
+part_owned m v part is listed = λ k d low.
+    let x = get_or part k d in
+    is.locks.owned x.0 ∙ is.graph.own v k x (ap (λ (p : List Vertex). slice_get p k) (sym listed) ∙ slice_get-get_or part k d low)
 
 -- the pipe without the scope
 pub record IsWithout (old new : PipeView) (s : ScopeId) : Type 0 where
@@ -84,9 +92,9 @@ module _ (old new : PipeView) (s : ScopeId) (w : IsWithout old new s) where
       }
 
   -- the locks, where those of the scope are released
-  pub locks_left : (local local_now : LocalView) (locks locks_now : List (Option LockView)) → SameGraph local local_now → entered_at old s ≡ None → ((x : ℕ) → is_owned locks_now x ≡ is_owned locks x)
-      → ((x : ℕ) (t : ScopeId) → holder_at locks_now x t ≡ set_for (holder_at locks x) s None t) → ((x : ℕ) → queue_at locks_now x ≡ queue_at locks x) → AreLocksInOrder local locks old nobody → AreLocksInOrder local_now locks_now new nobody
-  locks_left local local_now locks locks_now graph gone owned holder queue are =
+  pub locks_left : (locking : Bool) (local local_now : LocalView) (locks locks_now : List (Option LockView)) → SameGraph local local_now → entered_at old s ≡ None → ((x : ℕ) → is_owned locks_now x ≡ is_owned locks x)
+      → ((x : ℕ) (t : ScopeId) → holder_at locks_now x t ≡ set_for (holder_at locks x) s None t) → ((x : ℕ) → queue_at locks_now x ≡ queue_at locks x) → AreLocksInOrder locking local locks old nobody → AreLocksInOrder locking local_now locks_now new nobody
+  locks_left locking local local_now locks locks_now graph gone owned holder queue are =
       let kept : (x : ℕ) (t : ScopeId) → is_scope t s ≡ false → is_some (holder_at locks_now x t) ≡ is_some (holder_at locks x t) = λ x t other. ap is_some (holder x t ∙ set_for-there (holder_at locks x) s t None other) in
       let part : (v x : ℕ) → is_one_of (part_at local_now v) x ≡ is_one_of (part_at local v) x = λ v x. ap (λ (p : List Vertex). is_one_of p x) (part_kept local local_now graph v) in
       record {
@@ -96,9 +104,9 @@ module _ (old new : PipeView) (s : ScopeId) (w : IsWithout old new s) where
             let was = was_entered t e come in
             kept y.0 t (other_entered t e gone was) ∙ are.holds t e j y was gets;
         only = λ t c x flies holds. part c.0 x ∙ are.only t c x (was_flight t c flies) (sym (kept x t (other_flight t c flies)) ∙ holds);
-        ready = λ t c x flies ready mine.
+        ready = λ takes t c x flies ready mine.
             let other = other_flight t c flies in
-            kept x t other ∙ are.ready t c x (was_flight t c flies) (sym (kept_ready t other) ∙ ready) (sym (part c.0 x) ∙ mine);
+            kept x t other ∙ are.ready takes t c x (was_flight t c flies) (sym (kept_ready t other) ∙ ready) (sym (part c.0 x) ∙ mine);
         admitted = λ t x here holds.
             let other : is_scope t s ≡ false = elim (one_or_two t s) [
               | inl same ↦

@@ -19,7 +19,7 @@ use Rattle.outboxes.specs.Outboxes.{OutboxesView}
 use Rattle.machine_parts.specs.declared.cores.Core.{Core}
 use Rattle.machine_parts.specs.declared.cores.Terms.{Terms}
 use Rattle.machine_parts.specs.Parts.{LocalView, PipeView, is_own, links_at, sides_at, datum_here, entered_at}
-use Rattle.machine_parts.specs.Order.{IsOrderly, AreNumbersInOrder, HasComeRight, IsGraphInOrder, KnowsPlaces}
+use Rattle.machine_parts.specs.Order.{IsOrderly, AreLocksInOrder, AreNumbersInOrder, HasComeRight, IsGraphInOrder, KnowsPlaces, nobody}
 use Rattle.machine_parts.specs.Settings.{Setting, IsPartOf, IsLocalOf}
 use Rattle.machine_updates.specs.declared.reserving.Prepared.{Prepared}
 use Rattle.machine_updates.specs.Works.{IsOut, HasItsRow}
@@ -157,7 +157,8 @@ module _ (old new : Core) (o : Outcome) (ps : List Prepared) (ticket : ℕ) (ord
             let other = other_entered old.pipe new.pipe s without t e gone was in
             come_kept old.pipe new.pipe s without old.numbers.local new.numbers.local (length new.out.machines) t e graph other
             (subst (λ (n : ℕ). HasComeRight old.numbers.local old.pipe n false t e) (sym boxes) (order.entered t e was));
-        locks = locks_left old.pipe new.pipe s without old.numbers.local new.numbers.local old.locks new.locks graph gone done.owned done.holder done.queue order.locks;
+        locks = subst (λ (t : Terms). AreLocksInOrder t.locks new.numbers.local new.locks new.pipe nobody) (sym done.terms)
+            (locks_left old.pipe new.pipe s without old.terms.locks old.numbers.local new.numbers.local old.locks new.locks graph gone done.owned done.holder done.queue order.locks);
         flights = flights_left old.numbers new.numbers old.pipe new.pipe s v at.0 o.work.row.links.items graph without out.flight order.numbers.tasks at.1 (ap (λ (t : TasksView). t.admitted) run.rest) done.back order.flights;
         width = ap (λ (p : PipeView). p.width) done.pipe ∙ order.width ∙ ap (λ (t : Terms). t.pipeline) (sym done.terms);
       }

@@ -1,5 +1,5 @@
 -- What word of an update elsewhere leaves is what the cluster's effect makes of the machine's part.
-use Rattle.std.proofs.Common.{◌≡◌, ℕ, ◌≤◌, ◌==◌, ◌||◌, Bool, true, false, true≢false, if◌then◌else◌, Option, Some, None, List, length, max, refl, sym, ap, ◌∙◌, subst, arith, inl, inr}
+use Rattle.std.proofs.Common.{◌≡◌, ℕ, ◌≤◌, ◌==◌, ◌||◌, Bool, true, false, true≢false, if◌then◌else◌, Option, None, List, length, max, refl, sym, ap, ◌∙◌, subst, arith, inl, inr}
 use Rattle.std.specs.Prelude.{is_some, nat_lt}
 use Rattle.std.specs.List.{list_any}
 use Rattle.std.proofs.Math.Nat.{max-zero}
@@ -169,7 +169,7 @@ module _ (old new : Core) (done : Done) (order : IsOrderly old) (can : CanLearn 
         graph = graph_kept o l graph (length old.out.machines) order.graph;
         numbers = numbers_kept;
         entered = λ t e come. come_kept old.pipe old.pipe done.scope without o l (length old.out.machines) t e graph (other_entered old.pipe old.pipe done.scope without t e can.gone come) (order.entered t e come);
-        locks = locks_left old.pipe old.pipe done.scope without o l old.locks new.locks graph can.gone heard.owned heard.holder heard.queue order.locks;
+        locks = locks_left old.pipe old.pipe done.scope without old.terms.locks o l old.locks new.locks graph can.gone heard.owned heard.holder heard.queue order.locks;
         flights = flights_stay old.numbers new.numbers old.pipe graph (ap (λ (t : TasksView). t.admitted) heard.tasks)
             (λ v mine out. order.flights.rows v (sym (graph.own v.0) ∙ mine) (sym (ap is_some (row_same v.0)) ∙ out)) order.flights;
         width = order.width;

@@ -1,17 +1,15 @@
 -- The machine after a commit as one equation of its lists.
-use Rattle.std.proofs.Common.{◌≡◌, ℕ, ◌+◌, ◌-◌, ◌<◌, true, false, true≢false, Bool, Option, Some, None, is_some, List, length, slice_index, map, refl, sym, ap, ◌∙◌, arith}
+use Rattle.std.proofs.Common.{◌≡◌, ℕ, ◌+◌, ◌-◌, ◌<◌, true, false, true≢false, Option, Some, None, is_some, List, length, map, refl, sym, ap, ◌∙◌, arith}
 use Rattle.std.specs.Prelude.{slice_set}
 use Rattle.std.specs.List.{range_with_len}
 use Rattle.std.proofs.lemmas.List.{get_or_default, same_lists}
 use Rattle.std.proofs.lemmas.List.FromFn.{get_or-map-range_with_len, length-map-range_with_len}
 use Rattle.gl_base.specs.declared.entries.Entry.{Entry}
-use Rattle.scope_pipe.specs.Pipes.{PipeView, without_flight}
-use Rattle.vertex_locks.specs.Locks.{LockView}
+use Rattle.scope_pipe.specs.Pipes.{without_flight}
 use Rattle.local_graph.specs.declared.works.Outcome.{Outcome}
 use Rattle.local_graph.specs.Locals.{LocalView, got_at, is_own, place_at, set_where, written}
-use Rattle.outboxes.specs.Outboxes.{OutboxesView}
 use Rattle.machine_numbers.specs.declared.keeping.Numbers.{Numbers}
-use Rattle.machine_numbers.specs.Views.{TasksView, edge_here, sides_at}
+use Rattle.machine_numbers.specs.Views.{edge_here, sides_at}
 use Rattle.machine_numbers.specs.Steps.{HasRun, HasUpdated, HasWritten}
 use Rattle.machine_parts.specs.declared.cores.Core.{Core}
 use Rattle.machine_parts.specs.Parts.{part_at}

@@ -22,7 +22,6 @@ use Rattle.cluster_core.proofs.Nearness.{near_within}
 use Rattle.cluster_core.proofs.Nearness as near
 use Rattle.local_parts.specs.Parts.{is_ghost_of, own_in_scope}
 use Rattle.local_parts.proofs.FoundLemmas.{any_mapped}
-use Rattle.local_parts.proofs.LocalLemmas.{same_truth}
 use Rattle.local_parts.proofs.NearLemmas.{neighbour_passes}
 use Rattle.lock_release.proofs.ReleaseLemmas.{owned_where}
 use Rattle.scope_pipe.specs.Entered.{EnteredView}
@@ -33,7 +32,7 @@ use Rattle.machine_parts.specs.Parts.{LocalView, Stand, is_own, part_at, part_of
 use Rattle.machine_parts.specs.Order.{IsOrderly, is_one_of}
 use Rattle.machine_parts.specs.Settings.{Setting, IsLocalOf, IsPartOf}
 use Rattle.machine_updates.specs.Learning.{CanLearn}
-use Rattle.machine_updates.proofs.ToldLemmas.{any_passes, passes_any, found_one}
+use Rattle.machine_updates.proofs.ToldLemmas.{passes_any, found_one}
 
 -- ---- lists
 
@@ -118,25 +117,20 @@ module _ (st : Setting) (p : ℕ) (m : Core) (done : Done) (setting : IsSetting 
   not_own : is_own m.numbers.local done.centre.0 ≡ false
   not_own = false_from_ne_true (is_own m.numbers.local done.centre.0) (λ own. elsewhere (own_in done.centre.0 own).1)
 
-  -- the scope holds just its own locks here
-  holds : ((x : ℕ) → st.owner x ≡ m.numbers.local.me.0 → is_in_scope st done.centre.0 x ≡ false → (part_of m).holder x done.scope ≡ None)
-      → (x : ℕ) → is_some (holder_at m.locks x done.scope) ≡ is_one_of (part_at m.numbers.local done.centre.0) x
-  holds others x =
+  -- the scope holds no lock here but its own
+  only : ((x : ℕ) → st.owner x ≡ m.numbers.local.me.0 → is_in_scope st done.centre.0 x ≡ false → (part_of m).holder x done.scope ≡ None)
+      → (x : ℕ) → is_some (holder_at m.locks x done.scope) ≡ true → is_one_of (part_at m.numbers.local done.centre.0) x ≡ true
+  only others x held =
       let a = m.numbers.local.me.0 in
       let c = done.centre.0 in
       let test : ℕ → Bool = λ y. is_in_scope st c y && st.owner y == a in
       let listed : is_one_of (part_at m.numbers.local c) x ≡ list_any (λ k. k == x) (own_in_scope st c a) =
       sym (any_mapped (λ (k : ℕ). k == x) (λ (v : Vertex). v.0) (part_at m.numbers.local c)) ∙ ap (λ (ks : List ℕ). list_any (λ k. k == x) ks) (part.local.part c home.vertex) in
-      same_truth (is_some (holder_at m.locks x done.scope)) (is_one_of (part_at m.numbers.local c) x)
-      (λ held.
       let own = own_in x (sym (order.locks.owned x) ∙ owned_where m.locks x done.scope held) in
       elim (cases_Bool (is_in_scope st c x)) [
         | inl inside ↦ listed ∙ passes_any test 0 (size st.graph) x (omega arith) (omega arith) (and_from (is_in_scope st c x) (st.owner x == a) inside (eq-eqb (st.owner x) a own.1))
         | inr outside ↦ absurd (true≢false (sym held ∙ ap is_some (others x own.1 outside)))
-      ])
-      (λ one.
-      let both = and_parts (is_in_scope st c x) (st.owner x == a) (any_passes test 0 (size st.graph) x (sym listed ∙ one)) in
-      ap is_some (may.locks x both.0 (eqb-true (st.owner x) a both.1)))
+      ]
 
   pub done_can_be_learned : (part_of m).stand done.scope ≡ None → ((x : ℕ) → st.owner x ≡ m.numbers.local.me.0 → is_in_scope st done.centre.0 x ≡ false → (part_of m).holder x done.scope ≡ None)
       → ((u : ℕ) → is_named done.wakes.items u ≡ true → is_near st done.centre.0 u ≡ true) → ((u : ℕ) → is_named done.pends.items u ≡ false) → done.number ≡ 0 → CanLearn m done
@@ -144,7 +138,7 @@ module _ (st : Setting) (p : ℕ) (m : Core) (done : Done) (setting : IsSetting 
       record {
         away = away;
         gone = come_none m done.scope order (entered_at m.pipe done.scope) refl stand;
-        holds = holds others;
+        only = only others;
         ghost = ghost_known st m.numbers.local done.centre.0 setting part.local elsewhere home.vertex may.part_of;
         not_own = not_own;
         edges = λ k d low. edge_known st m.numbers.local done.centre.0 setting part.local elsewhere (get_or done.edges.items k d).0.0 (may.edges (get_or done.edges.items k d).0.0 (told_some done.edges.items k d low));

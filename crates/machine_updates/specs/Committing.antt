@@ -1,5 +1,5 @@
 -- What a commit asks and leaves.
-pub use Rattle.lock_release.specs.Released.{room_at, times_in, released_all}
+pub use Rattle.lock_release.specs.Released.{released_all}
 use Rattle.std.specs.Prelude.{◌≡◌, ℕ, ◌+◌, ◌-◌, false, Option, Some, None, List, [], ◌∷◌, length, map}
 use Rattle.std.specs.List.{range_with_len}
 use Rattle.gl_base.specs.declared.entries.Entry.{Entry}

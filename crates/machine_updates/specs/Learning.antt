@@ -12,12 +12,12 @@ use Rattle.machine_parts.specs.Parts.{is_own, part_at, entered_at, holder_at, pa
 use Rattle.machine_parts.specs.Order.{is_one_of}
 use Rattle.machine_parts.specs.Settings.{Setting, IsPartOf}
 
--- The update is of a ghost, by a scope of another machine that is here no more and holds just the locks of its own vertices here;
+-- The update is of a ghost, by a scope of another machine that is here no more and holds no lock but of its own vertices here;
 -- the edges are here, the vertices that it wakes are own ones, and it tells of no snapshot.
 pub record CanLearn (m : Core) (done : Done) : Type 0 where
   pub away : done.scope.home.0 ≢ m.pipe.home.0
   pub gone : entered_at m.pipe done.scope ≡ None
-  pub holds : (x : ℕ) → is_some (holder_at m.locks x done.scope) ≡ is_one_of (part_at m.numbers.local done.centre.0) x
+  pub only : (x : ℕ) → is_some (holder_at m.locks x done.scope) ≡ true → is_one_of (part_at m.numbers.local done.centre.0) x ≡ true
   pub ghost : list_any (λ g. g.vertex.0 == done.centre.0) m.numbers.local.ghosts ≡ true
   pub not_own : is_own m.numbers.local done.centre.0 ≡ false
   pub edges : All (λ e. HasEdge m.numbers.local e.0.0) done.edges.items

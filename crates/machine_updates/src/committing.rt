@@ -1,14 +1,14 @@
 //! Commits.
-ghost use Rattle.std.specs.Prelude.{◌≡◌, ℕ, ◌+◌, ◌==◌, Some, length, if◌then◌else◌};
+ghost use Rattle.std.specs.Prelude.{◌≡◌, ℕ, ◌==◌, Some, length, if◌then◌else◌};
 ghost use Rattle.local_graph.specs.declared.works.Work.{Work};
 ghost use Rattle.scope_pipe.specs.Pipes.{HasFinished};
 ghost use Rattle.machine_numbers.specs.Steps.{HasRun, HasUpdated};
-ghost use Rattle.machine_parts.specs.Parts.{place_at, is_own, links_at, sides_at, part_at};
+ghost use Rattle.machine_parts.specs.Parts.{place_at, is_own, links_at, sides_at};
 ghost use Rattle.machine_parts.specs.Order.{IsOrderly, KnowsPlaces};
 ghost use Rattle.machine_parts.specs.Settings.{Setting, IsPartOf};
 ghost use Rattle.machine_updates.specs.Works.{IsOut, IsApartFrom, HasItsRow};
 ghost use Rattle.machine_updates.specs.Reserving.{IsReserved};
-ghost use Rattle.machine_updates.specs.Committing.{HasNoLock, room_at, times_in, HasCommitted, done_told, after_told, entry_logged, machine_left, with_log_of};
+ghost use Rattle.machine_updates.specs.Committing.{HasNoLock, HasCommitted, done_told, after_told, entry_logged, machine_left, with_log_of};
 
 use crate::reserving::Prepared;
 use crate::telling::tell_all;
@@ -30,7 +30,6 @@ pub fn commit(core: &mut Core, outcome: Outcome, prepared: Vec<Prepared>, ticket
     ensures numbers { HasUpdated core.old.numbers core.new.numbers outcome (entry_logged outcome ticket) }
     ensures finished { HasFinished core.old.pipe core.new.pipe outcome.work.scope }
     ensures released { HasNoLock core.old.locks core.new.locks outcome.work.scope }
-    ensures room { (x : ℕ) → room_at core.new.locks x ≡ room_at core.old.locks x + times_in (part_at core.old.numbers.local outcome.work.vertex.0) x }
     ensures told { core.new.out ≡ after_told (done_told core.old.numbers outcome) prepared.items core.old.out }
     ensures rows { (x : ℕ) → links_at core.new.numbers.local x ≡ (if x == outcome.work.vertex.0 then Some outcome.work.row.links.items else links_at core.old.numbers.local x) }
     ensures others { (w : Work) → IsOut core.old w → IsApartFrom core.old outcome.work.vertex.0 w → IsOut core.new w }

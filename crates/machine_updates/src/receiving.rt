@@ -1,11 +1,10 @@
 //! Word of updates elsewhere.
-ghost use Rattle.std.specs.Prelude.{◌≡◌, ℕ, ◌+◌, length};
+ghost use Rattle.std.specs.Prelude.{◌≡◌, length};
 ghost use Rattle.machine_numbers.specs.Views.{news_of};
 ghost use Rattle.machine_numbers.specs.Steps.{HasLearned};
-ghost use Rattle.machine_parts.specs.Parts.{part_at};
 ghost use Rattle.machine_parts.specs.Order.{IsOrderly, KnowsPlaces};
 ghost use Rattle.machine_parts.specs.Settings.{SameSettings};
-ghost use Rattle.machine_updates.specs.Committing.{HasNoLock, room_at, times_in};
+ghost use Rattle.machine_updates.specs.Committing.{HasNoLock};
 ghost use Rattle.machine_updates.specs.Learning.{CanLearn, HasReceivedDone};
 
 use lock_release::release_all;
@@ -13,7 +12,7 @@ use machine_parts::Core;
 use wire_msgs::Done;
 
 /// Word of an update elsewhere has come: its numbers are kept, the vertices that it wakes are tasks, and its scope's locks here
-/// are released. It takes no memory.
+/// are released, where it holds any. It takes no memory.
 pub fn receive_done(core: &mut Core, done: &Done)
     requires orderly { IsOrderly core.old }
     requires can { CanLearn core.old done.now }
@@ -23,7 +22,6 @@ pub fn receive_done(core: &mut Core, done: &Done)
     ensures settings { SameSettings core.old core.new }
     ensures learned { HasLearned core.old.numbers core.new.numbers (news_of done.now) }
     ensures released { HasNoLock core.old.locks core.new.locks done.now.scope }
-    ensures room { (x : ℕ) → room_at core.new.locks x ≡ room_at core.old.locks x + times_in (part_at core.old.numbers.local done.now.centre.0) x }
     ensures tasks { core.new.numbers.tasks ≡ record core.old.numbers.tasks { task = core.new.numbers.tasks.task } }
     ensures edges { length core.new.numbers.local.numbers ≡ length core.old.numbers.local.numbers }
     ensures local { core.new.numbers.local ≡ record core.old.numbers.local { numbers = core.new.numbers.local.numbers } }

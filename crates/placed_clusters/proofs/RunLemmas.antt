@@ -64,13 +64,14 @@ some_run g program of owner base run graph each atoms below for =
     (run_setting g program (placed_owner of owner) base run, is_run g program (placed_owner of owner) base run graph (owner_low g run.machines of owner each atoms below) for)
 
 pub goes_by : (g : DataGraph) (program : Update) (owner : ℕ → ℕ) (base : Base) (run : Run) (st : Setting) (n : ℕ) → n ≡ size g → IsRunOf g program owner base run st →
-    GoesBy st None (record { terms = record { pipeline = run.pipeline; base = base.number }; machines = run.machines; vertices = n; serial = 0 })
+    GoesBy st None (record { terms = record { pipeline = run.pipeline; base = base.number; locks = true }; machines = run.machines; vertices = n; serial = 0 })
 goes_by g program owner base run st n many is =
     record {
       is = is.is;
       machines = is.placed.machines;
       vertices = ap size is.placed.graph ∙ sym many;
       engine = is.engine;
+      locks = refl;
       pipeline = is.pipeline;
       window_is = ap (λ (b : Bool). if b then Some st.window else None) is.stored;
       base = is.begins.number;

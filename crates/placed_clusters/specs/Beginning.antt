@@ -3,7 +3,7 @@ pub use Rattle.cluster_step.specs.Starts.{IsSetting, IsStartPart, Setting}
 pub use Rattle.machine_core.specs.Machines.{IsPartOf, part_of}
 pub use Rattle.placed_graphs.specs.Beginnings.{BeginsWith}
 pub use Rattle.placed_graphs.specs.Placed.{AreIn, AreUnsetParts, IsUnsetPart, LocalView}
-use Rattle.std.specs.Prelude.{◌≡◌, ℕ, ◌<◌, List, None, Option, length, slice_index_or}
+use Rattle.std.specs.Prelude.{◌≡◌, ℕ, ◌<◌, true, List, None, Option, length, slice_index_or}
 use Rattle.cluster_core.specs.Settings.{Locking}
 use Rattle.gl_base.specs.declared.snapshots.Base.{Base}
 use Rattle.graph_core.specs.DataGraph.{size}
@@ -18,6 +18,7 @@ pub record GoesBy (st : Setting) (window : Option ℕ) (terms : NewTerms) : Type
   pub machines : st.machines ≡ terms.machines
   pub vertices : size st.graph ≡ terms.vertices
   pub engine : st.engine ≡ Locking
+  pub locks : terms.terms.locks ≡ true
   pub pipeline : st.pipeline ≡ terms.terms.pipeline
   pub window_is : window_of st ≡ window
   pub base : st.base ≡ terms.terms.base

@@ -107,6 +107,7 @@ fn terms_of(graph: &Graph, base: &Base, run: Run) -> NewTerms
         terms: Terms {
             pipeline: run.pipeline,
             base: base.number,
+            locks: true,
         },
         machines: run.machines,
         vertices: graph.n(),

@@ -34,7 +34,8 @@ attempt_begins g program owner run base serials next left store_end graph low fo
   view = base_seen base;
   before = cluster_behind (run_setting g program owner run base) serials next left store_end;
   runs = record {
-    setting = record { is = record { graph = graph; owner = low }; locks = refl; stored = refl };
+    setting = record { is = record { graph = graph; owner = low }; coloured = tt; stored = refl };
+    locks = refl;
     placed = record { graph = refl; machines = refl; owners = λ v inside. refl };
     program_is = refl;
     pipeline = refl;

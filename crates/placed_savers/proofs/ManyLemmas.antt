@@ -13,7 +13,7 @@ with_serial terms s = record terms { serial = s }
 
 goes_with : (st : Setting) (window : Option ℕ) (terms : NewTerms) (s : ℕ) → GoesBy st window terms → GoesBy st window (with_serial terms s)
 goes_with st window terms s goes =
-    record { is = goes.is; machines = goes.machines; vertices = goes.vertices; engine = goes.engine; pipeline = goes.pipeline; window_is = goes.window_is; base = goes.base }
+    record { is = goes.is; machines = goes.machines; vertices = goes.vertices; engine = goes.engine; locks = goes.locks; pipeline = goes.pipeline; window_is = goes.window_is; base = goes.base }
 
 saves_with : (st : Setting) (program : Update) (window : ℕ) (terms : NewTerms) (s : ℕ) → SavesBy st program window terms → SavesBy st program window (with_serial terms s)
 saves_with st program window terms s saves = record { goes = goes_with st (Some window) terms s saves.goes; window_is = saves.window_is; program_is = saves.program_is }

@@ -53,13 +53,14 @@ some_run g program of owner run base graph each atoms below for =
     (run_setting g program (placed_owner of owner) run base, is_run g program (placed_owner of owner) run base graph (owner_low g run.machines of owner each atoms below) for)
 
 pub goes_by : (g : DataGraph) (program : Update) (owner : ℕ → ℕ) (run : SavingRun) (base : Base) (st : Setting) (n : ℕ) → n ≡ size g → IsRunFrom g program owner run base st →
-    GoesBy st (Some run.window) (record { terms = record { pipeline = run.pipeline; base = base.number }; machines = run.machines; vertices = n; serial = 0 })
+    GoesBy st (Some run.window) (record { terms = record { pipeline = run.pipeline; base = base.number; locks = true }; machines = run.machines; vertices = n; serial = 0 })
 goes_by g program owner run base st n many is =
     record {
       is = is.is;
       machines = is.placed.machines;
       vertices = ap size is.placed.graph ∙ sym many;
       engine = is.engine;
+      locks = refl;
       pipeline = is.pipeline;
       window_is = ap (λ (b : Bool). if b then Some st.window else None) is.stored ∙ ap (λ (k : ℕ). Some k) is.window;
       base = is.begins.number;
@@ -82,7 +83,7 @@ module _ (g : DataGraph) (program : Update) (owner : ℕ → ℕ) (run : SavingR
     is = record { graph = runs.setting.is.graph; owner = runs.setting.is.owner };
     placed = placed_on;
     program_is = runs.program_is;
-    engine = runs.setting.locks;
+    engine = runs.locks;
     pipeline = runs.pipeline;
     stored = runs.setting.stored;
     window = runs.window;

@@ -6,6 +6,7 @@ pub use Rattle.snap_members.specs.Going.{IsSnapSetting}
 pub use Rattle.snap_savers.specs.Savers.{IsSaverOf, SaverView, Setting}
 use Rattle.std.specs.Prelude.{All, List, length, slice_index, slice_index_or, ℕ, ◌<◌, ◌≡◌}
 use Rattle.cluster_core.specs.Recovering.{going_on}
+use Rattle.cluster_core.specs.Settings.{Locking}
 use Rattle.cluster_model.specs.Events.{recovers}
 use Rattle.gl_base.specs.declared.snapshots.Base.{Base}
 use Rattle.graph_core.specs.DataGraph.{DataGraph, size}
@@ -18,6 +19,7 @@ use Rattle.placed_savers.specs.declared.savers.SavingRun.{SavingRun}
 -- flight; snapshots are taken, with this window.
 pub record IsSavingRunOf (g : DataGraph) (program : Update) (owner : ℕ → ℕ) (run : SavingRun) (st : Setting) : Type 0 where
   pub setting : IsSnapSetting st
+  pub locks : st.engine ≡ Locking
   pub placed : IsOwnedBy g run.machines owner st
   pub program_is : st.program ≡ program
   pub pipeline : st.pipeline ≡ run.pipeline

@@ -68,6 +68,7 @@ fn terms_of(graph: &Graph, base: &Base, run: SavingRun) -> NewTerms
         terms: Terms {
             pipeline: run.pipeline,
             base: base.number,
+            locks: true,
         },
         machines: run.machines,
         vertices: graph.n(),

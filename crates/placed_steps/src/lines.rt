@@ -19,11 +19,7 @@ pub fn full_lines(
     ensures all { IfOk result (λ l. (u : ℕ) → is_in_line l u ≡ nat_lt u (length vertices.now)) }
 {
     let by_place = colours_of(alloc, vertices, colours)?;
-    let mut lines = ColorLines::new(alloc, &by_place)?;
-    for place in 0..vertices.len() {
-        lines.add(Vertex(place as u32));
-    }
-    Ok(lines)
+    ColorLines::full(alloc, &by_place)
 }
 
 /// The colours of these vertices.

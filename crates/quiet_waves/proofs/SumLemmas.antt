@@ -6,7 +6,7 @@ use Rattle.std.proofs.lemmas.List.Sums.{sum_by-le}
 use Rattle.gl_base.specs.declared.scopes.Counted.{Counted}
 use Rattle.quiet_waves.specs.declared.answering.Sums.{Sums}
 use Rattle.quiet_waves.specs.Inner.Sums.{AreSums, restless_of}
-use Rattle.quiet_waves.specs.Waves.{TwoWaves, IsIdleAnswer, ShowTheEnd}
+use Rattle.quiet_waves.specs.Waves.{AreEvenWaves, IsIdleAnswer, ShowTheEnd, TwoWaves}
 
 -- who answered that it is idle is not restless
 not_restless : (count : Option Counted) → IsIdleAnswer count → restless_of count ≤ 0
@@ -22,22 +22,12 @@ none_restless counts idle =
     let le : sum_by restless_of counts ≤ length counts * 0 = sum_by-le restless_of 0 counts (λ k d below. not_restless _ (idle k d below)) in
     omega arith
 
--- what the sums are where two waves show the end
-pub record AreQuiet (before wave : Sums) : Type 0 where
-  pub idle_before : before.restless ≡ 0
-  pub idle : wave.restless ≡ 0
-  pub even : before.received ≡ before.sent
-  pub sent : wave.sent ≡ before.sent
-  pub received : wave.received ≡ before.sent
+-- nor do the sums say that somebody is
+pub no_restless : (counts : List (Option Counted)) (sums : Sums) → AreSums counts sums → All IsIdleAnswer counts → sums.restless ≡ 0
+no_restless counts sums are idle =
+    let none : sum_by restless_of counts ≡ 0 = none_restless counts idle in
+    omega arith
 
-pub quiet_sums : (w : TwoWaves) (before wave : Sums) → AreSums w.before before → AreSums w.wave wave → ShowTheEnd w → AreQuiet before wave
-quiet_sums w before wave sums_before sums shown =
-    let rest_before : sum_by restless_of w.before ≡ 0 = none_restless w.before shown.idle_before in
-    let rest : sum_by restless_of w.wave ≡ 0 = none_restless w.wave shown.idle in
-    record {
-      idle_before = omega arith;
-      idle = omega arith;
-      even = omega arith;
-      sent = omega arith;
-      received = omega arith;
-    }
+-- where two waves show the end they are even
+pub even_shown : (w : TwoWaves) → ShowTheEnd w → AreEvenWaves w
+even_shown w shown = record { received_before = shown.received_before; sent = shown.sent; received = shown.received }

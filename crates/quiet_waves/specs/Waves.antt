@@ -7,3 +7,9 @@ use Rattle.std.specs.Prelude.{◌≡◌, ℕ, ◌<◌, None, length, slice_index
 pub record MayAnswer (w : TwoWaves) (m : ℕ) : Type 0 where
   pub machine : m < length w.wave
   pub missing : slice_index_or (turned w).wave m None ≡ None
+
+-- In both waves as many messages had been sent, and as many received: the same number.
+pub record AreEvenWaves (w : TwoWaves) : Type 0 where
+  pub received_before : total_received w.before ≡ total_sent w.before
+  pub sent : total_sent w.wave ≡ total_sent w.before
+  pub received : total_received w.wave ≡ total_sent w.before

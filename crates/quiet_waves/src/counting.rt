@@ -1,6 +1,6 @@
 //! The last two waves, and whether they show the end.
-ghost use Rattle.std.specs.Prelude.{◌≡◌, ◌↔◌, true, sum_by, IfOk};
-ghost use Rattle.quiet_waves.specs.Waves.{MayAnswer, ShowTheEnd, all_answered, answered, no_waves, turned, updates_told};
+ghost use Rattle.std.specs.Prelude.{◌≡◌, ◌↔◌, true, sum_by, IfOk, IsTrue};
+ghost use Rattle.quiet_waves.specs.Waves.{AreEvenWaves, MayAnswer, ShowTheEnd, all_answered, answered, no_waves, turned, updates_told};
 
 use crate::answering::Answers;
 use gl_base::{Counted, MachineNo, NoMemory};
@@ -76,16 +76,24 @@ impl Waves {
     pub fn verdict(&self) -> Verdict
         ensures { (result ≡ Verdict.Quiet) ↔ ShowTheEnd self.now }
     {
-        let before = self.before.sums();
-        let wave = self.wave.sums();
-        let idle = before.restless == 0 && wave.restless == 0;
-        let even = before.received == before.sent;
-        let same = wave.sent == before.sent && wave.received == before.sent;
-        if idle && even && same {
+        let restless_before = self.before.sums().restless;
+        let restless = self.wave.sums().restless;
+        if restless_before == 0 && restless == 0 && self.is_even() {
             Verdict::Quiet
         } else {
             Verdict::NotYet
         }
+    }
+
+    /// Whether in both waves as many messages had been sent, and as many received: the same number.
+    pub fn is_even(&self) -> bool
+        ensures { IsTrue result ↔ AreEvenWaves self.now }
+    {
+        let before = self.before.sums();
+        let wave = self.wave.sums();
+        let even = before.received == before.sent;
+        let same = wave.sent == before.sent && wave.received == before.sent;
+        even && same
     }
 
     /// How many updates the machines have told in this wave.

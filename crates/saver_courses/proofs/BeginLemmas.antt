@@ -4,8 +4,10 @@ use Rattle.gl_base.specs.declared.jobs.FailureAt.{FailureAt}
 use Rattle.gl_base.specs.declared.snapshots.Base.{Base}
 use Rattle.call_courses.proofs.Going.{setting_now}
 use Rattle.call_courses.specs.Courses.{first_setting}
+use Rattle.cluster_core.specs.Settings.{Locking}
 use Rattle.cluster_model.specs.Events as law
 use Rattle.cluster_model.specs.Totals.{total}
+use Rattle.coord_core.specs.declared.steps.Engine.TheVariants as engine
 use Rattle.graph_core.specs.DataGraph.{DataGraph, size}
 use Rattle.opened_bases.proofs.OpenLemmas.{opens_from}
 use Rattle.placed_savers.specs.declared.savers.SavingRun.{SavingRun}
@@ -18,12 +20,13 @@ use Rattle.saver_courses.specs.Beginning.{AreSaversOf, BaseView, CallOpening, Cl
 none_more : (n failed : ℕ) → failed ≡ 0 → n + 16 * failed ≡ n
 none_more n failed none = omega (arith, none)
 
-pub start_call : {P : Type 0} (meaning : P → Update) (st : Setting) (failures : List FailureAt) (resumed : Bool) (base : Base) (left : ℕ) (savers : List (SaverView P)) → IsSnapSetting st → IsGoodBase (shared_of st failures) base
+pub start_call : {P : Type 0} (meaning : P → Update) (st : Setting) (failures : List FailureAt) (resumed : Bool) (base : Base) (left : ℕ) (savers : List (SaverView P)) → IsSnapSetting st → st.engine ≡ Locking → IsGoodBase (shared_of st failures) base
     → AreJobFailures st.machines failures → (resumed ≡ true) ⊎ ((resumed ≡ false) × (base.order.items ≡ [])) → AreSaversOf meaning st (base_opened resumed base) (cluster_before st (ticket_above base.order.items) left base.length) savers
-    → StartsCall (IsSaverOf meaning) savers (store_from st base) (ticket_above base.order.items) left failures st (opening_from st resumed base left)
-start_call meaning st failures resumed base left savers setting good ordered begins are = record {
+    → StartsCall (IsSaverOf meaning) savers engine.Locking (store_from st base) (ticket_above base.order.items) left failures st (opening_from st resumed base left)
+start_call meaning st failures resumed base left savers setting locks good ordered begins are = record {
   starts = record {
     setting = setting;
+    led = locks;
     many = are.many;
     each = are.each;
     vertices = refl;
@@ -46,6 +49,7 @@ module _ (st : Setting) (o : CallOpening) (events : List law.Event) where
       let setting = setting_now st o events is.setting in
       subst (IsSavingRunOf g program owner run) (sym (behind_since events (first_setting st o))) (record {
         setting = subst IsSnapSetting (behind_since events (first_setting st o)) setting;
+        locks = is.locks;
         placed = record { graph = is.placed.graph; machines = is.placed.machines; owners = is.placed.owners };
         program_is = is.program_is;
         pipeline = is.pipeline;
@@ -53,15 +57,16 @@ module _ (st : Setting) (o : CallOpening) (events : List law.Event) where
       })
 
   pub go_back : {P : Type 0} (meaning : P → Update) (old : CourseView (SaverView P)) (c : Cluster) (base : BaseView) (store : StoreView) (savers : List (SaverView P)) → IsCourseNow (IsSaverOf meaning) old st o events c
-      → law.GoesBackTo (newest_setting st o events) c base → c.stopped ≡ false → ((a : ℕ) → a < st.machines → has_reached old.failures c a ≡ true → (c.machine a).failed ≡ true)
+      → st.engine ≡ Locking → law.GoesBackTo (newest_setting st o events) c base → c.stopped ≡ false → ((a : ℕ) → a < st.machines → has_reached old.failures c a ≡ true → (c.machine a).failed ≡ true)
       → AreSaversOf meaning (newest_setting st o events) base c savers → size st.graph ≡ store.vertices → length st.graph.edges ≡ store.edges → base.number ≡ store.newest
-      → (law.recovers (newest_setting st o events) base c).coordinator.store_end ≡ store.store_end → GoesBackWith (IsSaverOf meaning) old savers store st o events c base
-  go_back meaning old c base store savers is goes running failed are vertices edges newest store_end = record {
+      → (law.recovers (newest_setting st o events) base c).coordinator.store_end ≡ store.store_end → GoesBackWith (IsSaverOf meaning) old savers engine.Locking store st o events c base
+  go_back meaning old c base store savers is locks goes running failed are vertices edges newest store_end = record {
     is = is;
     may = (running, goes);
     follows = λ a low reached. failed a (subst (λ (k : ℕ). a < k) (by_setting (λ s. s.machines) (λ s. refl)) low) reached;
     starts = record {
       setting = setting_now st o events is.setting;
+      led = by_setting (λ s. s.engine) (λ s. refl) ∙ locks;
       many = are.many;
       each = are.each;
       vertices = by_setting (λ s. size s.graph) (λ s. refl) ∙ vertices;

@@ -1,8 +1,9 @@
 -- A machine that takes part in snapshots stays one through each call.
-use Rattle.std.proofs.Common.{◌≡◌, ℕ, ◌+◌, ◌^◌, ◌<◌, ◌≤◌, ◌++◌, Bool, true, false, true≢false, if◌then◌else◌, Option, Some, None, List, [], ◌∷◌, length, refl, sym, ap, ◌∙◌, subst, arith, length-append, length-set, sum_by}
-use Rattle.std.specs.Prelude.{is_some, nat_lt, slice_get, OnErr, OnOk, Result, Ok, Err}
+use Rattle.std.proofs.Common.{◌≡◌, ℕ, ◌+◌, ◌^◌, ◌<◌, ◌≤◌, ◌++◌, Bool, true, false, true≢false, if◌then◌else◌, Option, Some, None, [], ◌∷◌, length, refl, sym, ap, ◌∙◌, subst, arith, length-append, length-set}
+use Rattle.std.specs.Prelude.{is_some, nat_lt, slice_get, IfOk, OnErr, OnOk, Result, Ok, Err}
 use Rattle.std.proofs.lemmas.List.Sums.{sum_by_push}
 use Rattle.gl_base.specs.declared.entries.Entry.{Entry}
+use Rattle.gl_base.specs.declared.memory.NoMemory.{NoMemory}
 use Rattle.gl_base.specs.declared.numbers.Vertex.{Vertex}
 use Rattle.gl_base.specs.declared.scopes.Datum.{Datum}
 use Rattle.gl_base.specs.declared.scopes.Peer.{Peer}
@@ -14,9 +15,11 @@ use Rattle.machine_parts.specs.declared.cores.Core.{Core}
 use Rattle.outboxes.specs.Outboxes.{OutboxView, OutboxesView, with_outbox}
 use Rattle.machine_parts.specs.Order.{HasComeRight, IsGraphInOrder}
 use Rattle.machine_parts.specs.Parts.{flight_at}
+use Rattle.machine_scopes.specs.Admitting.{with_pick}
 use Rattle.machine_turns.specs.Turns.{HasRunOf, IsRowIn}
 use Rattle.machine_updates.proofs.CommitLemmas.{placed}
-use Rattle.snap_update.specs.Snaps.{IsSameButRoom, SnapRoom, newly_begun, nothing_since, with_begun, with_committed, with_entry, with_section}
+use Rattle.step_scopes.specs.Admitting.{HasAdmittedInStep, IsAdmittedThere}
+use Rattle.snap_update.specs.Snaps.{IsSameButRoom, newly_begun, nothing_since, with_begun, with_committed, with_entry, with_section}
 use Rattle.snap_machines.specs.Hearing.{HasFewerOutside}
 use Rattle.snap_machines.specs.Marking.{HasSavedMore}
 use Rattle.snap_machines.specs.Seeding.{HasOtherPending}
@@ -73,6 +76,19 @@ stays m new w seen is orderly places local terms outside =
       most = λ v mine. subst (λ (d : Datum). d.mark ≤ w.known) (sym (datum v mine)) (is.most v (own v mine));
       outside = outside ∙ is.outside;
     }
+
+-- an admission leaves as many updates outside
+taken_outside : (t u : TasksView) (place : Vertex) (snapshot : Bool) → IsAdmittedThere t u place snapshot → u.outside ≡ t.outside
+taken_outside t u place snapshot is = ap (λ (y : TasksView). y.outside) is.tasks ∙ by snapshot
+  where
+    by : (b : Bool) → (with_pick t (record { vertex = place; snapshot = b })).outside ≡ t.outside
+    by true = refl
+    by false = refl
+
+-- and so does none
+pub admitted_outside : (r : Result ScopeId NoMemory) (m new : Core) (place : Vertex) (snapshot : Bool) → IfOk r (λ s. HasAdmittedInStep m new place snapshot) → OnErr r (new ≡ m) → new.numbers.tasks.outside ≡ m.numbers.tasks.outside
+admitted_outside (Ok s) m new place snapshot has same = taken_outside m.numbers.tasks new.numbers.tasks place snapshot has.tasks
+admitted_outside (Err e) m new place snapshot has same = ap (λ (n : Core). n.numbers.tasks.outside) same
 
 -- ---- what is kept
 

@@ -2,7 +2,7 @@
 ghost use Rattle.std.specs.Prelude.{◌≡◌, length, option_map, slice_get};
 ghost use Rattle.machine_rest.specs.Rest.{IsPartOf, Setting, is_idle, part_of, total};
 ghost use Rattle.outboxes.specs.Outboxes.{message_view, outbox_to, waiting_for, with_outbox, without_first};
-ghost use Rattle.saving_machines.specs.Machines.{IsOrderly, KnowsPlaces, SameSettings, outside_of};
+ghost use Rattle.saving_machines.specs.Machines.{HasEachRow, IsOrderly, KnowsPlaces, SameSettings, outside_of};
 
 use crate::machines::SnapMachine;
 use gl_base::Peer;
@@ -12,11 +12,12 @@ use update_api::Program;
 use wire_msgs::Message;
 
 impl<P: Program> SnapMachine<P> {
-    /// Its parts, which are in order; and the tasks count the updates outside.
+    /// Its parts, which are in order, with each row in; and the tasks count the updates outside.
     pub fn core(&self) -> &Core
         ensures parts { result.now ≡ self.now.core }
         ensures orderly { IsOrderly self.now.core }
         ensures places { KnowsPlaces self.now.core }
+        ensures rows { HasEachRow self.now.core.numbers.local }
         ensures outside { self.now.core.numbers.tasks.outside ≡ outside_of self.now.kept }
     {
         &self.core
@@ -27,6 +28,13 @@ impl<P: Program> SnapMachine<P> {
         ensures { result.now ≡ self.now.kept }
     {
         &self.snaps
+    }
+
+    /// Its program.
+    pub fn program(&self) -> &P
+        ensures { result.now ≡ self.now.program }
+    {
+        &self.program
     }
 
     /// Whether no vertex is a task or pending, no scope of this machine is in flight, and nobody waits for one of its locks.

@@ -1,12 +1,13 @@
 //! How scopes are admitted and go on. What is kept for snapshots stays as it is.
-ghost use Rattle.std.specs.Prelude.{◌≡◌, ℕ, ◌<◌, IfOk, IfErr, IfSome, IfNone, OnOk, OnErr, IsErrOf};
+ghost use Rattle.std.specs.Prelude.{◌≡◌, ◌↔◌, ℕ, ◌<◌, true, false, IfOk, IfErr, IfSome, IfNone, IsOk, OnOk, OnErr, IsErrOf};
 ghost use Rattle.machine_scopes.specs.Admitting.{CanAdmitPick, HasAdmittedPick, KeepsPlans, MayAdmitNone, next_id};
 ghost use Rattle.machine_scopes.specs.Asking.{AreMachinesFor, Ask, CanBecomeReady, HasOnlyMadeRoom, HasReceivedMessage, IsNewAt, Ready, come, machine_numbers};
 ghost use Rattle.machine_scopes.specs.Granting.{HasGrantedLock, MayGrantLock, MayNotGrantLock, WaitsFirst, WantedNext};
+ghost use Rattle.step_scopes.specs.Admitting.{CanTake, HasAdmittedInStep, HasPlaceInFlight};
 ghost use Rattle.saving_machines.specs.Machines.{SameSettings, part_of};
 
 use crate::machines::SnapMachine;
-use gl_base::{MachineNo, Refused, ScopeId, Vertex};
+use gl_base::{MachineNo, NoMemory, Refused, ScopeId, Vertex};
 use machine_scopes::Moved;
 use update_api::Program;
 
@@ -22,9 +23,27 @@ impl<P: Program> SnapMachine<P> {
         ensures local { self.new.core.numbers.local ≡ self.old.core.numbers.local }
         ensures kept { self.new.kept ≡ self.old.kept }
         ensures program { self.new.program ≡ self.old.program }
+        ensures terms { self.new.core.terms ≡ self.old.core.terms }
         ensures settings { SameSettings self.old.core self.new.core }
     {
         machine_scopes::admit(self.alloc, &mut self.core)
+    }
+
+    /// Admits a scope of the own vertex at this place, for its snapshot update or else for an update, where scopes take no locks: it is
+    /// ready at once. It takes no memory; there is none for it exactly where no serial is left, or as many scopes are in flight as may be.
+    pub fn admit_in_step(&mut self, place: Vertex, snapshot: bool) -> Result<ScopeId, NoMemory>
+        requires locks { self.old.core.terms.locks ≡ false }
+        requires can { CanTake self.old.core.numbers.tasks (record { vertex = place; snapshot = snapshot }) }
+        ensures room { IsOk result ↔ HasPlaceInFlight self.old.core }
+        ensures scope { IfOk result (λ s. s ≡ next_id self.old.core.pipe) }
+        ensures admitted { IfOk result (λ s. HasAdmittedInStep self.old.core self.new.core place snapshot) }
+        ensures unchanged { OnErr result (self.new ≡ self.old) }
+        ensures rest { self.new.core ≡ record self.old.core { numbers = self.new.core.numbers; pipe = self.new.core.pipe } }
+        ensures kept { self.new.kept ≡ self.old.kept }
+        ensures program { self.new.program ≡ self.old.program }
+        ensures settings { SameSettings self.old.core self.new.core }
+    {
+        step_scopes::admit_in_step(&mut self.core, place, snapshot)
     }
 
     /// The first that waits for the lock of x holds it and goes on, where it goes together with each holder.
@@ -38,6 +57,7 @@ impl<P: Program> SnapMachine<P> {
         ensures numbers { self.new.core.numbers ≡ self.old.core.numbers }
         ensures kept { self.new.kept ≡ self.old.kept }
         ensures program { self.new.program ≡ self.old.program }
+        ensures terms { self.new.core.terms ≡ self.old.core.terms }
         ensures settings { SameSettings self.old.core self.new.core }
     {
         machine_scopes::grant(&mut self.core, x)
@@ -52,14 +72,15 @@ impl<P: Program> SnapMachine<P> {
         machine_scopes::next_grant(&mut self.core)
     }
 
-    /// The scope of this centre has come, and has the machines `rest` still to come. Where there is not enough memory, or as many scopes
-    /// have come as may, `rest` comes back.
+    /// The scope of this centre has come, and has the machines `rest` still to come. Scopes take locks at the machine. Where there is not
+    /// enough memory, or as many scopes have come as may, `rest` comes back.
     pub fn receive_ask(
         &mut self,
         scope: ScopeId,
         centre: Vertex,
         rest: Vec<MachineNo>,
     ) -> Result<(), Vec<MachineNo>>
+        requires locks { self.old.core.terms.locks ≡ true }
         requires is_new { IsNewAt self.old.core scope centre }
         requires machines { AreMachinesFor self.old.core scope rest.items }
         ensures place { OnOk result (come self.old.core.pipe < 4096) }
@@ -69,6 +90,7 @@ impl<P: Program> SnapMachine<P> {
         ensures numbers { self.new.core.numbers ≡ self.old.core.numbers }
         ensures kept { self.new.kept ≡ self.old.kept }
         ensures program { self.new.program ≡ self.old.program }
+        ensures terms { self.new.core.terms ≡ self.old.core.terms }
         ensures settings { SameSettings self.old.core self.new.core }
     {
         machine_scopes::receive_ask(self.alloc, &mut self.core, scope, centre, rest)
@@ -81,6 +103,7 @@ impl<P: Program> SnapMachine<P> {
         ensures numbers { self.new.core.numbers ≡ self.old.core.numbers }
         ensures kept { self.new.kept ≡ self.old.kept }
         ensures program { self.new.program ≡ self.old.program }
+        ensures terms { self.new.core.terms ≡ self.old.core.terms }
         ensures settings { SameSettings self.old.core self.new.core }
     {
         machine_scopes::receive_ready(&mut self.core, scope);

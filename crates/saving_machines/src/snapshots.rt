@@ -21,6 +21,7 @@ impl<P: Program> SnapMachine<P> {
         ensures kept { IsSameButRoom (with_begun number self.old.kept) self.new.kept }
         ensures rest { HasOtherPending self.old.core self.new.core }
         ensures program { self.new.program ≡ self.old.program }
+        ensures terms { self.new.core.terms ≡ self.old.core.terms }
         ensures settings { SameSettings self.old.core self.new.core }
     {
         snap_machines::begin(&mut self.core, &mut self.snaps, &mut self.seen, number);
@@ -32,6 +33,7 @@ impl<P: Program> SnapMachine<P> {
         ensures fewer { HasFewerOutside self.old.core self.new.core }
         ensures part { part_of self.new.core ≡ part_of self.old.core }
         ensures program { self.new.program ≡ self.old.program }
+        ensures terms { self.new.core.terms ≡ self.old.core.terms }
         ensures settings { SameSettings self.old.core self.new.core }
     {
         snap_machines::committed(&mut self.core, &mut self.snaps, number);
@@ -45,6 +47,8 @@ impl<P: Program> SnapMachine<P> {
         ensures tasks { let now = self.new.core.numbers.tasks in now ≡ record self.old.core.numbers.tasks { task = now.task; pending = now.pending; asked = now.asked } }
         ensures local { self.new.core.numbers.local ≡ record self.old.core.numbers.local { numbers = self.new.core.numbers.local.numbers } }
         ensures program { self.new.program ≡ self.old.program }
+        ensures places { self.new.core.by_place ≡ self.old.core.by_place }
+        ensures terms { self.new.core.terms ≡ self.old.core.terms }
         ensures settings { SameSettings self.old.core self.new.core }
     {
         snap_machines::learn(
@@ -69,6 +73,8 @@ impl<P: Program> SnapMachine<P> {
         ensures same { OnErr result (IsSameButRoom self.old.kept self.new.kept) }
         ensures local { self.new.core.numbers.local ≡ record self.old.core.numbers.local { kept = self.new.core.numbers.local.kept } }
         ensures program { self.new.program ≡ self.old.program }
+        ensures places { self.new.core.by_place ≡ self.old.core.by_place }
+        ensures terms { self.new.core.terms ≡ self.old.core.terms }
         ensures settings { SameSettings self.old.core self.new.core }
     {
         snap_machines::mark(
@@ -78,6 +84,14 @@ impl<P: Program> SnapMachine<P> {
             &mut self.seen,
             scope,
         )
+    }
+
+    /// Whether a scope may make its snapshot update now.
+    pub fn can_mark(&self, scope: ScopeId) -> bool
+        ensures yes { result ≡ true → MayMark scope (part_of self.now.core) }
+        ensures no { result ≡ false → MayMark scope (part_of self.now.core) → ⊥ }
+    {
+        snap_machines::may_mark(&self.core, scope)
     }
 
     /// A scope of this home that may make its snapshot update now; `None` exactly where none may. It looks at the ready scopes alone.

@@ -28,6 +28,8 @@ impl<P: Program> SnapMachine<P> {
         ensures tasks { OnErr result (self.new.core.numbers.tasks ≡ self.old.core.numbers.tasks) }
         ensures local { let old = self.old.core.numbers.local in let new = self.new.core.numbers.local in new ≡ record old { kept = new.kept; rows = new.rows; numbers = new.numbers } }
         ensures program { self.new.program ≡ self.old.program }
+        ensures places { self.new.core.by_place ≡ self.old.core.by_place }
+        ensures terms { self.new.core.terms ≡ self.old.core.terms }
         ensures settings { SameSettings self.old.core self.new.core }
     {
         let Some(centre) = centre_to_update(&self.core, scope) else {
@@ -72,6 +74,7 @@ impl<P: Program> SnapMachine<P> {
         ensures tasks { OnErr result (self.new.core.numbers.tasks ≡ self.old.core.numbers.tasks) }
         ensures local { let old = self.old.core.numbers.local in let new = self.new.core.numbers.local in new ≡ record old { kept = new.kept; rows = new.rows; numbers = new.numbers } }
         ensures program { self.new.program ≡ self.old.program }
+        ensures terms { self.new.core.terms ≡ self.old.core.terms }
         ensures settings { SameSettings self.old.core self.new.core }
     {
         if self.snaps.reserve().is_err() {

@@ -181,13 +181,14 @@ module _ {M : Type 0} (stands : Setting → ℕ → Machine → M → Type 0) (o
         inr (inl (never stands old runs (event.Local (local.Admit at)) (λ st c setting of e is_e may.
         let there : law.MayDo st c (law.Admit at.0 is_e.0) = subst (law.MayDo st c) is_e.1 may in
         none st at.0 (c.machine at.0) setting (here st c setting of) is_e.0 there.1)))
-    at_once_cannot (inr one) =
-        inr (inr (
+    at_once_cannot (inr (inl one)) =
+        inr (inr (inl (
           one.0,
           λ st c setting of.
               let both = one.1 st at.0 (c.machine at.0) setting (here st c setting of) in
               ((going stands old runs st c of, (awake_now st c setting of, both.0)), both.1),
-        ))
+        )))
+    at_once_cannot (inr (inr without)) = inr (inr (inr (λ st c setting of. without st at.0 (c.machine at.0) setting (here st c setting of))))
 
     pub at_once_refused : (e : Refused) (y : M) → (e ≡ NotNow → CanNotUpdateAtOnce stands x) → (e ≡ NoMemory → CanUpdateAtOnce stands x) → StandsStill stands x y
         → AnswersAtOnce stands old at (Err e) (record old { machines = with_item old.machines at.0 y })

@@ -34,7 +34,7 @@ use Rattle.coord_core.specs.declared.leading.Due.TheVariants as due
 use Rattle.seq_run.specs.Orders.{IsValidOrder, all_tasks, replay, replay_from, tasks_after}
 use Rattle.seq_run.specs.States.{GraphState, start_state}
 use Rattle.snap_update.specs.Holding.{last_of_edge}
-use Rattle.snap_clusters.specs.Clusters.{AreCalls, AreReports, BaseView, Cluster, HaveLinks, InEachCluster, IsSavingClusterOf, IsCoordinatorOf, IsSnapSetting, Machine, Parts, Setting, StandsForSaving, StartsSaving, StoreView, messages_on}
+use Rattle.snap_clusters.specs.Clusters.{AreCalls, AreReports, BaseView, Cluster, Engine, HaveLinks, InEachCluster, IsSavingClusterOf, IsCoordinatorOf, IsSnapSetting, Machine, Parts, Setting, StandsForSaving, StartsSaving, StoreView, messages_on}
 use Rattle.snap_clusters.specs.Events.{AnswersEvent}
 use Rattle.snap_clusters.specs.declared.events.Event.{Event}
 use Rattle.snap_clusters.specs.Cuts.{HasGoodBase, IsCutWith, IsSnapshotCut, RecordsCut, numbers_in, part_in, saver_of, snapshot_due}
@@ -206,7 +206,7 @@ pub so_many : (failed : Vec Bool Global) (n : ℕ) → failed.items ≡ replicat
 so_many failed n is = ap length is ∙ length-replicate n false
 
 pub began_setting : (st : Setting) → IsSnapSetting st → (base : BaseView) → IsSnapSetting (going_on st base.numbers base.number)
-began_setting st setting base = record { is = record { graph = setting.is.graph; owner = setting.is.owner }; locks = setting.locks; stored = setting.stored }
+began_setting st setting base = record { is = record { graph = setting.is.graph; owner = setting.is.owner }; coloured = setting.coloured; stored = setting.stored }
 
 none_calls : (messages : List MessageView) → messages ≡ [] → AreCalls messages []
 none_calls messages none = subst (λ (ms : List MessageView). AreCalls ms []) (sym none) tt
@@ -214,15 +214,15 @@ none_calls messages none = subst (λ (ms : List MessageView). AreCalls ms []) (s
 none_reports : (messages : List MessageView) → messages ≡ [] → AreReports messages []
 none_reports messages none = subst (λ (ms : List MessageView). AreReports ms []) (sym none) tt
 
-module _ {M : Type 0} (stands : Setting → ℕ → Machine → M → Type 0) (p : Parts M) (store : StoreView) (next left : ℕ)
+module _ {M : Type 0} (stands : Setting → ℕ → Machine → M → Type 0) (p : Parts M) (engine : Engine) (store : StoreView) (next left : ℕ)
     (have : HaveLinks p.links (suc (length p.machines.items))) (none : (a b : ℕ) → (link_between p.links a b).messages ≡ []) (few : next + left < 2 ^ 64) (small : length p.machines.items < 65535)
-    (leads : IsFirstWith (length p.machines.items) store p.coordinator) (awake : (a : ℕ) → slice_index_or p.failed.items a false ≡ false) (flags : length p.failed.items ≡ length p.machines.items) (next_is : p.next ≡ next) (left_is : p.left ≡ left) where
-  pub begun_first : (runs : p.stopped ≡ false) (st : Setting) (base : BaseView) (before : Cluster) → StartsSaving stands p.machines.items store next left st base before →
+    (leads : IsFirstWith (length p.machines.items) engine store p.coordinator) (awake : (a : ℕ) → slice_index_or p.failed.items a false ≡ false) (flags : length p.failed.items ≡ length p.machines.items) (next_is : p.next ≡ next) (left_is : p.left ≡ left) where
+  pub begun_first : (runs : p.stopped ≡ false) (st : Setting) (base : BaseView) (before : Cluster) → StartsSaving stands p.machines.items engine store next left st base before →
       IsSavingClusterOf stands (going_on st base.numbers base.number) p (recovers st base before)
   begun_first runs st base before start =
       let now : Setting = going_on st base.numbers base.number in
       let first : IsCoordinatorOf now p.coordinator (first_coordinator now store.newest store.store_end) =
-      leads now (sym start.many) start.setting.locks start.setting.stored start.vertices start.edges
+      leads now (sym start.many) start.led start.setting.stored start.vertices start.edges
       in
       record {
         many = start.many;

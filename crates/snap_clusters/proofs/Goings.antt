@@ -1,27 +1,40 @@
 -- A cluster of the law goes on, whatever happens but a recovery.
-use Rattle.std.proofs.Common.{List, [], ◌∷◌, ◌++◌, refl, sym, subst}
+use Rattle.std.proofs.Common.{◌≡◌, List, [], ◌∷◌, ◌++◌, refl, sym, subst}
 use Rattle.std.specs.List.{AllByRecursion}
 use Rattle.cluster_core.specs.Recovering.{going_on}
-use Rattle.cluster_core.specs.Settings.{Setting}
+use Rattle.cluster_core.specs.Settings.{Chromatic, Engine, Locking, Setting}
 use Rattle.cluster_model.specs.Clusters.{BaseView, Cluster}
 use Rattle.cluster_model.specs.Events.{Event, IsCourse, MayOccur, after_event, recovers}
 use Rattle.cluster_ending.proofs.Courses.{courses_followed, setting_same}
 use Rattle.cluster_ending.proofs.Putting.{recovered_watched}
 use Rattle.cluster_ending.proofs.Reporting.{courses_informed, recovered_informed}
 use Rattle.cluster_ending.specs.Ends.{IsFollowed}
+use Rattle.cluster_ending.specs.Snapshotting.{HasNoSteps}
 use Rattle.cluster_ending.proofs.Stepless.{courses_without_steps}
 use Rattle.cluster_records.proofs.Accounts.{accounts_kept, begun_accounts}
-use Rattle.cluster_whole.specs.Whole.{AreColoured, IsNoRecovery}
-use Rattle.snap_members.specs.Going.{IsGoing, IsSnapSetting}
+use Rattle.cluster_whole.specs.Whole.{IsNoRecovery}
+use Rattle.snap_members.specs.Going.{IsGoing, IsSnapSetting, KnowsNoSteps}
+
+-- ---- steps
+
+knows_none : (engine : Engine) (c : Cluster) → HasNoSteps c → KnowsNoSteps engine c
+knows_none Locking c none = none
+knows_none (Chromatic colour colours) c none = tt
+
+-- with locks none is told
+steps_kept : (engine : Engine) (old new : Cluster) → (engine ≡ Locking → HasNoSteps old → HasNoSteps new) → KnowsNoSteps engine old → KnowsNoSteps engine new
+steps_kept Locking old new kept none = kept refl none
+steps_kept (Chromatic colour colours) old new kept none = tt
+
+-- ---- events
 
 pub going_first : (st : Setting) → IsSnapSetting st → (base : BaseView) (before : Cluster) → IsGoing (going_on st base.numbers base.number) (recovers st base before)
 going_first st setting base before =
-    let coloured : AreColoured st st.engine = subst (AreColoured st) (sym setting.locks) tt in
-    let accounts = begun_accounts st setting.is coloured base before in
+    let accounts = begun_accounts st setting.is setting.coloured base before in
     record {
       followed = (accounts.0, _, recovered_watched st (going_on st base.numbers base.number) base before refl refl);
       informed = recovered_informed st base before;
-      no_steps = λ a. tt;
+      no_steps = knows_none st.engine (recovers st base before) (λ a. tt);
       logged = [];
       accounts = accounts.1;
     }
@@ -38,7 +51,7 @@ module _ (st : Setting) (setting : IsSnapSetting st) (c : Cluster) (going : IsGo
       record {
         followed = (accounts.0, watched.1, watched.2);
         informed = courses_informed st setting.is (event ∷ []) c (after_event st c event) going.followed.0 going.informed course;
-        no_steps = courses_without_steps st setting.locks (event ∷ []) c (after_event st c event) going.no_steps course;
+        no_steps = steps_kept st.engine c (after_event st c event) (λ locks none. courses_without_steps st locks (event ∷ []) c (after_event st c event) none course) going.no_steps;
         logged = going.logged ++ accounts.1;
         accounts = accounts.3;
       }

@@ -56,6 +56,7 @@ runs_on st c (event.Local (local.Section a)) none e is = ap (λ (x : law.Event).
 runs_on st c (event.Local (local.Fail a)) none e is = ap (λ (x : law.Event). (law.after_event st c x).stopped) is
 runs_on st c (event.Lead lead.Record) none e is = ap (λ (x : law.Event). (law.after_event st c x).stopped) is
 runs_on st c (event.Lead lead.Begin) none e is = ap (λ (x : law.Event). (law.after_event st c x).stopped) is
+runs_on st c (event.Lead lead.Step) none e is = ap (λ (x : law.Event). (law.after_event st c x).stopped) is
 runs_on st c (event.Lead lead.Wave) none e is = ap (λ (x : law.Event). (law.after_event st c x).stopped) is
 runs_on st c (event.Lead lead.Stop) none e is = absurd none
 runs_on st c (event.Passage (passage.Send p q)) none e is = ap (λ (x : law.Event). (law.after_event st c x).stopped) is ∙ sent c p.0 q.0 ((c.machine p.0).part.out q.0)

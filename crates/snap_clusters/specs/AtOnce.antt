@@ -1,12 +1,13 @@
 -- An update at once in a cluster that takes snapshots, as a run of events of the law.
 pub use Rattle.snap_members.specs.AtOnce.{MayUpdateWithin, own_vertices}
 pub use Rattle.snap_clusters.specs.Clusters.{Cluster, InEachCluster, IsSavingClusterOf, Machine, Parts, Setting, StandsForSameSaving}
-use Rattle.std.specs.Prelude.{IfOk, IsErrOf, List, OnErr, Result, [], map, ℕ, ◌++◌, ◌<◌, ◌∷◌, ◌≡◌, ◌⊎◌}
+use Rattle.std.specs.Prelude.{IfOk, IsErrOf, List, OnErr, Result, [], map, ℕ, ◌++◌, ◌<◌, ◌∷◌, ◌≡◌, ◌≢◌, ◌⊎◌}
 use Rattle.gl_base.specs.declared.numbers.MachineNo.{MachineNo}
 use Rattle.gl_base.specs.declared.numbers.Vertex.{Vertex}
 use Rattle.gl_base.specs.declared.refusals.Refused.{Refused}
 use Rattle.gl_base.specs.declared.refusals.Refused.TheVariants.{NoMemory, NotNow}
 use Rattle.cluster_core.specs.Effects.{next_scope}
+use Rattle.cluster_core.specs.Settings.{Locking}
 use Rattle.cluster_model.specs.Events as law
 use Rattle.snap_clusters.specs.Events.{CanNotTakePlace}
 use Rattle.snap_clusters.specs.declared.events.Event.TheVariants as event
@@ -37,12 +38,13 @@ TakesPlaceAtOnce stands old a v new = InEachCluster stands old (λ st c. IsMadeA
 abbrev pub CanTakePlaceAtOnce : {M : Type 0} → (Setting → ℕ → Machine → M → Type 0) → Parts M → ℕ → Type 0
 CanTakePlaceAtOnce stands old a = (v : ℕ) × InEachCluster stands old (λ st c. MayBeMadeAtOnce st c a v)
 
--- no ticket is left, the machine may admit no vertex, or it may admit one that may not be updated at once
+-- no ticket is left, the machine may admit no vertex, it may admit one that may not be updated at once, or scopes take no locks
 abbrev pub CanNotTakePlaceAtOnce : {M : Type 0} → (Setting → ℕ → Machine → M → Type 0) → Parts M → MachineNo → Type 0
 CanNotTakePlaceAtOnce stands old at =
     (old.left ≡ 0)
     ⊎ (CanNotTakePlace stands old (event.Local (local.Admit at))
-    ⊎ ((v : ℕ) × InEachCluster stands old (λ st c. law.MayOccur st c (law.Admit at.0 v) × (MayUpdateWithin st at.0 v (c.machine at.0) → ⊥))))
+    ⊎ (((v : ℕ) × InEachCluster stands old (λ st c. law.MayOccur st c (law.Admit at.0 v) × (MayUpdateWithin st at.0 v (c.machine at.0) → ⊥)))
+    ⊎ InEachCluster stands old (λ st c. st.engine ≢ Locking)))
 
 -- What a call answers: a vertex of the machine was updated at once; or none might be that it looks at, and nothing has changed; or memory
 -- was wanting where one might.

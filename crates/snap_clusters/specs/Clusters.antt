@@ -1,7 +1,8 @@
 -- A cluster that takes snapshots, and the cluster of the law that it stands for.
 pub use Rattle.cluster_model.specs.Clusters.{BaseView, Cluster}
 pub use Rattle.cluster_step.specs.Inner.Writing.{HaveLinks}
-pub use Rattle.coord_core.specs.Coordinators.{AreCalls, IsCoordinatorOf, StoreView}
+pub use Rattle.coord_core.specs.Coordinators.{AreCalls, IsCoordinatorOf, IsEngineOf, StoreView}
+pub use Rattle.coord_core.specs.declared.steps.Engine.{Engine}
 pub use Rattle.snap_members.specs.Going.{IsGoing, IsSnapSetting}
 pub use Rattle.snap_clusters.specs.Lines.{AreReports, messages_on, told_on}
 pub use Rattle.snap_members.specs.Promises.{Machine, Setting}
@@ -43,10 +44,11 @@ StandsForSameSaving stands old new = InEachCluster stands old (λ st c. IsSaving
 
 -- ---- where it begins
 
--- The machines begin an attempt from this base, whatever was before, in a cluster of this setting; the store is that of the base and of
--- the graph. Of the base's order nothing is asked, nor that its numbers are the replay of that.
-pub record StartsSaving {M : Type 0} (stands : Setting → ℕ → Machine → M → Type 0) (xs : List M) (store : StoreView) (next left : ℕ) (st : Setting) (base : BaseView) (before : Cluster) : Type 0 where
+-- The machines begin an attempt from this base, whatever was before, in a cluster of this setting, whose engine is this one; the store is
+-- that of the base and of the graph. Of the base's order nothing is asked, nor that its numbers are the replay of that.
+pub record StartsSaving {M : Type 0} (stands : Setting → ℕ → Machine → M → Type 0) (xs : List M) (engine : Engine) (store : StoreView) (next left : ℕ) (st : Setting) (base : BaseView) (before : Cluster) : Type 0 where
   pub setting : IsSnapSetting st
+  pub led : IsEngineOf engine st.engine
   pub many : length xs ≡ st.machines
   pub each : (a : ℕ) (d : M) → a < st.machines → stands (going_on st base.numbers base.number) a ((recovers st base before).machine a) (slice_index_or xs a d)
   pub vertices : size st.graph ≡ store.vertices
@@ -57,7 +59,7 @@ pub record StartsSaving {M : Type 0} (stands : Setting → ℕ → Machine → M
   pub tickets : before.left ≡ left
 
 -- Recover may occur in this cluster, for which the parts stand, and the machines begin again from its base.
-pub record GoesOnWith {M : Type 0} (stands : Setting → ℕ → Machine → M → Type 0) (old : Parts M) (xs : List M) (store : StoreView) (st : Setting) (c : Cluster) (base : BaseView) : Type 0 where
+pub record GoesOnWith {M : Type 0} (stands : Setting → ℕ → Machine → M → Type 0) (old : Parts M) (xs : List M) (engine : Engine) (store : StoreView) (st : Setting) (c : Cluster) (base : BaseView) : Type 0 where
   pub stood : IsSavingClusterOf stands st old c
   pub may : MayOccur st c (Recover base)
-  pub starts : StartsSaving stands xs store old.next old.left st base c
+  pub starts : StartsSaving stands xs engine store old.next old.left st base c

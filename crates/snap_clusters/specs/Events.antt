@@ -26,6 +26,7 @@ IsLocalEvent (local.Fail a) e = e ≡ law.Fail a.0
 abbrev pub IsLeadEvent : Lead → law.Event → Type 0
 IsLeadEvent lead.Record e = e ≡ law.Record
 IsLeadEvent lead.Begin e = e ≡ law.PutBegin
+IsLeadEvent lead.Step e = e ≡ law.PutStep
 IsLeadEvent lead.Wave e = e ≡ law.PutWave
 IsLeadEvent lead.Stop e = e ≡ law.Stop
 

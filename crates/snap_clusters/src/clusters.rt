@@ -15,14 +15,14 @@ ghost use Rattle.snap_members.specs.Promises.{HasFirst};
 
 use crate::events::{Event, Lead, Local};
 use crate::parts::{Parts, first_parts};
-use coord_core::{Coordinator, Due, Store};
+use coord_core::{Coordinator, Due, Engine, Store};
 use gl_base::{Entry, MachineNo, NoMemory, Record, Refused, ScopeId, Vertex};
 use snap_members::SavingMachine;
 use std::alloc::Global;
 use std::marker::Model;
 
-/// A cluster of machines that take locks and snapshots, and its coordinator. Contracts see its parts. Whatever happens in it, each
-/// acknowledged snapshot is a consistent cut, machines fail and all go back among it.
+/// A cluster of machines that take snapshots, with locks or by colours, and its coordinator. Contracts see its parts. Whatever happens in
+/// it, each acknowledged snapshot is a consistent cut, machines fail and all go back among it.
 #[derive(Drop)]
 pub struct SnapCluster<M: SavingMachine> {
     parts: Parts<M>,
@@ -39,25 +39,26 @@ impl<M: SavingMachine> Model for SnapCluster<M> {
 }
 
 impl<M: SavingMachine> SnapCluster<M> {
-    /// A cluster of machines that begin an attempt, each at its place, with this store. The first update gets the ticket `next`, and there
-    /// are `left` of them. Of the base only what the machines have of it is asked: it may be one that another hand made.
+    /// A cluster of machines that begin an attempt, each at its place, with this engine and this store. The first update gets the ticket
+    /// `next`, and there are `left` of them. Of the base only what the machines have of it is asked: it may be one that another hand made.
     pub fn new(
         alloc: Global,
         machines: Vec<M>,
+        engine: Engine,
         store: Store,
         next: u64,
         left: u64,
     ) -> Result<SnapCluster<M>, NoMemory>
-        requires start { (st : Setting) × (base : BaseView) × (before : Cluster) × StartsSaving M.stands machines.items (store_view store) next left st base before }
+        requires start { (st : Setting) × (base : BaseView) × (before : Cluster) × StartsSaving M.stands machines.items engine (store_view store) next left st base before }
         requires many { length machines.items < 65535 }
         requires few { next + left < 2 ^ 64 }
         requires newest { store.newest + 1 < 2 ^ 32 }
         requires length { store.length < 2 ^ 32 }
         // It is what the law begins with, whatever was before.
-        ensures began { IfOk result (λ c. (st : Setting) (base : BaseView) (before : Cluster) → StartsSaving M.stands machines.items (store_view store) next left st base before →
+        ensures began { IfOk result (λ c. (st : Setting) (base : BaseView) (before : Cluster) → StartsSaving M.stands machines.items engine (store_view store) next left st base before →
             IsSavingClusterOf M.stands (going_on st base.numbers base.number) c (recovers st base before)) }
     {
-        let parts = first_parts(alloc, machines, store, next, left)?;
+        let parts = first_parts(alloc, machines, engine, store, next, left)?;
         Ok(SnapCluster { parts })
     }
 
@@ -76,7 +77,7 @@ impl<M: SavingMachine> SnapCluster<M> {
 
     /// A vertex of the machine is updated at once, where the one that the machine looks at may be now: a scope of it is admitted, each of
     /// its locks is granted in turn, and its update is made, all on this machine. Of the vertices that may be admitted the machine
-    /// looks at one of its choice.
+    /// looks at one of its choice. Where scopes take no locks none is.
     pub fn update_at_once(&mut self, at: MachineNo) -> Result<Vertex, Refused>
         requires { at.0 < length self.old.machines.items }
         ensures made { IfOk result (λ v. TakesPlaceAtOnce M.stands self.old at.0 v.0 self.new) }
@@ -90,20 +91,33 @@ impl<M: SavingMachine> SnapCluster<M> {
     }
 
     /// All machines go back to a base: the cluster goes on with these machines, which begin an attempt from it, and with nothing on its way.
-    /// Tickets go on. Of the base only what the machines have of it is asked: it may be one that another hand made. Where the law's Recover
+    /// Its engine is the same, and tickets go on. Of the base only what the machines have of it is asked: it may be one that another hand made. Where the law's Recover
     /// may occur, and these machines are what that makes of the machines, the cluster goes on as the law says.
-    pub fn recover(&mut self, alloc: Global, machines: Vec<M>, store: Store) -> Result<(), NoMemory>
-        requires again { (st : Setting) × (base : BaseView) × (before : Cluster) × StartsSaving M.stands machines.items (store_view store) self.old.next self.old.left st base before }
+    pub fn recover(
+        &mut self,
+        alloc: Global,
+        machines: Vec<M>,
+        engine: Engine,
+        store: Store,
+    ) -> Result<(), NoMemory>
+        requires again { (st : Setting) × (base : BaseView) × (before : Cluster) × StartsSaving M.stands machines.items engine (store_view store) self.old.next self.old.left st base before }
         requires many { length machines.items ≡ length self.old.machines.items }
         requires newest { store.newest + 1 < 2 ^ 32 }
         requires length { store.length < 2 ^ 32 }
-        ensures recovered { OnOk result ((st : Setting) (c : Cluster) (base : BaseView) → GoesOnWith M.stands self.old machines.items (store_view store) st c base →
+        ensures recovered { OnOk result ((st : Setting) (c : Cluster) (base : BaseView) → GoesOnWith M.stands self.old machines.items engine (store_view store) st c base →
             IsSavingClusterOf M.stands (going_on st base.numbers base.number) self.new (recovers st base c)) }
         ensures unchanged { OnErr result (self.new ≡ self.old) }
         ensures machines { length self.new.machines.items ≡ length self.old.machines.items }
         ensures runs { OnOk result (self.new.stopped ≡ false) }
     {
-        let parts = first_parts(alloc, machines, store, self.parts.next, self.parts.left)?;
+        let parts = first_parts(
+            alloc,
+            machines,
+            engine,
+            store,
+            self.parts.next,
+            self.parts.left,
+        )?;
         self.parts = parts;
         Ok(())
     }
@@ -144,7 +158,7 @@ impl<M: SavingMachine> SnapCluster<M> {
         self.parts.coordinator.stored()
     }
 
-    /// What is due: a record, the next snapshot, the end, or a wave. Where it is the end, the order of the updates leaves no task.
+    /// What is due: a record, the next snapshot, the end, a step, or a wave. Where it is the end, the order of the updates leaves no task.
     pub fn due(&self) -> Due
         ensures due { IsDueOf self.now.coordinator result }
         ensures ended { result ≡ Due.Ended → InEachCluster M.stands self.now HasFinishedOrder }

@@ -27,6 +27,8 @@ pub enum Lead {
     Record,
     /// The next snapshot begins.
     Begin,
+    /// The next step of a colour begins.
+    Step,
     /// A wave is put out.
     Wave,
     /// The run has ended: nothing happens any more.

@@ -8,7 +8,7 @@ mod laws;
 mod parts;
 
 pub use clusters::SnapCluster;
-pub use coord_core::{Coordinator, Due, Store};
+pub use coord_core::{Coordinator, Due, Engine, Store};
 pub use events::{Event, Lead, Local, Passage};
 pub use laws::bases_stay_good;
 pub use parts::Parts;

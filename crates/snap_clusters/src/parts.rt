@@ -11,7 +11,7 @@ ghost use Rattle.snap_clusters.specs.Events.{AnswersEvent, CanNotTakePlace, CanT
 
 use crate::events::{Event, Lead, Local, Passage};
 use cluster_step::Links;
-use coord_core::{Coordinator, Store};
+use coord_core::{Coordinator, Engine, Store};
 use gl_base::{MachineNo, NoMemory, Record, Refused, ScopeId, Vertex};
 use snap_members::SavingMachine;
 use std::alloc::Global;
@@ -184,6 +184,7 @@ impl<M: SavingMachine> Parts<M> {
         match lead {
             Lead::Record => self.acknowledge(),
             Lead::Begin => self.begin(),
+            Lead::Step => self.step(),
             Lead::Wave => self.wave(),
             Lead::Stop => self.stop(),
         }
@@ -361,6 +362,14 @@ impl<M: SavingMachine> Parts<M> {
         self.coordinator.begin()
     }
 
+    /// The next step of a colour begins.
+    fn step(&mut self) -> Result<(), Refused>
+        requires runs { self.old.stopped ≡ false }
+        ensures { AnswersEvent M.stands self.old (Event.Lead Lead.Step) result self.new }
+    {
+        self.coordinator.step()
+    }
+
     /// The coordinator puts a wave out.
     fn wave(&mut self) -> Result<(), Refused>
         requires runs { self.old.stopped ≡ false }
@@ -486,10 +495,11 @@ impl<M: SavingMachine> Parts<M> {
     }
 }
 
-/// The parts of a cluster that begins an attempt with these machines and this store, and these tickets. Nothing is on its way.
+/// The parts of a cluster that begins an attempt with these machines, this engine and this store, and these tickets. Nothing is on its way.
 pub(crate) fn first_parts<M: SavingMachine>(
     alloc: Global,
     machines: Vec<M>,
+    engine: Engine,
     store: Store,
     next: u64,
     left: u64,
@@ -498,13 +508,13 @@ pub(crate) fn first_parts<M: SavingMachine>(
     requires few { next + left < 2 ^ 64 }
     requires newest { store.newest + 1 < 2 ^ 32 }
     requires length { store.length < 2 ^ 32 }
-    ensures began { IfOk result (λ p. (st : Setting) (base : BaseView) (before : Cluster) → StartsSaving M.stands machines.items (store_view store) next left st base before →
+    ensures began { IfOk result (λ p. (st : Setting) (base : BaseView) (before : Cluster) → StartsSaving M.stands machines.items engine (store_view store) next left st base before →
         IsSavingClusterOf M.stands (going_on st base.numbers base.number) p (recovers st base before)) }
     ensures machines { IfOk result (λ p. p.machines.items ≡ machines.items) }
 {
     let many = machines.len();
     let links = Links::new(alloc, many + 1)?;
-    let coordinator = Coordinator::with_store(alloc, many as u16, store)?;
+    let coordinator = Coordinator::with_store(alloc, many as u16, engine, store)?;
     let failed = none_failed(alloc, many)?;
     Ok(Parts {
         machines,

@@ -104,7 +104,7 @@ module _ (st : Setting) (m : Core) (w : SnapView) (v : Vertex) (links : List Lin
       ∙ ap (λ (hs : List DataHalf). saved_along (is_unmarked m.numbers w.known) (edge_here m.numbers) hs e) row_is.halves
       ∙ saved_of st v.0 (is_unmarked m.numbers w.known) (edge_here m.numbers) e setting
 
-  near_is : (u : ℕ) → list_any (λ (s : Side). s.other.0 == u) sides ≡ is_near st v.0 u
+  pub near_is : (u : ℕ) → list_any (λ (s : Side). s.other.0 == u) sides ≡ is_near st v.0 u
   near_is u =
       any_along sides links u row_is.row.many
       ∙ ap (λ (hs : List DataHalf). list_any (λ (h : DataHalf). h.other == u) hs) row_is.halves

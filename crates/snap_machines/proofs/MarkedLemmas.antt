@@ -27,7 +27,7 @@ use Rattle.machine_numbers.specs.Settings.{IsRowOf}
 use Rattle.machine_parts.specs.declared.cores.Core.{Core}
 use Rattle.machine_parts.specs.declared.cores.Terms.{Terms}
 use Rattle.machine_parts.specs.Parts.{LocalView, PipeView, flight_at, place_at, is_owned, holder_at, queue_at, links_at, entered_at, task_here, messages_for, message_of, number_of as number_in, stand_at}
-use Rattle.machine_parts.specs.Order.{AreNumbersInOrder, HasComeRight, IsGraphInOrder, IsOrderly, KnowsPlaces, StandByPlace}
+use Rattle.machine_parts.specs.Order.{AreLocksInOrder, AreNumbersInOrder, HasComeRight, IsGraphInOrder, IsOrderly, KnowsPlaces, StandByPlace, nobody}
 use Rattle.machine_parts.specs.Settings.{IsPartOf, SameSettings, Setting}
 use Rattle.machine_updates.specs.declared.reserving.Prepared.{Prepared}
 use Rattle.machine_updates.specs.Reserving.{is_to_be_told}
@@ -200,7 +200,8 @@ module _ (old new : Core) (s : ScopeId) (v : Vertex) (ps : List Prepared) (k : �
               let other = other_entered old.pipe new.pipe s without t e gone was in
               come_kept old.pipe new.pipe s without old.numbers.local new.numbers.local (length new.out.machines) t e graph other
               (subst (λ (n : ℕ). HasComeRight old.numbers.local old.pipe n false t e) (sym boxes) (order.entered t e was));
-          locks = locks_left old.pipe new.pipe s without old.numbers.local new.numbers.local old.locks new.locks graph gone done.owned done.holder done.queue order.locks;
+          locks = subst (λ (t : Terms). AreLocksInOrder t.locks new.numbers.local new.locks new.pipe nobody) (sym done.terms)
+              (locks_left old.pipe new.pipe s without old.terms.locks old.numbers.local new.numbers.local old.locks new.locks graph gone done.owned done.holder done.queue order.locks);
           flights = flights_left old.numbers new.numbers old.pipe new.pipe s v at.0 links graph without can.flight order.numbers.tasks at.1 (done.numbers.admitted at.0 at.1) back order.flights;
           width = ap (λ (p : PipeView). p.width) done.pipe ∙ order.width ∙ ap (λ (t : Terms). t.pipeline) (sym done.terms);
         }

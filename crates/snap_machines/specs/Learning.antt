@@ -11,12 +11,12 @@ use Rattle.machine_parts.specs.Parts.{entered_at, holder_at, is_own, part_at}
 use Rattle.machine_parts.specs.Settings.{Setting, IsPartOf}
 use Rattle.snap_machines.specs.Keeping.{SnapView, part_of, with_snaps}
 
--- The update is of a ghost, by a scope of another machine that is here no more and holds just the locks of its own vertices here;
+-- The update is of a ghost, by a scope of another machine that is here no more and holds no lock but of its own vertices here;
 -- the edges are here, and the vertices that it wakes or that become pending are own ones.
 pub record CanLearnNews (m : Core) (done : Done) : Type 0 where
   pub away : done.scope.home.0 ≢ m.pipe.home.0
   pub gone : entered_at m.pipe done.scope ≡ None
-  pub holds : (x : ℕ) → is_some (holder_at m.locks x done.scope) ≡ is_one_of (part_at m.numbers.local done.centre.0) x
+  pub only : (x : ℕ) → is_some (holder_at m.locks x done.scope) ≡ true → is_one_of (part_at m.numbers.local done.centre.0) x ≡ true
   pub ghost : list_any (λ g. g.vertex.0 == done.centre.0) m.numbers.local.ghosts ≡ true
   pub not_own : is_own m.numbers.local done.centre.0 ≡ false
   pub edges : All (λ e. HasEdge m.numbers.local e.0.0) done.edges.items

@@ -19,4 +19,4 @@ pub use marking::mark;
 pub use pending::{pend_named, pend_one};
 pub use seeding::seed;
 pub use sending::{is_section_due, section};
-pub use waiting::next_mark;
+pub use waiting::{may_mark, next_mark};

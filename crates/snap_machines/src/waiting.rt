@@ -27,7 +27,7 @@ pub fn next_mark(core: &Core) -> Option<ScopeId>
 }
 
 /// Whether a scope may make its snapshot update now; then it is of this home.
-fn may_mark(core: &Core, scope: ScopeId) -> bool
+pub fn may_mark(core: &Core, scope: ScopeId) -> bool
     requires { IsOrderly core.now }
     ensures yes { result ≡ true → MayMark scope (part_of core.now) × (scope.home ≡ core.now.numbers.local.me) }
     ensures no { result ≡ false → MayMark scope (part_of core.now) → ⊥ }

@@ -1,23 +1,29 @@
 -- A cluster of the law to which events have led.
-use Rattle.std.specs.Prelude.{List, true, ◌≡◌}
-use Rattle.cluster_core.specs.Settings.{IsSetting, Locking, Setting}
+use Rattle.std.specs.Prelude.{List, true, ⊤, ◌≡◌}
+use Rattle.cluster_core.specs.Settings.{Chromatic, Engine, IsSetting, Locking, Setting}
 use Rattle.cluster_ending.specs.Ends.{IsFollowed}
 use Rattle.cluster_ending.specs.Snapshotting.{AreInformed, HasNoSteps}
 use Rattle.cluster_model.specs.Clusters.{Cluster}
 use Rattle.cluster_records.specs.Recorded.{IsAccounted}
 use Rattle.cluster_whole.specs.Logged.{Logged}
+use Rattle.cluster_whole.specs.Whole.{AreColoured}
 
--- the cluster takes locks and snapshots
+-- the cluster takes snapshots; and where vertices run by colours, neighbours have different ones
 pub record IsSnapSetting (st : Setting) : Type 0 where
   pub is : IsSetting st
-  pub locks : st.engine ≡ Locking
+  pub coloured : AreColoured st st.engine
   pub stored : st.stored ≡ true
+
+-- with locks no step is on its way to a machine
+abbrev pub KnowsNoSteps : Engine → Cluster → Type 0
+KnowsNoSteps Locking c = HasNoSteps c
+KnowsNoSteps (Chromatic colour colours) c = ⊤
 
 -- Whatever has happened in it, and whatever base it began with: it is whole, its waves are as they should be, machines and coordinator are
 -- informed of each other, and each update of the attempt is accounted for.
 pub record IsGoing (st : Setting) (c : Cluster) : Type 0 where
   pub followed : IsFollowed st c
   pub informed : AreInformed c
-  pub no_steps : HasNoSteps c
+  pub no_steps : KnowsNoSteps st.engine c
   pub logged : List Logged
   pub accounts : IsAccounted st c followed.0 logged

@@ -6,15 +6,15 @@ ghost use Rattle.snap_members.specs.Promises.{Grant, Machine, Mark, Section, Set
 use gl_base::{Entry, MachineNo, Refused, ScopeId, Vertex};
 use wire_msgs::{Message, Returned};
 
-/// A machine of a cluster that takes locks and snapshots. Each call that changes it is the machine's part of an event: it is `NotNow`
-/// exactly where the event's guard fails, and after an error the machine is what it was. What is promised is promised for every
-/// machine of the law that it is: with all that the law gives a machine, what it counts and what it keeps for snapshots too.
+/// A machine of a cluster that takes snapshots, with locks or by colours. Each call that changes it is the machine's part of an event: it
+/// is `NotNow` exactly where the event's guard fails, and after an error the machine is what it was. What is promised is promised for
+/// every machine of the law that it is: with all that the law gives a machine, what it counts and what it keeps for snapshots too.
 pub trait SavingMachine: Drop {
     /// It is the machine of this number of a cluster with this setting, and has this.
     ghost stands: { Setting → ℕ → Machine → Self → Type 0 };
 
-    /// A scope of a vertex that is pending, or that is a task where the window has room, sets out for its locks. Which vertex is the
-    /// machine's choice.
+    /// A scope of a vertex that is pending, or that is a task where the window has room, sets out for its locks, or is ready where scopes
+    /// take none. Which vertex is the machine's choice.
     fn admit(&mut self) -> Result<(), Refused>
         ensures admitted { OnOk result (HasAdmittedSome stands self.old self.new) }
         ensures not_now { IsErrOf result Refused.NotNow → CanNotAdmit stands self.old }
@@ -45,7 +45,7 @@ pub trait SavingMachine: Drop {
     /// Makes the update of a vertex that is a task and not pending where the window has room, all of whose scope is this machine's, and of
     /// whose scope nobody holds or waits for a lock: a scope of it is admitted, takes each lock in turn and makes its update. It is
     /// logged under the ticket, and the coordinator is asked for a snapshot where it has to be. Of the vertices that may be admitted the
-    /// machine looks at one of its choice.
+    /// machine looks at one of its choice. A machine whose scopes take no locks makes none.
     fn update_at_once(&mut self, ticket: u64) -> Result<Vertex, Refused>
         ensures updated { IfOk result (λ v. HasUpdatedAtOnce stands self.old v.0 ticket self.new) }
         ensures not_now { IsErrOf result Refused.NotNow → CanNotUpdateAtOnce stands self.old }
@@ -89,8 +89,8 @@ pub trait SavingMachine: Drop {
         ensures returned { IfErr result (λ back. back.message ≡ message) }
         ensures unchanged { OnErr result (StandsStill stands self.old self.new) };
 
-    /// Receives a message from the coordinator: that a snapshot begins or is acknowledged, or a wave, which it answers at once. For want
-    /// of memory the message comes back.
+    /// Receives a message from the coordinator: that a snapshot begins or is acknowledged, a wave, which it answers at once or when its
+    /// share of the step is done, or a step of a colour. For want of memory the message comes back.
     fn hear(&mut self, message: Message) -> Result<(), Returned>
         requires { MayHearCall stands self.old message }
         ensures heard { OnOk result (HasHeard stands self.old message self.new) }

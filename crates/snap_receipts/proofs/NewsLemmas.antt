@@ -36,7 +36,7 @@ news_come st c p m w done comes =
     record {
       away = can.away;
       gone = can.gone;
-      holds = can.holds;
+      only = can.only;
       ghost = can.ghost;
       not_own = can.not_own;
       edges = can.edges;

@@ -138,6 +138,7 @@ module _ {P : Type 0} (meaning : P → Update) (x : SaverView P) (orderly : IsOr
   can_at_once can = (
     can.vertex.0,
     λ st a m snap is. record {
+      locks = is.here.engine;
       may = at_once_here meaning st a m x is can.vertex.0 (can.may st snap.is is.here);
       room = room_is meaning st a m x is snap counted ∙ can.opened;
     },
@@ -145,7 +146,7 @@ module _ {P : Type 0} (meaning : P → Update) (x : SaverView P) (orderly : IsOr
 
   pub can_not_at_once : HasNoneAtOnce x.machine.core → CanNotUpdateAtOnce (IsSaverOf meaning) x
   can_not_at_once (inl none) = inl (can_not_admit meaning x orderly places counted none)
-  can_not_at_once (inr one) = inr (
+  can_not_at_once (inr one) = inr (inl (
     one.0.0,
     λ st a m snap is. (
       record {
@@ -157,7 +158,7 @@ module _ {P : Type 0} (meaning : P → Update) (x : SaverView P) (orderly : IsOr
       },
       λ may. one.2 st snap.is is.here (at_once_there meaning st a m x is one.0.0 may.may),
     ),
-  )
+  ))
 
 -- ---- where one is
 
@@ -196,7 +197,7 @@ module _ {P : Type 0} (meaning : P → Update) (x : SaverView P) (now : SnapMach
     may = at_once_here meaning st a m x is v.0 (has.may st snap.is is.here)
 
     within : MayUpdateWithin st a v.0 m
-    within = record { may = may; room = room_is meaning st a m x is snap counted ∙ has.opened }
+    within = record { locks = is.here.engine; may = may; room = room_is meaning st a m x is snap counted ∙ has.opened }
 
     held_is : part_held worked ≡ at_once st a v.0 entry (part_held x)
     held_is =
@@ -281,6 +282,6 @@ module _ {P : Type 0} (meaning : P → Update) (x : SaverView P) (now : SnapMach
       record {
         may = within st a m snap is;
         after = asks st (worked_at_once st a v.0 ticket m);
-        done = done_at_once st a v.0 ticket m snap.is snap.locks (may st a m snap is) is.none_held (closed_is meaning st a m x is) (within st a m snap is);
+        done = done_at_once st a v.0 ticket m snap.is is.here.engine (may st a m snap is) is.none_held (closed_is meaning st a m x is) (within st a m snap is);
         here = asked_standing meaning st a (worked_at_once st a v.0 ticket m) worked (worked_standing st a m snap is) snap behind asked;
       }

@@ -104,7 +104,7 @@ module _ {P : Type 0} (meaning : P → Update) (x : SaverView P) (now : SnapMach
   behind = record x { machine = now }
 
   module _ (k : ℕ) (begun : HasBegun old x.machine.kept now.core now.kept k) (same : IsSameButRoom (with_begun k x.machine.kept) now.kept) (rest : HasOtherPending old now.core) (program : now.program ≡ x.machine.program) (settings : SameSettings old now.core) where
-    begun_standing : (st : Setting) (a : ℕ) (m : Machine) → IsSnapSetting st → IsSaverOf meaning st a m x → IsSaverOf meaning st a (takes_call st a (Begin k) m) behind
+    pub begun_standing : (st : Setting) (a : ℕ) (m : Machine) → IsSnapSetting st → IsSaverOf meaning st a m x → IsSaverOf meaning st a (takes_call st a (Begin k) m) behind
     begun_standing st a m snap is =
         let new : Machine = takes_call st a (Begin k) m in
         let held_is : part_held behind ≡ begins st a k (part_held x) = begun st is.here ∙ ap (λ (b : ℕ). begins st b k (part_held x)) is.number in
@@ -144,7 +144,7 @@ module _ {P : Type 0} (meaning : P → Update) (x : SaverView P) (now : SnapMach
     one_less [] = refl
     one_less (n ∷ xs) = refl
 
-    committed_standing : (st : Setting) (a : ℕ) (m : Machine) → IsSaverOf meaning st a m x → IsSaverOf meaning st a (commits k m) left
+    pub committed_standing : (st : Setting) (a : ℕ) (m : Machine) → IsSaverOf meaning st a m x → IsSaverOf meaning st a (commits k m) left
     committed_standing st a m is =
         let held_is : part_held left ≡ part_held x = ap (λ (w : SnapView). with_snaps w (part_of now.core)) kept ∙ ap (with_snaps x.machine.kept) part in
         let alike : LooksAlike st a m.part (part_held left) = alike_to st a m.part (part_held x) (part_held left) is.part held_is in
@@ -200,8 +200,8 @@ module _ {P : Type 0} (meaning : P → Update) (x now : SaverView P) (wave sent_
   abbrev behind_wave : SaverView P
   behind_wave = record x { counts = counts; reports = with_report (wire.Count wave counted) told }
 
-  wave_standing : (st : Setting) (a : ℕ) (m : Machine) → IsSnapSetting st → IsSaverOf meaning st a m x → IsSaverOf meaning st a (prompt st a (takes_call st a (Wave wave) m)) behind_wave
-  wave_standing st a m snap is =
+  wave_standing : (st : Setting) (a : ℕ) (m : Machine) → IsSaverOf meaning st a m x → IsSaverOf meaning st a (prompt st a (takes_call st a (Wave wave) m)) behind_wave
+  wave_standing st a m is =
       let held : Machine = takes_call st a (Wave wave) m in
       let counted_here : IsCountOf st (record x.counts { held = Some wave }) held = record { sent = is.counts.sent; received = is.counts.received; held = refl } in
       let wait_is : waiting ≡ waiting_in st m.part = waits st is.here ∙ sym (ap (waiting_in st) is.part.rest) in
@@ -211,7 +211,7 @@ module _ {P : Type 0} (meaning : P → Update) (x now : SaverView P) (wave sent_
       let made_here : updates ≡ length held.part.log = sym (ap (λ (p : Part). length p.log) is.part.rest) in
       let rests_here : idle ≡ is_idle st held.part = has_told.rests st is.here ∙ sym (ap (is_idle st) is.part.rest) in
       let has : HasAnsweredWave (record x.counts { held = Some wave }) counts (is_done st.engine st a held) sent_count updates idle answer =
-      subst (λ (e : Engine). HasAnsweredWave (record x.counts { held = Some wave }) counts (is_done e st a held) sent_count updates idle answer) (sym snap.locks) (record { told = refl; rest = refl }) in
+      subst (λ (e : Engine). HasAnsweredWave (record x.counts { held = Some wave }) counts (is_done e st a held) sent_count updates idle answer) (sym is.here.engine) (record { told = refl; rest = refl }) in
       let closed = closed_is meaning st a m x is in
       let same : prompt st a held ≡ record m { held = None; out = m.out ++ Count wave counted ∷ [] } =
       prompt_is st a sent_count updates idle (record x.counts { held = Some wave }) counts answer held counted_here can_here sum_here made_here rests_here has
@@ -252,7 +252,7 @@ module _ {P : Type 0} (meaning : P → Update) (x now : SaverView P) (wave sent_
   pub heard_wave : HasHeard (IsSaverOf meaning) x (sent.Wave wave) now
   heard_wave st c a (Wave j) front =
       subst (IsSaverOf meaning st a (prompt st a (takes_call st a (Wave j) (c.machine a)))) (sym has_told.after)
-      (subst (λ (i : ℕ). IsSaverOf meaning st a (prompt st a (takes_call st a (Wave i) (c.machine a))) behind_wave) front.told (wave_standing st a (c.machine a) front.setting front.here))
+      (subst (λ (i : ℕ). IsSaverOf meaning st a (prompt st a (takes_call st a (Wave i) (c.machine a))) behind_wave) front.told (wave_standing st a (c.machine a) front.here))
   heard_wave st c a (Begin j) front = absurd front.told
   heard_wave st c a (Committed j) front = absurd front.told
   heard_wave st c a (Step j) front = absurd front.told

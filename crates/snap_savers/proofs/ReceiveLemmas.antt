@@ -18,6 +18,7 @@ use Rattle.cluster_model.specs.Clusters.{Cluster}
 use Rattle.cluster_model.specs.Working.{prompt, receives, snapshot_in}
 use Rattle.cluster_moves.proofs.DueKept.{received_kept}
 use Rattle.cluster_whole.specs.Views.{world_of}
+use Rattle.cluster_whole.specs.Whole.{IsWhole}
 use Rattle.machine_numbers.specs.Views.{LocalView}
 use Rattle.machine_parts.specs.declared.cores.Core.{Core}
 use Rattle.machine_parts.specs.Order.{IsOrderly}
@@ -77,7 +78,7 @@ module _ {P : Type 0} (meaning : P → Update) (x : SaverView P) (p : ℕ) (orde
 not_below_none : (n : ℕ) → nat_lt n 0 ≡ false
 not_below_none n = grind arith
 
-receipt_counts : (st : Setting) (a : ℕ) (message : Message) (m : Machine) (counts : CountsView) → IsCountOf st counts m → IsCountOf st (record counts { received = one_more counts.received }) (receives st a message m)
+pub receipt_counts : (st : Setting) (a : ℕ) (message : Message) (m : Machine) (counts : CountsView) → IsCountOf st counts m → IsCountOf st (record counts { received = one_more counts.received }) (receives st a message m)
 receipt_counts st a message m counts is =
     let new : Machine = receives st a message m in
     let one : Machine = record new { received = m.received } in
@@ -152,7 +153,14 @@ learned_right st a s news part away fresh right =
 first_told : {X : Type 0} (P : X → Type 0) (link out : List X) (m : X) (behind : List X) → link ≡ m ∷ behind → AllByRecursion P (link ++ out) → P m
 first_told P link out m behind first all = (subst (λ xs. AllByRecursion P (xs ++ out)) first all).0
 
-module _ {P : Type 0} (meaning : P → Update) (x : SaverView P) (now : SnapMachineView P) (p : ℕ) (done : word.Done) (orderly : IsOrderly x.machine.core) (can : CanLearnNews x.machine.core done)
+-- whom the first word on a link names to become pending has no mark of its snapshot yet
+pub unmarked_yet : (st : Setting) (c : Cluster) (p a : ℕ) (s : ScopeId) (news : News) (behind : List Message) → IsWhole st c → c.link p a ≡ Done s news ∷ behind → (u : ℕ) → st.owner u ≡ a → news.pends u ≡ true → ((c.machine a).part.datum u).mark < news.number
+unmarked_yet st c p a s news behind whole first u owned pends =
+    let marking : IsMarking st (world_of c) (Done s news) = first_told (IsMarking st (world_of c)) (c.link p a) ((c.machine p).part.out a) (Done s news) behind first (whole.consistent.marks.told p a) in
+    let one = marking.1 u pends in
+    subst (λ (b : ℕ). ((c.machine b).part.datum u).mark < news.number) owned (subst (λ (k : ℕ). mark_of st (world_of c) u < k) (sym one.0) one.1)
+
+module _ {P : Type 0} (meaning : P → Update) (x : SaverView P) (now : SnapMachineView P) (done : word.Done) (not_own : is_own x.machine.core.numbers.local done.centre.0 ≡ false)
     (learned : HasLearnedNews x.machine.core x.machine.kept now.core now.kept done) (same : IsSameButRoom (with_begun done.number x.machine.kept) now.kept)
     (tasks : let t = now.core.numbers.tasks in t ≡ record x.machine.core.numbers.tasks { task = t.task; pending = t.pending; asked = t.asked })
     (local : now.core.numbers.local ≡ record x.machine.core.numbers.local { numbers = now.core.numbers.local.numbers }) (program : now.program ≡ x.machine.program) (settings : SameSettings x.machine.core now.core) where
@@ -165,35 +173,24 @@ module _ {P : Type 0} (meaning : P → Update) (x : SaverView P) (now : SnapMach
   abbrev told : SaverView P
   told = record x { machine = now; counts = received_more meaning x }
 
-  module _ (st : Setting) (c : Cluster) (a : ℕ) (front : IsFirstFrom (IsSaverOf meaning) x p (sent.Done done) st c a) where
-    abbrev m : Machine
-    m = c.machine a
-
+  module _ (st : Setting) (a : ℕ) (m : Machine) (snap : IsSnapSetting st) (is : IsSaverOf meaning st a m x) (unmarked : (u : ℕ) → st.owner u ≡ a → news.pends u ≡ true → (m.part.datum u).mark < news.number) where
     abbrev new : Machine
     new = receives st a (Done done.scope news) m
-
-    is : IsSaverOf meaning st a m x
-    is = front.here
 
     held_is : part_held told ≡ received st a (Done done.scope news) (part_held x)
     held_is = learned st is.here ∙ ap (λ (k : ℕ). applied st k done.scope news (part_held x)) is.number
 
     alike : LooksAlike st a new.part (part_held told)
-    alike = alike_to st a new.part (received st a (Done done.scope news) (part_held x)) (part_held told) (receive_alike st a front.setting.is (Done done.scope news) m.part (part_held x) is.part) held_is
+    alike = alike_to st a new.part (received st a (Done done.scope news) (part_held x)) (part_held told) (receive_alike st a snap.is (Done done.scope news) m.part (part_held x) is.part) held_is
 
     own_here : (u : ℕ) → u < size st.graph → st.owner u ≡ a → is_own old.numbers.local u ≡ true
     own_here u low owned = own_from_setting st old.numbers.local u is.here.local low (owned ∙ sym is.number)
 
-    marking : IsMarking st (world_of c) (Done done.scope news)
-    marking = first_told (IsMarking st (world_of c)) (c.link p a) ((c.machine p).part.out a) (Done done.scope news) front.behind front.first (front.going.followed.0.consistent.marks.told p a)
-
     fresh : (u : ℕ) → u < size st.graph → st.owner u ≡ a → news.pends u ≡ true → ((begins st a news.number (part_held x)).datum u).mark < (begins st a news.number (part_held x)).known
     fresh u low owned pends =
-        let one = marking.1 u pends in
-        let mark : mark_of st (world_of c) u ≡ ((part_held x).datum u).mark =
-        ap (λ (b : ℕ). ((c.machine b).part.datum u).mark) owned
-        ∙ ap (λ (d : Datum). d.mark) (own_seen st a front.setting.is m.part.datum m.part.edge (part_held x) (seen_of st a m.part (part_held x) is.part) u low owned) in
-        let less : ((part_held x).datum u).mark < news.number = subst (λ (k : ℕ). ((part_held x).datum u).mark < k) (sym one.0) (subst (λ (k : ℕ). k < c.coordinator.begun) mark one.1) in
+        let mark : (m.part.datum u).mark ≡ ((part_held x).datum u).mark =
+        ap (λ (d : Datum). d.mark) (own_seen st a snap.is m.part.datum m.part.edge (part_held x) (seen_of st a m.part (part_held x) is.part) u low owned) in
+        let less : ((part_held x).datum u).mark < news.number = subst (λ (k : ℕ). k < news.number) mark (unmarked u owned pends) in
         under ((part_held x).datum u).mark (part_held x).known news.number less
       where
         under : (mark known number : ℕ) → mark < number → mark < max known number
@@ -202,7 +199,7 @@ module _ {P : Type 0} (meaning : P → Update) (x : SaverView P) (now : SnapMach
     kept : HasBegunKept done.number m now.kept
     kept = begun_kept done.number m x.machine.kept now.kept is.kept same
 
-    done_standing : IsSaverOf meaning st a new told
+    pub done_standing : IsSaverOf meaning st a new told
     done_standing =
         record {
           here = settings st is.here;
@@ -216,14 +213,16 @@ module _ {P : Type 0} (meaning : P → Update) (x : SaverView P) (now : SnapMach
           plans = plans_kept old.numbers now.core.numbers m new (received_kept st a (Done done.scope news) m.part) refl refl (ap (λ t. t.planned) tasks) (ap (λ t. t.plans) tasks) (λ v. ap (λ (l : LocalView). place_at l v) local) is.plans;
           saved = subst (IsSavedRight st a) (sym held_is)
               (learned_right st a done.scope news (begins st a news.number (part_held x))
-              (λ u low owned same_vertex. true≢false (sym (own_here u low owned) ∙ ap (is_own old.numbers.local) same_vertex ∙ can.not_own))
+              (λ u low owned same_vertex. true≢false (sym (own_here u low owned) ∙ ap (is_own old.numbers.local) same_vertex ∙ not_own))
               fresh (begins_right st a news.number (part_held x) is.saved));
           once = once_begun done.number x.machine.kept now.kept same is.once;
           reports = is.reports;
         }
 
-  pub done_received : HasReceived (IsSaverOf meaning) x p (sent.Done done) told
-  done_received st c a front = still_stands meaning st a (receives st a (Done done.scope news) (c.machine a)) told (done_standing st c a front)
+  pub done_received : (p : ℕ) → HasReceived (IsSaverOf meaning) x p (sent.Done done) told
+  done_received p st c a front =
+      still_stands meaning st a (receives st a (Done done.scope news) (c.machine a)) told
+      (done_standing st a (c.machine a) front.setting front.here (unmarked_yet st c p a done.scope news front.behind front.going.followed.0 front.first))
 
-  pub done_now : (counts : CountsView) → counts ≡ record x.counts { received = one_more x.counts.received } → HasReceived (IsSaverOf meaning) x p (sent.Done done) (record x { machine = now; counts = counts })
-  done_now counts counted = subst (λ (k : CountsView). HasReceived (IsSaverOf meaning) x p (sent.Done done) (record x { machine = now; counts = k })) (sym counted) done_received
+  pub done_now : (p : ℕ) (counts : CountsView) → counts ≡ record x.counts { received = one_more x.counts.received } → HasReceived (IsSaverOf meaning) x p (sent.Done done) (record x { machine = now; counts = counts })
+  done_now p counts counted = subst (λ (k : CountsView). HasReceived (IsSaverOf meaning) x p (sent.Done done) (record x { machine = now; counts = k })) (sym counted) (done_received p)

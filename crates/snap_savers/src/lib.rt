@@ -11,4 +11,5 @@ mod scopes;
 mod snapshots;
 mod updates;
 
+pub use reports::Reports;
 pub use savers::Saver;

@@ -1,5 +1,5 @@
 //! What waits to be sent to the coordinator.
-ghost use Rattle.std.specs.Prelude.{◌≡◌, ◌<◌, [], option_map, slice_get, OnOk};
+ghost use Rattle.std.specs.Prelude.{◌≡◌, ◌<◌, ◌≤◌, [], option_map, slice_get, OnOk};
 ghost use Rattle.snap_savers.specs.Reports.{has_report, with_report, without_report};
 ghost use Rattle.wire_msgs.specs.Views.{message_view};
 
@@ -41,6 +41,15 @@ impl Reports {
         ensures same { self.new.messages ≡ self.old.messages }
     {
         self.queue.reserve(1)?;
+        Ok(())
+    }
+
+    /// Makes room for so many more.
+    pub fn reserve_many(&mut self, more: usize) -> Result<(), NoMemory>
+        ensures room { OnOk result (more ≤ self.new.room) }
+        ensures same { self.new.messages ≡ self.old.messages }
+    {
+        self.queue.reserve(more)?;
         Ok(())
     }
 

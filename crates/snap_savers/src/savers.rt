@@ -1,5 +1,5 @@
 //! A machine that takes part in snapshots, as a member of a cluster.
-ghost use Rattle.std.specs.Prelude.{◌≡◌, []};
+ghost use Rattle.std.specs.Prelude.{◌≡◌, true, []};
 ghost use Rattle.wave_counts.specs.Counts.{none_counted};
 
 use crate::reports::Reports;
@@ -9,8 +9,8 @@ use std::marker::Model;
 use update_api::Program;
 use wave_counts::WaveCounts;
 
-/// A machine that takes part in snapshots, with what it counts for waves and with what it tells the coordinator. At most `window` of its
-/// updates may be outside the last snapshot that was acknowledged.
+/// A machine that takes part in snapshots, and at which scopes take locks, with what it counts for waves and with what it tells the
+/// coordinator. At most `window` of its updates may be outside the last snapshot that was acknowledged.
 #[derive(Drop)]
 pub struct Saver<P: Program> {
     pub(crate) machine: SnapMachine<P>,
@@ -20,16 +20,20 @@ pub struct Saver<P: Program> {
 }
 
 impl<P: Program> Model for Saver<P> {
+    ghost use Rattle.std.specs.Prelude.{◌≡◌, true};
     ghost use Rattle.snap_savers.specs.Savers.{SaverView};
 
     ghost Value = { SaverView P };
 
     ghost view = { λ s. record { machine = s.machine; counts = s.counts; window = s.window; reports = s.reports } };
+
+    ghost invariant = { λ s. s.machine.core.terms.locks ≡ true };
 }
 
 impl<P: Program> Saver<P> {
     /// The machine, where nothing was counted and nothing is to be told.
     pub fn new(alloc: Global, machine: SnapMachine<P>, window: u32) -> Saver<P>
+        requires { machine.core.terms.locks ≡ true }
         ensures machine { result.machine ≡ machine }
         ensures counts { result.counts ≡ none_counted }
         ensures window { result.window ≡ window }

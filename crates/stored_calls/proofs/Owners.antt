@@ -41,9 +41,10 @@ with_owner g program plan places owner failures graph are same = record {
         graph = graph;
         owner = λ v low. subst (λ (k : ℕ). k < places.run.machines) (sym (same v low)) (owner_low g places.run.machines places.of.items places.owner.items are.are.each are.are.atoms are.are.owners v low);
       };
-      locks = refl;
+      coloured = tt;
       stored = refl;
     };
+    locks = refl;
     placed = record { graph = refl; machines = refl; owners = same };
     program_is = refl;
     pipeline = refl;

@@ -19,7 +19,7 @@ use Rattle.snap_clusters.specs.declared.events.Lead.TheVariants as lead
 use Rattle.snap_clusters.specs.declared.parts.Parts.{Parts}
 use Rattle.std.specs.Prelude.{slice_index_or}
 use Rattle.stored_courses.specs.Stores.{CallOpening, Cluster, CourseGoesOn, CourseView, Header, IsCourseNow, IsGoodStore, IsKnownCourse, IsRecordBehind, IsRememberedAt, IsStoredCourse, KeepsUp, Machine, Setting, as_since, first_cluster, first_setting, fronts_in, recorded_in, stored_order}
-use Rattle.call_courses.specs.Courses.{GoesBackWith, HasGoneBack, StoreView, newest_setting}
+use Rattle.call_courses.specs.Courses.{Engine, GoesBackWith, HasGoneBack, StoreView, newest_setting}
 use Rattle.whole_calls.specs.Lost.{TakesAway}
 use Rattle.whole_calls.specs.Opened.{IsCourseOfCall}
 use Rattle.stored_courses.proofs.Staying.{IsStill, course_behind, still_course}
@@ -101,8 +101,8 @@ module _ {M : Type 0} (stands : Setting → ℕ → Machine → M → Type 0) wh
             taken = record_lost st o before.events c before.now.course.course lost before.taken;
           }
 
-    module _ (gone : List Entry) (machines : List M) (store : StoreView) (base : BaseView) (gone_back : HasGoneBack stands old machines store new) (before : IsStoredCourse stands old header start bodies lost st o)
-        (goes : GoesBackWith stands old machines store st o before.events before.cluster base) (takes : TakesAway (newest_setting st o before.events) before.cluster base gone) where
+    module _ (gone : List Entry) (machines : List M) (engine : Engine) (store : StoreView) (base : BaseView) (gone_back : HasGoneBack stands old machines engine store new) (before : IsStoredCourse stands old header start bodies lost st o)
+        (goes : GoesBackWith stands old machines engine store st o before.events before.cluster base) (takes : TakesAway (newest_setting st o before.events) before.cluster base gone) where
       unfoldable pub returns : IsStoredCourse stands new header start bodies (lost ++ gone) st o
       returns =
           let c : Cluster = before.cluster in

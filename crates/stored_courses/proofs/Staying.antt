@@ -1,11 +1,10 @@
 -- What events leave as it is that acknowledge nothing and begin no attempt.
-use Rattle.std.proofs.Common.{◌≡◌, ◌∙◌, ℕ, List, None, Option, Some, [], ◌∷◌, ◌++◌, ap, refl, subst, sym}
+use Rattle.std.proofs.Common.{◌≡◌, ◌∙◌, ℕ, List, None, Option, Some, [], ◌∷◌, ◌++◌, refl, subst, sym}
 use Rattle.call_courses.specs.Courses.{ArePassing, Cluster, IsPassing, Setting}
 use Rattle.cluster_core.specs.Messages.{Message}
 use Rattle.cluster_model.specs.Calls.{Call, Count, Report, Saved, Want}
 use Rattle.cluster_model.specs.Events as law
 use Rattle.cluster_whole.specs.Whole.{setting_behind}
-use Rattle.gl_base.specs.declared.entries.Entry.{Entry}
 use Rattle.gl_base.specs.declared.scopes.ScopeId.{ScopeId}
 
 -- The attempt is the same, and the coordinator knows the same of the store.

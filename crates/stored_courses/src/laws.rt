@@ -2,7 +2,7 @@
 ghost use Rattle.std.specs.Prelude.{List, [], length, ℕ, ◌++◌, ◌∷◌, ◌≡◌};
 ghost use Rattle.gl_base.specs.declared.entries.Entry.{Entry};
 ghost use Rattle.gl_base.specs.declared.snapshots.Record.{Record};
-ghost use Rattle.call_courses.specs.Courses.{BaseView, GoesBackWith, HasGoneBack, StoreView, newest_setting};
+ghost use Rattle.call_courses.specs.Courses.{BaseView, Engine, GoesBackWith, HasGoneBack, StoreView, newest_setting};
 ghost use Rattle.call_courses.specs.Events.{HappensInCall};
 ghost use Rattle.cluster_records.specs.Recorded.{snapshot_due};
 ghost use Rattle.cluster_runs.specs.Recorded.{shared_of};
@@ -28,9 +28,9 @@ pub fn stores_go_with_courses<M: SavingMachine>()
         IsRecordBehind st (stored_order bodies) was.cluster.base.order (snapshot_due was.cluster.coordinator) made →
         RecordFits made → NumbersFit made → length made.sections.items ≡ header.machines →
         IsStoredCourse M.stands new header start (bodies ++ body_bytes made ∷ []) lost st o }
-    ensures returns { (old new : CourseView M) (header : Header) (start bodies : List (List ℕ)) (lost gone : List Entry) (machines : List M) (store : StoreView) (st : Setting) (o : CallOpening) (base : BaseView) →
-        new.failures ≡ old.failures → HasGoneBack M.stands old machines store new → (was : IsStoredCourse M.stands old header start bodies lost st o) →
-        GoesBackWith M.stands old machines store st o was.events was.cluster base → TakesAway (newest_setting st o was.events) was.cluster base gone →
+    ensures returns { (old new : CourseView M) (header : Header) (start bodies : List (List ℕ)) (lost gone : List Entry) (machines : List M) (engine : Engine) (store : StoreView) (st : Setting) (o : CallOpening) (base : BaseView) →
+        new.failures ≡ old.failures → HasGoneBack M.stands old machines engine store new → (was : IsStoredCourse M.stands old header start bodies lost st o) →
+        GoesBackWith M.stands old machines engine store st o was.events was.cluster base → TakesAway (newest_setting st o was.events) was.cluster base gone →
         IsStoredCourse M.stands new header start bodies (lost ++ gone) st o }
 {
     stores_keep_up();

@@ -1,9 +1,9 @@
 -- How tasks are kept when a flag changes.
-use Rattle.std.proofs.Common.{◌≡◌, ℕ, ◌+◌, ◌<◌, ◌≤◌, ◌==◌, Bool, true, false, ◌&&◌, not, Option, Some, None, List, length, slice_set, slice_index_or, nat_lt, sum_by, if◌then◌else◌, refl, sym, ◌∙◌, ap, ap₂, subst, ⊎_elim, true≢false, arith, eq-eqb, ne_eqb}
+use Rattle.std.proofs.Common.{◌≡◌, ℕ, ◌+◌, ◌<◌, ◌≤◌, ◌==◌, Bool, true, false, ◌&&◌, not, Option, Some, None, List, length, slice_set, nat_lt, sum_by, if◌then◌else◌, refl, sym, ◌∙◌, ap, ap₂, subst, ⊎_elim, true≢false, arith, eq-eqb, ne_eqb}
 use Rattle.std.proofs.Math.ListN.{length-set}
-use Rattle.std.proofs.lemmas.Bool.{cases_eq, cases_Bool, ltb-true}
-use Rattle.std.proofs.lemmas.List.{get_or-set_same, get_or-set_other, get_or_default}
-use Rattle.std.proofs.lemmas.List.Sums.{sum_by-set, sum_by-le}
+use Rattle.std.proofs.lemmas.Bool.{cases_eq, ltb-true}
+use Rattle.std.proofs.lemmas.List.{get_or-set_same, get_or-set_other}
+use Rattle.std.proofs.lemmas.List.Sums.{sum_by-set}
 use Rattle.vertex_queue.specs.Inner.Queues.{bit_if}
 use Rattle.task_sched.specs.Tasks.{is_flagged, is_free, is_below, IsUpTo}
 use Rattle.task_sched.specs.Inner.Stages.{StagesView, stage_count, is_staged}

@@ -1,5 +1,5 @@
 -- What is picked, and that it is one of the vertices.
-use Rattle.std.proofs.Common.{◌≡◌, ℕ, ◌+◌, ◌<◌, ◌==◌, Bool, true, false, Option, Some, None, is_some, IfSome, MatchOption, List, [], ◌∷◌, length, slice_get, refl, sym, ◌∙◌, ap, subst, true≢false, arith, eq-eqb}
+use Rattle.std.proofs.Common.{◌≡◌, ℕ, ◌<◌, ◌==◌, Bool, true, false, Option, Some, None, IfSome, MatchOption, List, [], ◌∷◌, length, slice_get, refl, sym, ◌∙◌, ap, arith, eq-eqb}
 use Rattle.std.specs.List.{list_any}
 use Rattle.std.proofs.lemmas.Option.{none-some, same_Some}
 use Rattle.gl_base.specs.declared.numbers.Vertex.{Vertex}

@@ -4,7 +4,7 @@ use Rattle.std.proofs.Math.ListN.{length-set}
 use Rattle.std.proofs.lemmas.Bool.{cases_eq}
 use Rattle.std.proofs.lemmas.List.{get_or-set_same, get_or-set_other}
 use Rattle.task_sched.specs.Tasks.{is_flagged}
-use Rattle.task_sched.specs.Inner.Stages.{StagesView, is_staged}
+use Rattle.task_sched.specs.Inner.Stages.{is_staged}
 
 -- what a flag is after one was written
 pub flag-set : (flags : List Bool) (v u : ℕ) (b : Bool) → v < length flags → is_flagged (slice_set flags v b) u ≡ (if u == v then b else is_flagged flags u)

@@ -1,13 +1,13 @@
 -- The tasks of a machine, and which vertex it admits next.
 use Rattle.std.specs.Prelude.{◌≡◌, ℕ, ◌+◌, ◌<◌, ◌≤◌, Bool, true, false, ◌&&◌, not, Option, Some, None, List, [], length, nat_lt, slice_get}
-use Rattle.std.specs.List.{list_any}
 use Rattle.gl_base.specs.declared.numbers.Vertex.{Vertex}
 use Rattle.task_sched.specs.declared.task_sets.Pick.{Pick}
 pub use Rattle.vertex_queue.specs.Flags.{is_flagged}
 
 -- For each vertex whether it is a task, whether it is pending, whether it is admitted, and whether it was admitted for an update.
--- Then the pending vertices that are not admitted, in the order in which they became pending; how many are admitted for an
--- update; how many updates are outside the last acknowledged snapshot; and how many of both there may be, where that is bounded.
+-- Then the pending vertices that are not admitted, in the order in which they became pending as long as none was admitted out of
+-- turn; how many are admitted for an update; how many updates are outside the last acknowledged snapshot; and how many of both
+-- there may be, where that is bounded.
 pub record TasksView : Type 0 where
   pub task : List Bool
   pub pending : List Bool
@@ -41,8 +41,8 @@ IsUpTo (Some most) n = n ≤ most
 abbrev pub is_open : TasksView → Bool
 is_open t = is_below t.window (t.outside + t.plans)
 
--- the vertex that has been pending longest of those that are not admitted, or, where there is none and the window has room,
--- a task that is not admitted
+-- the first in line of the pending vertices that are not admitted, or, where there is none and the window has room, a task that
+-- is not admitted
 abbrev pub IsPicked : TasksView → Bool → Vertex → Type 0
 IsPicked t true v = slice_get t.asked 0 ≡ Some v
 IsPicked t false v = (t.asked ≡ []) × (is_open t ≡ true) × (is_free t.task t.admitted v.0 ≡ true)

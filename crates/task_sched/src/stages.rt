@@ -77,7 +77,7 @@ impl Stages {
     }
 
     /// The vertex waits no more.
-    pub fn remove(&mut self, v: Vertex)
+    fn remove(&mut self, v: Vertex)
         requires { v.0 < stage_count self.old }
         ensures count { stage_count self.new ≡ stage_count self.old }
         ensures waits { (u : ℕ) → is_staged self.new u ≡ (if u == v.0 then false else is_staged self.old u) }
@@ -88,8 +88,18 @@ impl Stages {
         self.keys[v.0 as usize] = u64::MAX;
     }
 
+    /// The vertex waits no more, and where none is near then, the bar moves.
+    pub fn admit(&mut self, v: Vertex)
+        requires { v.0 < stage_count self.old }
+        ensures count { stage_count self.new ≡ stage_count self.old }
+        ensures waits { (u : ℕ) → is_staged self.new u ≡ (if u == v.0 then false else is_staged self.old u) }
+    {
+        self.remove(v);
+        self.settle();
+    }
+
     /// Where none is near, moves the bar, and far ones up to it go over. It looks at each far one.
-    pub fn settle(&mut self)
+    fn settle(&mut self)
         ensures count { stage_count self.new ≡ stage_count self.old }
         ensures waits { (u : ℕ) → is_staged self.new u ≡ is_staged self.old u }
     {

@@ -1,5 +1,5 @@
 //! Tasks, pending vertices, and the window.
-ghost use Rattle.std.specs.Prelude.{◌≡◌, ℕ, ◌+◌, ◌<◌, ◌≤◌, ◌==◌, ◌&&◌, true, false, Some, None, [], ◌∷◌, ◌++◌, drop, not, length, slice_get, slice_set, nat_lt, if◌then◌else◌, IfOk, IfSome, MatchOption};
+ghost use Rattle.std.specs.Prelude.{◌≡◌, ℕ, ◌+◌, ◌<◌, ◌≤◌, ◌==◌, ◌&&◌, true, false, Some, None, [], ◌∷◌, ◌++◌, drop, not, length, slice_get, slice_set, nat_lt, if◌then◌else◌, IfOk, IfSome, IsPermutation, MatchOption};
 ghost use Rattle.std.specs.List.{list_any};
 ghost use Rattle.task_sched.specs.Inner.Picking.{IsFreeTask, pick_of};
 ghost use Rattle.task_sched.specs.Tasks.{TasksView, is_flagged, is_free, is_below, is_open, HasPending, IsUpTo, IsNextPick};
@@ -122,8 +122,8 @@ impl TaskSet {
         pick_of(self.asked.first(), self.free_task())
     }
 
-    /// Admits the pending vertex that has been so longest of those that are not admitted, else a task that is not, where the window
-    /// has room; and `None` exactly where there is no such vertex.
+    /// Admits the first in line of the pending vertices that are not admitted, which has been pending longest where `admit_asked` was not
+    /// called; else a task that is not admitted, where the window has room; and `None` exactly where there is no such vertex.
     pub fn next(&mut self) -> Option<Pick>
         ensures pick { IsNextPick self.old result }
         ensures snapshot { (v : Vertex) → result ≡ Some (record { vertex = v; snapshot = true }) →
@@ -297,8 +297,20 @@ impl TaskSet {
     {
         self.asked.pop();
         self.admitted[v.0 as usize] = true;
-        self.stages.remove(v);
-        self.stages.settle();
+        self.stages.admit(v);
+    }
+
+    /// Admits a pending vertex for its snapshot update, whether it is the one that `next` would pick or not. In which order the others
+    /// wait then is told nowhere.
+    pub fn admit_asked(&mut self, v: Vertex)
+        requires within { v.0 < length self.old.task }
+        requires asked { is_free self.old.pending self.old.admitted v.0 ≡ true }
+        ensures others { IsPermutation self.old.asked (v ∷ self.new.asked) }
+        ensures rest { self.new ≡ record self.old { admitted = slice_set self.old.admitted v.0 true; asked = self.new.asked } }
+    {
+        self.asked.remove(v);
+        self.admitted[v.0 as usize] = true;
+        self.stages.admit(v);
     }
 
     /// Admits a task for an update, where it is not pending and the window has room: as `next` does with the one that it picks.
@@ -313,8 +325,7 @@ impl TaskSet {
         self.admitted[place] = true;
         self.planned[place] = true;
         self.plans += 1;
-        self.stages.remove(v);
-        self.stages.settle();
+        self.stages.admit(v);
     }
 
     /// A task that is not admitted, where the window has room.
@@ -329,7 +340,7 @@ impl TaskSet {
     }
 
     /// Whether the window has room for one update more.
-    fn has_room(&self) -> bool
+    pub fn has_room(&self) -> bool
         ensures { result ≡ is_open self.now }
     {
         match self.window {

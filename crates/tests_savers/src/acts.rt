@@ -120,6 +120,7 @@ pub fn ready<P: Program>(
 fn passage_of(fields: &Fields<'_>) -> Result<Option<Event>, Trouble> {
     let event = match fields.first() {
         "begin" => Event::Lead(Lead::Begin),
+        "step" => Event::Lead(Lead::Step),
         "wave" => Event::Lead(Lead::Wave),
         "stop" => Event::Lead(Lead::Stop),
         "send-call" => Event::Passage(Passage::SendCall(fields.machine(0)?)),

@@ -1,6 +1,7 @@
 //! Clusters that begin, or begin again.
 ghost use Rattle.std.specs.Prelude.{◌≡◌, ◌+◌, ◌^◌, ◌<◌, ℕ, All, IfOk, IsTrue, length};
 ghost use Rattle.coord_core.specs.Stores.{store_view};
+ghost use Rattle.coord_core.specs.declared.steps.Engine.TheVariants.{Locking};
 ghost use Rattle.graph_core.specs.DataGraph.{IsDataGraph, size};
 ghost use Rattle.placed_savers.specs.Beginning.{BaseView, Cluster, IsBaseFor, IsSaverOf, Setting};
 ghost use Rattle.snap_clusters.specs.Clusters.{StartsSaving};
@@ -8,7 +9,7 @@ ghost use Rattle.snap_clusters.specs.Clusters.{StartsSaving};
 use crate::plans::Plan;
 use crate::trouble::Trouble;
 use call_courses::Course;
-use coord_core::Store;
+use coord_core::{Engine, Store};
 use gl_base::{AtomNo, Base, FailureAt, MachineNo, Vertex};
 use graph_core::Graph;
 use placed_graphs::first_base;
@@ -131,7 +132,7 @@ fn machines_of<P: Program>(
     base: &Base,
     serials: &[u64],
 ) -> Result<(Vec<Saver<P>>, Store), Trouble>
-    ensures start { IfOk result (λ made. (next left : ℕ) → (st : Setting) × (view : BaseView) × (before : Cluster) × StartsSaving (IsSaverOf P.meaning) made.0.items (store_view made.1) next left st view before) }
+    ensures start { IfOk result (λ made. (next left : ℕ) → (st : Setting) × (view : BaseView) × (before : Cluster) × StartsSaving (IsSaverOf P.meaning) made.0.items Locking (store_view made.1) next left st view before) }
     ensures many { IfOk result (λ made. length made.0.items < 65535) }
     ensures newest { IfOk result (λ made. made.1.newest + 1 < 2 ^ 32) }
     ensures length { IfOk result (λ made. made.1.length < 2 ^ 32) }
@@ -166,7 +167,7 @@ pub fn begun<P: Program>(
     }
     let serials = vec![in alloc; 0u64; beginning.run.machines as usize]?;
     let (machines, store) = machines_of(alloc, beginning, base, &serials)?;
-    Ok(SnapCluster::new(alloc, machines, store, 0, tickets)?)
+    Ok(SnapCluster::new(alloc, machines, Engine::Locking, store, 0, tickets)?)
 }
 
 /// All machines of the cluster go back to this base.
@@ -184,7 +185,7 @@ pub fn begin_again<P: Program>(
     if machines.len() != whole.machines() {
         return Err(Trouble::Malformed("another count of machines"));
     }
-    Ok(whole.recover(alloc, machines, store)?)
+    Ok(whole.recover(alloc, machines, Engine::Locking, store)?)
 }
 
 /// The call that opens from this base, with so many tickets and these failures.
@@ -200,7 +201,15 @@ pub fn begin_call<P: Program>(
     }
     let serials = vec![in alloc; 0u64; beginning.run.machines as usize]?;
     let (machines, store) = machines_of(alloc, beginning, base, &serials)?;
-    Ok(Course::open(alloc, machines, store, 0, tickets, failures)?)
+    Ok(Course::open(
+        alloc,
+        machines,
+        Engine::Locking,
+        store,
+        0,
+        tickets,
+        failures,
+    )?)
 }
 
 /// All machines of the call go back to this base.
@@ -218,5 +227,5 @@ pub fn call_again<P: Program>(
     if machines.len() != course.machines() {
         return Err(Trouble::Malformed("another count of machines"));
     }
-    Ok(course.recover(alloc, machines, store)?)
+    Ok(course.recover(alloc, machines, Engine::Locking, store)?)
 }

@@ -103,6 +103,7 @@ fn on_way_text<P: Program>(
 fn due_text(alloc: Global, due: Due) -> Result<String, Trouble> {
     match due {
         Due::Ended => word_text(alloc, "ended"),
+        Due::Step(colour) => Ok(format!(in alloc; "step {colour}")?),
         Due::Wave => word_text(alloc, "wave"),
         Due::Nothing => word_text(alloc, "nothing"),
         Due::Record(number) => Ok(format!(in alloc; "record {number}")?),

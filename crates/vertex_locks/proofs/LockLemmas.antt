@@ -1,5 +1,5 @@
 -- What becomes of a lock's lists.
-use Rattle.std.proofs.Common.{◌≡◌, ◌≢◌, ℕ, zero, suc, ◌+◌, ◌-◌, ◌<◌, ◌≤◌, Bool, true, false, Option, Some, None, is_some, option_map, List, [], ◌∷◌, ◌++◌, length, slice_index_or, take, drop, refl, sym, ◌∙◌, ap, subst, ⊎_elim, arith}
+use Rattle.std.proofs.Common.{◌≡◌, ◌≢◌, ℕ, zero, suc, ◌+◌, ◌-◌, ◌<◌, ◌≤◌, Bool, true, false, Option, Some, None, is_some, option_map, List, [], ◌∷◌, ◌++◌, length, slice_index_or, take, drop, refl, sym, ◌∙◌, ap, subst, inl, inr, ⊎_elim, arith}
 use Rattle.std.specs.List.{AllPairs, remove, position, position_or_len}
 use Rattle.std.proofs.lemmas.Bool.{cases_Bool, cases_lt, cases_eq, true≢false, lt-ltb}
 use Rattle.std.proofs.lemmas.Option.{none-some, same_Some}
@@ -13,9 +13,9 @@ use Rattle.gl_base.specs.declared.scopes.Claim.{Claim}
 use Rattle.gl_base.specs.declared.scopes.Mode.{Mode}
 use Rattle.gl_base.specs.declared.scopes.Mode.TheVariants.{Reader, Writer}
 use Rattle.gl_base.specs.declared.scopes.ScopeId.{ScopeId}
-use Rattle.scope_lists.specs.Scopes.{is_scope}
+use Rattle.scope_lists.specs.Scopes.{is_scope, set_for}
 use Rattle.scope_lists.specs.Found.{by_scope, AreOfTwoScopes}
-use Rattle.scope_lists.proofs.SameScope.{same_scope, scopes_same}
+use Rattle.scope_lists.proofs.SameScope.{same_scope, scopes_same, one_or_two, set_for-here, set_for-there}
 use Rattle.scope_lists.proofs.FoundLemmas.{apart_head, apart_tail, found_at, none_found, found_place, found_pushed, apart_pushed}
 use Rattle.scope_lists.proofs.Edited.{found_removed, apart_removed}
 use Rattle.vertex_locks.specs.Inner.KeptLocks.{ReadTogether, IsLock, IsTaken, IsReleased}
@@ -266,47 +266,35 @@ pub record IsPlace (claims : List Claim) (held : ℕ) (s : ScopeId) (place : ℕ
   pub inside : place < length claims
   pub is : (d : Claim) → is_scope (slice_index_or claims place d).scope s ≡ true
 
-has_place : (claims : List Claim) (s : ScopeId) (o : Option Claim) → by_scope claimant claims s ≡ o → is_some o ≡ true → (e : Claim) × (by_scope claimant claims s ≡ Some e)
-has_place claims s None is some = absurd (true≢false (sym some))
-has_place claims s (Some e) is some = (e, is)
+position-inside : (test : Claim → Bool) (claims : List Claim) (i : ℕ) → position test claims ≡ Some i → i < length claims
+position-inside test [] i at = absurd (none-some i at)
+position-inside test (c ∷ claims) i at = (position-Some test (c ∷ claims) i c at).0
 
--- a claim that is found among the holders is found before the others
-pub is_place : (s : ScopeId) (claims : List Claim) (held place : ℕ) → IsLock claims held → has s (take held claims) ≡ true → position (λ (c : Claim). is_scope c.scope s) claims ≡ Some place → IsPlace claims held s place
-is_place s claims held place is has_it at =
-    let one = has_place (take held claims) s (by_scope claimant (take held claims) s) refl has_it in
-    let stands = found_place claimant (take held claims) s one.0 one.1 in
+-- a claim that is found among the holders has a place
+pub is_place : (s : ScopeId) (claims : List Claim) (held place : ℕ) → IsLock claims held → position (λ (c : Claim). is_scope c.scope s) (take held claims) ≡ Some place → IsPlace claims held s place
+is_place s claims held place is at =
+    let test : Claim → Bool = λ c. is_scope c.scope s in
     let long = length-take-le held claims is.within in
-    let early : stands.0 < held = let w = stands.1 in omega arith in
-    let here : slice_index_or claims stands.0 one.0 ≡ one.0 = sym (get_or-take held claims stands.0 one.0 early) ∙ stands.2 in
-    let his : is_scope (slice_index_or claims stands.0 one.0).scope s ≡ true = subst (λ u. is_scope u s ≡ true) (sym (ap (λ (c : Claim). c.scope) here ∙ stands.3)) (same_scope s) in
-    let first = position-Some (λ (c : Claim). is_scope c.scope s) claims place one.0 at in
-    let w = is.within in
+    let within = is.within in
+    let inside = position-inside test (take held claims) place at in
+    let early : place < held = omega arith in
     record {
-      holds = ⊎_elim
-          (λ (before : stands.0 < place). absurd (true≢false (sym his ∙ first.2 stands.0 before)))
-          (λ (after : place ≤ stands.0). omega arith)
-          (cases_lt stands.0 place);
-      inside = first.0;
-      is = λ d. rw (get_or_default claims place d one.0 first.0) first.1;
+      holds = early;
+      inside = omega arith;
+      is = λ d. rw (get_or-take held claims place d early) at (position-Some test (take held claims) place d at).1;
     }
 
--- a claim that is there has a place
-pub is_found : (s : ScopeId) (claims : List Claim) (held : ℕ) → IsLock claims held → has s (take held claims) ≡ true → position (λ (c : Claim). is_scope c.scope s) claims ≡ None → ⊥
-is_found s claims held is has_it at =
+-- where none is found the scope doesn't hold the lock
+pub not_found : (s : ScopeId) (holders : List Claim) → position (λ (c : Claim). is_scope c.scope s) holders ≡ None → by_scope claimant holders s ≡ None
+not_found s holders at =
     let test : Claim → Bool = λ c. is_scope c.scope s in
-    let one = has_place (take held claims) s (by_scope claimant (take held claims) s) refl has_it in
-    let stands = found_place claimant (take held claims) s one.0 one.1 in
-    let long = length-take-le held claims is.within in
-    let w = is.within in
-    let early : stands.0 < held = let v = stands.1 in omega arith in
-    let here : slice_index_or claims stands.0 one.0 ≡ one.0 = sym (get_or-take held claims stands.0 one.0 early) ∙ stands.2 in
-    let his : is_scope (slice_index_or claims stands.0 one.0).scope s ≡ true = subst (λ u. is_scope u s ≡ true) (sym (ap (λ (c : Claim). c.scope) here ∙ stands.3)) (same_scope s) in
-    ⊎_elim
-    (λ (inside : position_or_len test claims < length claims).
-    let some : position test claims ≡ Some (position_or_len test claims) = rw (lt-ltb (position_or_len test claims) (length claims) inside) in
-    absurd (none-some (position_or_len test claims) (sym at ∙ some)))
-    (λ (past : length claims ≤ position_or_len test claims). absurd (true≢false (sym his ∙ fails_before_first test claims stands.0 one.0 (omega arith))))
-    (cases_lt (position_or_len test claims) (length claims))
+    none_found claimant holders s
+    (λ k d inside. ⊎_elim
+    (λ (there : position_or_len test holders < length holders).
+    let some : position test holders ≡ Some (position_or_len test holders) = rw (lt-ltb (position_or_len test holders) (length holders) there) in
+    absurd (none-some (position_or_len test holders) (sym at ∙ some)))
+    (λ (past : length holders ≤ position_or_len test holders). fails_before_first test holders k d (omega arith))
+    (cases_lt (position_or_len test holders) (length holders)))
 
 cut : (claims : List Claim) (held place : ℕ) → held ≤ length claims → place < held → remove claims place ≡ remove (take held claims) place ++ drop held claims
 cut claims held place within early =
@@ -337,8 +325,8 @@ release_keeps s claims held place is at =
       together = rw (cut-take claims held place is.within at.holds) (all_pairs_remove ReadTogether (take held claims) place (omega arith) is.together);
     }
 
-pub release_shows : (s : ScopeId) (claims : List Claim) (held place room more : ℕ) → IsLock claims held → IsPlace claims held s place → more ≡ room + 1 → IsReleased (view_of claims held room) (view_of (remove claims place) (held - 1) more) s
-release_shows s claims held place room more is at one =
+pub release_shows : (s : ScopeId) (claims : List Claim) (held place room more : ℕ) → IsLock claims held → IsPlace claims held s place → IsReleased (view_of claims held room) (view_of (remove claims place) (held - 1) more) s
+release_shows s claims held place room more is at =
     let long = length-take-le held claims is.within in
     let holds : place < held = at.holds in
     let inside : place < length (take held claims) = omega arith in
@@ -347,8 +335,29 @@ release_shows s claims held place room more is at one =
           ∙ found_removed claimant (take held claims) s place (apart_taken claims held is.within is.once) inside
           (λ d. rw (get_or-take held claims place d holds) (at.is d)) t;
       queue = cut-drop claims held place is.within at.holds;
-      room = one;
     }
+
+-- a scope that doesn't hold the lock lets nothing go
+pub unheld_shows : (s : ScopeId) (l : LockView) → by_scope claimant l.holders s ≡ None → IsReleased l l s
+unheld_shows s l none = record {
+  holders = λ t. elim (one_or_two t s) [
+    | inl same ↦ ap (by_scope claimant l.holders) same ∙ none ∙ sym (set_for-here (by_scope claimant l.holders) s None) ∙ ap (set_for (by_scope claimant l.holders) s None) (sym same)
+    | inr other ↦ sym (set_for-there (by_scope claimant l.holders) s t None other)
+  ];
+  queue = refl;
+}
+
+pub unheld_lists : (s : ScopeId) (l : LockView) → by_scope claimant l.holders s ≡ None → l ≡ released s l
+unheld_lists s l none = rw none refl
+
+-- a scope whose claim is at a place is found
+has_there : (s : ScopeId) (claims : List Claim) (i : ℕ) → i < length claims → ((d : Claim) → is_scope (slice_index_or claims i d).scope s ≡ true) → has s claims ≡ true
+has_there s [] i inside is = absurd (omega arith)
+has_there s (c ∷ claims) zero inside is = rw (is c) refl
+has_there s (c ∷ claims) (suc i) inside is = ⊎_elim
+    (λ (here : is_scope c.scope s ≡ true). rw here refl)
+    (λ (other : is_scope c.scope s ≡ false). rw other (has_there s claims i (omega arith) is))
+    (cases_Bool (is_scope c.scope s))
 
 -- what is taken out is the scope's first claim
 pub taken_out : (s : ScopeId) (claims : List Claim) (i : ℕ) → AllPairs (AreOfTwoScopes claimant) claims → i < length claims → ((d : Claim) → is_scope (slice_index_or claims i d).scope s ≡ true) → remove claims i ≡ without_claim s claims
@@ -368,7 +377,8 @@ release_lists s claims held place room more is at one =
     cut-take claims held place is.within at.holds
     ∙ taken_out s (take held claims) place (apart_taken claims held is.within is.once) inside (λ d. rw (get_or-take held claims place d holds) (at.is d)) in
     let queue : drop (held - 1) (remove claims place) ≡ drop held claims = cut-drop claims held place is.within at.holds in
-    λ i. record { holders = holders i; queue = queue i; room = one i }
+    let has_it : has s (take held claims) ≡ true = has_there s (take held claims) place inside (λ d. rw (get_or-take held claims place d holds) (at.is d)) in
+    rw has_it (λ i. record { holders = holders i; queue = queue i; room = one i })
 
 -- ---- locks that nobody claims
 

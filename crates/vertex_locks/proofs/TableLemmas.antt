@@ -202,7 +202,6 @@ has_released table x l s owned is = record {
   holder = λ y t. ap (λ (f : ScopeId → Option Mode). f t) (looked (λ (k : LockView). mode_of k.holders) table x l owned y
       ∙ ap (λ (f : ScopeId → Option Mode). set_at (holder_at table) x f y) (mode_changed (lock_at table x).holders l.holders s None is.holders));
   queue = looked_same (λ (k : LockView). k.queue) table x l owned is.queue;
-  room = λ y. looked (λ (k : LockView). k.room) table x l owned y ∙ ap (λ n. set_at (room_at table) x n y) is.room;
 }
 
 -- room was made at x, and no claim changed

@@ -55,9 +55,9 @@ abbrev pub without_claim : ScopeId → List Claim → List Claim
 without_claim s [] = []
 without_claim s (c ∷ claims) = if is_scope c.scope s then claims else c ∷ without_claim s claims
 
--- the lock when the scope has let it go
+-- the lock when the scope has let it go, where it held it
 abbrev pub released : ScopeId → LockView → LockView
-released s l = record { holders = without_claim s l.holders; queue = l.queue; room = l.room + 1 }
+released s l = if has s l.holders then record { holders = without_claim s l.holders; queue = l.queue; room = l.room + 1 } else l
 
 -- ---- how a lock is kept: the holders, and behind them those who wait
 

@@ -1,5 +1,5 @@
 -- The locks of a machine's vertices, by the vertex's number.
-use Rattle.std.specs.Prelude.{◌≡◌, ℕ, ◌+◌, ◌-◌, ◌<◌, ◌≤◌, Bool, true, Option, Some, None, is_some, List, [], ◌∷◌, ◌++◌, length, drop, map, slice_index_or, slice_set, nat_lt, if◌then◌else◌}
+use Rattle.std.specs.Prelude.{◌≡◌, ℕ, ◌-◌, ◌<◌, ◌≤◌, Bool, true, Option, Some, None, is_some, List, [], ◌∷◌, ◌++◌, length, drop, map, slice_index_or, slice_set, nat_lt, if◌then◌else◌}
 use Rattle.gl_base.specs.declared.scopes.Claim.{Claim}
 use Rattle.gl_base.specs.declared.scopes.Mode.{Mode}
 use Rattle.gl_base.specs.declared.scopes.ScopeId.{ScopeId}
@@ -69,7 +69,6 @@ pub record HasReleased (old new : List (Option LockView)) (x : ℕ) (s : ScopeId
   pub owned : (y : ℕ) → is_owned new y ≡ is_owned old y
   pub holder : (y : ℕ) (t : ScopeId) → holder_at new y t ≡ set_at (holder_at old) x (set_for (holder_at old x) s None) y t
   pub queue : (y : ℕ) → queue_at new y ≡ queue_at old y
-  pub room : (y : ℕ) → room_at new y ≡ set_at (room_at old) x (room_at old x + 1) y
 
 -- the table when the scope has let the lock of x go
 abbrev pub released_at : List (Option LockView) → ℕ → ScopeId → List (Option LockView)

@@ -110,13 +110,12 @@ impl Lock {
         Some(claim)
     }
 
-    /// The scope holds the lock no more.
+    /// The scope holds the lock no more. Where it doesn't hold it, also where it waits for it, nothing changes.
     pub fn release(&mut self, scope: ScopeId)
-        requires { has scope self.old.holders ≡ true }
         ensures gone { IsReleased self.old self.new scope }
         ensures exact { self.new ≡ released scope self.old }
     {
-        if let Some(place) = place_of(&self.claims, scope) {
+        if let Some(place) = place_of(&self.claims[..self.held], scope) {
             take_out(&mut self.claims, place);
             self.held -= 1;
         }

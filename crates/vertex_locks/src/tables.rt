@@ -172,10 +172,9 @@ impl LockTable {
         first_listed(&self.places, &self.locks, &mut self.listed)
     }
 
-    /// The scope holds the lock of x no more, which makes room for one claim.
+    /// The scope holds the lock of x no more, which makes room for one claim. Where it doesn't hold it no claim changes.
     pub fn release(&mut self, x: Vertex, scope: ScopeId)
-        requires owned { is_owned self.old x.0 ≡ true }
-        requires holds { is_some (holder_at self.old x.0 scope) ≡ true }
+        requires { is_owned self.old x.0 ≡ true }
         ensures released { HasReleased self.old self.new x.0 scope }
         ensures exact { self.new ≡ released_at self.old x.0 scope }
     {

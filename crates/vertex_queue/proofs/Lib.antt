@@ -1,4 +1,5 @@
 pub mod Queueing
 pub mod Standings
 pub mod LineLemmas
+pub mod TurnLemmas
 mod WrittenBack

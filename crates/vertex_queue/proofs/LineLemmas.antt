@@ -1,5 +1,5 @@
 -- What is left of a line.
-use Rattle.std.proofs.Common.{◌≡◌, ℕ, ◌<◌, Bool, true, false, Option, Some, None, is_some, List, [], ◌∷◌, length, slice_get, refl, sym, ap, true≢false, ◌∙◌, arith}
+use Rattle.std.proofs.Common.{◌≡◌, ◌<◌, Bool, true, false, Option, Some, None, is_some, List, [], ◌∷◌, length, slice_get, refl, sym, ap, true≢false, ◌∙◌, arith}
 use Rattle.std.proofs.Math.ListN.{length-set}
 use Rattle.std.proofs.lemmas.Option.{none-some}
 use Rattle.gl_base.specs.declared.numbers.Vertex.{Vertex}

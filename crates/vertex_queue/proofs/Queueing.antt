@@ -1,9 +1,9 @@
 -- A queue of members, and what adding, removing and dropping leave of it.
-use Rattle.std.proofs.Common.{◌≡◌, ap, take, ◌||◌, ℕ, ◌+◌, ◌<◌, ◌≤◌, Bool, true, false, if◌then◌else◌, ◌==◌, nat_lt, List, [], ◌∷◌, ◌++◌, length, slice_index_or, slice_set, drop, sum_by, refl, sym, ◌∙◌, subst, ⊎_elim, true≢false, arith, eq-eqb, ne_eqb, length-append}
+use Rattle.std.proofs.Common.{◌≡◌, ℕ, ◌+◌, ◌<◌, ◌≤◌, Bool, true, false, if◌then◌else◌, ◌==◌, nat_lt, List, [], ◌∷◌, ◌++◌, length, slice_index_or, slice_set, drop, sum_by, refl, sym, ◌∙◌, subst, ⊎_elim, true≢false, arith, eq-eqb, ne_eqb, length-append}
 use Rattle.std.specs.List.{list_any}
 use Rattle.std.proofs.Math.ListN.{length-set, replicate}
 use Rattle.std.proofs.lemmas.Bool.{cases_Bool, cases_eq, cases_lt, lt-ltb, le-ltb}
-use Rattle.std.proofs.lemmas.List.{take_more, map-append, get_or-set_same, get_or-set_other, get_or_past, get_or-replicate, length-replicate}
+use Rattle.std.proofs.lemmas.List.{get_or-set_same, get_or-set_other, get_or_past, get_or-replicate, length-replicate}
 use Rattle.std.proofs.lemmas.List.Sums.{sum_by-cons, sum_by_push, sum_by-set, sum_by-le}
 use Rattle.std.proofs.lemmas.List.Folds.{sum_by-replicate}
 use Rattle.gl_base.specs.declared.numbers.Vertex.{Vertex}
@@ -200,7 +200,7 @@ popped among line v some first is =
     let within = first_within among among line v some first is in
     first_dropped (slice_set among v.0 false) among line v some first (get_or-set_same among v.0 false false within) (removed among among line v.0 within is)
 
-must : (b : Bool) → 0 < bit_if b → b ≡ true
+pub must : (b : Bool) → 0 < bit_if b → b ≡ true
 must true some = refl
 must false some = absurd (omega arith)
 

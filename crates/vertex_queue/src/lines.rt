@@ -1,5 +1,5 @@
 //! Vertices in line.
-ghost use Rattle.std.specs.Prelude.{◌≡◌, ℕ, ◌<◌, ◌==◌, ◌++◌, None, [], ◌∷◌, true, false, length, drop, slice_get, slice_set, IfOk, IfSome};
+ghost use Rattle.std.specs.Prelude.{◌≡◌, ℕ, ◌<◌, ◌==◌, ◌++◌, None, [], ◌∷◌, true, false, length, drop, slice_get, slice_set, IfOk, IfSome, IsPermutation};
 ghost use Rattle.std.specs.List.{list_any};
 ghost use Rattle.vertex_queue.specs.Flags.{is_flagged};
 ghost use Rattle.vertex_queue.specs.Lines.{LineView, without};
@@ -9,11 +9,16 @@ use std::alloc::Global;
 use std::collections::VecDeque;
 use std::marker::Model;
 
-/// Vertices in the order in which they came, each once. It has room for all of them, so that no later call takes memory.
+/// Vertices in line, each once, in the order in which they came as long as none leaves out of turn. It has room for all of them, so
+/// that no later call takes memory.
 #[derive(Drop)]
 pub struct VertexLine {
     among: Vec<bool>,
     line: VecDeque<Vertex>,
+    /// The turn of each vertex that stands in line. Turns are numbered in the order of the line, and the numbers wrap.
+    turns: Vec<u32>,
+    /// The turn of the first in line.
+    first_turn: u32,
 }
 
 impl Model for VertexLine {
@@ -24,7 +29,7 @@ impl Model for VertexLine {
 
     ghost view = { λ l. record { among = l.among.items; line = l.line.items } };
 
-    ghost invariant = { λ l. IsLine l.among.items l.line.items l.line.cap };
+    ghost invariant = { λ l. IsLine l.among.items l.line.items l.line.cap l.turns.items l.first_turn };
 }
 
 impl VertexLine {
@@ -38,6 +43,8 @@ impl VertexLine {
         Ok(VertexLine {
             among: Vec::from_elem(alloc, false, count)?,
             line: VecDeque::with_capacity(alloc, count)?,
+            turns: Vec::from_elem(alloc, 0, count)?,
+            first_turn: 0,
         })
     }
 
@@ -57,7 +64,9 @@ impl VertexLine {
         requires away { is_flagged self.old.among vertex.0 ≡ false }
         ensures { self.new ≡ record { among = slice_set self.old.among vertex.0 true; line = self.old.line ++ vertex ∷ [] } }
     {
-        self.among[vertex.0 as usize] = true;
+        let place = vertex.0 as usize;
+        self.among[place] = true;
+        self.turns[place] = self.first_turn.wrapping_add(self.line.len() as u32);
         self.line.push_back_reserved(vertex);
     }
 
@@ -68,7 +77,25 @@ impl VertexLine {
     {
         let first = self.line.pop_front()?;
         self.among[first.0 as usize] = false;
+        self.first_turn = self.first_turn.wrapping_add(1);
         Some(first)
+    }
+
+    /// The vertex, which stands in line, leaves it, whether its turn has come or not. In which order the others stand then is told
+    /// nowhere.
+    pub fn remove(&mut self, vertex: Vertex)
+        requires { is_flagged self.old.among vertex.0 ≡ true }
+        ensures among { self.new.among ≡ slice_set self.old.among vertex.0 false }
+        ensures others { IsPermutation self.old.line (vertex ∷ self.new.line) }
+    {
+        let place = vertex.0 as usize;
+        let turn = self.turns[place];
+        let index = turn.wrapping_sub(self.first_turn) as usize;
+        self.line.swap_remove_back(index);
+        if let Some(moved) = self.line.get(index) {
+            self.turns[moved.0 as usize] = turn;
+        }
+        self.among[place] = false;
     }
 
     /// All leave.

@@ -34,6 +34,12 @@ pub record MayTellCounts (w : CountsView) (waiting : ℕ) : Type 0 where
   pub received : IsOpenCount w.received
   pub sum : w.sent + waiting < 2 ^ 64
 
+-- one more may be received, and one more for each machine put out, before a count stands still
+pub record HasSlackFor (w : CountsView) (waiting : ℕ) : Type 0 where
+  pub received : w.received + 2 < 2 ^ 64
+  pub sum : w.sent + waiting + 65536 < 2 ^ 64
+  pub sent : IsOpenCount w.sent
+
 -- the counts of this wave, where one is held
 abbrev pub answer_to : CountsView → ℕ → ℕ → Bool → Option ℕ → Option WaveAnswer
 answer_to w sent updates idle None = None

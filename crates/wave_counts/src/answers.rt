@@ -1,9 +1,12 @@
 //! What a machine counts, and the wave that it has to answer.
-ghost use Rattle.std.specs.Prelude.{◌≡◌, ◌+◌, Some, is_some, IfOk, OnOk, OnErr};
-ghost use Rattle.wave_counts.specs.Counts.{MayTellCounts, HasAnsweredWave, none_counted, one_more};
+ghost use Rattle.std.specs.Prelude.{◌≡◌, ◌+◌, Some, true, is_some, IfOk, OnOk, OnErr};
+ghost use Rattle.wave_counts.specs.Counts.{HasSlackFor, MayTellCounts, HasAnsweredWave, none_counted, one_more};
 
 use gl_base::{Counted, NoMemory};
 use std::marker::Model;
+
+/// A number of machines isn't greater.
+const SLACK: u64 = 65536;
 
 /// What a machine answers to a wave.
 #[derive(Clone, Copy, Debug, PartialEq, Eq)]
@@ -71,6 +74,17 @@ impl WaveCounts {
             Ok(self.sent + waiting as u64)
         } else {
             Err(NoMemory)
+        }
+    }
+
+    /// Whether the counts are far from their end, where so many messages wait in the outboxes: they can be told also when one message more
+    /// was received and one more for each machine was put out.
+    pub fn has_slack(&self, waiting: u128) -> bool
+        ensures { result ≡ true → HasSlackFor self.now waiting }
+    {
+        match self.put_out(waiting) {
+            Ok(sent) => sent < u64::MAX - SLACK && self.received < u64::MAX - 1,
+            Err(_) => false,
         }
     }
 

@@ -16,7 +16,7 @@ use Rattle.update_api.specs.Updates.{Update}
 use Rattle.cluster_core.specs.Effects.{news_for, tell}
 use Rattle.machine_numbers.specs.declared.keeping.Numbers.{Numbers}
 use Rattle.machine_numbers.specs.Settings.{IsOutcomeOf, with_numbers}
-use Rattle.machine_numbers.specs.Views.{AreTasksOf, flag_there, task_here}
+use Rattle.machine_numbers.specs.Views.{AreTasksOf, task_here}
 use Rattle.machine_parts.specs.Order.{IsGraphInOrder}
 use Rattle.machine_updates.specs.declared.reserving.Prepared.{Prepared}
 use Rattle.color_parts.specs.Parts.{OutboxesView, Part, place_at, is_own, sides_at, parts_at, datum_here, admitted_here, pending_here, messages_for}

@@ -1,8 +1,12 @@
 -- What the coordinator sees by itself.
-use Rattle.std.specs.Prelude.{[], false, length, sum_by, true, ℕ, ◌≡◌, ◌⊎◌}
+use Rattle.std.specs.Prelude.{[], false, length, sum_by, true, ℕ, ⊤, ◌≡◌, ◌⊎◌}
 use Rattle.cluster_model.specs.Leading.{updates_told}
 use Rattle.cluster_model.specs.TwoWaves.{ShowTheEnd}
 use Rattle.coord_core.specs.Coordinators.{Counting, CoordinatorView, SavingView, first_counting, waiting_at}
+use Rattle.coord_core.specs.Steps.{HasColours, first_steps}
+use Rattle.coord_core.specs.declared.steps.Engine.{Engine}
+use Rattle.coord_core.specs.declared.steps.Engine.TheVariants.{Chromatic, Locking}
+use Rattle.quiet_waves.specs.Waves.{AreEvenWaves}
 
 -- all answers have come, and the last two waves showed the end
 pub record HasShownTheEnd (counting : Counting) : Type 0 where
@@ -16,9 +20,26 @@ pub record WantsSnapshot (view : CoordinatorView) : Type 0 where
   pub wanted : (view.saving.wanted ≡ true) ⊎ (HasShownTheEnd view.counting
       × ((sum_by updates_told view.counting.waves.wave ≡ view.saving.entries → ⊥) ⊎ (view.saving.saved ≡ false)))
 
+-- no snapshot is under way, and the last two waves showed the end
+pub record SeesEnd (view : CoordinatorView) : Type 0 where
+  pub none : view.saving.acknowledged ≡ view.saving.begun
+  pub seen : HasShownTheEnd view.counting
+
+-- the next step is to begin, as far as snapshots go
+pub record WantsStep (view : CoordinatorView) : Type 0 where
+  pub some : HasColours view.steps.engine
+  pub whole : view.counting.waiting ≡ false
+  pub over : (view.steps.colour ≡ 0) ⊎ ((view.steps.since ≡ 2) × AreEvenWaves view.counting.waves)
+
+-- with locks waves and snapshots take turns
+abbrev pub IsWaveTurn : Engine → SavingView → Type 0
+IsWaveTurn Locking saving = saving.acknowledged ≡ saving.begun
+IsWaveTurn (Chromatic colours) saving = ⊤
+
 -- an attempt with so many machines begins with this
-pub record IsFirstSaving (machines : ℕ) (first : SavingView) (view : CoordinatorView) : Type 0 where
+pub record IsFirstSaving (machines : ℕ) (engine : Engine) (first : SavingView) (view : CoordinatorView) : Type 0 where
   pub counting : view.counting ≡ first_counting machines
+  pub steps : view.steps ≡ first_steps engine
   pub saving : view.saving ≡ first
   pub many : length view.out.machines ≡ machines
   pub none : (a : ℕ) → waiting_at view.out a ≡ []

@@ -8,3 +8,4 @@ abbrev pub word_message : Word → MessageView
 word_message (word.Begin number) = wire.Begin number
 word_message (word.Committed number) = wire.Committed number
 word_message (word.Wave wave) = wire.Wave wave
+word_message (word.Step colour) = wire.Step colour

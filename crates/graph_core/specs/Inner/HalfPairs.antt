@@ -1,9 +1,9 @@
 -- Both halves of each edge in one list, and the other ends of half-edges.
-use Rattle.std.specs.Prelude.{◌≡◌, ℕ, suc, ◌<◌, ◌≤◌, Bool, true, not, List, [], ◌∷◌, length, map, nat_eq, AllPairs}
-use Rattle.std.specs.List.{list_any}
+use Rattle.std.specs.Prelude.{ℕ, suc, Bool, true, not, List, [], ◌∷◌, map}
 use Rattle.gl_base.specs.declared.numbers.Vertex.{Vertex}
 use Rattle.graph_core.specs.declared.edges.Edge.{Edge}
 use Rattle.graph_core.specs.declared.halves.Half.{Half}
+use Rattle.graph_core.specs.Distinct.{AreDistinctOf}
 
 -- edge k where it begins
 abbrev pub half_out : Bool → ℕ → Edge → Half
@@ -17,12 +17,6 @@ half_into directed k e = record { edge = record { 0 = k }; other = e.from; weigh
 abbrev pub half_pairs : Bool → ℕ → List Edge → List (ℕ × Half)
 half_pairs directed k [] = []
 half_pairs directed k (e ∷ edges) = (e.from.0, half_out directed k e) ∷ (e.to.0, half_into directed k e) ∷ half_pairs directed (suc k) edges
-
--- the same numbers, each once, ascending
-pub record AreDistinctOf (old new : List ℕ) : Type 0 where
-  pub ascending : AllPairs (λ u v. u < v) new
-  pub same : (u : ℕ) → list_any (nat_eq u) new ≡ list_any (nat_eq u) old
-  pub few : length new ≤ length old
 
 -- the other ends of these half-edges, each once, ascending
 abbrev pub AreOthers : List Half → List Vertex → Type 0

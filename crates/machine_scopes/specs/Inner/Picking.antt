@@ -1,16 +1,9 @@
 -- Picks of the tasks, and tasks that are as they were.
-pub use Rattle.task_sched.specs.Tasks.{TasksView, IsNextPick, is_flagged, is_free, is_open}
-use Rattle.std.specs.Prelude.{◌≡◌, ◌⊎◌, ℕ, ◌+◌, ◌<◌, ◌==◌, true, false, if◌then◌else◌, length, slice_set}
+pub use Rattle.machine_scopes.specs.Admitting.{CanTake}
+pub use Rattle.task_sched.specs.Tasks.{TasksView, IsNextPick, is_flagged, is_free}
+use Rattle.std.specs.Prelude.{◌≡◌, ℕ, ◌+◌, ◌==◌, false, if◌then◌else◌, length, slice_set}
 use Rattle.std.specs.List.{list_any}
 use Rattle.task_sched.specs.declared.task_sets.Pick.{Pick}
-
--- the vertex at the place that is picked is pending, or a task where the window has room, and not admitted
-pub record CanTake (t : TasksView) (pick : Pick) : Type 0 where
-  pub within : pick.vertex.0 < length t.task
-  pub free : is_flagged t.admitted pick.vertex.0 ≡ false
-  pub due : (is_flagged t.pending pick.vertex.0 ≡ true) ⊎ (is_flagged t.task pick.vertex.0 ≡ true)
-  pub kind : is_flagged t.pending pick.vertex.0 ≡ pick.snapshot
-  pub room : (is_flagged t.pending pick.vertex.0 ≡ true) ⊎ (is_open t ≡ true)
 
 -- of the pending vertices those that are not admitted stand in line
 abbrev pub StandInLine : TasksView → Type 0

@@ -1,5 +1,5 @@
 -- What is picked.
-use Rattle.std.specs.Prelude.{◌≡◌, ℕ, Bool, true, false, Option, Some, None}
+use Rattle.std.specs.Prelude.{◌≡◌, ℕ, true, false, Option, Some, None}
 use Rattle.gl_base.specs.declared.numbers.Vertex.{Vertex}
 use Rattle.task_sched.specs.declared.task_sets.Pick.{Pick}
 use Rattle.task_sched.specs.Tasks.{TasksView, is_free, is_open}

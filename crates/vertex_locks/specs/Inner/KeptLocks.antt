@@ -1,6 +1,6 @@
 -- How a lock is kept, and what each call makes of it.
 pub use Rattle.vertex_locks.specs.Locks.{requested}
-use Rattle.std.specs.Prelude.{◌≡◌, ℕ, ◌+◌, ◌≤◌, Some, None, List, length, take, drop, if◌then◌else◌}
+use Rattle.std.specs.Prelude.{◌≡◌, ℕ, ◌≤◌, Some, None, List, length, take, drop, if◌then◌else◌}
 use Rattle.std.specs.List.{AllPairs}
 use Rattle.gl_base.specs.declared.scopes.Claim.{Claim}
 use Rattle.gl_base.specs.declared.scopes.ScopeId.{ScopeId}
@@ -27,7 +27,6 @@ pub record IsTaken (old new : LockView) (c : Claim) : Type 0 where
 pub record IsReleased (old new : LockView) (s : ScopeId) : Type 0 where
   pub holders : (t : ScopeId) → by_scope claimant new.holders t ≡ (if is_scope t s then None else by_scope claimant old.holders t)
   pub queue : new.queue ≡ old.queue
-  pub room : new.room ≡ old.room + 1
 
 -- the claims are the same
 pub record SameClaims (old new : LockView) : Type 0 where

@@ -1,5 +1,5 @@
 -- How a queue is kept: a flag for each vertex that is a member, and the vertices in the order in which they became so.
-use Rattle.std.specs.Prelude.{◌≡◌, ℕ, ◌<◌, ◌≤◌, Bool, true, false, if◌then◌else◌, ◌==◌, List, length, slice_index_or, sum_by}
+use Rattle.std.specs.Prelude.{◌≡◌, ℕ, ◌+◌, ◌%◌, ◌^◌, ◌<◌, ◌≤◌, Bool, true, false, if◌then◌else◌, ◌==◌, List, length, slice_index_or, sum_by}
 use Rattle.gl_base.specs.declared.numbers.Vertex.{Vertex}
 use Rattle.vertex_queue.specs.Flags.{is_flagged}
 use Rattle.vertex_queue.specs.declared.queues.Standing.{Standing}
@@ -42,7 +42,14 @@ pub record IsVertexQueue (members queued : List Bool) (waiting : List Vertex) (c
   pub first : IsMemberFirst members waiting
   pub room : length members ≤ capacity
 
--- so a line stands: each vertex that has a flag once, and no other one, with room for all
-pub record IsLine (among : List Bool) (line : List Vertex) (capacity : ℕ) : Type 0 where
+-- the turn of whom so many in line come before
+abbrev pub turn_behind : ℕ → ℕ → ℕ
+turn_behind first k = (first + k) % 2 ^ 32
+
+-- so a line stands: each vertex that has a flag once, and no other one, with room for all; and each has its turn noted
+pub record IsLine (among : List Bool) (line : List Vertex) (capacity : ℕ) (turns : List ℕ) (first : ℕ) : Type 0 where
   pub queue : KeepsQueue among among line
   pub room : length among ≤ capacity
+  pub few : length among < 2 ^ 32
+  pub noted : length turns ≡ length among
+  pub turn : (k : ℕ) (d : Vertex) → k < length line → slice_index_or turns (slice_index_or line k d).0 0 ≡ turn_behind first k

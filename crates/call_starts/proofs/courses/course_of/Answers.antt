@@ -1,5 +1,5 @@
 -- The machines that were made begin an attempt, and the call where it can open.
-use Rattle.std.proofs.Common.{All, List, ap, length, subst, sym, ℕ, ◌<◌, ◌∙◌, ◌≡◌}
+use Rattle.std.proofs.Common.{All, List, ap, length, subst, sym, ◌<◌, ◌∙◌}
 use Rattle.gl_base.specs.declared.jobs.FailureAt.{FailureAt}
 use Rattle.gl_base.specs.declared.numbers.AtomNo.{AtomNo}
 use Rattle.gl_base.specs.declared.numbers.MachineNo.{MachineNo}
@@ -8,6 +8,7 @@ use Rattle.call_starts.proofs.CourseLemmas.{opens_so, starts_call, starts_some, 
 use Rattle.call_starts.specs.Inner.Openings.{base_with}
 use Rattle.call_starts.specs.Starting.{IsSaverOf, opening_from, placed_owner}
 use Rattle.coord_core.specs.Stores.{store_view}
+use Rattle.coord_core.specs.declared.steps.Engine.TheVariants as engine
 use Rattle.machine_places.proofs.OwnerLemmas.{owner_low}
 use Rattle.placed_savers.specs.Beginning.{IsSavingRunOf}
 use Rattle.call_starts.proofs.courses.course_of.Goals as goal
@@ -46,7 +47,7 @@ returns-clause-opened g c =
     run.machines (c.deref-3.ensures.value ∙ c.in_ok-serials.ensures.items_if_clones_equal (λ y is. is)) st c.args.failures.now resumed kept c.args.opening.now.next c.tickets_from-left.result c.args.budget there can c.tickets_from-left.ensures.all in
     opens_so g.P.Program.meaning course st c.args.failures.now resumed (base_with kept base) c.args.budget
     (opened st (opening_from st resumed (base_with kept base) c.args.budget)
-    (subst (λ (fs : List FailureAt). StartsCall (IsSaverOf g.P.Program.meaning) c.in_ok-machines.machines.items (store_view store) c.args.opening.now.next c.tickets_from-left.result fs st (opening_from st resumed (base_with kept base) c.args.budget))
+    (subst (λ (fs : List FailureAt). StartsCall (IsSaverOf g.P.Program.meaning) c.in_ok-machines.machines.items engine.Locking (store_view store) c.args.opening.now.next c.tickets_from-left.result fs st (opening_from st resumed (base_with kept base) c.args.budget))
     (sym c.in_ok-listed.ensures.items) starts))
     (λ o opens. begun st o opens))
     c.open.ensures.opened c.open.ensures.begun

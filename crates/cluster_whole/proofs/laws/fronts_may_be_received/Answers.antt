@@ -3,6 +3,7 @@ use Rattle.cluster_places.proofs.Fronts.{front}
 use Rattle.cluster_whole.specs.Views.{world_of}
 use Rattle.cluster_whole.proofs.Colours.{in_places, in_turn}
 use Rattle.cluster_whole.proofs.Hearing.{none_held, step_is_newest, was_free}
+use Rattle.cluster_whole.proofs.Stepping.{front_between}
 use Rattle.cluster_whole.proofs.Telling.{may_be_counted}
 use Rattle.cluster_whole.proofs.laws.fronts_may_be_received.Goals as goal
 
@@ -21,3 +22,8 @@ returns-clause-wave c = λ st cluster colour colours a k behind whole chromatic 
 
 pub returns-clause-counts : goal.returns-clause-counts
 returns-clause-counts c = λ st cluster colour colours a k counts behind whole chromatic low first. may_be_counted st colour cluster (in_turn st colour colours cluster whole chromatic) a low k counts behind first
+
+pub returns-clause-words : goal.returns-clause-words
+returns-clause-words c = λ st cluster colour colours p q message behind whole chromatic first.
+    let t = in_turn st colour colours cluster whole chromatic in
+    front_between st cluster.coordinator.rounds.steps p q message behind (cluster.link p q) first ((cluster.machine p).part.out q) (t.between p q)

@@ -1,5 +1,5 @@
 -- The row goes out, and comes back with what the program makes of it, or as it was.
-use Rattle.std.proofs.Common.{◌≡◌, ℕ, ◌==◌, ◌∙◌, Some, if◌then◌else◌, length, true, refl, ap, subst, sym}
+use Rattle.std.proofs.Common.{◌≡◌, ℕ, ◌==◌, ◌∙◌, Some, if◌then◌else◌, length, true, ap, subst, sym}
 use Rattle.gl_base.specs.declared.entries.Entry.{Entry}
 use Rattle.gl_base.specs.declared.entries.Entry.TheVariants.{Go}
 use Rattle.local_graph.specs.declared.works.Work.{Work}

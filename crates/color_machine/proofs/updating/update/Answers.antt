@@ -1,8 +1,7 @@
 -- The update is the law's; without memory nothing has changed but room.
-use Rattle.std.proofs.Common.{◌≡◌, ℕ, true, Option, Some, length, refl, sym, ap, ◌∙◌}
+use Rattle.std.proofs.Common.{sym, ap, ◌∙◌}
 use Rattle.std.specs.Prelude.{is_some}
-use Rattle.gl_base.specs.declared.numbers.Vertex.{Vertex}
-use Rattle.color_machine.proofs.CloseLemmas.{may_update, no_update}
+use Rattle.color_machine.proofs.CloseLemmas.{may_update}
 use Rattle.color_machine.proofs.RunLemmas.{can_run}
 use Rattle.color_machine.proofs.RowLemmas.{rows_stay}
 use Rattle.color_machine.proofs.SameLemmas.{order_same, part_same, settings_same}

@@ -8,4 +8,4 @@ loop-place-preserved c =
     let vertices = c.args.vertices.now in
     let i = c.loop-place.place in
     let inside : i < length vertices = omega arith in
-    released_more c.args.locks.now c.loop-place.locks c.release.new.self vertices c.args.scope i _ inside (get_or_default vertices i _ _ inside) c.requires.apart c.loop-place.invariant c.release.ensures.released c.release.ensures.exact
+    released_more c.args.locks.now c.loop-place.locks c.release.new.self vertices c.args.scope i _ inside (get_or_default vertices i _ _ inside) c.loop-place.invariant c.release.ensures.released c.release.ensures.exact

@@ -2,7 +2,7 @@ use Rattle.std.proofs.Common.{◌∙◌, ap, length}
 use Rattle.task_sched.specs.Tasks.{TasksView}
 use Rattle.machine_parts.specs.declared.cores.Core.{Core}
 use Rattle.machine_numbers.specs.declared.keeping.Numbers.{Numbers}
-use Rattle.machine_scopes.proofs.AdmitLemmas.{admit_done, admit_new, admit_orderly, admit_own, can_admit, few_flights, flags_back, picked_at, places_keep, plans_back, refused_orderly, refused_part}
+use Rattle.machine_scopes.proofs.AdmitLemmas.{admit_done, admit_new, admit_orderly, admit_own, admit_waits, can_admit, few_flights, flags_back, picked_at, places_keep, plans_back, refused_orderly, refused_part}
 use Rattle.machine_scopes.proofs.FlownLemmas.{admitted_is, outside_stays, task_stays}
 use Rattle.machine_scopes.proofs.PickLemmas.{none_may, pick_own}
 use Rattle.machine_scopes.proofs.StartLemmas.{can_with_pipe}
@@ -37,6 +37,15 @@ set_out-requires-clause-is_new c =
     let v = c.index-v.result.now in
     let can = (c.in-Some.ensures).can in
     admit_new m pick v c.take_pick.new.tasks c.prepare.new.core c.admit_now.new.self c.requires.orderly c.requires.places can (picked_at m pick v c.requires.places can c.index-v.ensures)
+    (c.in-Some.ensures).taken c.prepare.ensures.same c.admit_now.ensures.is_new c.admit_now.ensures.admitted c.admit_now.ensures.rest c.next_id-scope.result c.next_id-scope.ensures
+
+pub set_out-requires-clause-waits : goal.set_out-requires-clause-waits
+set_out-requires-clause-waits c =
+    let m = c.args.core.now in
+    let pick = c.in-Some.pick in
+    let v = c.index-v.result.now in
+    let can = (c.in-Some.ensures).can in
+    admit_waits m pick v c.take_pick.new.tasks c.prepare.new.core c.admit_now.new.self c.requires.orderly c.requires.places can (picked_at m pick v c.requires.places can c.index-v.ensures)
     (c.in-Some.ensures).taken c.prepare.ensures.same c.admit_now.ensures.is_new c.admit_now.ensures.admitted c.admit_now.ensures.rest c.next_id-scope.result c.next_id-scope.ensures
 
 pub set_out-requires-clause-own : goal.set_out-requires-clause-own

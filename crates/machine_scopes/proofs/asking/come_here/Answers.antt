@@ -3,7 +3,7 @@ use Rattle.machine_scopes.proofs.asking.come_here.Goals as goal
 
 pub go_on-requires-clause-orderly : goal.go_on-requires-clause-orderly
 go_on-requires-clause-orderly c =
-    orderly_come c.args.core.now c.args.scope c.args.centre c.args.part.items c.args.rest.items c.enter.new.self c.requires.is_new c.enter.ensures.entered c.enter.ensures.rest c.requires.orderly c.requires.machines c.requires.part
+    orderly_come c.args.core.now c.args.scope c.args.centre c.args.part.items c.args.rest.items c.enter.new.self c.requires.is_new c.enter.ensures.entered c.enter.ensures.rest c.requires.orderly c.requires.waits c.requires.machines c.requires.part
 
 pub returns-clause-received : goal.returns-clause-received
 returns-clause-received c =

@@ -1,9 +1,11 @@
-use Rattle.std.proofs.Common.{◌≡◌, ◌∙◌, slice_get}
+use Rattle.std.proofs.Common.{◌≡◌, ◌∙◌, slice_get, ap}
 use Rattle.scope_pipe.specs.Entered.{next_at}
+use Rattle.scope_pipe.specs.Pipes.{is_ready}
+use Rattle.machine_parts.specs.declared.cores.Core.{Core}
 use Rattle.machine_parts.specs.Order.{nobody}
 use Rattle.machine_parts.proofs.RoomLemmas.{orderly_room, part_room}
 use Rattle.machine_scopes.specs.Asking.{Ask, machine_numbers, part_at}
-use Rattle.machine_scopes.proofs.ComeLemmas.{received_room}
+use Rattle.machine_scopes.proofs.ComeLemmas.{not_ready, received_room}
 use Rattle.machine_scopes.proofs.RoomForNext.{within_first, room_spare}
 use Rattle.machine_scopes.proofs.asking.receive_ask.Goals as goal
 
@@ -33,6 +35,11 @@ come_here-requires-clause-orderly c =
     let m = c.args.core.now in
     let now = c.reserve_next.new.core in
     orderly_room nobody m now (room_spare m now c.copy.new.self c.reserve_next.ensures.same) c.requires.orderly
+
+pub come_here-requires-clause-waits : goal.come_here-requires-clause-waits
+come_here-requires-clause-waits c =
+    let room = room_spare c.args.core.now c.reserve_next.new.core c.copy.new.self c.reserve_next.ensures.same in
+    ap (λ (n : Core). is_ready n.pipe c.args.scope) room.rest ∙ not_ready c.args.core.now c.args.scope c.args.centre c.requires.is_new c.requires.locks c.requires.orderly
 
 pub returns-clause-received : goal.returns-clause-received
 returns-clause-received c =

@@ -35,7 +35,7 @@ returns-then-scope-me-clause-orderly c =
     (orderly_out nobody (record m { pipe = left.new.self }) m.out c.keep.new.self refl (orderly_left m s left.new.self c.requires.orderly left.ensures.gone left.ensures.rest))
     (entered_here m.pipe left.new.self s _ left.ensures.gone)
     (flight_same m.pipe left.new.self left.ensures.rest s ∙ (home_flies m s e.0 c.requires.orderly e.1 here).0)
-    (home_holds m s e.0 c.requires.orderly e.1 next) c.ready.ensures.ready c.ready.ensures.rest
+    (λ takes. home_holds m s e.0 c.requires.orderly e.1 next) c.ready.ensures.ready c.ready.ensures.rest
 
 pub returns-then-scope-me-clause-went : goal.returns-then-scope-me-clause-went
 returns-then-scope-me-clause-went c =

@@ -3,6 +3,7 @@ use Rattle.std.proofs.Common.{List, refl, ap, ◌∙◌}
 use Rattle.gl_base.specs.declared.numbers.Vertex.{Vertex}
 use Rattle.lock_release.specs.Released.{released_all}
 use Rattle.machine_updates.proofs.CommitLemmas.{HasDone, committed}
+use Rattle.machine_updates.proofs.LeaveLemmas.{part_owned}
 use Rattle.machine_updates.proofs.OrderLemmas.{ordered, settled, places_known}
 use Rattle.machine_updates.proofs.StayLemmas.{stays_out}
 use Rattle.machine_updates.proofs.WholeLemmas.{whole_is}
@@ -28,6 +29,9 @@ has_done c =
       out = c.tell_all.ensures.told;
       words = c.tell_all.ensures.words;
     }
+
+pub release_all-requires-clause-owned : goal.release_all-requires-clause-owned
+release_all-requires-clause-owned c = part_owned c.args.core.now c.args.outcome.work.vertex.0 c.part.result.now c.requires.orderly c.part.ensures
 
 pub returns-clause-committed : goal.returns-clause-committed
 returns-clause-committed c = committed c.args.core.now _ c.args.outcome c.args.prepared.items c.args.ticket c.requires.orderly c.requires.out c.requires.reserved (has_done c)

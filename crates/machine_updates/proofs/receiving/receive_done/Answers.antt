@@ -1,5 +1,7 @@
 -- What the calls leave makes up the receipt.
-use Rattle.std.proofs.Common.{refl}
+use Rattle.std.proofs.Common.{refl, ap, ◌∙◌}
+use Rattle.machine_parts.specs.Parts.{LocalView, part_at}
+use Rattle.machine_updates.proofs.LeaveLemmas.{part_owned}
 use Rattle.machine_updates.proofs.ReceiveLemmas.{HasHeard, received_is, order_heard, settings_heard, places_heard}
 use Rattle.machine_updates.proofs.receiving.receive_done.Goals as goal
 
@@ -17,6 +19,11 @@ has_heard c =
       queue = c.release_all.ensures.queue;
       rest = refl;
     }
+
+pub release_all-requires-clause-owned : goal.release_all-requires-clause-owned
+release_all-requires-clause-owned c =
+    let v = c.args.done.now.centre.0 in
+    part_owned c.args.core.now v c.part-part.result.now c.requires.orderly (c.part-part.ensures ∙ ap (λ (l : LocalView). part_at l v) c.learn.ensures.local)
 
 pub returns-clause-received : goal.returns-clause-received
 returns-clause-received c = received_is c.args.core.now _ c.args.done.now c.requires.orderly c.requires.can (has_heard c)

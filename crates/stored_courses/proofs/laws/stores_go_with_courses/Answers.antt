@@ -13,5 +13,5 @@ returns-clause-grows g c = λ old new header start bodies lost made st o failure
     grows g.M.SavingMachine.stands old new failures_are header start bodies lost st o made happens before kept behind c.stores_keep_up.ensures.grows small fits machines
 
 pub returns-clause-returns : goal.returns-clause-returns
-returns-clause-returns g c = λ old new header start bodies lost gone machines store st o base failures_are gone_back before goes takes.
-    returns g.M.SavingMachine.stands old new failures_are header start bodies lost st o gone machines store base gone_back before goes takes
+returns-clause-returns g c = λ old new header start bodies lost gone machines engine store st o base failures_are gone_back before goes takes.
+    returns g.M.SavingMachine.stands old new failures_are header start bodies lost st o gone machines engine store base gone_back before goes takes

@@ -32,7 +32,7 @@ returns-clause-runs g c =
 pub returns-clause-opened : goal.returns-clause-opened
 returns-clause-opened g c = λ st o starts.
     subst (λ p. OpensCall g.M.SavingMachine.stands p c.args.failures.items st o) (sym c.of-start.ensures)
-    (opens_call g.M.SavingMachine.stands c.args.machines.items (store_view c.args.store) c.args.next c.args.left c.in_ok-cluster.cluster c.in_ok-cluster.ensures.began c.args.failures.items st o starts)
+    (opens_call g.M.SavingMachine.stands c.args.machines.items c.args.engine (store_view c.args.store) c.args.next c.args.left c.in_ok-cluster.cluster c.in_ok-cluster.ensures.began c.args.failures.items st o starts)
 
 pub returns-clause-begun : goal.returns-clause-begun
 returns-clause-begun g c = λ st o opens.

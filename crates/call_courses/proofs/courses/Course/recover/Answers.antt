@@ -5,7 +5,7 @@ use Rattle.call_courses.proofs.Going.{again_seen, gone_seen, kept_anew}
 use Rattle.call_courses.proofs.courses.Course.recover.Goals as goal
 
 pub recover-requires-clause-again : goal.recover-requires-clause-again
-recover-requires-clause-again g c = again_seen g.M.SavingMachine.stands _ c.args.self.now c.self.view_is c.args.machines.items (store_view c.args.store) c.requires.again
+recover-requires-clause-again g c = again_seen g.M.SavingMachine.stands _ c.args.self.now c.self.view_is c.args.machines.items c.args.engine (store_view c.args.store) c.requires.again
 
 pub invariant_of-self-2 : goal.invariant_of-self-2
 invariant_of-self-2 g c =
@@ -13,5 +13,5 @@ invariant_of-self-2 g c =
 
 pub returns-clause-recovered : goal.returns-clause-recovered
 returns-clause-recovered g c =
-    gone_seen g.M.SavingMachine.stands _ c.args.self.now c.self.view_is c.args.machines.items (store_view c.args.store) c.in_ok-done.done.items c.of.result.value c.recover.new.self
+    gone_seen g.M.SavingMachine.stands _ c.args.self.now c.self.view_is c.args.machines.items c.args.engine (store_view c.args.store) c.in_ok-done.done.items c.of.result.value c.recover.new.self
     c.in_ok-done.ensures.each c.in_ok-recover.ensures.recovered

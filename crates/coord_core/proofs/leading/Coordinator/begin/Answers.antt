@@ -10,7 +10,7 @@ use Rattle.coord_core.proofs.leading.Coordinator.begin.Goals as goal
 
 pub returns-clause-begun : goal.returns-clause-begun
 returns-clause-begun c =
-    let old : CoordinatorView = record { counting = record { put_out = c.self.inside.put_out; waiting = c.self.inside.waiting; waves = c.self.inside.waves }; saving = c.self.inside.saving; out = c.self.inside.out } in
+    let old : CoordinatorView = record { counting = record { put_out = c.self.inside.put_out; waiting = c.self.inside.waiting; waves = c.self.inside.waves }; steps = c.self.inside.steps; saving = c.self.inside.saving; out = c.self.inside.out } in
     let new : CoordinatorView = record old { saving = c.begin.new.self; out = c.tell_each.new.out } in
     let wants_now : WantsSnapshot c.args.self.now = c.wants_snapshot.ensures.0 (search rules) in
     let wants : WantsSnapshot old = subst WantsSnapshot (sym c.self.view_is) wants_now in
@@ -21,6 +21,6 @@ returns-clause-begun c =
     let below : b < c.self.inside.machines = subst (λ (n : ℕ). b < n) c.self.invariant.0.many inside in
     c.tell_each.ensures.told b below
     ∙ ap (λ (messages : List MessageView). messages ++ wire.Begin c.next_number-number.result ∷ []) (c.in_ok-reserve_each.ensures.same.each b))
-    refl c.begin.ensures (ap wire.Begin c.next_number-number.ensures) wants.stored
+    refl refl c.begin.ensures (ap wire.Begin c.next_number-number.ensures) wants.stored
     in
     (subst MayLeadBegin c.self.view_is may, subst (λ (view : CoordinatorView). HasBegunNext view new) c.self.view_is begun)

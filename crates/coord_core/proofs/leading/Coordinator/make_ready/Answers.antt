@@ -8,7 +8,7 @@ use Rattle.coord_core.proofs.leading.Coordinator.make_ready.Goals.{then-not-is_r
 
 pub returns-then-not-is_record_due-clause-not_now : goal.returns-then-not-is_record_due-clause-not_now
 returns-then-not-is_record_due-clause-not_now c =
-    let old : CoordinatorView = record { counting = record { put_out = c.self.inside.put_out; waiting = c.self.inside.waiting; waves = c.self.inside.waves }; saving = c.self.inside.saving; out = c.self.inside.out } in
+    let old : CoordinatorView = record { counting = record { put_out = c.self.inside.put_out; waiting = c.self.inside.waiting; waves = c.self.inside.waves }; steps = c.self.inside.steps; saving = c.self.inside.saving; out = c.self.inside.out } in
     λ _. subst MayNotRecord c.self.view_is
     (may_not_record old c.self.invariant.2
     (elim c.then-not-is_record_due.branch [
@@ -18,10 +18,10 @@ returns-then-not-is_record_due-clause-not_now c =
 
 pub returns-in_err-reserve_each-clause-no_memory : goal.returns-in_err-reserve_each-clause-no_memory
 returns-in_err-reserve_each-clause-no_memory c =
-    let old : CoordinatorView = record { counting = record { put_out = c.self.inside.put_out; waiting = c.self.inside.waiting; waves = c.self.inside.waves }; saving = c.self.inside.saving; out = c.self.inside.out } in
+    let old : CoordinatorView = record { counting = record { put_out = c.self.inside.put_out; waiting = c.self.inside.waiting; waves = c.self.inside.waves }; steps = c.self.inside.steps; saving = c.self.inside.saving; out = c.self.inside.out } in
     λ _. subst MayLeadRecord c.self.view_is (may_record_it old c.self.invariant.2 (c.is_record_due.ensures.0 (search rules)) (c.has_room.ensures.0 (search rules)))
 
 pub returns-clause-due : goal.returns-clause-due
 returns-clause-due c =
-    let old : CoordinatorView = record { counting = record { put_out = c.self.inside.put_out; waiting = c.self.inside.waiting; waves = c.self.inside.waves }; saving = c.self.inside.saving; out = c.self.inside.out } in
+    let old : CoordinatorView = record { counting = record { put_out = c.self.inside.put_out; waiting = c.self.inside.waiting; waves = c.self.inside.waves }; steps = c.self.inside.steps; saving = c.self.inside.saving; out = c.self.inside.out } in
     subst MayLeadRecord c.self.view_is (may_record_it old c.self.invariant.2 (c.is_record_due.ensures.0 (search rules)) (c.has_room.ensures.0 (search rules)))

@@ -8,7 +8,7 @@ use Rattle.coord_core.proofs.leading.Coordinator.record.Goals as goal
 
 pub returns-clause-made : goal.returns-clause-made
 returns-clause-made c =
-    let mid : CoordinatorView = record { counting = record { put_out = c.self.inside.put_out; waiting = c.self.inside.waiting; waves = c.self.inside.waves }; saving = c.self.inside.saving; out = c.self.inside.out } in
+    let mid : CoordinatorView = record { counting = record { put_out = c.self.inside.put_out; waiting = c.self.inside.waiting; waves = c.self.inside.waves }; steps = c.self.inside.steps; saving = c.self.inside.saving; out = c.self.inside.out } in
     let ready : IsReadyToRecord mid c.in_ok-make_ready.field-0 = subst (λ (view : CoordinatorView). IsReadyToRecord view c.in_ok-make_ready.field-0) (sym c.self.view_is) c.in_ok-make_ready.ensures.ready in
     let is : IsRecordDueOf c.make_ready.new.self c.in_ok-record.field-0 =
     subst (λ (view : CoordinatorView). IsRecordDueOf view c.in_ok-record.field-0) c.self.view_is

@@ -8,5 +8,5 @@ use Rattle.coord_core.proofs.leading.Coordinator.with_store.Goals as goal
 
 pub returns : goal.returns
 returns c =
-    if_ok c.first.result (λ view first. first_with c.args.machines view (store_view c.args.store)
-    (subst (λ (s : SavingView). IsFirstSaving c.args.machines s view) c.in_ok-saving.ensures first)) c.first.ensures
+    if_ok c.first.result (λ view first. first_with c.args.machines view c.args.engine (store_view c.args.store)
+    (subst (λ (s : SavingView). IsFirstSaving c.args.machines c.args.engine s view) c.in_ok-saving.ensures first)) c.first.ensures

@@ -1,15 +1,20 @@
--- Two waves that show the end have such sums.
-use Rattle.std.proofs.Common.{arith, sym, subst}
+-- Two waves that show the end are of idle machines, and even.
+use Rattle.std.proofs.Common.{arith, rules, sym, subst}
 use Rattle.quiet_waves.specs.Waves.{ShowTheEnd}
-use Rattle.quiet_waves.proofs.SumLemmas.{AreQuiet, quiet_sums}
+use Rattle.quiet_waves.proofs.SumLemmas.{even_shown, no_restless}
 use Rattle.quiet_waves.proofs.counting.Waves.verdict.Goals as goal
+use Rattle.quiet_waves.proofs.counting.Waves.verdict.Goals.{else-restless_before-eq0-via-then-restless_before-eq0+then-restless-eq0+else-is_even, else-restless_before-eq0-via-then-restless_before-eq0+else-restless-eq0, else-restless_before-eq0-via-else-restless_before-eq0}
 
-pub returns-else-idle : goal.returns-else-idle
-returns-else-idle c = (
+pub returns-else-restless_before-eq0 : goal.returns-else-restless_before-eq0
+returns-else-restless_before-eq0 c = (
   (λ e. absurd (cc)),
-  λ shown. absurd (
-      let quiet : AreQuiet c.sums-before.result c.sums-wave.result =
-      quiet_sums _ _ _ c.sums-before.ensures c.sums-wave.ensures (subst ShowTheEnd (sym c.self.view_is) shown)
-      in
-      grind arith),
+  λ shown. absurd (elim c.else-restless_before-eq0.branch [
+    | else-restless_before-eq0-via-then-restless_before-eq0+then-restless-eq0+else-is_even w ↦ let even = w.is_even.ensures.1 (even_shown _ shown) in absurd (search rules)
+    | else-restless_before-eq0-via-then-restless_before-eq0+else-restless-eq0 w ↦
+        let idle = no_restless _ _ c.sums-restless.ensures (subst ShowTheEnd (sym c.self.view_is) shown).idle in
+        grind arith
+    | else-restless_before-eq0-via-else-restless_before-eq0 w ↦
+        let idle = no_restless _ _ c.sums-restless_before.ensures (subst ShowTheEnd (sym c.self.view_is) shown).idle_before in
+        grind arith
+  ]),
 )

@@ -1,5 +1,5 @@
 -- No flag is left to be counted.
-use Rattle.std.proofs.Common.{◌<◌, sym, arith}
+use Rattle.std.proofs.Common.{sym, arith}
 use Rattle.task_sched.proofs.Counting.{none_counted}
 use Rattle.task_sched.proofs.flags.CountedFlags.clear.Goals as goal
 

@@ -1,5 +1,5 @@
 -- Where some are counted there is one.
-use Rattle.std.proofs.Common.{◌≡◌, ◌<◌, ◌∙◌, sym, ap, subst, arith}
+use Rattle.std.proofs.Common.{subst, arith}
 use Rattle.std.proofs.lemmas.Bool.{ltb-true}
 use Rattle.task_sched.specs.Inner.Flags.{HasFlag}
 use Rattle.task_sched.proofs.Counting.{some_flag}

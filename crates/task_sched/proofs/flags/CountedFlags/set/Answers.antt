@@ -1,5 +1,5 @@
 -- There are no more flags than vertices.
-use Rattle.std.proofs.Common.{◌+◌, ◌<◌, ◌≤◌, arith}
+use Rattle.std.proofs.Common.{arith}
 use Rattle.vertex_queue.proofs.Queueing.{bits-le}
 use Rattle.task_sched.proofs.flags.CountedFlags.set.Goals as goal
 

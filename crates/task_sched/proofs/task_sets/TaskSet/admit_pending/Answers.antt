@@ -15,6 +15,6 @@ invariant_of-self c =
     let asked : is_free m.pending m.admitted.items v ≡ true = subst (λ (t : TasksView). is_free t.pending t.admitted v ≡ true) (sym c.self.view_is) c.requires.asked in
     let first : c.pop.result ≡ Some c.args.v = c.pop.ensures.first ∙ subst (λ (t : TasksView). slice_get t.asked 0 ≡ Some c.args.v) (sym c.self.view_is) c.requires.first in
     let among : c.pop.new.self.among ≡ slice_set m.asked.among v false = ap (λ (l : LineView). l.among) (c.pop.ensures.rest ∙ ap (without m.asked) first) in
-    subst (λ (flags : List Bool). AreTasksKept m.count m.tasks.items m.pending (slice_set m.admitted.items v true) m.planned.items c.settle.new.self flags m.plans m.outside m.window) (sym among)
-    (kept_snapshot m.count m.tasks.items m.pending m.admitted.items m.planned.items m.stages c.settle.new.self m.asked.among m.plans m.outside m.window v c.self.invariant within asked
-    (c.settle.ensures.count ∙ c.remove.ensures.count) (λ u. c.settle.ensures.waits u ∙ c.remove.ensures.waits u))
+    subst (λ (flags : List Bool). AreTasksKept m.count m.tasks.items m.pending (slice_set m.admitted.items v true) m.planned.items c.admit.new.self flags m.plans m.outside m.window) (sym among)
+    (kept_snapshot m.count m.tasks.items m.pending m.admitted.items m.planned.items m.stages c.admit.new.self m.asked.among m.plans m.outside m.window v c.self.invariant within asked
+    c.admit.ensures.count c.admit.ensures.waits)

@@ -1,4 +1,4 @@
-use Rattle.std.proofs.Common.{◌≡◌, ◌<◌, ◌+◌, ◌∙◌, true, false, length, sym, subst, arith}
+use Rattle.std.proofs.Common.{◌≡◌, ◌<◌, ◌+◌, true, false, length, sym, subst, arith}
 use Rattle.vertex_queue.proofs.Queueing.{room_for_one}
 use Rattle.task_sched.specs.Tasks.{TasksView, is_flagged, is_free, is_below, is_open}
 use Rattle.task_sched.proofs.Keeping.{free_has, kept_update}
@@ -27,5 +27,5 @@ invariant_of-self c =
     let task : is_free m.tasks.items m.admitted.items v ≡ true = subst (λ (t : TasksView). is_free t.task t.admitted v ≡ true) (sym c.self.view_is) c.requires.task in
     let quiet : is_flagged m.pending v ≡ false = subst (λ (t : TasksView). is_flagged t.pending v ≡ false) (sym c.self.view_is) c.requires.quiet in
     let room : is_below m.window (m.outside + m.plans) ≡ true = subst (λ (t : TasksView). is_open t ≡ true) (sym c.self.view_is) c.requires.room in
-    kept_update m.count m.tasks.items m.pending m.admitted.items m.planned.items m.stages c.settle.new.self m.asked.among m.plans m.outside m.window v c.self.invariant within task quiet room
-    (c.settle.ensures.count ∙ c.remove.ensures.count) (λ u. c.settle.ensures.waits u ∙ c.remove.ensures.waits u)
+    kept_update m.count m.tasks.items m.pending m.admitted.items m.planned.items m.stages c.admit.new.self m.asked.among m.plans m.outside m.window v c.self.invariant within task quiet room
+    c.admit.ensures.count c.admit.ensures.waits

@@ -1,9 +1,7 @@
 use Rattle.std.proofs.Common.{◌≡◌, ◌<◌, ◌∙◌, Option, IfSome, length, slice_get, sym, ap, subst}
-use Rattle.gl_base.specs.declared.numbers.Vertex.{Vertex}
 use Rattle.task_sched.specs.declared.task_sets.Pick.{Pick}
 use Rattle.task_sched.specs.Tasks.{TasksView, IsNextPick}
 use Rattle.task_sched.specs.Inner.Picking.{IsFreeTask, pick_of}
-use Rattle.task_sched.specs.contracts.task_sets.TaskSet.{the_view}
 use Rattle.task_sched.proofs.Picks.{next_pick, pick_within}
 use Rattle.task_sched.proofs.task_sets.TaskSet.look.Goals as goal
 

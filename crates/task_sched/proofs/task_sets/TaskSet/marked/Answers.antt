@@ -1,4 +1,4 @@
-use Rattle.std.proofs.Common.{◌≡◌, ◌<◌, ◌+◌, ◌-◌, ◌≤◌, ◌==◌, ◌∙◌, ℕ, Bool, true, false, if◌then◌else◌, List, length, slice_set, sym, ap, subst, refl, arith}
+use Rattle.std.proofs.Common.{◌≡◌, ◌<◌, ◌+◌, ◌-◌, ◌==◌, ◌∙◌, Bool, true, false, if◌then◌else◌, List, length, slice_set, sym, ap, subst, refl, arith}
 use Rattle.std.proofs.lemmas.List.{get_or_default}
 use Rattle.vertex_queue.specs.Inner.Queues.{bit_if}
 use Rattle.vertex_queue.proofs.Queueing.{flag_within}

@@ -1,4 +1,4 @@
-use Rattle.std.proofs.Common.{◌≡◌, ◌∙◌, Bool, true, sym, subst}
+use Rattle.std.proofs.Common.{◌∙◌, Bool, sym, subst}
 use Rattle.task_sched.specs.Tasks.{IsPicked}
 use Rattle.task_sched.proofs.Picks.{first_listed}
 use Rattle.task_sched.proofs.task_sets.TaskSet.next.Goals as goal

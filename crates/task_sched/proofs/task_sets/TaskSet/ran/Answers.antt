@@ -1,4 +1,4 @@
-use Rattle.std.proofs.Common.{◌≡◌, ◌+◌, ◌-◌, ◌<◌, ◌≤◌, true, false, sym, subst, length, arith}
+use Rattle.std.proofs.Common.{◌≡◌, ◌+◌, ◌-◌, ◌<◌, true, false, sym, subst, arith}
 use Rattle.vertex_queue.specs.Inner.Queues.{bit_if}
 use Rattle.vertex_queue.proofs.Queueing.{flag_within}
 use Rattle.task_sched.specs.Tasks.{TasksView, is_flagged}

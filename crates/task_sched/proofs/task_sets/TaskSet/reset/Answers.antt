@@ -1,5 +1,4 @@
-use Rattle.std.proofs.Common.{◌≡◌, ◌∙◌, nat_lt, length, ap}
-use Rattle.task_sched.specs.Tasks.{is_flagged}
+use Rattle.std.proofs.Common.{◌∙◌, nat_lt, length, ap}
 use Rattle.task_sched.proofs.Keeping.{and_true, and_false, kept_new}
 use Rattle.task_sched.proofs.task_sets.TaskSet.reset.Goals as goal
 

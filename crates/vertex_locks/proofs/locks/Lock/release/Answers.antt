@@ -1,10 +1,11 @@
-use Rattle.std.proofs.Common.{◌≡◌, ◌+◌, ◌-◌, ◌∙◌, Some, None, sym, ap, subst, true, take, arith}
+use Rattle.std.proofs.Common.{◌≡◌, ◌+◌, ◌-◌, ◌∙◌, List, Some, None, sym, ap, subst, take, arith}
 use Rattle.std.specs.List.{position}
 use Rattle.gl_base.specs.declared.scopes.Claim.{Claim}
+use Rattle.scope_lists.specs.Found.{by_scope}
 use Rattle.scope_lists.specs.Scopes.{is_scope}
 use Rattle.vertex_locks.specs.Inner.KeptLocks.{IsReleased}
-use Rattle.vertex_locks.specs.Locks.{LockView, has, released, view_of}
-use Rattle.vertex_locks.proofs.LockLemmas.{IsPlace, is_place, is_found, release_keeps, release_lists, release_shows}
+use Rattle.vertex_locks.specs.Locks.{LockView, claimant, released, view_of}
+use Rattle.vertex_locks.proofs.LockLemmas.{IsPlace, is_place, not_found, release_keeps, release_lists, release_shows, unheld_shows, unheld_lists}
 use Rattle.vertex_locks.proofs.locks.Lock.release.Goals as goal
 
 there : (c : goal.After-self-1) → IsPlace c.self.inside.claims.items c.self.inside.held c.args.scope c.in-Some.place
@@ -12,9 +13,8 @@ there c =
     let claims = c.self.inside.claims.items in
     let held = c.self.inside.held in
     let s = c.args.scope in
-    let holds : has s (take held claims) ≡ true = ap (λ (v : LockView). has s v.holders) c.self.view_is ∙ c.requires in
-    let at : position (λ (x : Claim). is_scope x.scope s) claims ≡ Some c.in-Some.place = sym (ap (position (λ (x : Claim). is_scope x.scope s)) c.deref.ensures.value) ∙ (sym c.place_of.ensures ∙ c.in-Some.is) in
-    is_place s claims held c.in-Some.place c.self.invariant holds at
+    let at : position (λ (x : Claim). is_scope x.scope s) (take held claims) ≡ Some c.in-Some.place = sym (ap (λ (xs : List Claim). position (λ (x : Claim). is_scope x.scope s) (take held xs)) c.deref.ensures.value) ∙ (sym c.place_of.ensures ∙ c.in-Some.is) in
+    is_place s claims held c.in-Some.place c.self.invariant at
 
 pub invariant_of-self : goal.invariant_of-self
 invariant_of-self c = rw c.take_out.ensures.items (release_keeps c.args.scope c.self.inside.claims.items c.self.inside.held c.in-Some.place c.self.invariant (there c))
@@ -31,7 +31,7 @@ pub returns-in-Some-clause-gone : goal.returns-in-Some-clause-gone
 returns-in-Some-clause-gone c =
     let old = c.self.inside.claims in
     let new = c.take_out.new.claims in
-    let shows = release_shows c.args.scope old.items c.self.inside.held c.in-Some.place (old.cap - old.len) (new.cap - new.len) c.self.invariant (there c) (more_room c) in
+    let shows = release_shows c.args.scope old.items c.self.inside.held c.in-Some.place (old.cap - old.len) (new.cap - new.len) c.self.invariant (there c) in
     let seen = rw (← c.take_out.ensures.items) at shows in
     subst (λ v. IsReleased v (view_of new.items (c.self.inside.held - 1) (new.cap - new.len)) c.args.scope) c.self.view_is seen
 
@@ -43,11 +43,17 @@ returns-in-Some-clause-exact c =
     ∙ release_lists c.args.scope old.items c.self.inside.held c.in-Some.place (old.cap - old.len) (new.cap - new.len) c.self.invariant (there c) (more_room c)
     ∙ ap (released c.args.scope) c.self.view_is
 
-pub returns-in_default : goal.returns-in_default
-returns-in_default c =
+-- no holder is the scope
+none : (c : goal.In_default) → by_scope claimant c.args.self.now.holders c.args.scope ≡ None
+none c =
     let claims = c.self.inside.claims.items in
     let held = c.self.inside.held in
     let s = c.args.scope in
-    let holds : has s (take held claims) ≡ true = ap (λ (v : LockView). has s v.holders) c.self.view_is ∙ c.requires in
-    let at : position (λ (x : Claim). is_scope x.scope s) claims ≡ None = sym (ap (position (λ (x : Claim). is_scope x.scope s)) c.deref.ensures.value) ∙ (sym c.place_of.ensures ∙ c.in_default.is) in
-    absurd (is_found s claims held c.self.invariant holds at)
+    let at : position (λ (x : Claim). is_scope x.scope s) (take held claims) ≡ None = sym (ap (λ (xs : List Claim). position (λ (x : Claim). is_scope x.scope s) (take held xs)) c.deref.ensures.value) ∙ (sym c.place_of.ensures ∙ c.in_default.is) in
+    ap (λ (v : LockView). by_scope claimant v.holders s) (sym c.self.view_is) ∙ not_found s (take held claims) at
+
+pub returns-in_default-clause-gone : goal.returns-in_default-clause-gone
+returns-in_default-clause-gone c = unheld_shows c.args.scope c.args.self.now (none c)
+
+pub returns-in_default-clause-exact : goal.returns-in_default-clause-exact
+returns-in_default-clause-exact c = unheld_lists c.args.scope c.args.self.now (none c)

@@ -8,7 +8,7 @@ use Rattle.vertex_locks.proofs.ListedLemmas.{owned_flag, table_released}
 use Rattle.vertex_locks.proofs.tables.LockTable.release.Goals as goal
 
 written : (c : goal.After-list_waiting) → IsWritten c.self.inside.places.items c.args.self.now c.args.x.0 c.index_mut.result.now (slice_set c.self.inside.locks.items c.index.result.now c.release.new.self) c.release.new.self
-written c = is_written c.self.inside.places.items c.self.inside.locks.items c.args.self.now c.args.x.0 c.index.result.now c.index_mut.result.now c.release.new.self c.self.view_is c.requires.owned c.self.invariant.apart c.index.ensures c.index_mut.ensures.value
+written c = is_written c.self.inside.places.items c.self.inside.locks.items c.args.self.now c.args.x.0 c.index.result.now c.index_mut.result.now c.release.new.self c.self.view_is c.requires c.self.invariant.apart c.index.ensures c.index_mut.ensures.value
 
 pub returns-clause-released : goal.returns-clause-released
 returns-clause-released c =
@@ -26,7 +26,7 @@ returns-clause-exact c =
     w.new ∙ ap (λ l. slice_set table x (Some l)) (c.release.ensures.exact ∙ ap (released c.args.scope) w.old)
 
 pub list_waiting-requires : goal.list_waiting-requires
-list_waiting-requires c = owned_flag c.self.inside.places.items c.self.inside.locks.items (slice_set c.self.inside.locks.items c.index.result.now c.release.new.self) c.args.self.now c.self.inside.listed c.self.view_is (length-set c.self.inside.locks.items c.index.result.now c.release.new.self) c.self.invariant c.args.x.0 c.requires.owned
+list_waiting-requires c = owned_flag c.self.inside.places.items c.self.inside.locks.items (slice_set c.self.inside.locks.items c.index.result.now c.release.new.self) c.args.self.now c.self.inside.listed c.self.view_is (length-set c.self.inside.locks.items c.index.result.now c.release.new.self) c.self.invariant c.args.x.0 c.requires
 
 -- what is read of the lock is who waits for that of x
 waiting : (c : goal.After-list_waiting) → c.index-2.result.now.queue ≡ queue_at (table_of c.self.inside.places.items (slice_set c.self.inside.locks.items c.index.result.now c.release.new.self)) c.args.x.0
@@ -34,7 +34,7 @@ waiting c =
     let places = c.self.inside.places.items in
     let after = slice_set c.self.inside.locks.items c.index.result.now c.release.new.self in
     let x = c.args.x.0 in
-    let owned = (returns-clause-released c).owned x ∙ c.requires.owned in
+    let owned = (returns-clause-released c).owned x ∙ c.requires in
     ap (λ (k : LockView). k.queue) (is_read places after (table_of places after) x c.index.result.now c.index-2.result.now refl owned c.index.ensures c.index-2.ensures)
 
 pub invariant_of-self : goal.invariant_of-self
@@ -42,4 +42,4 @@ invariant_of-self c =
     let after = slice_set c.self.inside.locks.items c.index.result.now c.release.new.self in
     let many = length-set c.self.inside.locks.items c.index.result.now c.release.new.self in
     table_released c.self.inside.places.items c.self.inside.locks.items after c.args.self.now c.self.inside.listed c.self.view_is many c.self.invariant c.list_waiting.new.listed c.index-2.result.now.queue c.args.x.0 c.args.scope
-    (waiting c) c.list_waiting.ensures c.requires.owned (returns-clause-released c)
+    (waiting c) c.list_waiting.ensures c.requires (returns-clause-released c)

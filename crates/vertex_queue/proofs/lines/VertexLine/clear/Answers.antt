@@ -1,4 +1,4 @@
-use Rattle.std.proofs.Common.{◌≡◌, ◌∙◌, [], sym}
+use Rattle.std.proofs.Common.{◌∙◌, sym}
 use Rattle.vertex_queue.proofs.LineLemmas.{nobody}
 use Rattle.vertex_queue.proofs.lines.VertexLine.clear.Goals as goal
 

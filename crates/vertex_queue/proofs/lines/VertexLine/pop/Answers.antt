@@ -1,6 +1,6 @@
-use Rattle.std.proofs.Common.{◌≡◌, ◌<◌, refl, false, length, arith}
-use Rattle.std.proofs.Math.ListN.{length-set}
-use Rattle.vertex_queue.proofs.Queueing.{first_within, popped}
+use Rattle.std.proofs.Common.{◌<◌, refl, length, arith}
+use Rattle.vertex_queue.proofs.Queueing.{first_within}
+use Rattle.vertex_queue.proofs.TurnLemmas.{line_popped}
 use Rattle.vertex_queue.proofs.lines.VertexLine.pop.Goals as goal
 
 pub index_mut-requires : goal.index_mut-requires
@@ -14,13 +14,7 @@ index_mut-requires c =
 
 pub invariant_of-self-2 : goal.invariant_of-self-2
 invariant_of-self-2 c =
-    let among = c.self.inside.among.items in
-    let line = c.self.inside.line.items in
-    let some : 0 < length line = let long = c.self.inside.line.ok in omega (arith, long, c.in_ok-first.ensures.variant.0 refl) in
-    let many = length-set among c.in_ok-first.first.0 false in
-    let room = c.self.invariant.room in
+    let m = c.self.inside in
+    let some : 0 < length m.line.items = omega (arith, m.line.ok, c.in_ok-first.ensures.variant.0 refl) in
     rw (c.in_ok-first.ensures.rest, c.in_ok-first.ensures.capacity)
-    (record {
-      queue = popped among line c.in_ok-first.first some c.in_ok-first.ensures.lookup c.self.invariant.queue;
-      room = omega (arith, many, room);
-    })
+    (line_popped m.among.items m.line.items m.line.cap m.turns.items m.first_turn c.self.invariant c.in_ok-first.first some c.in_ok-first.ensures.lookup)

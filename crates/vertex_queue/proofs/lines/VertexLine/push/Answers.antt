@@ -1,8 +1,15 @@
-use Rattle.std.proofs.Common.{◌≡◌, ◌<◌, ◌∙◌, false, length, ap, subst, sym, arith}
+use Rattle.std.proofs.Common.{◌≡◌, ◌<◌, false, length, subst, sym, arith}
 use Rattle.vertex_queue.specs.Flags.{is_flagged}
 use Rattle.vertex_queue.specs.Lines.{LineView}
 use Rattle.vertex_queue.proofs.Queueing.{room_for_one}
+use Rattle.vertex_queue.proofs.TurnLemmas.{line_few, line_pushed}
 use Rattle.vertex_queue.proofs.lines.VertexLine.push.Goals as goal
+
+pub overflow_cast-len : goal.overflow_cast-len
+overflow_cast-len c =
+    let m = c.self.inside in
+    let few = line_few m.among.items m.line.items m.line.cap m.turns.items m.first_turn c.self.invariant in
+    omega (arith, few, m.line.ok, c.len.ensures)
 
 pub push_back_reserved-requires : goal.push_back_reserved-requires
 push_back_reserved-requires c =
@@ -15,3 +22,13 @@ push_back_reserved-requires c =
     let room = c.self.invariant.room in
     let long = c.self.inside.line.ok in
     omega (arith, less, few, room, long)
+
+pub invariant_of-self : goal.invariant_of-self
+invariant_of-self c =
+    let m = c.self.inside in
+    let v = c.args.vertex in
+    let within : v.0 < length m.among.items = subst (λ (l : LineView). v.0 < length l.among) (sym c.self.view_is) c.requires.within in
+    let away : is_flagged m.among.items v.0 ≡ false = subst (λ (l : LineView). is_flagged l.among v.0 ≡ false) (sym c.self.view_is) c.requires.away in
+    let long : c.len.result ≡ length m.line.items = omega (arith, m.line.ok, c.len.ensures) in
+    rw (c.push_back_reserved.ensures.items, c.push_back_reserved.ensures.capacity, long)
+    (line_pushed m.among.items m.line.items m.line.cap m.turns.items m.first_turn c.self.invariant v within away)

@@ -1,0 +1,9 @@
+pub mod ApartLemmas
+pub mod PromptLemmas
+pub mod AdmitLemmas
+pub mod WorkLemmas
+pub mod MarkLemmas
+pub mod HearLemmas
+pub mod NewsLemmas
+pub mod ReadLemmas
+pub mod AnswerLemmas

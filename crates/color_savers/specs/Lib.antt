@@ -1,0 +1,2 @@
+pub mod Savers
+pub mod Prompting

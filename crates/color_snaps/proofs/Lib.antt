@@ -1,0 +1,13 @@
+pub mod GuardLemmas
+pub mod FreeLemmas
+pub mod LineLemmas
+pub mod FirstLemmas
+pub mod KeepLemmas
+pub mod BeginLemmas
+pub mod LearnLemmas
+pub mod HearLemmas
+pub mod TurnLemmas
+pub mod SideLemmas
+pub mod PartLemmas
+pub mod AdmitLemmas
+pub mod FreshLemmas

@@ -1,0 +1,23 @@
+-- The vertex that is admitted next in a step.
+pub use Rattle.machine_scopes.specs.Admitting.{CanTake}
+use Rattle.std.specs.Prelude.{◌≡◌, ℕ, ◌<◌, true, false, Some, length, slice_get}
+use Rattle.color_parts.specs.Enlisting.{is_free_such}
+use Rattle.color_parts.specs.declared.enlisting.Which.TheVariants.{Pending, Tasks}
+use Rattle.task_sched.specs.Tasks.{is_open}
+use Rattle.task_sched.specs.declared.task_sets.Pick.{Pick}
+use Rattle.color_snaps.specs.Machines.{ColorSnapView}
+
+-- of the vertices of the step's colour none that is pending waits
+abbrev pub WaitsNonePending : {P : Type 0} → ColorSnapView P → Type 0
+WaitsNonePending x = (place : ℕ) → place < length x.core.numbers.tasks.task → slice_get x.colours place ≡ Some x.colour → is_free_such Pending x.core.numbers.tasks place ≡ false
+
+-- The vertex at the place that is picked may be admitted in the tasks, and has the step's colour; where it is a task, no pending one waits.
+pub record IsDueInStep {P : Type 0} (x : ColorSnapView P) (pick : Pick) : Type 0 where
+  pub can : CanTake x.core.numbers.tasks pick
+  pub colour : slice_get x.colours pick.vertex.0 ≡ Some x.colour
+  pub behind : pick.snapshot ≡ false → WaitsNonePending x
+
+-- of the vertices of the step's colour none that is pending waits, and where the window has room no task
+pub record IsNoneDueInStep {P : Type 0} (x : ColorSnapView P) : Type 0 where
+  pub pending : WaitsNonePending x
+  pub tasks : is_open x.core.numbers.tasks ≡ true → (place : ℕ) → place < length x.core.numbers.tasks.task → slice_get x.colours place ≡ Some x.colour → is_free_such Tasks x.core.numbers.tasks place ≡ false

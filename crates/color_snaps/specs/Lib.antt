@@ -1,0 +1,6 @@
+pub mod Machines
+pub mod Admitting
+pub mod Steps
+pub mod Updating
+pub mod Snapshots
+pub mod Inner

@@ -1,0 +1,28 @@
+use Rattle.std.proofs.Common.{◌≡◌, ◌<◌, length, get_or, map, sym, ap, ◌∙◌, arith}
+use Rattle.gl_base.specs.declared.numbers.Vertex.{Vertex}
+use Rattle.local_graph.specs.Played.{numbers_of, side_of}
+use Rattle.local_graph.specs.Inner.AtPlaces.{halves_known, scope_numbers, sides_known}
+use Rattle.local_graph.proofs.MakeLemmas.{IsAddedAround, made_around}
+use Rattle.local_graph.proofs.making.add_ghosts.Goals as goal
+
+pub loop-place-preserved : goal.loop-place-preserved
+loop-place-preserved c =
+    let s = c.args.standing.now in
+    let p = c.args.sources.now in
+    let known = p.known.now in
+    let k = c.loop-place.place in
+    let d : Vertex = record { 0 = 0 } in
+    let v : Vertex = get_or known k d in
+    let side = side_of s.me s.many s.ghosts.now s.places.now in
+    let inside : k < length known = let m = c.requires.many in omega arith in
+    let is : c.row-halves.result.now ≡ halves_known p.halves.now known k = c.row-halves.ensures in
+    let sides = c.fill.new.self.sides.items in
+    let scope = c.fill.new.self.scope.items in
+    let are_sides : sides ≡ sides_known side p.halves.now known k = c.in_ok-fill.ensures.sides ∙ ap (map side) is in
+    let is_scope : numbers_of scope ≡ scope_numbers p.owned.now v.0 sides =
+    c.in_ok-fill.ensures.scope ∙ ap (scope_numbers p.owned.now v.0) (sym c.in_ok-fill.ensures.sides) in
+    let old = c.loop-place.lists in
+    let new = c.push_around.new.self in
+    let added : IsAddedAround side s.me p.machines p.halves.now known p.owned.now k old new sides scope =
+    record { to_sides = c.in_ok-push_around.ensures.sides; to_part = c.in_ok-push_around.ensures.part; are_sides = are_sides; is_scope = is_scope } in
+    made_around side s.me p.machines p.halves.now known p.owned.now s.many k old new sides scope c.loop-place.invariant added c.push_around.ensures.rest.0 c.push_around.ensures.rest.1

@@ -1,0 +1,13 @@
+-- What the coordinator does is the event of the cluster.
+use Rattle.std.proofs.Common.{refl}
+use Rattle.cluster_model.specs.Events as law
+use Rattle.cluster_model.specs.Leading.{puts_step}
+use Rattle.snap_clusters.specs.declared.events.Event.TheVariants as event
+use Rattle.snap_clusters.specs.declared.events.Lead.TheVariants as lead
+use Rattle.snap_clusters.proofs.Leading.{led_answers}
+use Rattle.snap_clusters.proofs.parts.Parts.step.Goals as goal
+
+pub returns : goal.returns
+returns g c =
+    led_answers g.M.SavingMachine.stands c.args.self.now c.requires.runs (event.Lead lead.Step) law.PutStep refl (λ e is. is) (λ base is. cc) puts_step (λ st k. refl)
+    c.step.result c.step.new.self c.step.ensures.put_out c.step.ensures.not_now c.step.ensures.no_memory c.step.ensures.unchanged
