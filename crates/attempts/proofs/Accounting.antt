@@ -9,15 +9,15 @@ use Rattle.std.proofs.lemmas.List.Sorted.{IsPermutation-append_comm, IsPermutati
 use Rattle.gl_base.specs.declared.entries.Entry.{Entry}
 use Rattle.gl_base.specs.declared.entries.Entry.TheVariants.{Go, Restart}
 use Rattle.graph_core.proofs.HalvesLaws.{each-append}
-use Rattle.cluster_cuts.proofs.CutsGoOn.{updates_from-append}
+use Rattle.cluster_laws.proofs.cluster_cuts.CutsGoOn.{updates_from-append}
 use Rattle.attempts.specs.Accounted.{AreAccounted}
 use Rattle.attempts.specs.Beginnings.{IsBeginning, again, held_updates, last_of, nothing, order_after, unheld_updates}
 use Rattle.attempts.specs.EngineCalls.{AreAttempts, EngineCall, IsEngineCall, begins_behind, call_order, first_ticket, lost_in, lost_of, made_in, made_of, opening}
-use Rattle.cluster_cuts.specs.Goings.{AreUpdatesFrom, IsByOwner}
-use Rattle.cluster_runs.specs.Attempts.{Attempt, Beginning, Shared}
-use Rattle.cluster_model.specs.ByTicket.{StandByTicket, restarts}
+use Rattle.cluster_laws.specs.cluster_cuts.Goings.{AreUpdatesFrom, IsByOwner}
+use Rattle.cluster_laws.specs.cluster_runs.Attempts.{Attempt, Beginning, Shared}
+use Rattle.cluster_laws.specs.cluster_model.ByTicket.{StandByTicket, restarts}
 use Rattle.attempts.specs.Entries.{is_restart_at, is_update_from}
-use Rattle.cluster_core.specs.Replays.{ticket_of}
+use Rattle.cluster_laws.specs.cluster_core.Replays.{ticket_of}
 use Rattle.attempts.proofs.Cutting.{all_cut, all_left, cut_and_left, made_below, stand_left}
 use Rattle.attempts.proofs.Opening.{opening_begins}
 use Rattle.attempts.proofs.Standing.{all_weaker, stand_append, stand_made, stand_within}

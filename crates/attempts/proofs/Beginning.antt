@@ -10,10 +10,10 @@ use Rattle.seq_run.proofs.GoingOn.{replay_from-append, tasks_from-append, valid_
 use Rattle.seq_run.specs.Orders.{IsValidFrom, IsValidOrder, all_tasks, replay, replay_from, tasks_after, tasks_after_entry, tasks_from}
 use Rattle.seq_run.specs.States.{GraphState, start_state}
 use Rattle.attempts.specs.Beginnings.{IsBeginning, again, held_updates, last_of, nothing}
-use Rattle.cluster_runs.specs.Attempts.{Attempt, Beginning, IsAttempt, Shared}
-use Rattle.cluster_cuts.specs.Goings.{IsByOwner}
-use Rattle.cluster_model.specs.ByTicket.{StandByTicket, restarts}
-use Rattle.cluster_core.specs.Cuts.{cut_of}
+use Rattle.cluster_laws.specs.cluster_runs.Attempts.{Attempt, Beginning, IsAttempt, Shared}
+use Rattle.cluster_laws.specs.cluster_cuts.Goings.{IsByOwner}
+use Rattle.cluster_laws.specs.cluster_model.ByTicket.{StandByTicket, restarts}
+use Rattle.cluster_laws.specs.cluster_core.Cuts.{cut_of}
 use Rattle.attempts.proofs.Cutting.{all_cut, cut_none, last_holds, stand_cut}
 use Rattle.attempts.proofs.Standing.{stand_append, stand_made, stand_restarts}
 

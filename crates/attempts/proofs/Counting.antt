@@ -9,8 +9,8 @@ use Rattle.gl_base.specs.declared.entries.Entry.{Entry}
 use Rattle.gl_base.specs.declared.jobs.FailureAt.{FailureAt}
 use Rattle.attempts.specs.Beginnings.{again, nothing}
 use Rattle.attempts.specs.EngineCalls.{AreAttempts, EngineCall, IsEngineCall, done_of, fired_of, made_in, opening, struck_in}
-use Rattle.cluster_runs.specs.Attempts.{Attempt, Beginning, IsAttempt, Shared, done_with, is_reached, made_by}
-use Rattle.cluster_core.specs.Replays.{is_of}
+use Rattle.cluster_laws.specs.cluster_runs.Attempts.{Attempt, Beginning, IsAttempt, Shared, done_with, is_reached, made_by}
+use Rattle.cluster_laws.specs.cluster_core.Replays.{is_of}
 
 one_of : Bool → ℕ
 one_of true = 1

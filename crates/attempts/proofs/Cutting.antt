@@ -4,12 +4,12 @@ use Rattle.std.specs.List.{AllByRecursion}
 use Rattle.std.proofs.lemmas.List.Sorted.{IsPermutation-cons, IsPermutation-middle, IsPermutation-refl, IsPermutation-trans}
 use Rattle.gl_base.specs.declared.entries.Entry.{Entry}
 use Rattle.gl_base.specs.declared.entries.Entry.TheVariants.{Go, Restart}
-use Rattle.cluster_core.specs.Ranges.{set_at}
+use Rattle.cluster_laws.specs.cluster_core.Ranges.{set_at}
 use Rattle.attempts.specs.Beginnings.{last_of, left_out, nothing}
-use Rattle.cluster_cuts.specs.Goings.{AreUpdatesFrom}
-use Rattle.cluster_model.specs.ByTicket.{StandByTicket}
-use Rattle.cluster_core.specs.Cuts.{cut_of}
-use Rattle.cluster_core.specs.Replays.{ticket_of}
+use Rattle.cluster_laws.specs.cluster_cuts.Goings.{AreUpdatesFrom}
+use Rattle.cluster_laws.specs.cluster_model.ByTicket.{StandByTicket}
+use Rattle.cluster_laws.specs.cluster_core.Cuts.{cut_of}
+use Rattle.cluster_laws.specs.cluster_core.Replays.{ticket_of}
 use Rattle.attempts.proofs.Standing.{le_suc_of, stand_lower, suc_more}
 
 -- what holds of both holds of either

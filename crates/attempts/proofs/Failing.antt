@@ -12,11 +12,11 @@ use Rattle.gl_base.specs.declared.jobs.FailureAt.{FailureAt}
 use Rattle.attempts.specs.Accounted.{AreRestarts, IsFollowedByRestart, IsRestartBetween}
 use Rattle.attempts.specs.Beginnings.{KeepsWindow, again, held_updates, last_of, nothing, order_after, unheld_updates}
 use Rattle.attempts.specs.EngineCalls.{AreAttempts, EngineCall, IsEngineCall, begins_behind, call_order, first_ticket, fired_of, lost_in, lost_of, made_in, made_of, opening, struck_in}
-use Rattle.cluster_cuts.specs.Goings.{AreUpdatesFrom}
-use Rattle.cluster_runs.specs.Attempts.{Attempt, Beginning, Shared, StopsAtFailure, done_with, is_reached, made_by}
-use Rattle.cluster_core.specs.Replays.{entries_of, is_of, ticket_of}
+use Rattle.cluster_laws.specs.cluster_cuts.Goings.{AreUpdatesFrom}
+use Rattle.cluster_laws.specs.cluster_runs.Attempts.{Attempt, Beginning, Shared, StopsAtFailure, done_with, is_reached, made_by}
+use Rattle.cluster_laws.specs.cluster_core.Replays.{entries_of, is_of, ticket_of}
 use Rattle.attempts.specs.Entries.{is_restart, is_restart_at}
-use Rattle.cluster_model.specs.ByTicket.{restarts}
+use Rattle.cluster_laws.specs.cluster_model.ByTicket.{restarts}
 use Rattle.attempts.proofs.Accounting.{filter_all, filter_none, made_tickets, restart_behind}
 use Rattle.attempts.proofs.Counting.{fired_many, made_by-append}
 use Rattle.attempts.proofs.Cutting.{all_cut, either, made_below}

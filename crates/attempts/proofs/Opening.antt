@@ -9,9 +9,9 @@ use Rattle.seq_run.specs.Orders.{all_tasks}
 use Rattle.seq_run.specs.States.{start_state}
 use Rattle.attempts.specs.Beginnings.{IsBeginning, again, nothing, order_after}
 use Rattle.attempts.specs.EngineCalls.{AreAttempts, EngineCall, IsEngineCall, IsOrderInTurn, begins_behind, call_order, opening, ticket_above}
-use Rattle.cluster_runs.specs.Attempts.{Attempt, Beginning, IsAttempt, Shared}
-use Rattle.cluster_cuts.specs.Goings.{IsByOwner}
-use Rattle.cluster_model.specs.ByTicket.{StandByTicket}
+use Rattle.cluster_laws.specs.cluster_runs.Attempts.{Attempt, Beginning, IsAttempt, Shared}
+use Rattle.cluster_laws.specs.cluster_cuts.Goings.{IsByOwner}
+use Rattle.cluster_laws.specs.cluster_model.ByTicket.{StandByTicket}
 use Rattle.attempts.proofs.Beginning.{again_begins, longer_valid}
 use Rattle.attempts.proofs.Standing.{stand_append, stand_made}
 

@@ -12,9 +12,9 @@ use Rattle.seq_run.specs.Orders.{IsValidOrder}
 use Rattle.attempts.specs.Accounted.{AreValidBetween, IsBound, pieces_at}
 use Rattle.attempts.specs.Beginnings.{IsBeginning, again, held_updates, last_of, nothing, order_after}
 use Rattle.attempts.specs.EngineCalls.{AreAttempts, EngineCall, IsEngineCall, begins_behind, call_order, first_ticket, made_in, made_of, opening}
-use Rattle.cluster_cuts.specs.Goings.{AreUpdatesFrom}
-use Rattle.cluster_runs.specs.Attempts.{Attempt, Beginning, IsAttempt, Shared}
-use Rattle.cluster_model.specs.ByTicket.{StandByTicket, restarts}
+use Rattle.cluster_laws.specs.cluster_cuts.Goings.{AreUpdatesFrom}
+use Rattle.cluster_laws.specs.cluster_runs.Attempts.{Attempt, Beginning, IsAttempt, Shared}
+use Rattle.cluster_laws.specs.cluster_model.ByTicket.{StandByTicket, restarts}
 use Rattle.attempts.specs.Entries.{is_before_ticket, is_restart_at, is_update_within}
 use Rattle.attempts.proofs.Accounting.{filter_all, filter_none, made_tickets, restart_behind}
 use Rattle.attempts.proofs.Beginning.{again_begins, longer_valid, stand_held}

@@ -5,11 +5,11 @@ use Rattle.std.proofs.lemmas.List.Elements.{filter-append}
 use Rattle.gl_base.specs.declared.entries.Entry.{Entry}
 use Rattle.gl_base.specs.declared.entries.Entry.TheVariants.{Go, Restart}
 use Rattle.graph_core.proofs.HalvesLaws.{each-append}
-use Rattle.cluster_cuts.proofs.CutLists.{cut_updates}
+use Rattle.cluster_laws.proofs.cluster_cuts.CutLists.{cut_updates}
 use Rattle.attempts.specs.Beginnings.{last_of}
-use Rattle.cluster_runs.specs.Attempts.{AreRising}
-use Rattle.cluster_cuts.specs.Goings.{AreUpdatesFrom}
-use Rattle.cluster_core.specs.Cuts.{Begins, cut_of, updates_at}
+use Rattle.cluster_laws.specs.cluster_runs.Attempts.{AreRising}
+use Rattle.cluster_laws.specs.cluster_cuts.Goings.{AreUpdatesFrom}
+use Rattle.cluster_laws.specs.cluster_core.Cuts.{Begins, cut_of, updates_at}
 use Rattle.attempts.specs.Entries.{is_restart}
 use Rattle.attempts.specs.Stores.{AreEarlierFirst, IsEarlier, last_order}
 use Rattle.attempts.proofs.Accounting.{filter_none}

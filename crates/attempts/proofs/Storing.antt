@@ -10,11 +10,11 @@ use Rattle.graph_core.proofs.HalvesLaws.{each-append}
 use Rattle.seq_run.specs.Orders.{IsValidFrom, all_tasks, replay}
 use Rattle.attempts.specs.Beginnings.{IsBeginning, KeepsWindow, again, held_updates, last_of, nothing, order_after, snapshot_order, unheld_updates}
 use Rattle.attempts.specs.EngineCalls.{AreAttempts, EngineCall, HaveFailed, IsEngineCall, IsOrderInTurn, begins_behind, call_order, first_ticket, last_beginning, opening}
-use Rattle.cluster_cuts.specs.Goings.{AreUpdatesFrom, IsByOwner}
-use Rattle.cluster_runs.specs.Attempts.{Attempt, Beginning, IsAttempt, Shared}
-use Rattle.cluster_core.specs.Cuts.{cut_of}
+use Rattle.cluster_laws.specs.cluster_cuts.Goings.{AreUpdatesFrom, IsByOwner}
+use Rattle.cluster_laws.specs.cluster_runs.Attempts.{Attempt, Beginning, IsAttempt, Shared}
+use Rattle.cluster_laws.specs.cluster_core.Cuts.{cut_of}
 use Rattle.attempts.specs.Entries.{is_restart, is_update}
-use Rattle.cluster_model.specs.ByTicket.{restarts}
+use Rattle.cluster_laws.specs.cluster_model.ByTicket.{restarts}
 use Rattle.attempts.specs.Stores.{AreGoodOrders, IsEarlier, IsStoreImage, IsWithinWindow, ResumesFrom, last_order, snapshot_orders, attempted_snapshots, snapshots_of}
 use Rattle.attempts.proofs.Accounting.{filter_all, filter_none}
 use Rattle.attempts.proofs.Beginning.{again_begins, longer_valid}

@@ -2,7 +2,7 @@
 use Rattle.std.proofs.Common.{◌≡◌, ◌≤◌, true, false, ℕ, ◌==◌, if◌then◌else◌, refl, inr, arith}
 use Rattle.attempts.specs.Beginnings.{again}
 use Rattle.attempts.specs.EngineCalls.{IsEngineCall, opening}
-use Rattle.cluster_runs.specs.Attempts.{IsAttempt}
+use Rattle.cluster_laws.specs.cluster_runs.Attempts.{IsAttempt}
 use Rattle.attempts.specs.OneFailure.{alone, failing_call, first_try, second_try}
 
 low : (n : ℕ) → 0 ≤ n

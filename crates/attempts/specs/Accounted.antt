@@ -5,10 +5,10 @@ use Rattle.std.specs.Prelude.{List, filter, if◌then◌else◌, length, true, �
 use Rattle.gl_base.specs.declared.entries.Entry.{Entry}
 use Rattle.gl_base.specs.declared.jobs.FailureAt.{FailureAt}
 use Rattle.attempts.specs.EngineCalls.{EngineCall, fired_of, call_order, struck_in}
-use Rattle.cluster_cuts.specs.Goings.{AreUpdatesFrom, IsByOwner}
-use Rattle.cluster_runs.specs.Attempts.{Shared}
-use Rattle.cluster_model.specs.ByTicket.{StandByTicket}
-use Rattle.cluster_core.specs.Replays.{entries_of, ticket_of}
+use Rattle.cluster_laws.specs.cluster_cuts.Goings.{AreUpdatesFrom, IsByOwner}
+use Rattle.cluster_laws.specs.cluster_runs.Attempts.{Shared}
+use Rattle.cluster_laws.specs.cluster_model.ByTicket.{StandByTicket}
+use Rattle.cluster_laws.specs.cluster_core.Replays.{entries_of, ticket_of}
 use Rattle.attempts.specs.Entries.{is_before_ticket, is_restart, is_restart_at, is_update_from, is_update_within}
 use Rattle.seq_run.specs.Orders.{IsValidOrder}
 

@@ -3,11 +3,11 @@ use Rattle.std.specs.List.{AllByRecursion}
 use Rattle.std.specs.Prelude.{List, [], if◌then◌else◌, length, pred, ℕ, ◌++◌, ◌+◌, ◌==◌, ◌∷◌, ◌≡◌, ◌≤◌}
 use Rattle.gl_base.specs.declared.entries.Entry.{Entry}
 use Rattle.gl_base.specs.declared.entries.Entry.TheVariants.{Go, Restart}
-use Rattle.cluster_runs.specs.Attempts.{Attempt, Beginning, Shared, done_with, made_by}
-use Rattle.cluster_cuts.specs.Goings.{IsByOwner}
-use Rattle.cluster_model.specs.ByTicket.{StandByTicket, restarts}
-use Rattle.cluster_core.specs.Cuts.{cut_of}
-use Rattle.cluster_core.specs.Ranges.{set_at}
+use Rattle.cluster_laws.specs.cluster_runs.Attempts.{Attempt, Beginning, Shared, done_with, made_by}
+use Rattle.cluster_laws.specs.cluster_cuts.Goings.{IsByOwner}
+use Rattle.cluster_laws.specs.cluster_model.ByTicket.{StandByTicket, restarts}
+use Rattle.cluster_laws.specs.cluster_core.Cuts.{cut_of}
+use Rattle.cluster_laws.specs.cluster_core.Ranges.{set_at}
 use Rattle.seq_run.specs.Orders.{IsValidOrder, all_tasks, tasks_after}
 
 -- the updates that the cut with these counts leaves out

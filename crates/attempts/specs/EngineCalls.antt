@@ -5,10 +5,10 @@ use Rattle.gl_base.specs.declared.entries.Entry.{Entry}
 use Rattle.gl_base.specs.declared.entries.Entry.TheVariants.{Restart}
 use Rattle.gl_base.specs.declared.jobs.FailureAt.{FailureAt}
 use Rattle.attempts.specs.Beginnings.{again, nothing, order_after, unheld_updates}
-use Rattle.cluster_runs.specs.Attempts.{Attempt, Beginning, IsAttempt, Shared, made_by}
-use Rattle.cluster_cuts.specs.Goings.{IsByOwner}
-use Rattle.cluster_model.specs.ByTicket.{StandByTicket}
-use Rattle.cluster_core.specs.Replays.{ticket_of}
+use Rattle.cluster_laws.specs.cluster_runs.Attempts.{Attempt, Beginning, IsAttempt, Shared, made_by}
+use Rattle.cluster_laws.specs.cluster_cuts.Goings.{IsByOwner}
+use Rattle.cluster_laws.specs.cluster_model.ByTicket.{StandByTicket}
+use Rattle.cluster_laws.specs.cluster_core.Replays.{ticket_of}
 use Rattle.seq_run.specs.Orders.{IsValidOrder}
 
 -- The order of the store's last snapshot as the call opened it, or no entry; whether the call resumes it; the attempts that failed; and

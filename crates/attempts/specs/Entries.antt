@@ -2,7 +2,7 @@
 use Rattle.std.specs.Prelude.{Bool, false, nat_le, nat_lt, true, ℕ, ◌&&◌, ◌==◌}
 use Rattle.gl_base.specs.declared.entries.Entry.{Entry}
 use Rattle.gl_base.specs.declared.entries.Entry.TheVariants.{Go, Restart}
-use Rattle.cluster_core.specs.Replays.{ticket_of}
+use Rattle.cluster_laws.specs.cluster_core.Replays.{ticket_of}
 
 -- the entry is a restart
 abbrev pub is_restart : Entry → Bool

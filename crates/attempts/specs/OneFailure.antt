@@ -4,7 +4,7 @@ use Rattle.gl_base.specs.declared.entries.Entry.{Entry}
 use Rattle.gl_base.specs.declared.entries.Entry.TheVariants.{Go}
 use Rattle.gl_base.specs.declared.jobs.FailureAt.{FailureAt}
 use Rattle.attempts.specs.EngineCalls.{EngineCall}
-use Rattle.cluster_runs.specs.Attempts.{Attempt, Shared}
+use Rattle.cluster_laws.specs.cluster_runs.Attempts.{Attempt, Shared}
 use Rattle.graph_core.specs.DataGraph.{DataGraph}
 use Rattle.update_api.specs.Updates.{update_of_components}
 

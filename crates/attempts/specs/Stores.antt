@@ -5,8 +5,8 @@ use Rattle.std.specs.Prelude.{List, [], filter, map, true, ℕ, ⊤, ◌++◌, �
 use Rattle.gl_base.specs.declared.entries.Entry.{Entry}
 use Rattle.attempts.specs.Beginnings.{again, snapshot_order}
 use Rattle.attempts.specs.EngineCalls.{EngineCall, IsOrderInTurn, last_beginning, opening}
-use Rattle.cluster_runs.specs.Attempts.{Attempt, Beginning, Shared, made_by}
-use Rattle.cluster_core.specs.Cuts.{Begins, updates_at}
+use Rattle.cluster_laws.specs.cluster_runs.Attempts.{Attempt, Beginning, Shared, made_by}
+use Rattle.cluster_laws.specs.cluster_core.Cuts.{Begins, updates_at}
 use Rattle.attempts.specs.Entries.{is_restart, is_update}
 
 -- The updates of each vertex in the earlier order begin those in the later one, and so do the restarts.

@@ -5,10 +5,10 @@ ghost use Rattle.gl_base.specs.declared.entries.Entry.{Entry};
 ghost use Rattle.attempts.specs.Accounted.{AreAccounted, AreRestarts, AreValidBetween, IsFollowedByRestart};
 ghost use Rattle.attempts.specs.Beginnings.{IsBeginning, KeepsWindow, again, held_updates, last_of, nothing, order_after, snapshot_order};
 ghost use Rattle.attempts.specs.EngineCalls.{AreAttempts, EngineCall, HaveFailed, IsEngineCall, IsOrderInTurn, begins_behind, call_order, fired_of, first_ticket, last_beginning, lost_of, made_of, opening};
-ghost use Rattle.cluster_runs.specs.Attempts.{Attempt, Beginning, IsAttempt, Shared, made_by};
-ghost use Rattle.cluster_core.specs.Cuts.{cut_of};
+ghost use Rattle.cluster_laws.specs.cluster_runs.Attempts.{Attempt, Beginning, IsAttempt, Shared, made_by};
+ghost use Rattle.cluster_laws.specs.cluster_core.Cuts.{cut_of};
 ghost use Rattle.attempts.specs.Entries.{is_restart};
-ghost use Rattle.cluster_model.specs.ByTicket.{restarts};
+ghost use Rattle.cluster_laws.specs.cluster_model.ByTicket.{restarts};
 ghost use Rattle.attempts.specs.Stores.{AreGoodOrders, IsStoreImage, IsWithinWindow, ResumesFrom, last_order, snapshot_orders, attempted_snapshots, snapshots_of};
 ghost use Rattle.seq_run.specs.Orders.{IsValidFrom, IsValidOrder, all_tasks, replay, replay_from, tasks_after, tasks_from};
 

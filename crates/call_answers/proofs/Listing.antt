@@ -15,14 +15,14 @@ use Rattle.attempts.specs.Stores.{IsWithinWindow, last_order, snapshots_of}
 use Rattle.call_answers.specs.Answers.{HasRestarts, IsRunWithFailures, KeepsToWindow, RunLists, Shared, is_restart, made_by, reached_places}
 use Rattle.call_answers.specs.Ends.{FinishesRun, SpendsRun}
 use Rattle.call_answers.specs.Courses.{IsMerge, ListsOfCourse, all_logged, machine_logs}
-use Rattle.cluster_core.specs.Recovering.{going_on}
-use Rattle.cluster_core.specs.Replays.{IsTask}
-use Rattle.cluster_core.specs.Settings.{Setting}
-use Rattle.cluster_model.specs.Clusters.{BaseView, Cluster}
-use Rattle.cluster_model.specs.Events.{Event, recovers}
-use Rattle.cluster_model.specs.Machines.{completed}
-use Rattle.cluster_model.specs.Working.{half_window}
-use Rattle.cluster_runs.specs.Recorded.{shared_of}
+use Rattle.cluster_laws.specs.cluster_core.Recovering.{going_on}
+use Rattle.cluster_laws.specs.cluster_core.Replays.{IsTask}
+use Rattle.cluster_laws.specs.cluster_core.Settings.{Setting}
+use Rattle.cluster_laws.specs.cluster_model.Clusters.{BaseView, Cluster}
+use Rattle.cluster_laws.specs.cluster_model.Events.{Event, recovers}
+use Rattle.cluster_laws.specs.cluster_model.Machines.{completed}
+use Rattle.cluster_laws.specs.cluster_model.Working.{half_window}
+use Rattle.cluster_laws.specs.cluster_runs.Recorded.{shared_of}
 use Rattle.cluster_whole.specs.Views.{world_of}
 use Rattle.graph_core.specs.DataGraph.{size}
 use Rattle.seq_run.specs.Orders.{tasks_after}

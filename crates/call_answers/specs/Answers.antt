@@ -3,7 +3,7 @@ pub use Rattle.attempts.specs.Accounted.{AreAccounted, AreValidBetween, IsFollow
 pub use Rattle.attempts.specs.EngineCalls.{IsOrderInTurn, ticket_above}
 pub use Rattle.attempts.specs.Entries.{is_restart}
 pub use Rattle.attempts.specs.Stores.{AreGoodOrders, IsWithinWindow, last_order}
-pub use Rattle.cluster_runs.specs.Attempts.{Shared, made_by}
+pub use Rattle.cluster_laws.specs.cluster_runs.Attempts.{Shared, made_by}
 use Rattle.std.specs.List.{AllByRecursion}
 use Rattle.std.specs.Prelude.{List, [], filter, if◌then◌else◌, length, nat_le, suc, sum_by, Bool, ℕ, ◌*◌, ◌++◌, ◌+◌, ◌∷◌, ◌≡◌, ◌≤◌}
 use Rattle.gl_base.specs.Lists.{AreEach}

@@ -6,11 +6,11 @@ use Rattle.gl_base.specs.Lists.{AreEach}
 use Rattle.gl_base.specs.declared.entries.Entry.{Entry}
 use Rattle.gl_base.specs.declared.jobs.FailureAt.{FailureAt}
 use Rattle.call_answers.specs.Answers.{RunLists, reached_places}
-use Rattle.cluster_core.specs.Recovering.{going_on}
-use Rattle.cluster_core.specs.Settings.{Setting}
-use Rattle.cluster_model.specs.Clusters.{BaseView, Cluster}
-use Rattle.cluster_model.specs.Events.{Event, recovers}
-use Rattle.cluster_model.specs.Machines.{completed}
+use Rattle.cluster_laws.specs.cluster_core.Recovering.{going_on}
+use Rattle.cluster_laws.specs.cluster_core.Settings.{Setting}
+use Rattle.cluster_laws.specs.cluster_model.Clusters.{BaseView, Cluster}
+use Rattle.cluster_laws.specs.cluster_model.Events.{Event, recovers}
+use Rattle.cluster_laws.specs.cluster_model.Machines.{completed}
 
 -- The order is that of the last attempt's base and what its machines have logged, merged; lost is what the recoveries among the events took
 -- away; and the machines' counts and the failures that fired are those of the updates that they completed.

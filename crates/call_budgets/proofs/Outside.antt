@@ -10,9 +10,9 @@ use Rattle.attempts.specs.EngineCalls.{EngineCall, IsEngineCall, call_order, las
 use Rattle.attempts.specs.Entries.{is_restart}
 use Rattle.attempts.specs.Stores.{ResumesFrom, attempted_snapshots, last_order, snapshot_orders, snapshots_of}
 use Rattle.call_budgets.proofs.Stretches.{filter_few}
-use Rattle.cluster_core.specs.Cuts.{cut_of}
-use Rattle.cluster_core.specs.Ranges.{set_at}
-use Rattle.cluster_runs.specs.Attempts.{Attempt, Beginning, Shared}
+use Rattle.cluster_laws.specs.cluster_core.Cuts.{cut_of}
+use Rattle.cluster_laws.specs.cluster_core.Ranges.{set_at}
+use Rattle.cluster_laws.specs.cluster_runs.Attempts.{Attempt, Beginning, Shared}
 
 -- what a cut has and what it leaves out
 both_short : (count : ℕ → ℕ) (order : List Entry) → length (cut_of count order) + length (left_out count order) ≤ length order

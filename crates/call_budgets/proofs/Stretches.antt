@@ -11,11 +11,11 @@ use Rattle.attempts.proofs.Opening.{last_begins, opening_begins}
 use Rattle.attempts.specs.Beginnings.{IsBeginning, again, held_updates, last_of, nothing, order_after}
 use Rattle.attempts.specs.EngineCalls.{AreAttempts, EngineCall, IsEngineCall, begins_behind, call_order, done_of, fired_of, last_beginning, made_in, made_of, opening, struck_in, ticket_above}
 use Rattle.call_budgets.specs.Enough.{BoundsSteps}
-use Rattle.cluster_core.specs.Cuts.{cut_of}
-use Rattle.cluster_core.specs.Ranges.{set_at}
-use Rattle.cluster_cuts.specs.Goings.{AreUpdatesFrom}
-use Rattle.cluster_model.specs.ByTicket.{restarts}
-use Rattle.cluster_runs.specs.Attempts.{Attempt, Beginning, IsAttempt, Shared}
+use Rattle.cluster_laws.specs.cluster_core.Cuts.{cut_of}
+use Rattle.cluster_laws.specs.cluster_core.Ranges.{set_at}
+use Rattle.cluster_laws.specs.cluster_cuts.Goings.{AreUpdatesFrom}
+use Rattle.cluster_laws.specs.cluster_model.ByTicket.{restarts}
+use Rattle.cluster_laws.specs.cluster_runs.Attempts.{Attempt, Beginning, IsAttempt, Shared}
 use Rattle.seq_run.proofs.GoingOn.{updates_from-push, updates_from-restart, valid_append}
 use Rattle.seq_run.specs.Orders.{IsValidOrder, all_tasks, tasks_after}
 use Rattle.seq_run.specs.StepBound.{updates_from, updates_since_restart}

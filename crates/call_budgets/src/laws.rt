@@ -5,7 +5,7 @@ ghost use Rattle.attempts.specs.EngineCalls.{EngineCall, IsEngineCall, call_orde
 ghost use Rattle.attempts.specs.Entries.{is_restart};
 ghost use Rattle.attempts.specs.Stores.{last_order, snapshots_of};
 ghost use Rattle.call_budgets.specs.Enough.{BoundsSteps};
-ghost use Rattle.cluster_runs.specs.Attempts.{Shared};
+ghost use Rattle.cluster_laws.specs.cluster_runs.Attempts.{Shared};
 ghost use Rattle.seq_run.specs.Orders.{tasks_after};
 
 /// Where no valid order has more updates after its last restart than this bound, a call makes at most so many in each attempt, and it makes one attempt

@@ -7,16 +7,16 @@ use Rattle.gl_base.specs.declared.numbers.Vertex.{Vertex}
 use Rattle.gl_base.specs.declared.refusals.Refused.{Refused}
 use Rattle.gl_base.specs.declared.scopes.Claim.{Claim}
 use Rattle.gl_base.specs.declared.scopes.ScopeId.{ScopeId}
-use Rattle.cluster_core.specs.Effects.{admitted_by, asks_for, first_granted, goes_away, goes_on, in_flight, moves_on, next_scope, posts, sets_out, takes_lock}
-use Rattle.cluster_core.specs.Messages.{Ask, Ready}
-use Rattle.cluster_core.specs.Parts.{Part, Stand}
-use Rattle.cluster_core.specs.Scopes.{machines_from, own_from, set_for}
-use Rattle.cluster_core.specs.Settings.{Chromatic, Engine, Locking}
-use Rattle.cluster_core.proofs.Basics.{set_at-same}
+use Rattle.cluster_laws.specs.cluster_core.Effects.{admitted_by, asks_for, first_granted, goes_away, goes_on, in_flight, moves_on, next_scope, posts, sets_out, takes_lock}
+use Rattle.cluster_laws.specs.cluster_core.Messages.{Ask, Ready}
+use Rattle.cluster_laws.specs.cluster_core.Parts.{Part, Stand}
+use Rattle.cluster_laws.specs.cluster_core.Scopes.{machines_from, own_from, set_for}
+use Rattle.cluster_laws.specs.cluster_core.Settings.{Chromatic, Engine, Locking}
+use Rattle.cluster_laws.proofs.cluster_core.Basics.{set_at-same}
 use Rattle.cluster_attempts.proofs.Joining.{done_kept}
 use Rattle.cluster_ending.proofs.Courses.{setting_same}
-use Rattle.cluster_model.specs.Events as law
-use Rattle.cluster_model.specs.Working.{admits, grants, prompt}
+use Rattle.cluster_laws.specs.cluster_model.Events as law
+use Rattle.cluster_laws.specs.cluster_model.Working.{admits, grants, prompt}
 use Rattle.cluster_records.specs.LineOfFour.{after_events}
 use Rattle.cluster_whole.specs.Whole.{setting_behind}
 use Rattle.snap_clusters.specs.AtOnce.{CanNotTakePlaceAtOnce, CanTakePlaceAtOnce, IsMadeAtOnce, TakesPlaceAtOnce, events_at_once, own_vertices}

@@ -5,7 +5,7 @@ use Rattle.gl_base.specs.declared.numbers.MachineNo.{MachineNo}
 use Rattle.gl_base.specs.declared.refusals.Refused.{Refused}
 use Rattle.gl_base.specs.declared.snapshots.Record.{Record}
 use Rattle.gl_base.specs.declared.entries.Entry.{Entry}
-use Rattle.cluster_core.specs.Replays.{entries_of, is_of}
+use Rattle.cluster_laws.specs.cluster_core.Replays.{entries_of, is_of}
 use Rattle.snap_clusters.specs.Clusters.{InEachCluster, StandsForSaving}
 use Rattle.snap_clusters.specs.Cuts.{RecordsCut, snapshot_due}
 use Rattle.snap_clusters.specs.Events.{CanNotTakePlace}
@@ -15,16 +15,16 @@ use Rattle.snap_members.specs.Promises.{CanUpdate, CanUpdateNone, OfEach}
 use Rattle.whole_calls.specs.Following.{has_reached, reaches}
 use Rattle.std.proofs.lemmas.List.Sums.{count_by-le-length}
 use Rattle.attempts.specs.EngineCalls.{EngineCall, first_ticket, made_of}
-use Rattle.cluster_core.specs.Actions.{MayUpdate}
+use Rattle.cluster_laws.specs.cluster_core.Actions.{MayUpdate}
 use Rattle.gl_base.specs.declared.scopes.ScopeId.{ScopeId}
 use Rattle.graph_core.specs.DataGraph.{size}
 use Rattle.cluster_whole.proofs.Wholeness.{is_exclusive}
-use Rattle.cluster_model.specs.Machines.{completed}
+use Rattle.cluster_laws.specs.cluster_model.Machines.{completed}
 use Rattle.call_courses.specs.Calls.{HasEndedCall, HasTaskLeft, MakesCall, OfTheCall}
 use Rattle.call_courses.specs.Courses.{CallOpening, Cluster, CourseView, InEachCourse, IsCourseNow, IsSnapSetting, Machine, Setting, first_setting, newest_setting}
 use Rattle.call_courses.proofs.Going.{setting_now}
-use Rattle.cluster_model.specs.Events as law
-use Rattle.cluster_model.specs.Leading.{RecordIsDue, SnapshotIsDue}
+use Rattle.cluster_laws.specs.cluster_model.Events as law
+use Rattle.cluster_laws.specs.cluster_model.Leading.{RecordIsDue, SnapshotIsDue}
 use Rattle.coord_core.specs.Calls.{IsDueOf, IsRecordFor}
 use Rattle.coord_core.specs.declared.leading.Due.{Due}
 use Rattle.coord_core.specs.declared.leading.Due.TheVariants as what

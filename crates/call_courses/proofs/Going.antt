@@ -5,9 +5,9 @@ use Rattle.std.specs.Prelude.{Err, None, Ok, OnErr, OnOk, Result, Some, replicat
 use Rattle.gl_base.specs.declared.jobs.FailureAt.{FailureAt}
 use Rattle.gl_base.specs.declared.numbers.MachineNo.{MachineNo}
 use Rattle.gl_base.specs.declared.refusals.Refused.{Refused}
-use Rattle.cluster_core.specs.Recovering.{going_on}
-use Rattle.cluster_model.specs.Events as law
-use Rattle.cluster_model.specs.Machines.{completed}
+use Rattle.cluster_laws.specs.cluster_core.Recovering.{going_on}
+use Rattle.cluster_laws.specs.cluster_model.Events as law
+use Rattle.cluster_laws.specs.cluster_model.Machines.{completed}
 use Rattle.cluster_records.specs.LineOfFour.{after_events}
 use Rattle.cluster_attempts.proofs.Joining.{done_kept}
 use Rattle.cluster_ending.proofs.Courses.{setting_same}

@@ -4,8 +4,8 @@ use Rattle.std.proofs.lemmas.List.{append-nil}
 use Rattle.gl_base.specs.declared.entries.Entry.{Entry}
 use Rattle.call_courses.specs.Courses.{ArePassing, BaseView, CallOpening, Cluster, IsPassing, Setting, first_cluster, first_setting, newest_setting}
 use Rattle.call_courses.proofs.Going.{ends_at}
-use Rattle.cluster_model.specs.Events as law
-use Rattle.cluster_model.specs.Leading.{Snapshot}
+use Rattle.cluster_laws.specs.cluster_model.Events as law
+use Rattle.cluster_laws.specs.cluster_model.Leading.{Snapshot}
 use Rattle.cluster_records.specs.LineOfFour.{after_events}
 use Rattle.cluster_records.specs.Recorded.{snapshot_due}
 use Rattle.cluster_whole.specs.Whole.{setting_behind}

@@ -2,7 +2,7 @@
 pub use Rattle.snap_clusters.specs.AtOnce.{CanNotTakePlaceAtOnce, MayBeMadeAtOnce, MayUpdateWithin, events_at_once}
 use Rattle.std.specs.Prelude.{List, false, true, ℕ, ◌++◌, ◌≡◌, ◌⊎◌}
 use Rattle.gl_base.specs.declared.numbers.MachineNo.{MachineNo}
-use Rattle.cluster_model.specs.Events as law
+use Rattle.cluster_laws.specs.cluster_model.Events as law
 use Rattle.call_courses.specs.Courses.{CallOpening, Cluster, CourseView, InEachCourse, IsCourseNow, Machine, Setting, newest_setting}
 use Rattle.whole_calls.specs.Following.{has_reached}
 

@@ -5,8 +5,8 @@ use Rattle.gl_base.specs.declared.jobs.FailureAt.{FailureAt}
 use Rattle.gl_base.specs.declared.entries.Entry.{Entry}
 use Rattle.attempts.specs.EngineCalls.{EngineCall, call_order, lost_of, made_of}
 use Rattle.attempts.specs.Stores.{last_order, snapshots_of}
-use Rattle.cluster_model.specs.Events as law
-use Rattle.cluster_model.specs.Working.{half_window}
+use Rattle.cluster_laws.specs.cluster_model.Events as law
+use Rattle.cluster_laws.specs.cluster_model.Working.{half_window}
 use Rattle.call_courses.specs.Courses.{CallOpening, Cluster, CourseView, InEachCourse, Machine, Setting, first_cluster, first_setting}
 use Rattle.graph_core.specs.DataGraph.{size}
 use Rattle.merged_logs.specs.Merges.{IsByMachineBelow}

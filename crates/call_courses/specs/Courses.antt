@@ -1,7 +1,7 @@
 -- The course of a call on a cluster that takes snapshots: how the call opened, and what has happened since.
-pub use Rattle.cluster_model.specs.Clusters.{BaseView, Cluster}
-pub use Rattle.cluster_model.specs.Machines.{Machine}
-pub use Rattle.cluster_core.specs.Settings.{Setting}
+pub use Rattle.cluster_laws.specs.cluster_model.Clusters.{BaseView, Cluster}
+pub use Rattle.cluster_laws.specs.cluster_model.Machines.{Machine}
+pub use Rattle.cluster_laws.specs.cluster_core.Settings.{Setting}
 pub use Rattle.coord_core.specs.Coordinators.{StoreView}
 pub use Rattle.snap_clusters.specs.Clusters.{Engine, IsSavingClusterOf, IsSnapSetting, StartsSaving}
 pub use Rattle.snap_clusters.specs.declared.parts.Parts.{Parts}
@@ -9,8 +9,8 @@ use Rattle.std.specs.List.{AllByRecursion}
 use Rattle.std.specs.Prelude.{Bool, List, [], length, slice_index_or, ℕ, ◌++◌, ◌<◌, ◌∷◌, ◌≡◌, ◌≢◌}
 use Rattle.gl_base.specs.declared.entries.Entry.{Entry}
 use Rattle.gl_base.specs.declared.jobs.FailureAt.{FailureAt}
-use Rattle.cluster_core.specs.Recovering.{going_on}
-use Rattle.cluster_model.specs.Events as law
+use Rattle.cluster_laws.specs.cluster_core.Recovering.{going_on}
+use Rattle.cluster_laws.specs.cluster_model.Events as law
 use Rattle.cluster_whole.specs.Whole.{IsNoRecovery, setting_behind}
 use Rattle.whole_calls.specs.Following.{FollowsJob}
 use Rattle.whole_calls.specs.Opened.{IsCourseOfCall, IsOpened}

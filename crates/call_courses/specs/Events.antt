@@ -2,7 +2,7 @@
 use Rattle.std.specs.Prelude.{Bool, List, None, Option, Some, [], false, true, ⊤, ◌++◌, ◌∷◌, ◌≡◌, ℕ}
 use Rattle.gl_base.specs.declared.jobs.FailureAt.{FailureAt}
 use Rattle.gl_base.specs.declared.numbers.MachineNo.{MachineNo}
-use Rattle.cluster_model.specs.Events as law
+use Rattle.cluster_laws.specs.cluster_model.Events as law
 use Rattle.call_courses.specs.Courses.{CallOpening, Cluster, CourseView, InEachCourse, IsCourseNow, Machine, Setting, newest_setting}
 use Rattle.snap_clusters.specs.Events.{IsNamedEvent}
 use Rattle.snap_clusters.specs.declared.events.Event.{Event}

@@ -5,8 +5,8 @@ ghost use Rattle.call_courses.specs.AtOnce.{CanHappenAtOnceInCall, CanNotHappenA
 ghost use Rattle.call_courses.specs.Calls.{HasCall, HasEndedCall, HasTaskLeft, OfTheCall};
 ghost use Rattle.call_courses.specs.Courses.{BaseView, CallOpening, Cluster, CourseGoesOn, HasCourse, HasGoneBack, InEachCourse, IsCourseNow, IsSameAttempt, OpensCall, Setting, StartsCall, StartsSaving, as_since, first_cluster, newest_setting};
 ghost use Rattle.call_courses.specs.Events.{CanHappenInCall, CanNotHappenInCall, HappensInCall, IsHeldBack, GoesOnBy, StaysThere};
-ghost use Rattle.cluster_core.specs.Replays.{entries_of};
-ghost use Rattle.cluster_model.specs.Machines.{completed};
+ghost use Rattle.cluster_laws.specs.cluster_core.Replays.{entries_of};
+ghost use Rattle.cluster_laws.specs.cluster_model.Machines.{completed};
 ghost use Rattle.coord_core.specs.Calls.{IsDueOf, IsRecordFor};
 ghost use Rattle.coord_core.specs.Stores.{store_view};
 ghost use Rattle.snap_clusters.specs.Cuts.{snapshot_due};

@@ -2,7 +2,7 @@
 ghost use Rattle.std.specs.Prelude.{List, [], ◌++◌, ◌∷◌, ◌≡◌};
 ghost use Rattle.gl_base.specs.declared.entries.Entry.{Entry};
 ghost use Rattle.call_courses.specs.Courses.{ArePassing, BaseView, CallOpening, Cluster, Setting, first_cluster, first_setting, newest_setting};
-ghost use Rattle.cluster_model.specs.Events.{Event, IsCourse, Record, Recover};
+ghost use Rattle.cluster_laws.specs.cluster_model.Events.{Event, IsCourse, Record, Recover};
 ghost use Rattle.cluster_records.specs.Recorded.{snapshot_due};
 ghost use Rattle.whole_calls.specs.Lost.{AreLostIn, TakesAway};
 ghost use Rattle.whole_calls.specs.Saved.{fronts_in, recorded_in};

@@ -3,18 +3,18 @@ use Rattle.std.proofs.Common.{◌≡◌, ℕ, zero, suc, ◌++◌, ◌∙◌, Bo
 use Rattle.std.proofs.lemmas.List.Elements.{filter-append}
 use Rattle.gl_base.specs.declared.entries.Entry.{Entry}
 use Rattle.gl_base.specs.declared.jobs.FailureAt.{FailureAt}
-use Rattle.cluster_runs.specs.Attempts.{Beginning}
+use Rattle.cluster_laws.specs.cluster_runs.Attempts.{Beginning}
 use Rattle.attempts.specs.EngineCalls.{EngineCall, IsEngineCall, last_beginning, opening}
 use Rattle.attempts.specs.Stores.{ResumesFrom, attempted_snapshots, last_order, snapshot_orders, snapshots_of}
 use Rattle.attempts.proofs.Opening.{last_begins, opening_begins}
 use Rattle.attempts.proofs.Prefixes.{last_order_append}
 use Rattle.attempts.proofs.Storing.{call_back}
-use Rattle.cluster_core.specs.Recovering.{going_on}
-use Rattle.cluster_model.specs.Clusters.{BaseView, Cluster}
-use Rattle.cluster_model.specs.Events.{Event, recovers}
-use Rattle.cluster_model.specs.Leading.{Snapshot}
-use Rattle.cluster_runs.specs.Attempts.{Attempt, Shared}
-use Rattle.cluster_runs.specs.Recorded.{shared_of}
+use Rattle.cluster_laws.specs.cluster_core.Recovering.{going_on}
+use Rattle.cluster_laws.specs.cluster_model.Clusters.{BaseView, Cluster}
+use Rattle.cluster_laws.specs.cluster_model.Events.{Event, recovers}
+use Rattle.cluster_laws.specs.cluster_model.Leading.{Snapshot}
+use Rattle.cluster_laws.specs.cluster_runs.Attempts.{Attempt, Shared}
+use Rattle.cluster_laws.specs.cluster_runs.Recorded.{shared_of}
 use Rattle.recovery.proofs.Goodness.{last_behind}
 use Rattle.recovery.specs.Journals.{order_behind, with_entries}
 use Rattle.store_format.specs.declared.header.Header.{Header}

@@ -1,10 +1,10 @@
 -- Flags, counted one by one.
 use Rattle.std.proofs.Common.{◌≡◌, ℕ, zero, suc, ◌+◌, ◌≤◌, ◌<◌, ◌∙◌, Bool, true, false, List, add-one, ap, arith, if◌then◌else◌, length, refl, sym}
 use Rattle.std.specs.Prelude.{slice_index_or}
-use Rattle.cluster_core.specs.Settings.{Setting}
-use Rattle.cluster_model.specs.Clusters.{Cluster}
-use Rattle.cluster_model.specs.Events.{failures_in}
-use Rattle.cluster_model.specs.Totals.{total, total_from}
+use Rattle.cluster_laws.specs.cluster_core.Settings.{Setting}
+use Rattle.cluster_laws.specs.cluster_model.Clusters.{Cluster}
+use Rattle.cluster_laws.specs.cluster_model.Events.{failures_in}
+use Rattle.cluster_laws.specs.cluster_model.Totals.{total, total_from}
 use Rattle.cluster_whole.proofs.Flows.{total_from-same}
 
 -- 1 where the flag of machine a is up

@@ -1,8 +1,8 @@
 //! How many machines have failed.
 ghost use Rattle.std.specs.Prelude.{◌≡◌, ℕ, ◌<◌, false, if◌then◌else◌, length, slice_index_or};
 ghost use Rattle.call_returns.specs.Missing.{Setting};
-ghost use Rattle.cluster_model.specs.Clusters.{Cluster};
-ghost use Rattle.cluster_model.specs.Events.{failures_in};
+ghost use Rattle.cluster_laws.specs.cluster_model.Clusters.{Cluster};
+ghost use Rattle.cluster_laws.specs.cluster_model.Events.{failures_in};
 
 /// How many machines have failed in a cluster of which these flags say which have.
 pub fn count_failed(flags: &[bool]) -> usize

@@ -4,15 +4,15 @@ use Rattle.std.specs.List.{AllByRecursion}
 use Rattle.std.proofs.lemmas.Bool.{cases_Bool, le-leb, leb-true}
 use Rattle.gl_base.specs.declared.entries.Entry.{Entry}
 use Rattle.gl_base.specs.declared.entries.Entry.TheVariants.{Go, Restart}
-use Rattle.cluster_core.specs.Settings.{Setting}
-use Rattle.cluster_model.specs.Leading.{Snapshot}
+use Rattle.cluster_laws.specs.cluster_core.Settings.{Setting}
+use Rattle.cluster_laws.specs.cluster_model.Leading.{Snapshot}
 use Rattle.cluster_whole.specs.Logged.{Logged, all_entries, entries_to, is_up_to}
 use Rattle.cluster_records.specs.Recorded.{GoOnByNumber, IsGoodSnapshot}
 use Rattle.cluster_records.proofs.Filtering.{passing-cons_in, passing-cons_out}
 use Rattle.attempts.specs.Beginnings.{last_of}
-use Rattle.cluster_runs.specs.Attempts.{AreRising}
-use Rattle.cluster_cuts.specs.Goings.{AreUpdatesFrom}
-use Rattle.cluster_core.specs.Cuts.{Begins, cut_of, updates_at, updates_of}
+use Rattle.cluster_laws.specs.cluster_runs.Attempts.{AreRising}
+use Rattle.cluster_laws.specs.cluster_cuts.Goings.{AreUpdatesFrom}
+use Rattle.cluster_laws.specs.cluster_core.Cuts.{Begins, cut_of, updates_at, updates_of}
 use Rattle.cluster_attempts.specs.CallsSoFar.{count_to, counts_of}
 use Rattle.cluster_attempts.proofs.Picking.{cut_picked, picked}
 

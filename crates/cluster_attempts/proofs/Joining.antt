@@ -6,16 +6,16 @@ use Rattle.gl_base.specs.declared.entries.Entry.{Entry}
 use Rattle.gl_base.specs.declared.entries.Entry.TheVariants.{Go}
 use Rattle.gl_base.specs.declared.jobs.FailureAt.{FailureAt}
 use Rattle.gl_base.specs.declared.scopes.ScopeId.{ScopeId}
-use Rattle.cluster_core.specs.Messages.{Ask, Done, Message, Ready}
-use Rattle.cluster_core.specs.Settings.{IsSetting, Setting}
-use Rattle.cluster_core.proofs.Basics.{set_at-kept}
-use Rattle.cluster_cuts.proofs.CutsGoOn.{updates_from-append}
-use Rattle.cluster_model.specs.Calls.{Begin, Call, Committed, Count, Report, Saved, Step, Want, Wave}
-use Rattle.cluster_model.specs.Clusters.{BaseView, Cluster, with_machine}
-use Rattle.cluster_model.specs.Events.{Event, Admit, DeliverCall, DeliverReport, Deliver, Fail, GoesBackTo, Grant, IsCourse, Mark, MayDo, PutBegin, PutStep, PutWave, Record, Recover, Section, Send, SendCall, SendReport, Stop, Update, after_event, delivers_call, delivers_message, delivers_report, failures_in, makes, recovers, saves, sends_call, sends_message, sends_report, setting_after}
-use Rattle.cluster_model.specs.Machines.{Machine, completed}
-use Rattle.cluster_model.specs.Working.{admits, fails, grants, hands, hands_report, makes_mark, makes_update, prompt, receives, sections, takes_call}
-use Rattle.cluster_runs.specs.Recorded.{shared_of}
+use Rattle.cluster_laws.specs.cluster_core.Messages.{Ask, Done, Message, Ready}
+use Rattle.cluster_laws.specs.cluster_core.Settings.{IsSetting, Setting}
+use Rattle.cluster_laws.proofs.cluster_core.Basics.{set_at-kept}
+use Rattle.cluster_laws.proofs.cluster_cuts.CutsGoOn.{updates_from-append}
+use Rattle.cluster_laws.specs.cluster_model.Calls.{Begin, Call, Committed, Count, Report, Saved, Step, Want, Wave}
+use Rattle.cluster_laws.specs.cluster_model.Clusters.{BaseView, Cluster, with_machine}
+use Rattle.cluster_laws.specs.cluster_model.Events.{Event, Admit, DeliverCall, DeliverReport, Deliver, Fail, GoesBackTo, Grant, IsCourse, Mark, MayDo, PutBegin, PutStep, PutWave, Record, Recover, Section, Send, SendCall, SendReport, Stop, Update, after_event, delivers_call, delivers_message, delivers_report, failures_in, makes, recovers, saves, sends_call, sends_message, sends_report, setting_after}
+use Rattle.cluster_laws.specs.cluster_model.Machines.{Machine, completed}
+use Rattle.cluster_laws.specs.cluster_model.Working.{admits, fails, grants, hands, hands_report, makes_mark, makes_update, prompt, receives, sections, takes_call}
+use Rattle.cluster_laws.specs.cluster_runs.Recorded.{shared_of}
 use Rattle.cluster_whole.specs.Logged.{Logged, all_entries, entries_to}
 use Rattle.cluster_whole.specs.Whole.{IsNoRecovery, IsWhole, setting_behind}
 use Rattle.cluster_records.specs.Bases.{IsBased}
@@ -27,9 +27,9 @@ use Rattle.cluster_records.proofs.Entering.{IsNoUpdate, draws_none, update_logge
 use Rattle.cluster_records.proofs.Filtering.{all-more}
 use Rattle.attempts.specs.Beginnings.{again}
 use Rattle.attempts.specs.EngineCalls.{AreAttempts, begins_behind}
-use Rattle.cluster_cuts.specs.Goings.{AreUpdatesFrom}
-use Rattle.cluster_runs.specs.Attempts.{Attempt, Beginning, IsAttempt, Shared}
-use Rattle.cluster_model.specs.ByTicket.{restarts}
+use Rattle.cluster_laws.specs.cluster_cuts.Goings.{AreUpdatesFrom}
+use Rattle.cluster_laws.specs.cluster_runs.Attempts.{Attempt, Beginning, IsAttempt, Shared}
+use Rattle.cluster_laws.specs.cluster_model.ByTicket.{restarts}
 use Rattle.attempts.proofs.Storing.{attempts_end, begins_push, failed_push}
 use Rattle.cluster_attempts.specs.CallsSoFar.{IsCallSoFar, attempt_of}
 use Rattle.cluster_attempts.specs.Failures.{FailAsOrdered, KeepToJob, StopsAtCount}

@@ -5,11 +5,11 @@ use Rattle.std.proofs.lemmas.List.Sums.{length-filter}
 use Rattle.gl_base.specs.declared.entries.Entry.{Entry}
 use Rattle.gl_base.specs.declared.entries.Entry.TheVariants.{Go, Restart}
 use Rattle.gl_base.specs.declared.jobs.FailureAt.{FailureAt}
-use Rattle.cluster_core.specs.Replays.{entries_of, is_of}
-use Rattle.cluster_core.specs.Settings.{IsSetting, Setting}
-use Rattle.cluster_model.specs.Clusters.{Cluster}
-use Rattle.cluster_model.specs.Leading.{Snapshot}
-use Rattle.cluster_runs.specs.Recorded.{shared_of}
+use Rattle.cluster_laws.specs.cluster_core.Replays.{entries_of, is_of}
+use Rattle.cluster_laws.specs.cluster_core.Settings.{IsSetting, Setting}
+use Rattle.cluster_laws.specs.cluster_model.Clusters.{Cluster}
+use Rattle.cluster_laws.specs.cluster_model.Leading.{Snapshot}
+use Rattle.cluster_laws.specs.cluster_runs.Recorded.{shared_of}
 use Rattle.cluster_whole.specs.Logged.{Logged, all_entries, entries_to, is_up_to}
 use Rattle.cluster_whole.specs.Whole.{IsWhole}
 use Rattle.cluster_records.specs.Bases.{IsBased}
@@ -20,9 +20,9 @@ use Rattle.cluster_records.proofs.Numbering.{all_own, passing_own, valid_same}
 use Rattle.seq_run.specs.Orders.{IsValidFrom, all_tasks, replay}
 use Rattle.seq_run.specs.States.{GraphState}
 use Rattle.attempts.specs.Beginnings.{held_updates, last_of, nothing}
-use Rattle.cluster_runs.specs.Attempts.{AreRising, Beginning, IsAttempt, StopsAtFailure, done_with, is_reached}
-use Rattle.cluster_cuts.specs.Goings.{AreUpdatesFrom, IsByOwner}
-use Rattle.cluster_core.specs.Cuts.{Begins, cut_of, updates_at, updates_of}
+use Rattle.cluster_laws.specs.cluster_runs.Attempts.{AreRising, Beginning, IsAttempt, StopsAtFailure, done_with, is_reached}
+use Rattle.cluster_laws.specs.cluster_cuts.Goings.{AreUpdatesFrom, IsByOwner}
+use Rattle.cluster_laws.specs.cluster_core.Cuts.{Begins, cut_of, updates_at, updates_of}
 use Rattle.attempts.proofs.Prefixes.{all_map}
 use Rattle.attempts.proofs.Standing.{all_weaker}
 use Rattle.cluster_attempts.specs.CallsSoFar.{attempt_of, count_to, counts_of}

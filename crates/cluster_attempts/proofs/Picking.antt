@@ -6,10 +6,10 @@ use Rattle.gl_base.specs.declared.entries.Entry.{Entry}
 use Rattle.gl_base.specs.declared.entries.Entry.TheVariants.{Go, Restart}
 use Rattle.gl_base.specs.declared.numbers.MachineNo.{MachineNo}
 use Rattle.gl_base.specs.declared.numbers.Vertex.{Vertex}
-use Rattle.cluster_core.proofs.Basics.{set_at-here, set_at-there}
-use Rattle.cluster_cuts.specs.Goings.{AreUpdatesFrom}
-use Rattle.cluster_core.specs.Cuts.{Begins, cut_of, updates_at, updates_of}
-use Rattle.cluster_core.specs.Replays.{ticket_of}
+use Rattle.cluster_laws.proofs.cluster_core.Basics.{set_at-here, set_at-there}
+use Rattle.cluster_laws.specs.cluster_cuts.Goings.{AreUpdatesFrom}
+use Rattle.cluster_laws.specs.cluster_core.Cuts.{Begins, cut_of, updates_at, updates_of}
+use Rattle.cluster_laws.specs.cluster_core.Replays.{ticket_of}
 use Rattle.attempts.proofs.Cutting.{cut_none, either, one_less}
 
 -- the entries that are marked

@@ -2,11 +2,11 @@
 use Rattle.std.specs.Prelude.{List, count_by, length, map, ℕ, ◌+◌, ◌≡◌}
 use Rattle.gl_base.specs.declared.jobs.FailureAt.{FailureAt}
 use Rattle.attempts.specs.EngineCalls.{HaveFailed, begins_behind}
-use Rattle.cluster_cuts.specs.Goings.{AreUpdatesFrom}
-use Rattle.cluster_runs.specs.Attempts.{Attempt, Beginning, Shared, done_with, is_reached}
-use Rattle.cluster_core.specs.Cuts.{updates_of}
-use Rattle.cluster_model.specs.Clusters.{Cluster}
-use Rattle.cluster_model.specs.Leading.{Snapshot}
+use Rattle.cluster_laws.specs.cluster_cuts.Goings.{AreUpdatesFrom}
+use Rattle.cluster_laws.specs.cluster_runs.Attempts.{Attempt, Beginning, Shared, done_with, is_reached}
+use Rattle.cluster_laws.specs.cluster_core.Cuts.{updates_of}
+use Rattle.cluster_laws.specs.cluster_model.Clusters.{Cluster}
+use Rattle.cluster_laws.specs.cluster_model.Leading.{Snapshot}
 use Rattle.cluster_whole.specs.Logged.{Logged, all_entries, entries_to}
 
 -- how many updates of each vertex snapshot k has

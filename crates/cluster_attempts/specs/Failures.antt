@@ -2,11 +2,11 @@
 use Rattle.std.specs.List.{AllByRecursion}
 use Rattle.std.specs.Prelude.{List, [], count_by, true, ℕ, ◌∷◌, ◌≡◌}
 use Rattle.gl_base.specs.declared.jobs.FailureAt.{FailureAt}
-use Rattle.cluster_core.specs.Settings.{Setting}
-use Rattle.cluster_model.specs.Clusters.{BaseView, Cluster}
-use Rattle.cluster_model.specs.Events.{Event, Recover, after_event, failures_in, setting_after}
-use Rattle.cluster_model.specs.Machines.{completed}
-use Rattle.cluster_runs.specs.Attempts.{is_reached}
+use Rattle.cluster_laws.specs.cluster_core.Settings.{Setting}
+use Rattle.cluster_laws.specs.cluster_model.Clusters.{BaseView, Cluster}
+use Rattle.cluster_laws.specs.cluster_model.Events.{Event, Recover, after_event, failures_in, setting_after}
+use Rattle.cluster_laws.specs.cluster_model.Machines.{completed}
+use Rattle.cluster_laws.specs.cluster_runs.Attempts.{is_reached}
 
 -- how many updates a machine had made in the call as this attempt began, and how many it has made now
 abbrev pub done_before : Cluster → ℕ → ℕ

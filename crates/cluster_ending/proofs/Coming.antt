@@ -4,15 +4,15 @@ use Rattle.std.proofs.lemmas.Bool.{both_ways, cases_Bool, cases_eq}
 use Rattle.std.proofs.lemmas.List.{get_or-replicate, length-replicate, length-set}
 use Rattle.std.proofs.lemmas.List.Folds.{list_all_at}
 use Rattle.gl_base.specs.declared.scopes.Counted.{Counted}
-use Rattle.cluster_core.specs.Ranges.{set_at}
-use Rattle.cluster_core.specs.Settings.{Setting}
-use Rattle.cluster_core.proofs.Basics.{set_at-holds, set_at-other, set_at-same}
-use Rattle.cluster_model.specs.Calls.{Count, Report, Saved, Want, begins_in}
-use Rattle.cluster_model.specs.Clusters.{Cluster, call_way, with_coordinator, with_reports}
-use Rattle.cluster_model.specs.Counting.{Counting, MayBeCounted, count_answer}
-use Rattle.cluster_model.specs.Leading.{takes_report}
-use Rattle.cluster_model.specs.Machines.{count_of}
-use Rattle.cluster_model.specs.TwoWaves.{TwoWaves, all_answered, turned}
+use Rattle.cluster_laws.specs.cluster_core.Ranges.{set_at}
+use Rattle.cluster_laws.specs.cluster_core.Settings.{Setting}
+use Rattle.cluster_laws.proofs.cluster_core.Basics.{set_at-holds, set_at-other, set_at-same}
+use Rattle.cluster_laws.specs.cluster_model.Calls.{Count, Report, Saved, Want, begins_in}
+use Rattle.cluster_laws.specs.cluster_model.Clusters.{Cluster, call_way, with_coordinator, with_reports}
+use Rattle.cluster_laws.specs.cluster_model.Counting.{Counting, MayBeCounted, count_answer}
+use Rattle.cluster_laws.specs.cluster_model.Leading.{takes_report}
+use Rattle.cluster_laws.specs.cluster_model.Machines.{count_of}
+use Rattle.cluster_laws.specs.cluster_model.TwoWaves.{TwoWaves, all_answered, turned}
 use Rattle.cluster_whole.specs.Steps.{Holds, IsCalled, Tells, Told, Turn, calls_of, come_of, counts_in, held_of, is_told, reports_of}
 use Rattle.cluster_whole.proofs.Telling.{turned_part, turned_whole}
 use Rattle.cluster_ending.specs.Watched.{AreWatched, HasAnswered, IsNotAbove, IsTurnOf, last_counts, shown_by, shown_in, told_behind}

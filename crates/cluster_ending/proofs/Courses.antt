@@ -2,13 +2,13 @@
 use Rattle.std.proofs.Common.{◌≡◌, ℕ, suc, ◌+◌, ◌<◌, ◌≤◌, Bool, true, false, if◌then◌else◌, Option, None, Some, List, [], ◌∷◌, refl, sym, ◌∙◌, subst, le_antisymm, le_refl, le_trans, arith}
 use Rattle.std.specs.List.{AllByRecursion}
 use Rattle.gl_base.specs.declared.scopes.ScopeId.{ScopeId}
-use Rattle.cluster_core.specs.Messages.{Message}
-use Rattle.cluster_core.specs.Recovering.{going_on}
-use Rattle.cluster_core.specs.Settings.{IsSetting, Setting}
-use Rattle.cluster_model.specs.Calls.{Call, Count, Report, Saved, Want}
-use Rattle.cluster_model.specs.Clusters.{BaseView, Cluster}
-use Rattle.cluster_model.specs.Events.{Event, Admit, DeliverCall, DeliverReport, Deliver, Fail, Grant, Mark, MayDo, IsCourse, PutBegin, PutStep, PutWave, Record, Recover, Section, Send, SendCall, SendReport, Stop, Update, after_event, delivers_call, delivers_message, delivers_report, makes, recovers, saves, sends_call, sends_message, sends_report, setting_after}
-use Rattle.cluster_model.specs.Leading.{HasSeenTheEnd}
+use Rattle.cluster_laws.specs.cluster_core.Messages.{Message}
+use Rattle.cluster_laws.specs.cluster_core.Recovering.{going_on}
+use Rattle.cluster_laws.specs.cluster_core.Settings.{IsSetting, Setting}
+use Rattle.cluster_laws.specs.cluster_model.Calls.{Call, Count, Report, Saved, Want}
+use Rattle.cluster_laws.specs.cluster_model.Clusters.{BaseView, Cluster}
+use Rattle.cluster_laws.specs.cluster_model.Events.{Event, Admit, DeliverCall, DeliverReport, Deliver, Fail, Grant, Mark, MayDo, IsCourse, PutBegin, PutStep, PutWave, Record, Recover, Section, Send, SendCall, SendReport, Stop, Update, after_event, delivers_call, delivers_message, delivers_report, makes, recovers, saves, sends_call, sends_message, sends_report, setting_after}
+use Rattle.cluster_laws.specs.cluster_model.Leading.{HasSeenTheEnd}
 use Rattle.cluster_whole.specs.Whole.{AreColoured, IsNoRecovery, IsWhole, setting_behind}
 use Rattle.cluster_whole.proofs.Wholeness.{begun_is, event_moved, is_exclusive, recovered_whole, whole_kept}
 use Rattle.cluster_ending.specs.Ends.{HasEnded, IsFollowed, IsNoBegin}

@@ -2,14 +2,14 @@
 use Rattle.std.proofs.Common.{◌≡◌, ◌≢◌, ℕ, ◌+◌, ◌<◌, ◌≤◌, Bool, true, List, [], ◌∷◌, length, refl, sym, ◌∙◌, ap, subst, ⊎_elim, inl, inr, le_refl, le_trans, arith}
 use Rattle.std.proofs.lemmas.Bool.{cases_eq}
 use Rattle.gl_base.specs.declared.scopes.Counted.{Counted}
-use Rattle.cluster_core.specs.Settings.{Setting}
-use Rattle.cluster_core.specs.Ways.{vertex_woken}
-use Rattle.cluster_core.specs.Worlds.{way}
-use Rattle.cluster_model.specs.Calls.{Call, begins_in}
-use Rattle.cluster_model.specs.Clusters.{Cluster, call_way, report_way}
-use Rattle.cluster_model.specs.Counting.{Counting}
-use Rattle.cluster_model.specs.Machines.{Machine, count_of, is_idle}
-use Rattle.cluster_model.specs.Totals.{total}
+use Rattle.cluster_laws.specs.cluster_core.Settings.{Setting}
+use Rattle.cluster_laws.specs.cluster_core.Ways.{vertex_woken}
+use Rattle.cluster_laws.specs.cluster_core.Worlds.{way}
+use Rattle.cluster_laws.specs.cluster_model.Calls.{Call, begins_in}
+use Rattle.cluster_laws.specs.cluster_model.Clusters.{Cluster, call_way, report_way}
+use Rattle.cluster_laws.specs.cluster_model.Counting.{Counting}
+use Rattle.cluster_laws.specs.cluster_model.Machines.{Machine, count_of, is_idle}
+use Rattle.cluster_laws.specs.cluster_model.Totals.{total}
 use Rattle.cluster_whole.specs.Steps.{Holds, IsCalled, Tells, Told, Turn, counts_in, under_way}
 use Rattle.cluster_whole.specs.Views.{world_of}
 use Rattle.cluster_whole.proofs.Flows.{below_all, same_flows, total_from-more}

@@ -3,16 +3,16 @@ use Rattle.std.proofs.Common.{◌≡◌, ◌⊎◌, ℕ, zero, suc, ◌+◌, ◌
 use Rattle.std.proofs.lemmas.Bool.{both_ways, false_from_ne_true}
 use Rattle.std.proofs.lemmas.List.Elements.{All-get_or}
 use Rattle.gl_base.specs.declared.scopes.Counted.{Counted}
-use Rattle.cluster_core.specs.Replays.{tasks_of}
-use Rattle.cluster_core.specs.Settings.{IsSetting, Setting}
-use Rattle.cluster_core.specs.Ways.{vertex_woken}
-use Rattle.cluster_core.specs.Worlds.{way}
-use Rattle.cluster_model.specs.Clusters.{Cluster}
-use Rattle.cluster_model.specs.Counting.{Counting}
-use Rattle.cluster_model.specs.Leading.{HasSeenTheEnd}
-use Rattle.cluster_model.specs.Machines.{count_of}
-use Rattle.cluster_model.specs.Totals.{total}
-use Rattle.cluster_model.specs.TwoWaves.{IsIdleAnswer, TwoWaves, received_of, sent_of, total_sent}
+use Rattle.cluster_laws.specs.cluster_core.Replays.{tasks_of}
+use Rattle.cluster_laws.specs.cluster_core.Settings.{IsSetting, Setting}
+use Rattle.cluster_laws.specs.cluster_core.Ways.{vertex_woken}
+use Rattle.cluster_laws.specs.cluster_core.Worlds.{way}
+use Rattle.cluster_laws.specs.cluster_model.Clusters.{Cluster}
+use Rattle.cluster_laws.specs.cluster_model.Counting.{Counting}
+use Rattle.cluster_laws.specs.cluster_model.Leading.{HasSeenTheEnd}
+use Rattle.cluster_laws.specs.cluster_model.Machines.{count_of}
+use Rattle.cluster_laws.specs.cluster_model.Totals.{total}
+use Rattle.cluster_laws.specs.cluster_model.TwoWaves.{IsIdleAnswer, TwoWaves, received_of, sent_of, total_sent}
 use Rattle.cluster_whole.specs.Steps.{Holds, IsCalled, Tells, Told, Turn, come_of, is_told}
 use Rattle.cluster_whole.specs.Views.{world_of}
 use Rattle.cluster_whole.specs.Whole.{IsWhole}

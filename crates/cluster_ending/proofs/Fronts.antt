@@ -2,13 +2,13 @@
 use Rattle.std.proofs.Common.{◌≡◌, ◌⊎◌, ℕ, zero, suc, pred, ◌<◌, ◌&&◌, Bool, true, false, is_some, Option, None, Some, List, [], ◌∷◌, ◌++◌, slice_index_or, refl, sym, ◌∙◌, ap, subst, ⊎_elim, inl, inr, arith}
 use Rattle.std.proofs.lemmas.Bool.{both_ways, cases_Bool}
 use Rattle.gl_base.specs.declared.scopes.Counted.{Counted}
-use Rattle.cluster_core.specs.Settings.{Setting}
-use Rattle.cluster_model.specs.Calls.{Call, Count, Report, Wave}
-use Rattle.cluster_model.specs.Clusters.{Cluster, report_way}
-use Rattle.cluster_model.specs.Counting.{Counting}
-use Rattle.cluster_model.specs.Machines.{Machine, count_of}
-use Rattle.cluster_model.specs.TwoWaves.{TwoWaves, all_answered}
-use Rattle.cluster_model.specs.Working.{answers_if, is_done, or_zero, prompt}
+use Rattle.cluster_laws.specs.cluster_core.Settings.{Setting}
+use Rattle.cluster_laws.specs.cluster_model.Calls.{Call, Count, Report, Wave}
+use Rattle.cluster_laws.specs.cluster_model.Clusters.{Cluster, report_way}
+use Rattle.cluster_laws.specs.cluster_model.Counting.{Counting}
+use Rattle.cluster_laws.specs.cluster_model.Machines.{Machine, count_of}
+use Rattle.cluster_laws.specs.cluster_model.TwoWaves.{TwoWaves, all_answered}
+use Rattle.cluster_laws.specs.cluster_model.Working.{answers_if, is_done, or_zero, prompt}
 use Rattle.cluster_whole.specs.Steps.{Holds, IsCalled, Tells, Told, Turn, come_of, counts_in, is_told}
 use Rattle.cluster_whole.proofs.Telling.{turned_part, turned_whole}
 use Rattle.cluster_ending.specs.Watched.{HasAnswered, IsNotAbove, IsWatched, Watch, shown_by, shown_in}

@@ -3,12 +3,12 @@ use Rattle.std.proofs.Common.{ℕ, suc, ◌≤◌, ◌==◌, ◌&&◌, not, Bool
 use Rattle.gl_base.specs.declared.entries.Entry.{Entry}
 use Rattle.gl_base.specs.declared.scopes.Claim.{Claim}
 use Rattle.gl_base.specs.declared.scopes.ScopeId.{ScopeId}
-use Rattle.cluster_core.specs.Effects.{admitted, admitted_by, asks_for, first_granted, goes_away, goes_on, granted, in_flight, mark_news, marked, moves_on, news_for, next_scope, posts, received, sets_out, takes_lock, updated}
-use Rattle.cluster_core.specs.Messages.{Ask, Done, Message, Ready}
-use Rattle.cluster_core.specs.Parts.{Part, Stand}
-use Rattle.cluster_core.specs.Scopes.{machines_from, own_from, set_for, takes_part}
-use Rattle.cluster_core.specs.Settings.{Chromatic, Engine, Locking, Setting}
-use Rattle.cluster_core.proofs.Basics.{set_at-holds}
+use Rattle.cluster_laws.specs.cluster_core.Effects.{admitted, admitted_by, asks_for, first_granted, goes_away, goes_on, granted, in_flight, mark_news, marked, moves_on, news_for, next_scope, posts, received, sets_out, takes_lock, updated}
+use Rattle.cluster_laws.specs.cluster_core.Messages.{Ask, Done, Message, Ready}
+use Rattle.cluster_laws.specs.cluster_core.Parts.{Part, Stand}
+use Rattle.cluster_laws.specs.cluster_core.Scopes.{machines_from, own_from, set_for, takes_part}
+use Rattle.cluster_laws.specs.cluster_core.Settings.{Chromatic, Engine, Locking, Setting}
+use Rattle.cluster_laws.proofs.cluster_core.Basics.{set_at-holds}
 
 -- the outboxes of the second are no shorter
 abbrev pub IsLonger : Part → Part → Type 0

@@ -3,11 +3,11 @@ use Rattle.std.proofs.Common.{◌≡◌, ℕ, ◌+◌, ◌<◌, ◌≤◌, ◌&&
 use Rattle.std.proofs.lemmas.Bool.{and_parts, both_ways, eqb-true}
 use Rattle.gl_base.specs.declared.scopes.Claim.{Claim}
 use Rattle.graph_core.specs.DataGraph.{size}
-use Rattle.cluster_core.specs.Parts.{Part}
-use Rattle.cluster_core.specs.Ranges.{first_passing}
-use Rattle.cluster_core.specs.Settings.{Setting}
-use Rattle.cluster_core.proofs.Basics.{first_passing-none}
-use Rattle.cluster_model.specs.Machines.{is_idle, waits}
+use Rattle.cluster_laws.specs.cluster_core.Parts.{Part}
+use Rattle.cluster_laws.specs.cluster_core.Ranges.{first_passing}
+use Rattle.cluster_laws.specs.cluster_core.Settings.{Setting}
+use Rattle.cluster_laws.proofs.cluster_core.Basics.{first_passing-none}
+use Rattle.cluster_laws.specs.cluster_model.Machines.{is_idle, waits}
 use Rattle.cluster_ending.specs.Watched.{HoldsNoTask}
 
 no_first : (o : Option ℕ) → is_none o ≡ true → o ≡ None

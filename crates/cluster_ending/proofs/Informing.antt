@@ -4,20 +4,20 @@ use Rattle.std.specs.List.{AllByRecursion}
 use Rattle.gl_base.specs.declared.entries.Entry.{Entry}
 use Rattle.gl_base.specs.declared.entries.Entry.TheVariants.{Go}
 use Rattle.graph_core.proofs.HalvesLaws.{each-append}
-use Rattle.cluster_core.specs.Effects.{received}
-use Rattle.cluster_core.specs.Marks.{MarksHold}
-use Rattle.cluster_core.specs.Messages.{Ask, Done, Message, Ready}
-use Rattle.cluster_core.specs.Messages as core
-use Rattle.cluster_core.specs.Parts.{Part}
-use Rattle.cluster_core.specs.Ranges.{set_at}
-use Rattle.cluster_core.specs.Settings.{Setting}
-use Rattle.cluster_core.proofs.Basics.{set_at-holds, set_at-other, set_at-same}
-use Rattle.cluster_numbers.proofs.Quiet.{admitted-quiet, goes_on-quiet, granted-quiet}
-use Rattle.cluster_model.specs.Calls.{Begin, Call, Committed, Count, Report, Saved, Step, Want, Wave, sections_in}
-use Rattle.cluster_model.specs.Clusters.{BaseView, Cluster, call_way, report_way}
-use Rattle.cluster_model.specs.Events.{Event, Admit, DeliverCall, DeliverReport, Deliver, Fail, Grant, Mark, MayDo, PutBegin, PutStep, PutWave, Record, Recover, Section, Send, SendCall, SendReport, Stop, Update, after_event, delivers_call, delivers_message, delivers_report, makes, saves, sends_call, sends_message, sends_report}
-use Rattle.cluster_model.specs.Machines.{Machine, count_of}
-use Rattle.cluster_model.specs.Working.{admits, answers_if, asks, asks_if, asks_more, commits, fails, grants, hands, hands_report, is_done, makes_mark, or_zero, prompt, receives, rest_of, sections, takes_call, works_on}
+use Rattle.cluster_laws.specs.cluster_core.Effects.{received}
+use Rattle.cluster_laws.specs.cluster_core.Marks.{MarksHold}
+use Rattle.cluster_laws.specs.cluster_core.Messages.{Ask, Done, Message, Ready}
+use Rattle.cluster_laws.specs.cluster_core.Messages as core
+use Rattle.cluster_laws.specs.cluster_core.Parts.{Part}
+use Rattle.cluster_laws.specs.cluster_core.Ranges.{set_at}
+use Rattle.cluster_laws.specs.cluster_core.Settings.{Setting}
+use Rattle.cluster_laws.proofs.cluster_core.Basics.{set_at-holds, set_at-other, set_at-same}
+use Rattle.cluster_laws.proofs.cluster_numbers.Quiet.{admitted-quiet, goes_on-quiet, granted-quiet}
+use Rattle.cluster_laws.specs.cluster_model.Calls.{Begin, Call, Committed, Count, Report, Saved, Step, Want, Wave, sections_in}
+use Rattle.cluster_laws.specs.cluster_model.Clusters.{BaseView, Cluster, call_way, report_way}
+use Rattle.cluster_laws.specs.cluster_model.Events.{Event, Admit, DeliverCall, DeliverReport, Deliver, Fail, Grant, Mark, MayDo, PutBegin, PutStep, PutWave, Record, Recover, Section, Send, SendCall, SendReport, Stop, Update, after_event, delivers_call, delivers_message, delivers_report, makes, saves, sends_call, sends_message, sends_report}
+use Rattle.cluster_laws.specs.cluster_model.Machines.{Machine, count_of}
+use Rattle.cluster_laws.specs.cluster_model.Working.{admits, answers_if, asks, asks_if, asks_more, commits, fails, grants, hands, hands_report, is_done, makes_mark, or_zero, prompt, receives, rest_of, sections, takes_call, works_on}
 use Rattle.cluster_whole.specs.Views.{section_of, world_of}
 use Rattle.cluster_whole.proofs.Joining.{changed}
 use Rattle.cluster_whole.proofs.Pieces.{passed, read_at}

@@ -4,22 +4,22 @@ use Rattle.std.specs.List.{AllByRecursion}
 use Rattle.std.proofs.lemmas.Bool.{both_ways, false_from_ne_true, or_cases}
 use Rattle.gl_base.specs.declared.entries.Entry.{Entry}
 use Rattle.graph_core.specs.DataGraph.{size}
-use Rattle.cluster_core.specs.Actions.{Action, Admit, Grant, Send, Deliver, Update, Mark, Begin, Hear, SendSection, Collect, Record, MayHappen, after, collects, delivers, hears, marks, sends}
-use Rattle.cluster_core.specs.Copies.{AreCopies}
-use Rattle.cluster_core.specs.Effects.{admitted, begins, granted, mark_news, marked, received}
-use Rattle.cluster_core.specs.Messages.{Ask, Done, Message, Ready, Section}
-use Rattle.cluster_core.specs.Parts.{Part}
-use Rattle.cluster_core.specs.Places.{IsExclusive}
-use Rattle.cluster_core.specs.Scopes.{takes_part}
-use Rattle.cluster_core.specs.Settings.{IsSetting, Setting}
-use Rattle.cluster_core.specs.Ways.{IsNewsFor, IsToldTo, vertex_woken, wakes_vertex}
-use Rattle.cluster_core.specs.Worlds.{World, way, with_part}
-use Rattle.cluster_core.proofs.Basics.{set_at-holds, set_at-kept}
-use Rattle.cluster_core.proofs.Nearness.{near_turned, near_within}
-use Rattle.cluster_core.proofs.Taking.{same_way, taken, taken-here, taken-there}
-use Rattle.cluster_numbers.proofs.Quiet.{admitted-quiet, goes_on-quiet, granted-quiet, ready-quiet}
-use Rattle.cluster_numbers.proofs.QuietWorlds.{IsQuietStep, part_quiet, quiet_steps, sent_quiet, taken_quiet}
-use Rattle.cluster_numbers.proofs.Told.{vertex_woken-dones}
+use Rattle.cluster_laws.specs.cluster_core.Actions.{Action, Admit, Grant, Send, Deliver, Update, Mark, Begin, Hear, SendSection, Collect, Record, MayHappen, after, collects, delivers, hears, marks, sends}
+use Rattle.cluster_laws.specs.cluster_core.Copies.{AreCopies}
+use Rattle.cluster_laws.specs.cluster_core.Effects.{admitted, begins, granted, mark_news, marked, received}
+use Rattle.cluster_laws.specs.cluster_core.Messages.{Ask, Done, Message, Ready, Section}
+use Rattle.cluster_laws.specs.cluster_core.Parts.{Part}
+use Rattle.cluster_laws.specs.cluster_core.Places.{IsExclusive}
+use Rattle.cluster_laws.specs.cluster_core.Scopes.{takes_part}
+use Rattle.cluster_laws.specs.cluster_core.Settings.{IsSetting, Setting}
+use Rattle.cluster_laws.specs.cluster_core.Ways.{IsNewsFor, IsToldTo, vertex_woken, wakes_vertex}
+use Rattle.cluster_laws.specs.cluster_core.Worlds.{World, way, with_part}
+use Rattle.cluster_laws.proofs.cluster_core.Basics.{set_at-holds, set_at-kept}
+use Rattle.cluster_laws.proofs.cluster_core.Nearness.{near_turned, near_within}
+use Rattle.cluster_laws.proofs.cluster_core.Taking.{same_way, taken, taken-here, taken-there}
+use Rattle.cluster_laws.proofs.cluster_numbers.Quiet.{admitted-quiet, goes_on-quiet, granted-quiet, ready-quiet}
+use Rattle.cluster_laws.proofs.cluster_numbers.QuietWorlds.{IsQuietStep, part_quiet, quiet_steps, sent_quiet, taken_quiet}
+use Rattle.cluster_laws.proofs.cluster_numbers.Told.{vertex_woken-dones}
 use Rattle.cluster_whole.specs.Views.{IsMove, IsTurned, MayTurn}
 use Rattle.cluster_ending.specs.Watched.{HoldsNoTask, HasNoTaskLeft}
 

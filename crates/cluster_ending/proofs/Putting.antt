@@ -5,17 +5,17 @@ use Rattle.std.proofs.lemmas.List.{get_or-replicate, length-replicate}
 use Rattle.std.proofs.lemmas.List.Elements.{All-get_or}
 use Rattle.std.proofs.lemmas.List.Folds.{list_all_at}
 use Rattle.gl_base.specs.declared.scopes.Counted.{Counted}
-use Rattle.cluster_core.specs.Settings.{Setting}
-use Rattle.cluster_core.specs.Ways.{vertex_woken}
-use Rattle.cluster_core.specs.Worlds.{way}
-use Rattle.cluster_model.specs.Calls.{Begin, Call, Wave, begins_in}
-use Rattle.cluster_model.specs.Clusters.{BaseView, Cluster, call_way, with_coordinator}
-use Rattle.cluster_model.specs.Counting.{Counting, count_wave, first_counting}
-use Rattle.cluster_model.specs.Events.{recovers}
-use Rattle.cluster_model.specs.Leading.{begins_snapshot, puts_wave}
-use Rattle.cluster_model.specs.Machines.{Machine, count_of}
-use Rattle.cluster_model.specs.Totals.{total, total_from}
-use Rattle.cluster_model.specs.TwoWaves.{IsIdleAnswer, TwoWaves, all_answered, no_counts, no_waves, received_of, sent_of, total_received, total_sent, turned}
+use Rattle.cluster_laws.specs.cluster_core.Settings.{Setting}
+use Rattle.cluster_laws.specs.cluster_core.Ways.{vertex_woken}
+use Rattle.cluster_laws.specs.cluster_core.Worlds.{way}
+use Rattle.cluster_laws.specs.cluster_model.Calls.{Begin, Call, Wave, begins_in}
+use Rattle.cluster_laws.specs.cluster_model.Clusters.{BaseView, Cluster, call_way, with_coordinator}
+use Rattle.cluster_laws.specs.cluster_model.Counting.{Counting, count_wave, first_counting}
+use Rattle.cluster_laws.specs.cluster_model.Events.{recovers}
+use Rattle.cluster_laws.specs.cluster_model.Leading.{begins_snapshot, puts_wave}
+use Rattle.cluster_laws.specs.cluster_model.Machines.{Machine, count_of}
+use Rattle.cluster_laws.specs.cluster_model.Totals.{total, total_from}
+use Rattle.cluster_laws.specs.cluster_model.TwoWaves.{IsIdleAnswer, TwoWaves, all_answered, no_counts, no_waves, received_of, sent_of, total_received, total_sent, turned}
 use Rattle.cluster_whole.specs.Steps.{Holds, IsCalled, Tells, Told, Turn, calls_of, come_of, held_of, is_told, reports_of, under_way}
 use Rattle.cluster_whole.specs.Views.{world_of}
 use Rattle.cluster_whole.proofs.Due.{sums_are}

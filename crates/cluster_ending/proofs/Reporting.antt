@@ -3,14 +3,14 @@ use Rattle.std.proofs.Common.{◌≡◌, ◌⊎◌, ℕ, suc, ◌+◌, ◌<◌, 
 use Rattle.std.specs.List.{AllByRecursion}
 use Rattle.std.proofs.lemmas.Bool.{cases_lt}
 use Rattle.gl_base.specs.declared.entries.Entry.{Entry}
-use Rattle.cluster_core.specs.Marks.{MarksHold, mark_of}
-use Rattle.cluster_core.specs.Messages as core
-use Rattle.cluster_core.specs.Settings.{IsSetting, Setting}
-use Rattle.cluster_model.specs.Calls.{Begin, Call, Committed, Report, Saved, Want, begins_in, sections_in}
-use Rattle.cluster_model.specs.Clusters.{BaseView, Cluster, report_way}
-use Rattle.cluster_model.specs.Events.{Event, Admit, DeliverCall, DeliverReport, Deliver, Fail, Grant, Mark, MayDo, IsCourse, PutBegin, PutStep, PutWave, Record, Recover, Section, Send, SendCall, SendReport, Stop, Update, after_event, recovers, setting_after}
-use Rattle.cluster_model.specs.Leading.{Come}
-use Rattle.cluster_model.specs.Machines.{Machine}
+use Rattle.cluster_laws.specs.cluster_core.Marks.{MarksHold, mark_of}
+use Rattle.cluster_laws.specs.cluster_core.Messages as core
+use Rattle.cluster_laws.specs.cluster_core.Settings.{IsSetting, Setting}
+use Rattle.cluster_laws.specs.cluster_model.Calls.{Begin, Call, Committed, Report, Saved, Want, begins_in, sections_in}
+use Rattle.cluster_laws.specs.cluster_model.Clusters.{BaseView, Cluster, report_way}
+use Rattle.cluster_laws.specs.cluster_model.Events.{Event, Admit, DeliverCall, DeliverReport, Deliver, Fail, Grant, Mark, MayDo, IsCourse, PutBegin, PutStep, PutWave, Record, Recover, Section, Send, SendCall, SendReport, Stop, Update, after_event, recovers, setting_after}
+use Rattle.cluster_laws.specs.cluster_model.Leading.{Come}
+use Rattle.cluster_laws.specs.cluster_model.Machines.{Machine}
 use Rattle.cluster_whole.specs.Views.{section_of, world_of}
 use Rattle.cluster_whole.specs.Whole.{IsWhole}
 use Rattle.cluster_whole.proofs.Wholeness.{whole_kept}

@@ -1,7 +1,7 @@
 -- Sums over the machines of which one term is less, and a search among machines.
 use Rattle.std.proofs.Common.{◌≡◌, ◌≢◌, ◌⊎◌, ℕ, zero, suc, ◌+◌, ◌<◌, ◌≤◌, sym, subst, ⊎_elim, inl, inr, le_antisymm, le_refl, arith}
 use Rattle.std.proofs.lemmas.Bool.{cases_eq, cases_lt}
-use Rattle.cluster_model.specs.Totals.{total_from}
+use Rattle.cluster_laws.specs.cluster_model.Totals.{total_from}
 use Rattle.cluster_whole.proofs.Flows.{total_from-below}
 
 start_low : (k many : ℕ) → k < k + suc many

@@ -2,16 +2,16 @@
 use Rattle.std.proofs.Common.{◌≡◌, ◌≢◌, ◌⊎◌, ℕ, pred, ◌+◌, ◌<◌, ◌≤◌, ◌&&◌, ◌||◌, Bool, true, false, is_some, Option, None, Some, List, [], ◌∷◌, ◌++◌, length, slice_index_or, refl, sym, ◌∙◌, ap, subst, ⊎_elim, inl, inr}
 use Rattle.std.proofs.lemmas.Bool.{and_parts, both_ways, cases_eq}
 use Rattle.gl_base.specs.declared.scopes.Counted.{Counted}
-use Rattle.cluster_core.specs.Messages.{Message}
-use Rattle.cluster_core.specs.Ranges.{set_at}
-use Rattle.cluster_core.specs.Settings.{Setting}
-use Rattle.cluster_core.proofs.Basics.{set_at-holds, set_at-kept, set_at-other, set_at-same}
-use Rattle.cluster_model.specs.Calls.{Begin, Call, Committed, Count, Report, Step, Wave, begins_in}
-use Rattle.cluster_model.specs.Clusters.{Cluster, call_way, report_way, with_calls, with_machine}
-use Rattle.cluster_model.specs.Counting.{Counting}
-use Rattle.cluster_model.specs.Machines.{Machine, count_of}
-use Rattle.cluster_model.specs.TwoWaves.{turned}
-use Rattle.cluster_model.specs.Working.{answers_if, is_done, or_zero, prompt, takes_call}
+use Rattle.cluster_laws.specs.cluster_core.Messages.{Message}
+use Rattle.cluster_laws.specs.cluster_core.Ranges.{set_at}
+use Rattle.cluster_laws.specs.cluster_core.Settings.{Setting}
+use Rattle.cluster_laws.proofs.cluster_core.Basics.{set_at-holds, set_at-kept, set_at-other, set_at-same}
+use Rattle.cluster_laws.specs.cluster_model.Calls.{Begin, Call, Committed, Count, Report, Step, Wave, begins_in}
+use Rattle.cluster_laws.specs.cluster_model.Clusters.{Cluster, call_way, report_way, with_calls, with_machine}
+use Rattle.cluster_laws.specs.cluster_model.Counting.{Counting}
+use Rattle.cluster_laws.specs.cluster_model.Machines.{Machine, count_of}
+use Rattle.cluster_laws.specs.cluster_model.TwoWaves.{turned}
+use Rattle.cluster_laws.specs.cluster_model.Working.{answers_if, is_done, or_zero, prompt, takes_call}
 use Rattle.cluster_whole.specs.Steps.{Holds, IsCalled, Tells, Told, Turn, calls_of, come_of, counts_in, held_of, is_told, reports_of}
 use Rattle.cluster_whole.proofs.Turning.{counts_pushed}
 use Rattle.cluster_ending.specs.Watched.{AreWatched, HasAnswered, HasMoved, HasTold, HasSettled, IsDoneSince, IsIdleWave, IsNotAbove, IsTurnOf, Watch, behind_wave, last_counts, shown_by, shown_in, told_behind, waves_in}

@@ -1,7 +1,7 @@
 -- Waves and snapshots among what is on the way to a machine, as calls come and go.
 use Rattle.std.proofs.Common.{◌≡◌, ℕ, suc, ◌≤◌, Bool, true, false, List, [], ◌∷◌, ◌++◌, length, refl, sym, ◌∙◌, ap, subst, le_refl, le_of_eq, append-nil, arith}
 use Rattle.std.proofs.lemmas.Bool.{both_ways}
-use Rattle.cluster_model.specs.Calls.{Begin, Call, Committed, Step, Wave, begins_in}
+use Rattle.cluster_laws.specs.cluster_model.Calls.{Begin, Call, Committed, Step, Wave, begins_in}
 use Rattle.cluster_whole.specs.Steps.{Holds, IsCalled, Tells, Told, Turn}
 use Rattle.cluster_whole.proofs.Pieces.{begins-append}
 use Rattle.cluster_ending.specs.Watched.{behind_wave, told_behind, waves_in}

@@ -6,13 +6,13 @@ use Rattle.gl_base.specs.declared.limits.TheConstants.{MAX_ID}
 use Rattle.gl_base.specs.declared.scopes.Counted.{Counted}
 use Rattle.gl_base.specs.declared.scopes.Mode.{Mode}
 use Rattle.graph_core.specs.DataGraph.{IsBefore, IsEdge}
-use Rattle.cluster_core.specs.Ranges.{all_passing, first_passing}
-use Rattle.cluster_core.specs.Recovering.{going_on}
-use Rattle.cluster_core.specs.Settings.{Chromatic, IsSetting, Locking}
-use Rattle.cluster_model.specs.Events.{IsCourse}
-use Rattle.cluster_model.specs.Leading.{HasSeenTheEnd}
-use Rattle.cluster_model.specs.Totals.{total_from}
-use Rattle.cluster_model.specs.TwoWaves.{IsIdleAnswer, ShowTheEnd, no_counts, total_received, total_sent}
+use Rattle.cluster_laws.specs.cluster_core.Ranges.{all_passing, first_passing}
+use Rattle.cluster_laws.specs.cluster_core.Recovering.{going_on}
+use Rattle.cluster_laws.specs.cluster_core.Settings.{Chromatic, IsSetting, Locking}
+use Rattle.cluster_laws.specs.cluster_model.Events.{IsCourse}
+use Rattle.cluster_laws.specs.cluster_model.Leading.{HasSeenTheEnd}
+use Rattle.cluster_laws.specs.cluster_model.Totals.{total_from}
+use Rattle.cluster_laws.specs.cluster_model.TwoWaves.{IsIdleAnswer, ShowTheEnd, no_counts, total_received, total_sent}
 use Rattle.cluster_ending.specs.FourWaves.{after_four_waves, after_lone_run, after_one_wave, after_three_waves, after_two_waves, early_answers, idle_answer, late_answers, lone_events, on_one_machine, started_from}
 
 pub first_waves : after_one_wave.coordinator.rounds.counting.waves ≡ record { before = no_counts 2; wave = early_answers }

@@ -2,12 +2,12 @@
 use Rattle.std.specs.Prelude.{List, None, [], false, ℕ, ◌<◌, ◌≡◌}
 use Rattle.gl_base.specs.declared.entries.Entry.{Entry}
 use Rattle.gl_base.specs.declared.scopes.ScopeId.{ScopeId}
-use Rattle.cluster_core.specs.Replays.{entries_of, replay_of, tasks_of}
-use Rattle.cluster_core.specs.Settings.{Setting}
-use Rattle.cluster_core.specs.Worlds.{way}
+use Rattle.cluster_laws.specs.cluster_core.Replays.{entries_of, replay_of, tasks_of}
+use Rattle.cluster_laws.specs.cluster_core.Settings.{Setting}
+use Rattle.cluster_laws.specs.cluster_core.Worlds.{way}
 use Rattle.cluster_ending.specs.Watched.{IsWatched, Watch}
-use Rattle.cluster_model.specs.Clusters.{Cluster}
-use Rattle.cluster_model.specs.Events.{Event, PutBegin}
+use Rattle.cluster_laws.specs.cluster_model.Clusters.{Cluster}
+use Rattle.cluster_laws.specs.cluster_model.Events.{Event, PutBegin}
 use Rattle.cluster_whole.specs.Views.{world_of}
 use Rattle.cluster_whole.specs.Whole.{IsWhole}
 use Rattle.graph_core.specs.DataGraph.{size}

@@ -5,13 +5,13 @@ use Rattle.graph_core.specs.DataGraph.{DataGraph}
 use Rattle.update_api.specs.Updates.{update_of_components}
 use Rattle.seq_run.specs.Examples.{edge}
 use Rattle.seq_run.specs.States.{start_state}
-use Rattle.cluster_core.specs.Effects.{nothing_saved}
-use Rattle.cluster_core.specs.Parts.{Part}
-use Rattle.cluster_core.specs.Settings.{Locking, Setting}
-use Rattle.cluster_model.specs.Clusters.{BaseView, Cluster}
-use Rattle.cluster_model.specs.Events.{Admit, Deliver, DeliverCall, DeliverReport, Event, Grant, PutWave, Send, SendCall, SendReport, Update, after_event, recovers}
-use Rattle.cluster_model.specs.Leading.{first_coordinator}
-use Rattle.cluster_model.specs.Machines.{Machine}
+use Rattle.cluster_laws.specs.cluster_core.Effects.{nothing_saved}
+use Rattle.cluster_laws.specs.cluster_core.Parts.{Part}
+use Rattle.cluster_laws.specs.cluster_core.Settings.{Locking, Setting}
+use Rattle.cluster_laws.specs.cluster_model.Clusters.{BaseView, Cluster}
+use Rattle.cluster_laws.specs.cluster_model.Events.{Admit, Deliver, DeliverCall, DeliverReport, Event, Grant, PutWave, Send, SendCall, SendReport, Update, after_event, recovers}
+use Rattle.cluster_laws.specs.cluster_model.Leading.{first_coordinator}
+use Rattle.cluster_laws.specs.cluster_model.Machines.{Machine}
 use Rattle.cluster_whole.specs.Windows.{scope_at}
 
 -- ---- a run from its first base

@@ -1,17 +1,17 @@
 -- What the coordinator's waves keep of a cluster, with locks and with colours.
 use Rattle.std.specs.Prelude.{All, Bool, List, None, Option, Some, [], false, if◌then◌else◌, length, pred, slice_index_or, true, ℕ, ⊤, ◌+◌, ◌<◌, ◌∷◌, ◌≡◌, ◌≤◌, ◌⊎◌}
 use Rattle.gl_base.specs.declared.scopes.Counted.{Counted}
-use Rattle.cluster_core.specs.Parts.{Part}
-use Rattle.cluster_core.specs.Settings.{Setting}
-use Rattle.cluster_core.specs.Worlds.{World, way}
-use Rattle.cluster_core.specs.Ways.{vertex_woken}
-use Rattle.cluster_model.specs.Calls.{Begin, Call, Committed, Step, Wave, begins_in}
-use Rattle.cluster_model.specs.Clusters.{Cluster, call_way, report_way}
-use Rattle.cluster_model.specs.Counting.{Counting}
-use Rattle.cluster_model.specs.Events.{Admit, Deliver, DeliverCall, DeliverReport, Event, Fail, Grant, Mark, PutBegin, PutStep, PutWave, Record, Recover, Section, Send, SendCall, SendReport, Stop, Update}
-use Rattle.cluster_model.specs.Machines.{Machine, count_of}
-use Rattle.cluster_model.specs.Totals.{total}
-use Rattle.cluster_model.specs.TwoWaves.{IsIdleAnswer, total_received, total_sent, turned}
+use Rattle.cluster_laws.specs.cluster_core.Parts.{Part}
+use Rattle.cluster_laws.specs.cluster_core.Settings.{Setting}
+use Rattle.cluster_laws.specs.cluster_core.Worlds.{World, way}
+use Rattle.cluster_laws.specs.cluster_core.Ways.{vertex_woken}
+use Rattle.cluster_laws.specs.cluster_model.Calls.{Begin, Call, Committed, Step, Wave, begins_in}
+use Rattle.cluster_laws.specs.cluster_model.Clusters.{Cluster, call_way, report_way}
+use Rattle.cluster_laws.specs.cluster_model.Counting.{Counting}
+use Rattle.cluster_laws.specs.cluster_model.Events.{Admit, Deliver, DeliverCall, DeliverReport, Event, Fail, Grant, Mark, PutBegin, PutStep, PutWave, Record, Recover, Section, Send, SendCall, SendReport, Stop, Update}
+use Rattle.cluster_laws.specs.cluster_model.Machines.{Machine, count_of}
+use Rattle.cluster_laws.specs.cluster_model.Totals.{total}
+use Rattle.cluster_laws.specs.cluster_model.TwoWaves.{IsIdleAnswer, total_received, total_sent, turned}
 use Rattle.cluster_whole.specs.Steps.{Holds, IsCalled, Tells, Told, Turn, calls_of, come_of, counts_in, held_of, is_told, reports_of, under_way}
 use Rattle.cluster_whole.specs.Views.{world_of}
 use Rattle.graph_core.specs.DataGraph.{size}

@@ -1,10 +1,10 @@
 //! Worked runs. Each is the contract of a function that does nothing.
 ghost use Rattle.std.specs.Prelude.{◌≡◌, false, List, [], ◌∷◌};
-ghost use Rattle.cluster_core.specs.Recovering.{going_on};
-ghost use Rattle.cluster_core.specs.Settings.{IsSetting};
-ghost use Rattle.cluster_model.specs.Events.{IsCourse};
-ghost use Rattle.cluster_model.specs.Leading.{HasSeenTheEnd};
-ghost use Rattle.cluster_model.specs.TwoWaves.{ShowTheEnd, no_counts, total_received, total_sent};
+ghost use Rattle.cluster_laws.specs.cluster_core.Recovering.{going_on};
+ghost use Rattle.cluster_laws.specs.cluster_core.Settings.{IsSetting};
+ghost use Rattle.cluster_laws.specs.cluster_model.Events.{IsCourse};
+ghost use Rattle.cluster_laws.specs.cluster_model.Leading.{HasSeenTheEnd};
+ghost use Rattle.cluster_laws.specs.cluster_model.TwoWaves.{ShowTheEnd, no_counts, total_received, total_sent};
 ghost use Rattle.cluster_ending.specs.FourWaves.{after_four_waves, after_lone_run, after_one_wave, after_three_waves, after_two_waves, early_answers, late_answers, lone_events, on_one_machine, started_from};
 ghost use Rattle.cluster_whole.specs.Whole.{AreColoured};
 

@@ -2,16 +2,16 @@
 use Rattle.std.proofs.Common.{◌≡◌, ◌≢◌, ℕ, ◌<◌, List, [], ◌∷◌, ◌++◌, length, refl, sym, ◌∙◌, ap, ⊎_elim, slice_index_or, slice_set, get_or-set_same, get_or-set_other}
 use Rattle.std.proofs.lemmas.Bool.{cases_eq}
 use Rattle.gl_base.specs.declared.entries.Entry.TheVariants.{Go}
-use Rattle.cluster_core.specs.Messages.{Message}
-use Rattle.cluster_core.specs.Ranges.{set_at}
-use Rattle.cluster_core.specs.Settings.{Setting}
-use Rattle.cluster_core.proofs.Basics.{set_at-same, set_at-other}
-use Rattle.cluster_model.specs.Calls.{Call, Report}
-use Rattle.cluster_model.specs.Clusters.{Cluster, with_calls, with_machine, with_messages, with_reports}
-use Rattle.cluster_model.specs.Leading.{hands_call, takes_report}
-use Rattle.cluster_model.specs.Machines.{Machine}
-use Rattle.cluster_model.specs.Working.{admits, fails, grants, hands, sections, makes_mark, makes_update, prompt, receives, takes_call, hands_report}
-use Rattle.cluster_model.specs.Events.{delivers_call, delivers_message, delivers_report, draws_ticket, makes, saves, sends_call, sends_message, sends_report}
+use Rattle.cluster_laws.specs.cluster_core.Messages.{Message}
+use Rattle.cluster_laws.specs.cluster_core.Ranges.{set_at}
+use Rattle.cluster_laws.specs.cluster_core.Settings.{Setting}
+use Rattle.cluster_laws.proofs.cluster_core.Basics.{set_at-same, set_at-other}
+use Rattle.cluster_laws.specs.cluster_model.Calls.{Call, Report}
+use Rattle.cluster_laws.specs.cluster_model.Clusters.{Cluster, with_calls, with_machine, with_messages, with_reports}
+use Rattle.cluster_laws.specs.cluster_model.Leading.{hands_call, takes_report}
+use Rattle.cluster_laws.specs.cluster_model.Machines.{Machine}
+use Rattle.cluster_laws.specs.cluster_model.Working.{admits, fails, grants, hands, sections, makes_mark, makes_update, prompt, receives, takes_call, hands_report}
+use Rattle.cluster_laws.specs.cluster_model.Events.{delivers_call, delivers_message, delivers_report, draws_ticket, makes, saves, sends_call, sends_message, sends_report}
 use Rattle.cluster_lists.specs.Lists.{ClusterLists, HasLink, HasSeat, Reading, cluster_of, messages_at, with_call_list, with_lead, with_link_list, with_report_list, with_seat}
 use Rattle.cluster_lists.specs.LocalSteps.{LeadSteps, LinksStep, SeatsStep, machine_at}
 

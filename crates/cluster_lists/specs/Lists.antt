@@ -1,10 +1,10 @@
 -- A cluster as plain lists, and the cluster that it stands for: each seat's lists are read as a machine.
 use Rattle.std.specs.Prelude.{Bool, List, [], length, pred, slice_index_or, slice_set, suc, ℕ, ◌<◌}
-use Rattle.cluster_core.specs.Messages.{Message}
-use Rattle.cluster_model.specs.Calls.{Call, Report}
-use Rattle.cluster_model.specs.Clusters.{BaseView, Cluster}
-use Rattle.cluster_model.specs.Leading.{Coordinator}
-use Rattle.cluster_model.specs.Machines.{Machine}
+use Rattle.cluster_laws.specs.cluster_core.Messages.{Message}
+use Rattle.cluster_laws.specs.cluster_model.Calls.{Call, Report}
+use Rattle.cluster_laws.specs.cluster_model.Clusters.{BaseView, Cluster}
+use Rattle.cluster_laws.specs.cluster_model.Leading.{Coordinator}
+use Rattle.cluster_laws.specs.cluster_model.Machines.{Machine}
 
 -- Lists for the links, by machine; the seats; and what stands alone.
 pub record ClusterLists (Seat : Type 0) : Type 0 where

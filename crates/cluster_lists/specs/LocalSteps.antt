@@ -2,13 +2,13 @@
 use Rattle.std.specs.Prelude.{List, Some, [], length, true, ℕ, ◌++◌, ◌<◌, ◌∷◌, ◌≡◌}
 use Rattle.gl_base.specs.declared.entries.Entry.TheVariants.{Go}
 use Rattle.gl_base.specs.declared.scopes.ScopeId.{ScopeId}
-use Rattle.cluster_core.specs.Messages.{Message}
-use Rattle.cluster_core.specs.Settings.{Setting}
-use Rattle.cluster_model.specs.Calls.{Call, Report}
-use Rattle.cluster_model.specs.Leading.{acknowledges, begins_snapshot, hands_call, puts_step, puts_wave, takes_report}
-use Rattle.cluster_model.specs.Machines.{Machine}
-use Rattle.cluster_model.specs.Working.{admits, fails, grants, hands, makes_mark, makes_update, prompt, receives, sections, takes_call, hands_report}
-use Rattle.cluster_model.specs.Events.{Event, Admit, Deliver, DeliverCall, DeliverReport, Fail, Grant, Mark, PutBegin, PutStep, PutWave, Record, Section, Send, SendCall, SendReport, Stop, Update, after_event}
+use Rattle.cluster_laws.specs.cluster_core.Messages.{Message}
+use Rattle.cluster_laws.specs.cluster_core.Settings.{Setting}
+use Rattle.cluster_laws.specs.cluster_model.Calls.{Call, Report}
+use Rattle.cluster_laws.specs.cluster_model.Leading.{acknowledges, begins_snapshot, hands_call, puts_step, puts_wave, takes_report}
+use Rattle.cluster_laws.specs.cluster_model.Machines.{Machine}
+use Rattle.cluster_laws.specs.cluster_model.Working.{admits, fails, grants, hands, makes_mark, makes_update, prompt, receives, sections, takes_call, hands_report}
+use Rattle.cluster_laws.specs.cluster_model.Events.{Event, Admit, Deliver, DeliverCall, DeliverReport, Fail, Grant, Mark, PutBegin, PutStep, PutWave, Record, Section, Send, SendCall, SendReport, Stop, Update, after_event}
 use Rattle.cluster_lists.specs.Lists.{ClusterLists, HasLink, HasSeat, Reading, cluster_of, messages_at, seat_at, with_call_list, with_lead, with_link_list, with_report_list, with_seat, with_ticket}
 
 -- the new lists stand for the cluster to which the event leads

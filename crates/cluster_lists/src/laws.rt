@@ -1,5 +1,5 @@
 //! The law of local steps. It is the contract of a function that does nothing.
-ghost use Rattle.cluster_core.specs.Settings.{Setting};
+ghost use Rattle.cluster_laws.specs.cluster_core.Settings.{Setting};
 ghost use Rattle.cluster_lists.specs.Lists.{ClusterLists, Reading};
 ghost use Rattle.cluster_lists.specs.LocalSteps.{LeadSteps, LinksStep, SeatsStep};
 

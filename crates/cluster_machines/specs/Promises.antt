@@ -1,21 +1,21 @@
 -- What the calls of a machine promise, for every setting of a cluster to which it belongs: `belongs` says that it is this machine of
 -- a cluster with this setting, and `part` what it holds.
-pub use Rattle.cluster_core.specs.Actions.{HasFirst, MayAdmit, MayGrant, MayUpdate}
-pub use Rattle.cluster_core.specs.Parts.{Part}
-pub use Rattle.cluster_core.specs.Receiving.{MayReceive}
-pub use Rattle.cluster_core.specs.Places.{IsAtHome}
-pub use Rattle.cluster_core.specs.Settings.{Chromatic, Engine, IsSetting, Locking, Setting, is_in_scope, is_near}
+pub use Rattle.cluster_laws.specs.cluster_core.Actions.{HasFirst, MayAdmit, MayGrant, MayUpdate}
+pub use Rattle.cluster_laws.specs.cluster_core.Parts.{Part}
+pub use Rattle.cluster_laws.specs.cluster_core.Receiving.{MayReceive}
+pub use Rattle.cluster_laws.specs.cluster_core.Places.{IsAtHome}
+pub use Rattle.cluster_laws.specs.cluster_core.Settings.{Chromatic, Engine, IsSetting, Locking, Setting, is_in_scope, is_near}
 pub use Rattle.cluster_machines.specs.Told.{told_by}
 pub use Rattle.interior_scopes.specs.AtOnce.{MayUpdateAtOnce, at_once, entry_at_once}
 pub use Rattle.interior_scopes.specs.InTurn.{AreGranted}
 use Rattle.std.specs.Prelude.{Bool, List, None, Some, false, is_some, length, nat_lt, true, ℕ, ◌<◌, ◌&&◌, ◌==◌, ◌∷◌, ◌≡◌, ◌≢◌, ◌⊎◌}
 use Rattle.gl_base.specs.declared.entries.Entry.TheVariants.{Go}
 use Rattle.gl_base.specs.declared.scopes.ScopeId.{ScopeId}
-use Rattle.cluster_core.specs.Effects.{admitted, granted, is_shared, next_scope, received, updated}
-use Rattle.cluster_core.specs.Messages as law
-use Rattle.cluster_core.specs.Ranges.{set_at}
-use Rattle.cluster_core.specs.Scopes.{takes_part}
-use Rattle.cluster_core.specs.Settings.{nth_edge}
+use Rattle.cluster_laws.specs.cluster_core.Effects.{admitted, granted, is_shared, next_scope, received, updated}
+use Rattle.cluster_laws.specs.cluster_core.Messages as law
+use Rattle.cluster_laws.specs.cluster_core.Ranges.{set_at}
+use Rattle.cluster_laws.specs.cluster_core.Scopes.{takes_part}
+use Rattle.cluster_laws.specs.cluster_core.Settings.{nth_edge}
 use Rattle.graph_core.specs.DataGraph.{size}
 use Rattle.wire_msgs.specs.declared.messages.Message.{Message}
 

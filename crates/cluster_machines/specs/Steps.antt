@@ -1,9 +1,9 @@
 -- What a machine promises that is led through steps, for every setting of a cluster to which it belongs.
-pub use Rattle.cluster_core.specs.Effects.{closes, steps_to}
+pub use Rattle.cluster_laws.specs.cluster_core.Effects.{closes, steps_to}
 pub use Rattle.cluster_machines.specs.Promises.{Part, Setting}
 use Rattle.std.specs.Prelude.{None, false, true, ℕ, ◌≡◌, ◌⊎◌}
 use Rattle.gl_base.specs.declared.scopes.ScopeId.{ScopeId}
-use Rattle.cluster_core.specs.Actions.{MayAdmit}
+use Rattle.cluster_laws.specs.cluster_core.Actions.{MayAdmit}
 
 -- ---- when its share of the step is done
 

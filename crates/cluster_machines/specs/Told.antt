@@ -2,7 +2,7 @@
 pub use Rattle.wire_msgs.specs.Views.{DoneView, MessageView, message_view}
 use Rattle.std.specs.Prelude.{List, map, ℕ}
 use Rattle.gl_base.specs.declared.numbers.MachineNo.{MachineNo}
-use Rattle.cluster_core.specs.Messages.{Ask, Done, Message, News, Ready}
+use Rattle.cluster_laws.specs.cluster_core.Messages.{Ask, Done, Message, News, Ready}
 use Rattle.machine_numbers.specs.Views.{is_named, number_told}
 use Rattle.wire_msgs.specs.Views as wire
 use Rattle.wire_msgs.specs.declared.messages.Message as sent

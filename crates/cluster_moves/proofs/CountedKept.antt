@@ -3,20 +3,20 @@ use Rattle.std.proofs.Common.{◌≡◌, ◌≢◌, ℕ, zero, suc, pred, ◌+�
 use Rattle.std.proofs.lemmas.Bool.{cases_eq, eq-eqb, ne_eqb, and_from, and_right}
 use Rattle.gl_base.specs.declared.entries.Entry.TheVariants.{Go}
 use Rattle.gl_base.specs.declared.scopes.ScopeId.{ScopeId}
-use Rattle.cluster_core.specs.Messages.{Message, Section}
-use Rattle.cluster_core.specs.Parts.{Part}
-use Rattle.cluster_core.specs.Ranges.{set_at}
-use Rattle.cluster_core.specs.Settings.{Setting, Engine, Locking}
-use Rattle.cluster_core.specs.Scopes.{is_scope, set_for}
-use Rattle.cluster_core.specs.Effects.{next_scope, in_flight, admitted, granted, received, begins, updated, marked}
-use Rattle.cluster_core.specs.Worlds.{World, with_part}
-use Rattle.cluster_core.specs.Actions.{Action, Admit, Grant, Send, Deliver, Update, Mark, Begin, Hear, SendSection, Collect, Record, MayHappen, IsItsTurn, after, sends, delivers, updates, marks, hears, collects}
-use Rattle.cluster_core.specs.Runs.{IsStart}
-use Rattle.cluster_core.specs.Stages.{Stage, Idle, Stays}
-use Rattle.cluster_core.specs.Places.{ArePlaces}
-use Rattle.cluster_core.proofs.Basics.{set_at-holds, set_for-holds}
+use Rattle.cluster_laws.specs.cluster_core.Messages.{Message, Section}
+use Rattle.cluster_laws.specs.cluster_core.Parts.{Part}
+use Rattle.cluster_laws.specs.cluster_core.Ranges.{set_at}
+use Rattle.cluster_laws.specs.cluster_core.Settings.{Setting, Engine, Locking}
+use Rattle.cluster_laws.specs.cluster_core.Scopes.{is_scope, set_for}
+use Rattle.cluster_laws.specs.cluster_core.Effects.{next_scope, in_flight, admitted, granted, received, begins, updated, marked}
+use Rattle.cluster_laws.specs.cluster_core.Worlds.{World, with_part}
+use Rattle.cluster_laws.specs.cluster_core.Actions.{Action, Admit, Grant, Send, Deliver, Update, Mark, Begin, Hear, SendSection, Collect, Record, MayHappen, IsItsTurn, after, sends, delivers, updates, marks, hears, collects}
+use Rattle.cluster_laws.specs.cluster_core.Runs.{IsStart}
+use Rattle.cluster_laws.specs.cluster_core.Stages.{Stage, Idle, Stays}
+use Rattle.cluster_laws.specs.cluster_core.Places.{ArePlaces}
+use Rattle.cluster_laws.proofs.cluster_core.Basics.{set_at-holds, set_for-holds}
 use Rattle.cluster_moves.specs.Due.{one_flying, flights_below, AreFlightsCounted}
-use Rattle.cluster_places.proofs.Seen.{staying_stage}
+use Rattle.cluster_laws.proofs.cluster_places.Seen.{staying_stage}
 use Rattle.cluster_moves.proofs.DueKept.{IsKept, admitted_kept, first_granted_kept, begins_kept, received_kept, none_some}
 
 abbrev pub numbered : ℕ → ℕ → ScopeId

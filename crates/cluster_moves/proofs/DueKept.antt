@@ -4,19 +4,19 @@ use Rattle.std.proofs.lemmas.Bool.{and_from, or_right, ne_eqb}
 use Rattle.gl_base.specs.declared.entries.Entry.TheVariants.{Go}
 use Rattle.gl_base.specs.declared.scopes.Claim.{Claim}
 use Rattle.gl_base.specs.declared.scopes.ScopeId.{ScopeId}
-use Rattle.cluster_core.specs.Messages.{Message, Section, Ask, Ready, Done}
-use Rattle.cluster_core.specs.Parts.{Part, Stand}
-use Rattle.cluster_core.specs.Ranges.{set_at}
-use Rattle.cluster_core.specs.Settings.{Setting, Engine, Locking, Chromatic}
-use Rattle.cluster_core.specs.Scopes.{is_scope, set_for, own_from, machines_from}
-use Rattle.cluster_core.specs.Effects.{posts, goes_away, asks_for, goes_on, sets_out, next_scope, in_flight, admitted, admitted_by, moves_on, takes_lock, first_granted, granted, received, begins, knows, learns, first_pending, first_unmarked, seed_if, is_at, updated, marked, pends_for}
-use Rattle.cluster_core.specs.Worlds.{World, with_part}
-use Rattle.cluster_core.specs.Actions.{Action, Admit, Grant, Send, Deliver, Update, Mark, Begin, Hear, SendSection, Collect, Record, MayHappen, after, sends, delivers, updates, marks, hears, collects}
-use Rattle.cluster_core.specs.Stages.{Stage, flying}
-use Rattle.cluster_core.specs.Places.{ArePlaces}
-use Rattle.cluster_core.proofs.Basics.{set_at-cases, set_for-holds, scopes_apart}
+use Rattle.cluster_laws.specs.cluster_core.Messages.{Message, Section, Ask, Ready, Done}
+use Rattle.cluster_laws.specs.cluster_core.Parts.{Part, Stand}
+use Rattle.cluster_laws.specs.cluster_core.Ranges.{set_at}
+use Rattle.cluster_laws.specs.cluster_core.Settings.{Setting, Engine, Locking, Chromatic}
+use Rattle.cluster_laws.specs.cluster_core.Scopes.{is_scope, set_for, own_from, machines_from}
+use Rattle.cluster_laws.specs.cluster_core.Effects.{posts, goes_away, asks_for, goes_on, sets_out, next_scope, in_flight, admitted, admitted_by, moves_on, takes_lock, first_granted, granted, received, begins, knows, learns, first_pending, first_unmarked, seed_if, is_at, updated, marked, pends_for}
+use Rattle.cluster_laws.specs.cluster_core.Worlds.{World, with_part}
+use Rattle.cluster_laws.specs.cluster_core.Actions.{Action, Admit, Grant, Send, Deliver, Update, Mark, Begin, Hear, SendSection, Collect, Record, MayHappen, after, sends, delivers, updates, marks, hears, collects}
+use Rattle.cluster_laws.specs.cluster_core.Stages.{Stage, flying}
+use Rattle.cluster_laws.specs.cluster_core.Places.{ArePlaces}
+use Rattle.cluster_laws.proofs.cluster_core.Basics.{set_at-cases, set_for-holds, scopes_apart}
 use Rattle.cluster_moves.specs.Due.{AreDue}
-use Rattle.cluster_places.proofs.Seen.{flying_seen, some_centre}
+use Rattle.cluster_laws.proofs.cluster_places.Seen.{flying_seen, some_centre}
 
 -- scopes in flight are those of before, and nothing that was pending or a task is lost
 pub record IsKept (old new : Part) : Type 0 where

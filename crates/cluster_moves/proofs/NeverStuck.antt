@@ -4,15 +4,15 @@ use Rattle.std.proofs.lemmas.Bool.{cases_Bool, both_ways, false_from_ne_true}
 use Rattle.gl_base.specs.declared.entries.Entry.{Entry}
 use Rattle.gl_base.specs.declared.scopes.ScopeId.{ScopeId}
 use Rattle.graph_core.specs.DataGraph.{size}
-use Rattle.cluster_core.specs.Settings.{Setting, IsSetting, Engine, Locking}
-use Rattle.cluster_core.specs.Replays.{IsReplay, IsTask, tasks_of}
-use Rattle.cluster_core.specs.Ways.{vertex_woken}
-use Rattle.cluster_core.specs.Worlds.{World, way}
-use Rattle.cluster_core.specs.Actions.{Action, Admit, IsItsTurn, after}
-use Rattle.cluster_core.specs.Runs.{IsStart, IsActionRun}
-use Rattle.cluster_core.specs.Stages.{Stage}
-use Rattle.cluster_core.specs.Places.{ArePlaces}
-use Rattle.cluster_places.proofs.PlacesKept.{action_keeps}
+use Rattle.cluster_laws.specs.cluster_core.Settings.{Setting, IsSetting, Engine, Locking}
+use Rattle.cluster_laws.specs.cluster_core.Replays.{IsReplay, IsTask, tasks_of}
+use Rattle.cluster_laws.specs.cluster_core.Ways.{vertex_woken}
+use Rattle.cluster_laws.specs.cluster_core.Worlds.{World, way}
+use Rattle.cluster_laws.specs.cluster_core.Actions.{Action, Admit, IsItsTurn, after}
+use Rattle.cluster_laws.specs.cluster_core.Runs.{IsStart, IsActionRun}
+use Rattle.cluster_laws.specs.cluster_core.Stages.{Stage}
+use Rattle.cluster_laws.specs.cluster_core.Places.{ArePlaces}
+use Rattle.cluster_laws.proofs.cluster_places.PlacesKept.{action_keeps}
 use Rattle.cluster_moves.specs.Due.{AreDue, AreFlightsCounted, IsStill, IsOver, CanWork}
 use Rattle.cluster_moves.proofs.SomethingMoves.{search_below, moves}
 use Rattle.cluster_moves.proofs.DueKept.{action_due, none_some}

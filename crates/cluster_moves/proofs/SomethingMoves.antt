@@ -5,22 +5,22 @@ use Rattle.gl_base.specs.declared.scopes.Claim.{Claim}
 use Rattle.gl_base.specs.declared.scopes.Mode.{Mode}
 use Rattle.gl_base.specs.declared.scopes.ScopeId.{ScopeId}
 use Rattle.graph_core.specs.DataGraph.{size}
-use Rattle.cluster_core.specs.Messages.{Message, Ask, Ready, Done}
-use Rattle.cluster_core.specs.Settings.{Setting, IsSetting, is_in_scope}
-use Rattle.cluster_core.specs.Scopes.{is_before, mode_at, machines_from}
-use Rattle.cluster_core.specs.Worlds.{World, way}
-use Rattle.cluster_core.specs.Actions.{Grant, Send, Deliver, Update, Mark}
-use Rattle.cluster_core.specs.Stages.{Token, IsAsked, IsReady, IsDone, Stage, Idle, Asks, Waits, Returns, Stays, Ends, sight_of, has_lock, one_if, tokens_of, claims_of}
-use Rattle.cluster_core.specs.Places.{ArePlaces, IsAtHome}
-use Rattle.cluster_core.proofs.Basics.{same_scope}
-use Rattle.cluster_core.proofs.Nearness.{part_low, scope_within}
+use Rattle.cluster_laws.specs.cluster_core.Messages.{Message, Ask, Ready, Done}
+use Rattle.cluster_laws.specs.cluster_core.Settings.{Setting, IsSetting, is_in_scope}
+use Rattle.cluster_laws.specs.cluster_core.Scopes.{is_before, mode_at, machines_from}
+use Rattle.cluster_laws.specs.cluster_core.Worlds.{World, way}
+use Rattle.cluster_laws.specs.cluster_core.Actions.{Grant, Send, Deliver, Update, Mark}
+use Rattle.cluster_laws.specs.cluster_core.Stages.{Token, IsAsked, IsReady, IsDone, Stage, Idle, Asks, Waits, Returns, Stays, Ends, sight_of, has_lock, one_if, tokens_of, claims_of}
+use Rattle.cluster_laws.specs.cluster_core.Places.{ArePlaces, IsAtHome}
+use Rattle.cluster_laws.proofs.cluster_core.Basics.{same_scope}
+use Rattle.cluster_laws.proofs.cluster_core.Nearness.{part_low, scope_within}
 use Rattle.cluster_moves.specs.Due.{AreDue, IsStill, CanWork}
-use Rattle.cluster_places.proofs.Reaching.{before_is}
-use Rattle.cluster_places.proofs.Going.{asked_here, ready_here}
-use Rattle.cluster_places.proofs.Seen.{asked_stage, ready_stage, done_stage}
-use Rattle.cluster_places.proofs.Standing.{shows_as, stage_as}
-use Rattle.cluster_places.proofs.Delivering.{done_here}
-use Rattle.cluster_places.proofs.Excluding.{holder_has}
+use Rattle.cluster_laws.proofs.cluster_places.Reaching.{before_is}
+use Rattle.cluster_laws.proofs.cluster_places.Going.{asked_here, ready_here}
+use Rattle.cluster_laws.proofs.cluster_places.Seen.{asked_stage, ready_stage, done_stage}
+use Rattle.cluster_laws.proofs.cluster_places.Standing.{shows_as, stage_as}
+use Rattle.cluster_laws.proofs.cluster_places.Delivering.{done_here}
+use Rattle.cluster_laws.proofs.cluster_places.Excluding.{holder_has}
 
 -- ---- searches below a bound
 

@@ -2,9 +2,9 @@
 use Rattle.std.specs.Prelude.{None, Option, Some, [], false, suc, true, zero, ℕ, ⊤, ◌+◌, ◌<◌, ◌≡◌, ◌≤◌, ◌⊎◌}
 use Rattle.gl_base.specs.declared.scopes.ScopeId.{ScopeId}
 use Rattle.graph_core.specs.DataGraph.{size}
-use Rattle.cluster_core.specs.Settings.{Setting, Locking}
-use Rattle.cluster_core.specs.Actions.{Action, Admit, Grant, Send, Deliver, Update, Mark, Begin, Hear, SendSection, Collect, Record, MayHappen}
-use Rattle.cluster_core.specs.Worlds.{World, way}
+use Rattle.cluster_laws.specs.cluster_core.Settings.{Setting, Locking}
+use Rattle.cluster_laws.specs.cluster_core.Actions.{Action, Admit, Grant, Send, Deliver, Update, Mark, Begin, Hear, SendSection, Collect, Record, MayHappen}
+use Rattle.cluster_laws.specs.cluster_core.Worlds.{World, way}
 
 -- the vertex of each scope in flight is pending or a task
 abbrev pub AreDue : World → Type 0

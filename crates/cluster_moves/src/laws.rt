@@ -4,13 +4,13 @@ ghost use Rattle.std.specs.Prelude.{◌≡◌, ◌⊎◌, ℕ, ◌<◌, false, L
 ghost use Rattle.gl_base.specs.declared.entries.Entry.{Entry};
 ghost use Rattle.gl_base.specs.declared.scopes.ScopeId.{ScopeId};
 ghost use Rattle.graph_core.specs.DataGraph.{size};
-ghost use Rattle.cluster_core.specs.Actions.{Action, MayHappen, after};
-ghost use Rattle.cluster_core.specs.Places.{ArePlaces};
-ghost use Rattle.cluster_core.specs.Replays.{IsReplay, tasks_of};
-ghost use Rattle.cluster_core.specs.Runs.{IsStart, IsActionRun};
-ghost use Rattle.cluster_core.specs.Settings.{Setting, IsSetting, Locking};
-ghost use Rattle.cluster_core.specs.Stages.{Stage};
-ghost use Rattle.cluster_core.specs.Worlds.{World};
+ghost use Rattle.cluster_laws.specs.cluster_core.Actions.{Action, MayHappen, after};
+ghost use Rattle.cluster_laws.specs.cluster_core.Places.{ArePlaces};
+ghost use Rattle.cluster_laws.specs.cluster_core.Replays.{IsReplay, tasks_of};
+ghost use Rattle.cluster_laws.specs.cluster_core.Runs.{IsStart, IsActionRun};
+ghost use Rattle.cluster_laws.specs.cluster_core.Settings.{Setting, IsSetting, Locking};
+ghost use Rattle.cluster_laws.specs.cluster_core.Stages.{Stage};
+ghost use Rattle.cluster_laws.specs.cluster_core.Worlds.{World};
 ghost use Rattle.cluster_moves.specs.Due.{AreFlightsCounted, AreDue, CanWork, IsOver, IsStill};
 
 /// While a ticket is left and scopes are in their places, a machine may do something, or nothing is in flight and nothing on the way.

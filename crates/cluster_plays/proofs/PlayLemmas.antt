@@ -1,7 +1,7 @@
 -- What a run on a cluster comes to.
 use Rattle.std.proofs.Common.{◌≡◌, ◌<◌, ◌≤◌, ℕ, true, false, List, length, Option, None, Some, subst, arith}
 use Rattle.std.specs.Prelude.{MatchOption}
-use Rattle.cluster_cuts.specs.Goings.{AreUpdatesFrom}
+use Rattle.cluster_laws.specs.cluster_cuts.Goings.{AreUpdatesFrom}
 use Rattle.cluster_rounds.specs.Ends.{EndsSo}
 use Rattle.cluster_rounds.specs.declared.ends.End.{End}
 use Rattle.cluster_rounds.specs.declared.ends.End.TheVariants.{Quiet, Spent}

@@ -1,7 +1,7 @@
 -- A cluster on which a run begins, of a graph that is placed.
 use Rattle.std.proofs.Common.{◌≡◌, ◌<◌, ℕ, ◌∙◌, false, List, length, All, ap, sym, subst, refl, Result, Ok, Err, IfOk}
 use Rattle.machine_places.proofs.OwnerLemmas.{owner_low}
-use Rattle.cluster_core.specs.Settings.{Engine}
+use Rattle.cluster_laws.specs.cluster_core.Settings.{Engine}
 use Rattle.cluster_step.specs.Clusters.{ClusterView}
 use Rattle.cluster_step.specs.declared.parts.Parts.{Parts}
 use Rattle.gl_base.specs.declared.numbers.AtomNo.{AtomNo}

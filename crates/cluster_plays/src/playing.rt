@@ -1,7 +1,7 @@
 //! Runs on a cluster.
 ghost use Rattle.std.specs.Prelude.{◌≡◌, ℕ, ◌<◌, ◌≤◌, length, slice_index, IfOk};
 ghost use Rattle.graph_core.specs.DataGraph.{IsDataGraph};
-ghost use Rattle.machine_parts.specs.Parts.{part_of};
+ghost use Rattle.machine_core.specs.machine_parts.Parts.{part_of};
 ghost use Rattle.placed_clusters.specs.Running.{IsBaseFor, IsMachineOf};
 ghost use Rattle.cluster_plays.specs.Beginnings.{StartsPlaced};
 ghost use Rattle.cluster_plays.specs.Plans.{CountsByMachine, IsInRange, IsPlaced, RunsTo};

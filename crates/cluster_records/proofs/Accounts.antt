@@ -4,11 +4,11 @@ use Rattle.std.specs.List.{AllByRecursion}
 use Rattle.gl_base.specs.declared.entries.Entry.{Entry}
 use Rattle.gl_base.specs.declared.scopes.ScopeId.{ScopeId}
 use Rattle.graph_core.proofs.HalvesLaws.{each-append}
-use Rattle.cluster_core.specs.Recovering.{going_on}
-use Rattle.cluster_core.specs.Settings.{IsSetting, Setting}
-use Rattle.cluster_model.specs.Clusters.{BaseView, Cluster}
-use Rattle.cluster_model.specs.Events.{Event, Admit, DeliverCall, DeliverReport, Deliver, Fail, Grant, Mark, MayDo, PutBegin, PutStep, PutWave, Record, Recover, Section, Send, SendCall, SendReport, Stop, Update, after_event, recovers}
-use Rattle.cluster_model.specs.Leading.{Come}
+use Rattle.cluster_laws.specs.cluster_core.Recovering.{going_on}
+use Rattle.cluster_laws.specs.cluster_core.Settings.{IsSetting, Setting}
+use Rattle.cluster_laws.specs.cluster_model.Clusters.{BaseView, Cluster}
+use Rattle.cluster_laws.specs.cluster_model.Events.{Event, Admit, DeliverCall, DeliverReport, Deliver, Fail, Grant, Mark, MayDo, PutBegin, PutStep, PutWave, Record, Recover, Section, Send, SendCall, SendReport, Stop, Update, after_event, recovers}
+use Rattle.cluster_laws.specs.cluster_model.Leading.{Come}
 use Rattle.cluster_whole.specs.Logged.{Logged}
 use Rattle.cluster_whole.specs.Whole.{AreColoured, IsNoRecovery, IsWhole}
 use Rattle.cluster_whole.proofs.Wholeness.{recovered_logs}

@@ -6,18 +6,18 @@ use Rattle.std.proofs.lemmas.List.Sums.{sum_by_push}
 use Rattle.gl_base.specs.declared.scopes.ScopeId.{ScopeId}
 use Rattle.graph_core.proofs.HalvesLaws.{each-append}
 use Rattle.graph_core.specs.DataGraph.{size}
-use Rattle.cluster_core.specs.Messages.{Message}
-use Rattle.cluster_core.specs.Ranges.{set_at}
-use Rattle.cluster_core.specs.Settings.{IsSetting, Setting}
-use Rattle.cluster_core.specs.Worlds.{World}
-use Rattle.cluster_core.proofs.Basics.{set_at-holds, set_at-same}
-use Rattle.cluster_numbers.proofs.Passing.{any-either, any-left, any-right, any_one}
-use Rattle.cluster_model.specs.Calls.{Begin, Call, Committed, Count, Report, Saved, Step, Want, Wave}
-use Rattle.cluster_model.specs.Clusters.{Cluster, call_way, report_way}
-use Rattle.cluster_model.specs.Events.{Event, Admit, DeliverCall, DeliverReport, Deliver, Fail, Grant, Mark, MayDo, PutBegin, PutStep, PutWave, Record, Recover, Section, Send, SendCall, SendReport, Stop, Update, after_event, delivers_call, delivers_message, delivers_report, makes, saves, sends_call, sends_message, sends_report}
-use Rattle.cluster_model.specs.Leading.{RecordIsDue}
-use Rattle.cluster_model.specs.Machines.{Machine, count_of, outside}
-use Rattle.cluster_model.specs.Working.{admits, asks_if, asks_more, before_at, behind_at, commits, fails, grants, half_window, hands, hands_report, is_done, makes_mark, makes_update, or_zero, prompt, receives, sections, snapshot_in, takes_call, works_on}
+use Rattle.cluster_laws.specs.cluster_core.Messages.{Message}
+use Rattle.cluster_laws.specs.cluster_core.Ranges.{set_at}
+use Rattle.cluster_laws.specs.cluster_core.Settings.{IsSetting, Setting}
+use Rattle.cluster_laws.specs.cluster_core.Worlds.{World}
+use Rattle.cluster_laws.proofs.cluster_core.Basics.{set_at-holds, set_at-same}
+use Rattle.cluster_laws.proofs.cluster_numbers.Passing.{any-either, any-left, any-right, any_one}
+use Rattle.cluster_laws.specs.cluster_model.Calls.{Begin, Call, Committed, Count, Report, Saved, Step, Want, Wave}
+use Rattle.cluster_laws.specs.cluster_model.Clusters.{Cluster, call_way, report_way}
+use Rattle.cluster_laws.specs.cluster_model.Events.{Event, Admit, DeliverCall, DeliverReport, Deliver, Fail, Grant, Mark, MayDo, PutBegin, PutStep, PutWave, Record, Recover, Section, Send, SendCall, SendReport, Stop, Update, after_event, delivers_call, delivers_message, delivers_report, makes, saves, sends_call, sends_message, sends_report}
+use Rattle.cluster_laws.specs.cluster_model.Leading.{RecordIsDue}
+use Rattle.cluster_laws.specs.cluster_model.Machines.{Machine, count_of, outside}
+use Rattle.cluster_laws.specs.cluster_model.Working.{admits, asks_if, asks_more, before_at, behind_at, commits, fails, grants, half_window, hands, hands_report, is_done, makes_mark, makes_update, or_zero, prompt, receives, sections, snapshot_in, takes_call, works_on}
 use Rattle.cluster_whole.specs.Logged.{Logged}
 use Rattle.cluster_whole.specs.Views.{world_of}
 use Rattle.cluster_whole.specs.Whole.{IsNoRecovery, IsWhole}

@@ -6,15 +6,15 @@ use Rattle.std.proofs.lemmas.List.Sorted.{IsPermutation-append_right, IsPermutat
 use Rattle.gl_base.specs.declared.entries.Entry.{Entry}
 use Rattle.gl_base.specs.declared.scopes.ScopeId.{ScopeId}
 use Rattle.graph_core.specs.DataGraph.{size}
-use Rattle.cluster_core.specs.Messages.{Message}
-use Rattle.cluster_core.specs.Recovering.{going_on}
-use Rattle.cluster_core.specs.Replays.{replay_of, tasks_of}
-use Rattle.cluster_core.specs.Settings.{IsSetting, Setting}
-use Rattle.cluster_model.specs.ByTicket.{StandByTicket, restarts}
-use Rattle.cluster_model.specs.Calls.{Call, Report}
-use Rattle.cluster_model.specs.Clusters.{BaseView, Cluster}
-use Rattle.cluster_model.specs.Events.{Event, Admit, DeliverCall, DeliverReport, Deliver, Fail, GoesBackTo, Grant, Mark, MayDo, PutBegin, PutStep, PutWave, Record, Recover, Section, Send, SendCall, SendReport, Stop, Update, after_event, delivers_call, delivers_message, delivers_report, entries_in_all, failures_in, makes, newest_of, recovers, saves, sends_call, sends_message, sends_report, snapshot_numbers}
-use Rattle.cluster_model.specs.Leading.{Snapshot}
+use Rattle.cluster_laws.specs.cluster_core.Messages.{Message}
+use Rattle.cluster_laws.specs.cluster_core.Recovering.{going_on}
+use Rattle.cluster_laws.specs.cluster_core.Replays.{replay_of, tasks_of}
+use Rattle.cluster_laws.specs.cluster_core.Settings.{IsSetting, Setting}
+use Rattle.cluster_laws.specs.cluster_model.ByTicket.{StandByTicket, restarts}
+use Rattle.cluster_laws.specs.cluster_model.Calls.{Call, Report}
+use Rattle.cluster_laws.specs.cluster_model.Clusters.{BaseView, Cluster}
+use Rattle.cluster_laws.specs.cluster_model.Events.{Event, Admit, DeliverCall, DeliverReport, Deliver, Fail, GoesBackTo, Grant, Mark, MayDo, PutBegin, PutStep, PutWave, Record, Recover, Section, Send, SendCall, SendReport, Stop, Update, after_event, delivers_call, delivers_message, delivers_report, entries_in_all, failures_in, makes, newest_of, recovers, saves, sends_call, sends_message, sends_report, snapshot_numbers}
+use Rattle.cluster_laws.specs.cluster_model.Leading.{Snapshot}
 use Rattle.cluster_whole.specs.Logged.{Logged, all_entries, entries_to, is_up_to}
 use Rattle.cluster_whole.specs.Whole.{IsNoRecovery, IsWhole}
 use Rattle.cluster_records.specs.Bases.{IsBase, IsBased, IsOpening}

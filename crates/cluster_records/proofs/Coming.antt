@@ -5,21 +5,21 @@ use Rattle.std.proofs.lemmas.Bool.{cases_eq, cond-true, lt-ltb}
 use Rattle.gl_base.specs.declared.scopes.ScopeId.{ScopeId}
 use Rattle.graph_core.proofs.HalvesLaws.{each-append}
 use Rattle.graph_core.specs.DataGraph.{size}
-use Rattle.cluster_core.specs.Actions.{MaySend}
-use Rattle.cluster_core.specs.Marks.{IsInPlace, MarksHold}
-use Rattle.cluster_core.specs.Messages as core
-use Rattle.cluster_core.specs.Messages.{Message}
-use Rattle.cluster_core.specs.Ranges.{set_at}
-use Rattle.cluster_core.specs.Settings.{IsSetting, Setting}
-use Rattle.cluster_core.specs.Worlds.{World}
-use Rattle.cluster_core.proofs.Basics.{set_at-holds}
-use Rattle.cluster_cuts.proofs.MarkSteps.{newest_above}
-use Rattle.cluster_model.specs.Calls.{Begin, Call, Committed, Count, Report, Saved, Step, Want, Wave, sections_in}
-use Rattle.cluster_model.specs.Clusters.{Cluster, report_way}
-use Rattle.cluster_model.specs.Events.{Event, Admit, DeliverCall, DeliverReport, Deliver, Fail, Grant, Mark, MayDo, PutBegin, PutStep, PutWave, Record, Recover, Section, Send, SendCall, SendReport, Stop, Update, after_event, delivers_call, delivers_message, delivers_report, makes, saves, sends_call, sends_message, sends_report}
-use Rattle.cluster_model.specs.Leading.{Come, RecordIsDue}
-use Rattle.cluster_model.specs.Machines.{Machine, count_of}
-use Rattle.cluster_model.specs.Working.{admits, asks_if, asks_more, commits, fails, grants, hands, hands_report, is_done, makes_mark, makes_update, or_zero, prompt, receives, sections, takes_call, works_on}
+use Rattle.cluster_laws.specs.cluster_core.Actions.{MaySend}
+use Rattle.cluster_laws.specs.cluster_core.Marks.{IsInPlace, MarksHold}
+use Rattle.cluster_laws.specs.cluster_core.Messages as core
+use Rattle.cluster_laws.specs.cluster_core.Messages.{Message}
+use Rattle.cluster_laws.specs.cluster_core.Ranges.{set_at}
+use Rattle.cluster_laws.specs.cluster_core.Settings.{IsSetting, Setting}
+use Rattle.cluster_laws.specs.cluster_core.Worlds.{World}
+use Rattle.cluster_laws.proofs.cluster_core.Basics.{set_at-holds}
+use Rattle.cluster_laws.proofs.cluster_cuts.MarkSteps.{newest_above}
+use Rattle.cluster_laws.specs.cluster_model.Calls.{Begin, Call, Committed, Count, Report, Saved, Step, Want, Wave, sections_in}
+use Rattle.cluster_laws.specs.cluster_model.Clusters.{Cluster, report_way}
+use Rattle.cluster_laws.specs.cluster_model.Events.{Event, Admit, DeliverCall, DeliverReport, Deliver, Fail, Grant, Mark, MayDo, PutBegin, PutStep, PutWave, Record, Recover, Section, Send, SendCall, SendReport, Stop, Update, after_event, delivers_call, delivers_message, delivers_report, makes, saves, sends_call, sends_message, sends_report}
+use Rattle.cluster_laws.specs.cluster_model.Leading.{Come, RecordIsDue}
+use Rattle.cluster_laws.specs.cluster_model.Machines.{Machine, count_of}
+use Rattle.cluster_laws.specs.cluster_model.Working.{admits, asks_if, asks_more, commits, fails, grants, hands, hands_report, is_done, makes_mark, makes_update, or_zero, prompt, receives, sections, takes_call, works_on}
 use Rattle.cluster_whole.specs.Logged.{Logged}
 use Rattle.cluster_whole.specs.Views.{section_of, world_of}
 use Rattle.cluster_whole.specs.Whole.{IsNoRecovery, IsWhole}

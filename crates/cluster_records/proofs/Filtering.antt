@@ -8,7 +8,7 @@ use Rattle.gl_base.specs.declared.entries.Entry.{Entry}
 use Rattle.gl_base.specs.declared.entries.Entry.TheVariants.{Go}
 use Rattle.gl_base.specs.declared.numbers.MachineNo.{MachineNo}
 use Rattle.gl_base.specs.declared.numbers.Vertex.{Vertex}
-use Rattle.cluster_core.specs.Replays.{is_of}
+use Rattle.cluster_laws.specs.cluster_core.Replays.{is_of}
 use Rattle.cluster_whole.specs.Logged.{Logged, all_entries, entries_to, entry_of, is_up_to}
 use Rattle.cluster_records.specs.Listed.{IsNextAtMost, entries_at, is_first_in}
 

@@ -2,9 +2,9 @@
 use Rattle.std.proofs.Common.{◌≡◌, ◌≢◌, ◌⊎◌, ℕ, zero, suc, ◌<◌, true, false, None, Some, List, [], ◌∷◌, inl, inr, refl, sym, subst, arith}
 use Rattle.std.proofs.lemmas.List.Elements.{All-from_recursion}
 use Rattle.gl_base.specs.declared.scopes.Claim.{Claim}
-use Rattle.cluster_model.specs.Clusters.{Cluster}
-use Rattle.cluster_model.specs.Events.{Admit, Grant, IsCourse, MayDo, recovers}
-use Rattle.cluster_places.specs.Steps.{AreApart}
+use Rattle.cluster_laws.specs.cluster_model.Clusters.{Cluster}
+use Rattle.cluster_laws.specs.cluster_model.Events.{Admit, Grant, IsCourse, MayDo, recovers}
+use Rattle.cluster_laws.specs.cluster_places.Steps.{AreApart}
 use Rattle.cluster_records.specs.LineOfFour.{colour_in_line, first_step, in_first_step, line_base, line_in_colours, line_of_four}
 
 none_some : (v : ℕ) → None ≢ Some v

@@ -4,12 +4,12 @@ use Rattle.std.specs.List.{AllByRecursion}
 use Rattle.std.proofs.lemmas.Bool.{cases_lt}
 use Rattle.std.proofs.lemmas.List.Sums.{sum_by-cons}
 use Rattle.gl_base.specs.declared.entries.Entry.{Entry}
-use Rattle.cluster_core.specs.Cuts.{Begins, updates_at}
-use Rattle.cluster_core.specs.Replays.{entries_of}
-use Rattle.cluster_core.specs.Settings.{IsSetting, Setting}
-use Rattle.cluster_model.specs.Events.{entries_below, entries_in_all}
-use Rattle.cluster_model.specs.Leading.{Snapshot, entries_held}
-use Rattle.cluster_model.specs.Totals.{total, total_from}
+use Rattle.cluster_laws.specs.cluster_core.Cuts.{Begins, updates_at}
+use Rattle.cluster_laws.specs.cluster_core.Replays.{entries_of}
+use Rattle.cluster_laws.specs.cluster_core.Settings.{IsSetting, Setting}
+use Rattle.cluster_laws.specs.cluster_model.Events.{entries_below, entries_in_all}
+use Rattle.cluster_laws.specs.cluster_model.Leading.{Snapshot, entries_held}
+use Rattle.cluster_laws.specs.cluster_model.Totals.{total, total_from}
 use Rattle.cluster_whole.proofs.Flows.{total_from-more, total_from-none}
 use Rattle.cluster_whole.specs.Logged.{Logged, all_entries, entries_to, is_up_to}
 use Rattle.cluster_records.specs.Recorded.{IsSinceBase}

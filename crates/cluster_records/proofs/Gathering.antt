@@ -5,10 +5,10 @@ use Rattle.std.proofs.lemmas.Bool.{cases_eq, cases_order}
 use Rattle.std.proofs.lemmas.List.Sorted.{IsPermutation-append_left, IsPermutation-append_right, IsPermutation-cons, IsPermutation-middle, IsPermutation-refl, IsPermutation-trans}
 use Rattle.gl_base.specs.declared.entries.Entry.{Entry}
 use Rattle.gl_base.specs.declared.entries.Entry.TheVariants.{Go, Restart}
-use Rattle.cluster_core.specs.Replays.{is_of}
-use Rattle.cluster_core.specs.Settings.{IsSetting, Setting}
-use Rattle.cluster_model.specs.Events.{entries_below, entries_in_all}
-use Rattle.cluster_model.specs.Leading.{Snapshot}
+use Rattle.cluster_laws.specs.cluster_core.Replays.{is_of}
+use Rattle.cluster_laws.specs.cluster_core.Settings.{IsSetting, Setting}
+use Rattle.cluster_laws.specs.cluster_model.Events.{entries_below, entries_in_all}
+use Rattle.cluster_laws.specs.cluster_model.Leading.{Snapshot}
 use Rattle.cluster_whole.specs.Logged.{Logged, entries_to, is_up_to}
 use Rattle.cluster_records.specs.Listed.{entries_at, is_first_in}
 use Rattle.cluster_records.specs.Recorded.{GoOnByNumber, HasNewUpdates, IsOwnUpdate, IsSinceBase}

@@ -4,20 +4,20 @@ use Rattle.std.specs.List.{AllByRecursion}
 use Rattle.std.proofs.lemmas.Bool.{cases_eq, cases_lt, cond-false, cond-true, le-ltb, lt-ltb}
 use Rattle.gl_base.specs.declared.scopes.ScopeId.{ScopeId}
 use Rattle.graph_core.specs.DataGraph.{size}
-use Rattle.cluster_core.specs.Effects.{received}
-use Rattle.cluster_core.specs.Marks.{IsMarking, MarksHold}
-use Rattle.cluster_core.specs.Messages.{Ask, Done, Message, Ready}
-use Rattle.cluster_core.specs.Parts.{Part}
-use Rattle.cluster_core.specs.Ranges.{set_at}
-use Rattle.cluster_core.specs.Settings.{IsSetting, Setting}
-use Rattle.cluster_core.specs.Worlds.{World}
-use Rattle.cluster_core.proofs.Basics.{set_at-holds}
-use Rattle.cluster_numbers.proofs.Quiet.{admitted-quiet, goes_on-quiet, granted-quiet}
-use Rattle.cluster_model.specs.Calls.{Begin, Call, Committed, Report, Step, Wave, begins_in}
-use Rattle.cluster_model.specs.Clusters.{Cluster}
-use Rattle.cluster_model.specs.Events.{Event, Admit, DeliverCall, DeliverReport, Deliver, Fail, Grant, Mark, MayDo, PutBegin, PutStep, PutWave, Record, Recover, Section, Send, SendCall, SendReport, Stop, Update, after_event, delivers_call, delivers_message, delivers_report, makes, saves, sends_call, sends_message, sends_report}
-use Rattle.cluster_model.specs.Machines.{Machine}
-use Rattle.cluster_model.specs.Working.{admits, fails, grants, hands, hands_report, makes_mark, makes_update, prompt, receives, sections, snapshot_in, takes_call, works_on}
+use Rattle.cluster_laws.specs.cluster_core.Effects.{received}
+use Rattle.cluster_laws.specs.cluster_core.Marks.{IsMarking, MarksHold}
+use Rattle.cluster_laws.specs.cluster_core.Messages.{Ask, Done, Message, Ready}
+use Rattle.cluster_laws.specs.cluster_core.Parts.{Part}
+use Rattle.cluster_laws.specs.cluster_core.Ranges.{set_at}
+use Rattle.cluster_laws.specs.cluster_core.Settings.{IsSetting, Setting}
+use Rattle.cluster_laws.specs.cluster_core.Worlds.{World}
+use Rattle.cluster_laws.proofs.cluster_core.Basics.{set_at-holds}
+use Rattle.cluster_laws.proofs.cluster_numbers.Quiet.{admitted-quiet, goes_on-quiet, granted-quiet}
+use Rattle.cluster_laws.specs.cluster_model.Calls.{Begin, Call, Committed, Report, Step, Wave, begins_in}
+use Rattle.cluster_laws.specs.cluster_model.Clusters.{Cluster}
+use Rattle.cluster_laws.specs.cluster_model.Events.{Event, Admit, DeliverCall, DeliverReport, Deliver, Fail, Grant, Mark, MayDo, PutBegin, PutStep, PutWave, Record, Recover, Section, Send, SendCall, SendReport, Stop, Update, after_event, delivers_call, delivers_message, delivers_report, makes, saves, sends_call, sends_message, sends_report}
+use Rattle.cluster_laws.specs.cluster_model.Machines.{Machine}
+use Rattle.cluster_laws.specs.cluster_model.Working.{admits, fails, grants, hands, hands_report, makes_mark, makes_update, prompt, receives, sections, snapshot_in, takes_call, works_on}
 use Rattle.cluster_whole.specs.Logged.{Logged}
 use Rattle.cluster_whole.specs.Views.{world_of}
 use Rattle.cluster_whole.specs.Whole.{IsNoRecovery, IsWhole}

@@ -4,9 +4,9 @@ use Rattle.std.specs.List.{AllByRecursion}
 use Rattle.std.proofs.lemmas.Bool.{cond-false, cond-true, le-ltb, lt-ltb}
 use Rattle.gl_base.specs.declared.entries.Entry.{Entry}
 use Rattle.graph_core.proofs.HalvesLaws.{each-append}
-use Rattle.cluster_core.specs.Replays.{is_of}
-use Rattle.cluster_model.specs.Machines.{Machine}
-use Rattle.cluster_model.specs.Working.{before_at, behind_at}
+use Rattle.cluster_laws.specs.cluster_core.Replays.{is_of}
+use Rattle.cluster_laws.specs.cluster_model.Machines.{Machine}
+use Rattle.cluster_laws.specs.cluster_model.Working.{before_at, behind_at}
 use Rattle.cluster_whole.specs.Logged.{Logged}
 use Rattle.cluster_records.specs.Listed.{IsListed, IsNextAtMost, entries_at, is_first_in}
 use Rattle.cluster_records.proofs.Filtering.{in_no, in_other, in_yes, next_weaker, none_later, passing-more_in, passing-more_out}

@@ -8,7 +8,7 @@ use Rattle.gl_base.specs.declared.entries.Entry.{Entry}
 use Rattle.gl_base.specs.declared.entries.Entry.TheVariants.{Go, Restart}
 use Rattle.gl_base.specs.declared.numbers.MachineNo.{MachineNo}
 use Rattle.gl_base.specs.declared.numbers.Vertex.{Vertex}
-use Rattle.cluster_model.specs.ByTicket.{StandByTicket, restarts}
+use Rattle.cluster_laws.specs.cluster_model.ByTicket.{StandByTicket, restarts}
 use Rattle.cluster_whole.specs.Logged.{Logged, all_entries}
 use Rattle.cluster_records.proofs.Filtering.{passing, passing-cons_in, passing-cons_out}
 

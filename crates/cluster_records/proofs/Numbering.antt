@@ -10,9 +10,9 @@ use Rattle.graph_core.specs.Halves.{halves_of}
 use Rattle.update_api.specs.Updates.{Update}
 use Rattle.seq_run.specs.Orders.{IsValidFrom, MayCome, after_entry, replay_from, tasks_after_entry, tasks_from}
 use Rattle.seq_run.specs.States.{GraphState, near_of}
-use Rattle.cluster_core.specs.Settings.{IsSetting, Setting}
-use Rattle.cluster_model.specs.ByTicket.{restarts}
-use Rattle.cluster_numbers.proofs.EdgeEnds.{edge_after-same, ends_within, half_between, new_number-same, wakes-same}
+use Rattle.cluster_laws.specs.cluster_core.Settings.{IsSetting, Setting}
+use Rattle.cluster_laws.specs.cluster_model.ByTicket.{restarts}
+use Rattle.cluster_laws.proofs.cluster_numbers.EdgeEnds.{edge_after-same, ends_within, half_between, new_number-same, wakes-same}
 use Rattle.cluster_whole.specs.Logged.{Logged, all_entries}
 use Rattle.cluster_records.specs.Recorded.{HaveSameNumbers, IsOwnUpdate, IsSinceBase}
 use Rattle.cluster_records.proofs.Filtering.{passing, passing-cons_in, passing-cons_out}

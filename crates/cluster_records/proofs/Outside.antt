@@ -4,8 +4,8 @@ use Rattle.std.specs.List.{AllByRecursion}
 use Rattle.std.proofs.lemmas.Bool.{and_from, and_left, and_parts, and_right, cases_Bool, cases_lt, cases_order, cond-false, cond-true, false_from_ne_true, le-ltb, lt-ltb, ltb-true}
 use Rattle.std.proofs.lemmas.List.Sums.{sum_by-cons}
 use Rattle.gl_base.specs.declared.entries.Entry.{Entry}
-use Rattle.cluster_core.specs.Replays.{is_of}
-use Rattle.cluster_model.specs.Machines.{Machine, outside}
+use Rattle.cluster_laws.specs.cluster_core.Replays.{is_of}
+use Rattle.cluster_laws.specs.cluster_model.Machines.{Machine, outside}
 use Rattle.cluster_whole.specs.Logged.{Logged}
 use Rattle.cluster_records.specs.Listed.{IsListed, IsNextAtMost, entries_at, is_first_in}
 use Rattle.cluster_records.specs.Wanting.{entries_outside, is_outside, sizes_from}

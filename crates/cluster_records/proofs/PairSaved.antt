@@ -1,13 +1,13 @@
 -- A machine asks for a snapshot, event by event.
 use Rattle.std.proofs.Common.{◌≡◌, ◌≢◌, ℕ, zero, suc, ◌<◌, Bool, true, false, if◌then◌else◌, None, Option, Some, [], ◌∷◌, inl, inr, refl, ⊎_elim, arith}
 use Rattle.gl_base.specs.declared.scopes.ScopeId.{ScopeId}
-use Rattle.cluster_core.specs.Ranges.{first_passing}
-use Rattle.cluster_core.specs.Scopes.{is_scope, set_for}
-use Rattle.cluster_model.specs.Calls.{Want}
-use Rattle.cluster_model.specs.Events.{Admit, IsCourse, MayDo, entries_in_all, newest_of}
-use Rattle.cluster_model.specs.Machines.{outside}
-use Rattle.cluster_model.specs.Totals.{total_from}
-use Rattle.cluster_model.specs.TwoWaves.{IsIdleAnswer}
+use Rattle.cluster_laws.specs.cluster_core.Ranges.{first_passing}
+use Rattle.cluster_laws.specs.cluster_core.Scopes.{is_scope, set_for}
+use Rattle.cluster_laws.specs.cluster_model.Calls.{Want}
+use Rattle.cluster_laws.specs.cluster_model.Events.{Admit, IsCourse, MayDo, entries_in_all, newest_of}
+use Rattle.cluster_laws.specs.cluster_model.Machines.{outside}
+use Rattle.cluster_laws.specs.cluster_model.Totals.{total_from}
+use Rattle.cluster_laws.specs.cluster_model.TwoWaves.{IsIdleAnswer}
 use Rattle.cluster_records.specs.LonePair.{pair_alone, pair_at_first, pair_entry, pair_saved, pair_saves, pair_scope, pair_updated, pair_updates}
 use Rattle.seq_run.proofs.EachOf.{all_is}
 

@@ -5,24 +5,24 @@ use Rattle.std.proofs.lemmas.Bool.{both_ways}
 use Rattle.gl_base.specs.declared.entries.Entry.{Entry}
 use Rattle.gl_base.specs.declared.entries.Entry.TheVariants.{Go, Restart}
 use Rattle.graph_core.proofs.HalvesLaws.{each-append}
-use Rattle.cluster_core.specs.Actions.{MayRecord}
-use Rattle.cluster_core.specs.Cuts.{Begins, IsCut, cut_of, updates_at}
-use Rattle.cluster_core.specs.Messages.{Message}
-use Rattle.cluster_core.specs.Messages as core
-use Rattle.cluster_core.specs.Ranges.{first_passing}
-use Rattle.cluster_core.specs.Replays.{replay_of}
-use Rattle.cluster_core.specs.Settings.{IsSetting, Setting}
-use Rattle.cluster_core.specs.Worlds.{World}
-use Rattle.cluster_core.proofs.Basics.{first_passing-none, first_passing-some}
-use Rattle.cluster_cuts.specs.Goings.{HoldCut}
-use Rattle.cluster_cuts.proofs.CutLists.{cut_updates}
-use Rattle.cluster_cuts.proofs.CutsKept.{recorded, recorded_cut}
-use Rattle.cluster_cuts.proofs.MarkEvents.{all_known, section_come}
-use Rattle.cluster_model.specs.Calls.{Call, Count, Report, Saved, Want}
-use Rattle.cluster_model.specs.Clusters.{Cluster}
-use Rattle.cluster_model.specs.Events.{Event, Admit, DeliverCall, DeliverReport, Deliver, Fail, Grant, Mark, MayDo, PutBegin, PutStep, PutWave, Record, Recover, Section, Send, SendCall, SendReport, Stop, Update, after_event, delivers_call, delivers_message, delivers_report, makes, newest_of, saves, sends_call, sends_message, sends_report, snapshot_numbers}
-use Rattle.cluster_model.specs.Leading.{Come, RecordIsDue, Snapshot, come_or}
-use Rattle.cluster_model.specs.Working.{or_zero}
+use Rattle.cluster_laws.specs.cluster_core.Actions.{MayRecord}
+use Rattle.cluster_laws.specs.cluster_core.Cuts.{Begins, IsCut, cut_of, updates_at}
+use Rattle.cluster_laws.specs.cluster_core.Messages.{Message}
+use Rattle.cluster_laws.specs.cluster_core.Messages as core
+use Rattle.cluster_laws.specs.cluster_core.Ranges.{first_passing}
+use Rattle.cluster_laws.specs.cluster_core.Replays.{replay_of}
+use Rattle.cluster_laws.specs.cluster_core.Settings.{IsSetting, Setting}
+use Rattle.cluster_laws.specs.cluster_core.Worlds.{World}
+use Rattle.cluster_laws.proofs.cluster_core.Basics.{first_passing-none, first_passing-some}
+use Rattle.cluster_laws.specs.cluster_cuts.Goings.{HoldCut}
+use Rattle.cluster_laws.proofs.cluster_cuts.CutLists.{cut_updates}
+use Rattle.cluster_laws.proofs.cluster_cuts.CutsKept.{recorded, recorded_cut}
+use Rattle.cluster_laws.proofs.cluster_cuts.MarkEvents.{all_known, section_come}
+use Rattle.cluster_laws.specs.cluster_model.Calls.{Call, Count, Report, Saved, Want}
+use Rattle.cluster_laws.specs.cluster_model.Clusters.{Cluster}
+use Rattle.cluster_laws.specs.cluster_model.Events.{Event, Admit, DeliverCall, DeliverReport, Deliver, Fail, Grant, Mark, MayDo, PutBegin, PutStep, PutWave, Record, Recover, Section, Send, SendCall, SendReport, Stop, Update, after_event, delivers_call, delivers_message, delivers_report, makes, newest_of, saves, sends_call, sends_message, sends_report, snapshot_numbers}
+use Rattle.cluster_laws.specs.cluster_model.Leading.{Come, RecordIsDue, Snapshot, come_or}
+use Rattle.cluster_laws.specs.cluster_model.Working.{or_zero}
 use Rattle.cluster_whole.specs.Logged.{IsLogged, Logged, all_entries, entries_to}
 use Rattle.cluster_whole.specs.Views.{section_of, world_of}
 use Rattle.cluster_whole.specs.Whole.{IsNoRecovery, IsWhole}

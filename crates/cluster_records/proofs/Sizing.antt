@@ -4,26 +4,26 @@ use Rattle.std.proofs.lemmas.Bool.{cases_eq, cases_lt, cond-true, lt-ltb}
 use Rattle.gl_base.specs.declared.entries.Entry.{Entry}
 use Rattle.gl_base.specs.declared.scopes.ScopeId.{ScopeId}
 use Rattle.graph_core.specs.DataGraph.{size}
-use Rattle.cluster_core.specs.Marks.{MarksHold}
-use Rattle.cluster_core.specs.Messages.{Message}
-use Rattle.cluster_core.specs.Ranges.{set_at}
-use Rattle.cluster_core.specs.Settings.{IsSetting, Setting}
-use Rattle.cluster_core.specs.Worlds.{World}
-use Rattle.cluster_core.proofs.Basics.{set_at-holds, set_at-other, set_at-same}
-use Rattle.cluster_numbers.proofs.Quiet.{admitted-quiet, granted-quiet}
-use Rattle.cluster_model.specs.Calls.{Begin, Call, Committed, Count, Report, Saved, Step, Want, Wave}
-use Rattle.cluster_model.specs.Clusters.{Cluster, call_way}
-use Rattle.cluster_model.specs.Events.{Event, Admit, DeliverCall, DeliverReport, Deliver, Fail, Grant, Mark, MayDo, PutBegin, PutStep, PutWave, Record, Recover, Section, Send, SendCall, SendReport, Stop, Update, after_event, delivers_call, delivers_message, delivers_report, makes, saves, sends_call, sends_message, sends_report}
-use Rattle.cluster_model.specs.Machines.{Machine}
-use Rattle.cluster_model.specs.Rounds.{with_step}
-use Rattle.cluster_model.specs.Working.{admits, commits, fails, grants, hands, hands_report, makes_mark, makes_update, prompt, receives, rest_of, sections, takes_call}
+use Rattle.cluster_laws.specs.cluster_core.Marks.{MarksHold}
+use Rattle.cluster_laws.specs.cluster_core.Messages.{Message}
+use Rattle.cluster_laws.specs.cluster_core.Ranges.{set_at}
+use Rattle.cluster_laws.specs.cluster_core.Settings.{IsSetting, Setting}
+use Rattle.cluster_laws.specs.cluster_core.Worlds.{World}
+use Rattle.cluster_laws.proofs.cluster_core.Basics.{set_at-holds, set_at-other, set_at-same}
+use Rattle.cluster_laws.proofs.cluster_numbers.Quiet.{admitted-quiet, granted-quiet}
+use Rattle.cluster_laws.specs.cluster_model.Calls.{Begin, Call, Committed, Count, Report, Saved, Step, Want, Wave}
+use Rattle.cluster_laws.specs.cluster_model.Clusters.{Cluster, call_way}
+use Rattle.cluster_laws.specs.cluster_model.Events.{Event, Admit, DeliverCall, DeliverReport, Deliver, Fail, Grant, Mark, MayDo, PutBegin, PutStep, PutWave, Record, Recover, Section, Send, SendCall, SendReport, Stop, Update, after_event, delivers_call, delivers_message, delivers_report, makes, saves, sends_call, sends_message, sends_report}
+use Rattle.cluster_laws.specs.cluster_model.Machines.{Machine}
+use Rattle.cluster_laws.specs.cluster_model.Rounds.{with_step}
+use Rattle.cluster_laws.specs.cluster_model.Working.{admits, commits, fails, grants, hands, hands_report, makes_mark, makes_update, prompt, receives, rest_of, sections, takes_call}
 use Rattle.cluster_whole.specs.Logged.{Logged}
 use Rattle.cluster_whole.specs.Views.{world_of}
 use Rattle.cluster_whole.specs.Whole.{IsNoRecovery, IsWhole}
 use Rattle.cluster_whole.proofs.Pieces.{passed}
 use Rattle.cluster_records.specs.Listed.{AreListed, entries_at, is_first_in}
 use Rattle.cluster_records.specs.Wanting.{IsCounting, known_by_calls, numbers_from, sizes_from}
-use Rattle.cluster_cuts.proofs.MarkSteps.{newest_above}
+use Rattle.cluster_laws.proofs.cluster_cuts.MarkSteps.{newest_above}
 use Rattle.cluster_records.proofs.Entering.{IsNoUpdate, update_logged}
 use Rattle.cluster_records.proofs.Filtering.{in_no, in_other, other_entry}
 use Rattle.cluster_records.proofs.Listed.{received_sent, sent_near, unmarked_unsent}

@@ -1,9 +1,9 @@
 -- What an attempt began with.
 use Rattle.std.specs.Prelude.{List, true, ℕ, ◌++◌, ◌<◌, ◌≡◌}
 use Rattle.gl_base.specs.declared.entries.Entry.{Entry}
-use Rattle.cluster_core.specs.Settings.{Setting}
-use Rattle.cluster_model.specs.ByTicket.{StandByTicket}
-use Rattle.cluster_model.specs.Clusters.{BaseView, Cluster}
+use Rattle.cluster_laws.specs.cluster_core.Settings.{Setting}
+use Rattle.cluster_laws.specs.cluster_model.ByTicket.{StandByTicket}
+use Rattle.cluster_laws.specs.cluster_model.Clusters.{BaseView, Cluster}
 use Rattle.cluster_records.specs.Recorded.{HaveSameNumbers}
 use Rattle.cluster_whole.specs.Logged.{Logged, all_entries}
 use Rattle.graph_core.specs.DataGraph.{size}

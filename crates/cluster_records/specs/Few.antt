@@ -1,8 +1,8 @@
 -- How many snapshots a list of events stores.
 use Rattle.std.specs.Prelude.{List, [], if◌then◌else◌, ℕ, ◌+◌, ◌∷◌}
-use Rattle.cluster_core.specs.Settings.{Setting}
-use Rattle.cluster_model.specs.Clusters.{Cluster}
-use Rattle.cluster_model.specs.Events.{Event, PutBegin, Record, after_event, setting_after}
+use Rattle.cluster_laws.specs.cluster_core.Settings.{Setting}
+use Rattle.cluster_laws.specs.cluster_model.Clusters.{Cluster}
+use Rattle.cluster_laws.specs.cluster_model.Events.{Event, PutBegin, Record, after_event, setting_after}
 
 -- 1 where a snapshot is acknowledged
 abbrev pub snapshot_at : Event → ℕ

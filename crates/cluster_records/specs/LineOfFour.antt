@@ -1,8 +1,8 @@
 -- Four vertices in a line on two machines, with the colours 1, 2, 1, 2, in their first step.
 use Rattle.std.specs.Prelude.{List, [], false, if◌then◌else◌, nat_lt, ℕ, ◌==◌, ◌||◌, ◌∷◌}
-use Rattle.cluster_core.specs.Settings.{Chromatic, Setting}
-use Rattle.cluster_model.specs.Clusters.{BaseView, Cluster}
-use Rattle.cluster_model.specs.Events.{DeliverCall, Event, PutStep, SendCall, after_event, recovers, setting_after}
+use Rattle.cluster_laws.specs.cluster_core.Settings.{Chromatic, Setting}
+use Rattle.cluster_laws.specs.cluster_model.Clusters.{BaseView, Cluster}
+use Rattle.cluster_laws.specs.cluster_model.Events.{DeliverCall, Event, PutStep, SendCall, after_event, recovers, setting_after}
 use Rattle.graph_core.specs.DataGraph.{DataGraph}
 use Rattle.seq_run.specs.Examples.{edge}
 use Rattle.seq_run.specs.States.{start_state}

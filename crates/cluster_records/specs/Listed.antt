@@ -2,12 +2,12 @@
 use Rattle.std.specs.List.{AllByRecursion}
 use Rattle.std.specs.Prelude.{Bool, List, Some, [], filter, if◌then◌else◌, map, nat_lt, suc, true, ℕ, ⊤, ◌&&◌, ◌<◌, ◌==◌, ◌≡◌, ◌≤◌}
 use Rattle.gl_base.specs.declared.entries.Entry.{Entry}
-use Rattle.cluster_core.specs.Replays.{is_of}
-use Rattle.cluster_core.specs.Settings.{Setting}
-use Rattle.cluster_model.specs.Calls.{Count, Report, Saved, Want}
-use Rattle.cluster_model.specs.Clusters.{Cluster, report_way}
-use Rattle.cluster_model.specs.Leading.{Come}
-use Rattle.cluster_model.specs.Machines.{Machine}
+use Rattle.cluster_laws.specs.cluster_core.Replays.{is_of}
+use Rattle.cluster_laws.specs.cluster_core.Settings.{Setting}
+use Rattle.cluster_laws.specs.cluster_model.Calls.{Count, Report, Saved, Want}
+use Rattle.cluster_laws.specs.cluster_model.Clusters.{Cluster, report_way}
+use Rattle.cluster_laws.specs.cluster_model.Leading.{Come}
+use Rattle.cluster_laws.specs.cluster_model.Machines.{Machine}
 use Rattle.cluster_whole.specs.Logged.{Logged, entry_of}
 
 -- an update of machine a that snapshot k is the first to have

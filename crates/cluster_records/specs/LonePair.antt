@@ -3,12 +3,12 @@ use Rattle.std.specs.Prelude.{List, None, [], false, nat_lt, true, ℕ, ◌∷�
 use Rattle.gl_base.specs.declared.entries.Entry.{Entry}
 use Rattle.gl_base.specs.declared.entries.Entry.TheVariants.{Go}
 use Rattle.gl_base.specs.declared.scopes.ScopeId.{ScopeId}
-use Rattle.cluster_core.specs.Effects.{nothing_saved}
-use Rattle.cluster_core.specs.Settings.{Chromatic, Setting}
-use Rattle.cluster_model.specs.Clusters.{BaseView, Cluster}
-use Rattle.cluster_model.specs.Events.{Admit, DeliverCall, DeliverReport, Event, Mark, PutBegin, PutStep, Record, Section, SendCall, SendReport, Update, recovers}
-use Rattle.cluster_model.specs.Leading.{first_coordinator}
-use Rattle.cluster_model.specs.Machines.{Machine}
+use Rattle.cluster_laws.specs.cluster_core.Effects.{nothing_saved}
+use Rattle.cluster_laws.specs.cluster_core.Settings.{Chromatic, Setting}
+use Rattle.cluster_laws.specs.cluster_model.Clusters.{BaseView, Cluster}
+use Rattle.cluster_laws.specs.cluster_model.Events.{Admit, DeliverCall, DeliverReport, Event, Mark, PutBegin, PutStep, Record, Section, SendCall, SendReport, Update, recovers}
+use Rattle.cluster_laws.specs.cluster_model.Leading.{first_coordinator}
+use Rattle.cluster_laws.specs.cluster_model.Machines.{Machine}
 use Rattle.cluster_records.specs.LineOfFour.{after_events}
 use Rattle.graph_core.specs.DataGraph.{DataGraph}
 use Rattle.seq_run.specs.States.{start_state}

@@ -3,12 +3,12 @@ use Rattle.std.specs.List.{AllByRecursion}
 use Rattle.std.specs.Prelude.{List, [], length, suc, ℕ, ◌<◌, ◌∷◌, ◌≡◌}
 use Rattle.gl_base.specs.declared.entries.Entry.{Entry}
 use Rattle.gl_base.specs.declared.entries.Entry.TheVariants.{Go, Restart}
-use Rattle.cluster_core.specs.Cuts.{Begins, updates_at}
-use Rattle.cluster_core.specs.Replays.{replay_of}
-use Rattle.cluster_core.specs.Settings.{Setting}
-use Rattle.cluster_model.specs.Clusters.{Cluster}
-use Rattle.cluster_model.specs.Events.{snapshot_numbers}
-use Rattle.cluster_model.specs.Leading.{Coordinator, Snapshot, come_or}
+use Rattle.cluster_laws.specs.cluster_core.Cuts.{Begins, updates_at}
+use Rattle.cluster_laws.specs.cluster_core.Replays.{replay_of}
+use Rattle.cluster_laws.specs.cluster_core.Settings.{Setting}
+use Rattle.cluster_laws.specs.cluster_model.Clusters.{Cluster}
+use Rattle.cluster_laws.specs.cluster_model.Events.{snapshot_numbers}
+use Rattle.cluster_laws.specs.cluster_model.Leading.{Coordinator, Snapshot, come_or}
 use Rattle.cluster_records.specs.Listed.{AreComing, AreListed, entries_at}
 use Rattle.cluster_whole.specs.Logged.{IsLogged, Logged, all_entries, entries_to}
 use Rattle.cluster_whole.specs.Views.{world_of}

@@ -2,12 +2,12 @@
 use Rattle.std.specs.List.{AllByRecursion, list_any}
 use Rattle.std.specs.Prelude.{Bool, List, [], false, filter, length, map, nat_lt, suc, true, zero, ℕ, ⊤, ◌&&◌, ◌+◌, ◌<◌, ◌==◌, ◌∷◌, ◌≡◌, ◌≤◌, ◌⊎◌}
 use Rattle.gl_base.specs.declared.entries.Entry.{Entry}
-use Rattle.cluster_core.specs.Replays.{is_of}
-use Rattle.cluster_core.specs.Settings.{Setting}
-use Rattle.cluster_model.specs.Calls.{Begin, Call, Committed, Count, Report, Saved, Step, Want, Wave}
-use Rattle.cluster_model.specs.Clusters.{Cluster, call_way, report_way}
-use Rattle.cluster_model.specs.Machines.{Machine, outside}
-use Rattle.cluster_model.specs.Working.{half_window}
+use Rattle.cluster_laws.specs.cluster_core.Replays.{is_of}
+use Rattle.cluster_laws.specs.cluster_core.Settings.{Setting}
+use Rattle.cluster_laws.specs.cluster_model.Calls.{Begin, Call, Committed, Count, Report, Saved, Step, Want, Wave}
+use Rattle.cluster_laws.specs.cluster_model.Clusters.{Cluster, call_way, report_way}
+use Rattle.cluster_laws.specs.cluster_model.Machines.{Machine, outside}
+use Rattle.cluster_laws.specs.cluster_model.Working.{half_window}
 use Rattle.cluster_records.specs.Listed.{entries_at}
 use Rattle.cluster_whole.specs.Logged.{Logged, entry_of}
 

@@ -1,10 +1,10 @@
 //! Worked examples. Each is the contract of a function that does nothing.
 ghost use Rattle.std.specs.Prelude.{◌≡◌, ◌⊎◌, ℕ, [], ◌∷◌};
-ghost use Rattle.cluster_model.specs.Calls.{Want};
-ghost use Rattle.cluster_model.specs.Clusters.{Cluster};
-ghost use Rattle.cluster_model.specs.Events.{Admit, Grant, IsCourse, MayDo, entries_in_all, newest_of, recovers};
-ghost use Rattle.cluster_model.specs.Machines.{outside};
-ghost use Rattle.cluster_places.specs.Steps.{AreApart};
+ghost use Rattle.cluster_laws.specs.cluster_model.Calls.{Want};
+ghost use Rattle.cluster_laws.specs.cluster_model.Clusters.{Cluster};
+ghost use Rattle.cluster_laws.specs.cluster_model.Events.{Admit, Grant, IsCourse, MayDo, entries_in_all, newest_of, recovers};
+ghost use Rattle.cluster_laws.specs.cluster_model.Machines.{outside};
+ghost use Rattle.cluster_laws.specs.cluster_places.Steps.{AreApart};
 ghost use Rattle.cluster_records.specs.LineOfFour.{colour_in_line, first_step, in_first_step, line_base, line_in_colours};
 ghost use Rattle.cluster_records.specs.LonePair.{pair_alone, pair_at_first, pair_entry, pair_saved, pair_saves, pair_updated, pair_updates};
 

@@ -2,8 +2,8 @@
 use Rattle.std.proofs.Common.{◌≡◌, ℕ, ◌<◌, Bool, false, List, [], ◌∷◌, length, true≢false, sym, refl, ap, ◌∙◌, subst}
 use Rattle.std.specs.List.{list_any}
 use Rattle.std.specs.Prelude.{IsTrue, ◌↔◌}
-use Rattle.cluster_core.specs.Actions.{HasFirst}
-use Rattle.cluster_core.specs.Messages.{Message}
+use Rattle.cluster_laws.specs.cluster_core.Actions.{HasFirst}
+use Rattle.cluster_laws.specs.cluster_core.Messages.{Message}
 use Rattle.cluster_step.specs.Starts.{AllHaveHeard, is_word_of_update}
 use Rattle.cluster_rounds.specs.Ends.{AreAllSilent, ClusterView, InEachSetting, Part, Setting, world_now}
 

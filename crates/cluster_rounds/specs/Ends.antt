@@ -1,5 +1,5 @@
 -- How a run of a cluster ends.
-pub use Rattle.cluster_core.specs.Worlds.{way}
+pub use Rattle.cluster_laws.specs.cluster_core.Worlds.{way}
 pub use Rattle.cluster_step.specs.Clusters.{ClusterView, InEachSetting, OfTheOrder, world_now}
 pub use Rattle.cluster_step.specs.Worlds.{Part, Setting}
 pub use Rattle.cluster_step.specs.Events.{NamesMachinesOf}

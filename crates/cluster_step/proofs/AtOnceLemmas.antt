@@ -6,12 +6,12 @@ use Rattle.gl_base.specs.declared.entries.Entry.{Entry}
 use Rattle.gl_base.specs.declared.numbers.MachineNo.{MachineNo}
 use Rattle.gl_base.specs.declared.numbers.Vertex.{Vertex}
 use Rattle.gl_base.specs.declared.refusals.Refused.{Refused}
-use Rattle.cluster_core.specs.Actions.{draws}
-use Rattle.cluster_core.specs.Effects.{next_scope}
-use Rattle.cluster_core.specs.Parts.{Part}
-use Rattle.cluster_core.specs.Replays.{IsFresh, replay_of}
-use Rattle.cluster_core.specs.Settings.{Setting}
-use Rattle.cluster_core.specs.Worlds.{World, with_part}
+use Rattle.cluster_laws.specs.cluster_core.Actions.{draws}
+use Rattle.cluster_laws.specs.cluster_core.Effects.{next_scope}
+use Rattle.cluster_laws.specs.cluster_core.Parts.{Part}
+use Rattle.cluster_laws.specs.cluster_core.Replays.{IsFresh, replay_of}
+use Rattle.cluster_laws.specs.cluster_core.Settings.{Setting}
+use Rattle.cluster_laws.specs.cluster_core.Worlds.{World, with_part}
 use Rattle.interior_scopes.specs.AtOnce.{at_once, entry_at_once, own_vertices}
 use Rattle.interior_scopes.proofs.Running.{at_once_runs}
 use Rattle.cluster_machines.specs.Promises.{IsUpdateAtOnce, MakesUpdateAtOnce, UpdatesAtOnce, UpdatesNoneAtOnce}

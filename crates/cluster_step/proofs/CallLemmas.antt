@@ -7,15 +7,15 @@ use Rattle.gl_base.specs.declared.entries.Entry.TheVariants.{Go}
 use Rattle.gl_base.specs.declared.numbers.MachineNo.{MachineNo}
 use Rattle.gl_base.specs.declared.numbers.Vertex.{Vertex}
 use Rattle.gl_base.specs.declared.scopes.ScopeId.{ScopeId}
-use Rattle.cluster_core.specs.Actions.{HasFirst, MayAdmit, MayGrant, MayHappen, MayUpdate, after, delivers, draws, sends, updates}
-use Rattle.cluster_core.specs.Actions as law
-use Rattle.cluster_core.specs.Effects.{admitted, granted, received, updated}
-use Rattle.cluster_core.specs.Messages.{Message}
-use Rattle.cluster_core.specs.Parts.{Part}
-use Rattle.cluster_core.specs.Ranges.{set_at}
-use Rattle.cluster_core.specs.Settings.{Setting}
-use Rattle.cluster_core.specs.Worlds.{World, with_part, with_link}
-use Rattle.cluster_numbers.proofs.Keeping.{updates_is}
+use Rattle.cluster_laws.specs.cluster_core.Actions.{HasFirst, MayAdmit, MayGrant, MayHappen, MayUpdate, after, delivers, draws, sends, updates}
+use Rattle.cluster_laws.specs.cluster_core.Actions as law
+use Rattle.cluster_laws.specs.cluster_core.Effects.{admitted, granted, received, updated}
+use Rattle.cluster_laws.specs.cluster_core.Messages.{Message}
+use Rattle.cluster_laws.specs.cluster_core.Parts.{Part}
+use Rattle.cluster_laws.specs.cluster_core.Ranges.{set_at}
+use Rattle.cluster_laws.specs.cluster_core.Settings.{Setting}
+use Rattle.cluster_laws.specs.cluster_core.Worlds.{World, with_part, with_link}
+use Rattle.cluster_laws.proofs.cluster_numbers.Keeping.{updates_is}
 use Rattle.cluster_machines.specs.Promises.{AdmitsNone, AdmitsSome, GrantsIt, GrantsNone, GrantsNot, IsAdmission, IsGrant, IsSameMachine, IsUpdate, MakesAdmission, MakesGrant, MakesUpdate, MayReceiveIn, UpdatesIt, UpdatesNone}
 use Rattle.cluster_step.specs.Links.{LinkView, told_on}
 use Rattle.cluster_step.specs.Worlds.{part_of_machine, world_of_parts}

@@ -3,32 +3,32 @@ use Rattle.std.proofs.Common.{◌≡◌, ℕ, Bool, true, false, List, [], ◌�
 use Rattle.std.specs.List.{AllByRecursion}
 use Rattle.gl_base.specs.declared.entries.Entry.{Entry}
 use Rattle.gl_base.specs.declared.scopes.ScopeId.{ScopeId}
-use Rattle.cluster_core.specs.Actions.{Action, MayHappen, MayUpdate, IsActionStep, after}
-use Rattle.cluster_core.specs.Messages.{Ask, Done, Message, Ready}
-use Rattle.cluster_core.specs.Places.{ArePlaces, IsExclusive}
-use Rattle.cluster_core.specs.Replays.{IsFresh, IsReplay, replay_of}
-use Rattle.cluster_core.specs.Runs.{IsStart}
-use Rattle.cluster_core.specs.Settings.{Chromatic, Engine, Locking, Setting, IsSetting, is_in_scope}
-use Rattle.cluster_core.specs.Snapshots.{IsUnmarked}
-use Rattle.cluster_core.specs.Scopes.{mode_at}
-use Rattle.cluster_core.specs.Stages.{Asks, Ends, Idle, Stage, IsAsked, IsDone, IsReady, Returns, some_if, tokens_of}
-use Rattle.cluster_core.specs.Ways.{IsToldTo}
-use Rattle.cluster_core.specs.Worlds.{World, way}
-use Rattle.cluster_core.proofs.Taking.{taken, taken-here}
-use Rattle.cluster_numbers.proofs.Keeping.{update_fresh}
-use Rattle.cluster_places.proofs.Delivering.{done_here, told}
-use Rattle.cluster_places.proofs.Excluding.{exclusive}
-use Rattle.cluster_places.proofs.Fronts.{front}
-use Rattle.cluster_places.proofs.Going.{asked_here, ready_here}
-use Rattle.cluster_places.proofs.Seen.{asked_stage, done_stage, ready_stage, some_centre}
-use Rattle.cluster_places.proofs.Standing.{shows_as, stage_as}
-use Rattle.cluster_places.proofs.PlacesKept.{action_keeps, start_placed}
-use Rattle.cluster_places.proofs.StepsKept.{step_excludes}
-use Rattle.cluster_places.specs.Steps.{AreApart}
-use Rattle.cluster_cuts.specs.Goings.{IsOneStep}
-use Rattle.cluster_cuts.proofs.Beginning.{first_kept}
-use Rattle.cluster_cuts.proofs.CutsKept.{one_step}
-use Rattle.cluster_cuts.proofs.CutsGoOn.{goes_not, goes_then, step_goes}
+use Rattle.cluster_laws.specs.cluster_core.Actions.{Action, MayHappen, MayUpdate, IsActionStep, after}
+use Rattle.cluster_laws.specs.cluster_core.Messages.{Ask, Done, Message, Ready}
+use Rattle.cluster_laws.specs.cluster_core.Places.{ArePlaces, IsExclusive}
+use Rattle.cluster_laws.specs.cluster_core.Replays.{IsFresh, IsReplay, replay_of}
+use Rattle.cluster_laws.specs.cluster_core.Runs.{IsStart}
+use Rattle.cluster_laws.specs.cluster_core.Settings.{Chromatic, Engine, Locking, Setting, IsSetting, is_in_scope}
+use Rattle.cluster_laws.specs.cluster_core.Snapshots.{IsUnmarked}
+use Rattle.cluster_laws.specs.cluster_core.Scopes.{mode_at}
+use Rattle.cluster_laws.specs.cluster_core.Stages.{Asks, Ends, Idle, Stage, IsAsked, IsDone, IsReady, Returns, some_if, tokens_of}
+use Rattle.cluster_laws.specs.cluster_core.Ways.{IsToldTo}
+use Rattle.cluster_laws.specs.cluster_core.Worlds.{World, way}
+use Rattle.cluster_laws.proofs.cluster_core.Taking.{taken, taken-here}
+use Rattle.cluster_laws.proofs.cluster_numbers.Keeping.{update_fresh}
+use Rattle.cluster_laws.proofs.cluster_places.Delivering.{done_here, told}
+use Rattle.cluster_laws.proofs.cluster_places.Excluding.{exclusive}
+use Rattle.cluster_laws.proofs.cluster_places.Fronts.{front}
+use Rattle.cluster_laws.proofs.cluster_places.Going.{asked_here, ready_here}
+use Rattle.cluster_laws.proofs.cluster_places.Seen.{asked_stage, done_stage, ready_stage, some_centre}
+use Rattle.cluster_laws.proofs.cluster_places.Standing.{shows_as, stage_as}
+use Rattle.cluster_laws.proofs.cluster_places.PlacesKept.{action_keeps, start_placed}
+use Rattle.cluster_laws.proofs.cluster_places.StepsKept.{step_excludes}
+use Rattle.cluster_laws.specs.cluster_places.Steps.{AreApart}
+use Rattle.cluster_laws.specs.cluster_cuts.Goings.{IsOneStep}
+use Rattle.cluster_laws.proofs.cluster_cuts.Beginning.{first_kept}
+use Rattle.cluster_laws.proofs.cluster_cuts.CutsKept.{one_step}
+use Rattle.cluster_laws.proofs.cluster_cuts.CutsGoOn.{goes_not, goes_then, step_goes}
 use Rattle.cluster_machines.specs.Promises.{IsAsExpected, IsExpectedBy, IsExpectedIn, MayReceiveBy, MayReceiveIn}
 use Rattle.cluster_step.specs.Events.{IsActionOf}
 use Rattle.cluster_step.specs.Inner.Going.{AreAllPlain, GoesByEngine, IsGoingOn, IsPlain}

@@ -8,19 +8,19 @@ use Rattle.gl_base.specs.declared.scopes.Claim.{Claim}
 use Rattle.gl_base.specs.declared.scopes.ScopeId.{ScopeId}
 use Rattle.graph_core.specs.Halves.{halves_of}
 use Rattle.seq_run.specs.States.{GraphState, near_of}
-use Rattle.cluster_core.specs.Actions.{after}
-use Rattle.cluster_core.specs.Actions as law
-use Rattle.cluster_core.specs.Effects.{admitted, admitted_by, asks_for, first_granted, goes_away, granted, in_flight, moves_on, next_scope, posts, sets_out, takes_lock}
-use Rattle.cluster_core.specs.Messages as law_messages
-use Rattle.cluster_core.specs.Parts.{Part, Stand, lent}
-use Rattle.cluster_core.specs.Replays.{IsFresh, IsReplay, replay_of}
-use Rattle.cluster_core.specs.Runs.{IsActionRun}
-use Rattle.cluster_core.specs.Scopes.{machines_from, own_from, set_for}
-use Rattle.cluster_core.specs.Settings.{Engine, Locking, Setting, IsSetting}
-use Rattle.cluster_core.specs.Worlds.{World, with_part}
-use Rattle.cluster_core.proofs.Basics.{set_at-same, set_for-same}
-use Rattle.cluster_numbers.proofs.Quiet.{IsQuiet, admitted-quiet, granted-quiet}
-use Rattle.cluster_numbers.proofs.QuietWorlds.{part_quiet, replay_quiet}
+use Rattle.cluster_laws.specs.cluster_core.Actions.{after}
+use Rattle.cluster_laws.specs.cluster_core.Actions as law
+use Rattle.cluster_laws.specs.cluster_core.Effects.{admitted, admitted_by, asks_for, first_granted, goes_away, granted, in_flight, moves_on, next_scope, posts, sets_out, takes_lock}
+use Rattle.cluster_laws.specs.cluster_core.Messages as law_messages
+use Rattle.cluster_laws.specs.cluster_core.Parts.{Part, Stand, lent}
+use Rattle.cluster_laws.specs.cluster_core.Replays.{IsFresh, IsReplay, replay_of}
+use Rattle.cluster_laws.specs.cluster_core.Runs.{IsActionRun}
+use Rattle.cluster_laws.specs.cluster_core.Scopes.{machines_from, own_from, set_for}
+use Rattle.cluster_laws.specs.cluster_core.Settings.{Engine, Locking, Setting, IsSetting}
+use Rattle.cluster_laws.specs.cluster_core.Worlds.{World, with_part}
+use Rattle.cluster_laws.proofs.cluster_core.Basics.{set_at-same, set_for-same}
+use Rattle.cluster_laws.proofs.cluster_numbers.Quiet.{IsQuiet, admitted-quiet, granted-quiet}
+use Rattle.cluster_laws.proofs.cluster_numbers.QuietWorlds.{part_quiet, replay_quiet}
 use Rattle.cluster_step.specs.Inner.Going.{IsGoingOn}
 use Rattle.cluster_step.specs.declared.events.Event.TheVariants.{Admit, Grant, Update}
 use Rattle.cluster_step.proofs.GoingLemmas.{fresh_now, goes_on_by}

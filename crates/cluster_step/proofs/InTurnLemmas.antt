@@ -2,11 +2,11 @@
 use Rattle.std.proofs.Common.{◌≡◌, ℕ, ◌<◌, ◌∷◌, get_or, length, map, refl, sym, subst}
 use Rattle.std.specs.Prelude.{Result, Ok, Err, OnErr, OnOk}
 use Rattle.gl_base.specs.declared.refusals.Refused.{Refused}
-use Rattle.cluster_core.specs.Actions.{Grant}
-use Rattle.cluster_core.specs.Parts.{Part}
-use Rattle.cluster_core.specs.Runs.{IsActionRun}
-use Rattle.cluster_core.specs.Settings.{Setting}
-use Rattle.cluster_core.specs.Worlds.{World}
+use Rattle.cluster_laws.specs.cluster_core.Actions.{Grant}
+use Rattle.cluster_laws.specs.cluster_core.Parts.{Part}
+use Rattle.cluster_laws.specs.cluster_core.Runs.{IsActionRun}
+use Rattle.cluster_laws.specs.cluster_core.Settings.{Setting}
+use Rattle.cluster_laws.specs.cluster_core.Worlds.{World}
 use Rattle.interior_scopes.proofs.InTurn.{grants_run}
 use Rattle.cluster_machines.specs.Promises.{AreGranted, MakesGrants}
 use Rattle.cluster_step.specs.Clusters.{ClusterView}

@@ -8,13 +8,13 @@ use Rattle.gl_base.specs.declared.numbers.MachineNo.{MachineNo}
 use Rattle.gl_base.specs.declared.numbers.Vertex.{Vertex}
 use Rattle.gl_base.specs.declared.scopes.ScopeId.{ScopeId}
 use Rattle.gl_base.specs.declared.entries.Entry.TheVariants.{Go, Restart}
-use Rattle.cluster_core.specs.Actions.{MayHappen}
-use Rattle.cluster_core.specs.Actions as law
-use Rattle.cluster_core.specs.Parts.{Part}
-use Rattle.cluster_core.specs.Replays.{IsReplay, ticket_of}
-use Rattle.cluster_cuts.specs.Goings.{AreUpdatesFrom}
-use Rattle.cluster_core.specs.Settings.{Setting}
-use Rattle.cluster_core.specs.Worlds.{World}
+use Rattle.cluster_laws.specs.cluster_core.Actions.{MayHappen}
+use Rattle.cluster_laws.specs.cluster_core.Actions as law
+use Rattle.cluster_laws.specs.cluster_core.Parts.{Part}
+use Rattle.cluster_laws.specs.cluster_core.Replays.{IsReplay, ticket_of}
+use Rattle.cluster_laws.specs.cluster_cuts.Goings.{AreUpdatesFrom}
+use Rattle.cluster_laws.specs.cluster_core.Settings.{Setting}
+use Rattle.cluster_laws.specs.cluster_core.Worlds.{World}
 use Rattle.cluster_step.specs.Links.{told_on}
 use Rattle.cluster_step.specs.Worlds.{world_of_parts}
 use Rattle.cluster_step.specs.Inner.Writing.{HaveLinks}

@@ -4,8 +4,8 @@ use Rattle.std.proofs.lemmas.Bool.{ne_eqb}
 use Rattle.std.proofs.lemmas.List.{get_or-map, get_or_default, length-map, map-set}
 use Rattle.std.specs.List.{All}
 use Rattle.std.specs.Prelude.{IsTrue, ◌↔◌}
-use Rattle.cluster_core.specs.Actions.{HasFirst}
-use Rattle.cluster_core.specs.Messages.{Message}
+use Rattle.cluster_laws.specs.cluster_core.Actions.{HasFirst}
+use Rattle.cluster_laws.specs.cluster_core.Messages.{Message}
 use Rattle.cluster_step.specs.Inner.Writing.{with_link_between, HasLinkBetween}
 use Rattle.cluster_step.specs.Links.{LinkView, MessageView, empty_link, link_between, message_read, told_on}
 use Rattle.cluster_step.specs.Inner.Writing.{HaveLinks}

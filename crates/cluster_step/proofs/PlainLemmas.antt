@@ -4,20 +4,20 @@ use Rattle.std.specs.List.{AllByRecursion}
 use Rattle.std.proofs.lemmas.Bool.{cases_eq}
 use Rattle.gl_base.specs.declared.entries.Entry.TheVariants.{Go}
 use Rattle.gl_base.specs.declared.scopes.ScopeId.{ScopeId}
-use Rattle.cluster_core.specs.Actions.{HasFirst, MayHappen, MayUpdate, after, delivers, sends, updates}
-use Rattle.cluster_core.specs.Actions as law
-use Rattle.cluster_core.specs.Effects.{admitted, granted, received, updated, news_for}
-use Rattle.cluster_core.specs.Messages.{Ask, Done, Message, Ready}
-use Rattle.cluster_core.specs.Parts.{Part}
-use Rattle.cluster_core.specs.Ranges.{set_at}
-use Rattle.cluster_core.specs.Scopes.{set_for, takes_part}
-use Rattle.cluster_core.specs.Settings.{Setting}
-use Rattle.cluster_core.specs.Worlds.{World, way}
-use Rattle.cluster_core.proofs.Basics.{set_at-holds, set_at-kept}
-use Rattle.cluster_core.proofs.Taking.{taken, taken-here, taken-there}
-use Rattle.cluster_numbers.proofs.Keeping.{updates_is}
-use Rattle.cluster_numbers.proofs.Quiet.{dones, admitted-quiet, granted-quiet, goes_on-quiet, ready-quiet}
-use Rattle.cluster_numbers.proofs.QuietWorlds.{IsQuietStep, part_quiet, sent_quiet}
+use Rattle.cluster_laws.specs.cluster_core.Actions.{HasFirst, MayHappen, MayUpdate, after, delivers, sends, updates}
+use Rattle.cluster_laws.specs.cluster_core.Actions as law
+use Rattle.cluster_laws.specs.cluster_core.Effects.{admitted, granted, received, updated, news_for}
+use Rattle.cluster_laws.specs.cluster_core.Messages.{Ask, Done, Message, Ready}
+use Rattle.cluster_laws.specs.cluster_core.Parts.{Part}
+use Rattle.cluster_laws.specs.cluster_core.Ranges.{set_at}
+use Rattle.cluster_laws.specs.cluster_core.Scopes.{set_for, takes_part}
+use Rattle.cluster_laws.specs.cluster_core.Settings.{Setting}
+use Rattle.cluster_laws.specs.cluster_core.Worlds.{World, way}
+use Rattle.cluster_laws.proofs.cluster_core.Basics.{set_at-holds, set_at-kept}
+use Rattle.cluster_laws.proofs.cluster_core.Taking.{taken, taken-here, taken-there}
+use Rattle.cluster_laws.proofs.cluster_numbers.Keeping.{updates_is}
+use Rattle.cluster_laws.proofs.cluster_numbers.Quiet.{dones, admitted-quiet, granted-quiet, goes_on-quiet, ready-quiet}
+use Rattle.cluster_laws.proofs.cluster_numbers.QuietWorlds.{IsQuietStep, part_quiet, sent_quiet}
 use Rattle.cluster_step.specs.Events.{Action, IsActionOf}
 use Rattle.cluster_step.specs.Inner.Going.{AreAllPlain, IsPlain}
 use Rattle.cluster_step.specs.declared.events.Event.{Event}

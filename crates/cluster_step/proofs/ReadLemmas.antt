@@ -8,15 +8,15 @@ use Rattle.std.proofs.lemmas.Option.{slice_get_read}
 use Rattle.gl_base.specs.declared.entries.Entry.{Entry}
 use Rattle.gl_base.specs.declared.numbers.Vertex.{Vertex}
 use Rattle.graph_core.specs.DataGraph.{IsEdge, size}
-use Rattle.cluster_core.specs.Actions.{HasFirst}
-use Rattle.cluster_core.specs.Copies.{edge_to_come, from_owner, to_owner}
-use Rattle.cluster_core.specs.Messages.{Ask, Done, Message, Ready}
-use Rattle.cluster_core.specs.Parts.{Part}
-use Rattle.cluster_core.specs.Replays.{IsReplay, replay_of, tasks_of}
-use Rattle.cluster_core.specs.Settings.{Setting, nth_edge}
-use Rattle.cluster_core.specs.Ways.{edge_told, vertex_woken}
-use Rattle.cluster_core.specs.Worlds.{World, way}
-use Rattle.cluster_numbers.proofs.EdgeEnds.{edge_fits}
+use Rattle.cluster_laws.specs.cluster_core.Actions.{HasFirst}
+use Rattle.cluster_laws.specs.cluster_core.Copies.{edge_to_come, from_owner, to_owner}
+use Rattle.cluster_laws.specs.cluster_core.Messages.{Ask, Done, Message, Ready}
+use Rattle.cluster_laws.specs.cluster_core.Parts.{Part}
+use Rattle.cluster_laws.specs.cluster_core.Replays.{IsReplay, replay_of, tasks_of}
+use Rattle.cluster_laws.specs.cluster_core.Settings.{Setting, nth_edge}
+use Rattle.cluster_laws.specs.cluster_core.Ways.{edge_told, vertex_woken}
+use Rattle.cluster_laws.specs.cluster_core.Worlds.{World, way}
+use Rattle.cluster_laws.proofs.cluster_numbers.EdgeEnds.{edge_fits}
 use Rattle.cluster_step.specs.Links.{LinkView, empty_link, message_read}
 use Rattle.cluster_step.specs.Clusters.{ClusterView}
 use Rattle.cluster_step.specs.Inner.Asking.{HasTaskAt, IsFoundAt, NoneSays, is_owner_of, is_owner_with}

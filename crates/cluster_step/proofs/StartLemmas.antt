@@ -3,12 +3,12 @@ use Rattle.std.proofs.Common.{◌≡◌, ◌⊎◌, ◌∙◌, ℕ, zero, suc, �
 use Rattle.std.proofs.lemmas.Bool.{cases_lt}
 use Rattle.std.proofs.lemmas.List.{get_or_past, length-map}
 use Rattle.graph_core.specs.DataGraph.{IsEdge, size}
-use Rattle.cluster_core.specs.Copies.{from_owner, to_owner}
-use Rattle.cluster_core.specs.Parts.{Part}
-use Rattle.cluster_core.specs.Runs.{IsStart}
-use Rattle.cluster_core.specs.Settings.{Chromatic, Engine, Locking, Setting, IsSetting, nth_edge}
-use Rattle.cluster_core.specs.Snapshots.{IsUnmarked}
-use Rattle.cluster_core.proofs.Nearness.{part_low}
+use Rattle.cluster_laws.specs.cluster_core.Copies.{from_owner, to_owner}
+use Rattle.cluster_laws.specs.cluster_core.Parts.{Part}
+use Rattle.cluster_laws.specs.cluster_core.Runs.{IsStart}
+use Rattle.cluster_laws.specs.cluster_core.Settings.{Chromatic, Engine, Locking, Setting, IsSetting, nth_edge}
+use Rattle.cluster_laws.specs.cluster_core.Snapshots.{IsUnmarked}
+use Rattle.cluster_laws.proofs.cluster_core.Nearness.{part_low}
 use Rattle.cluster_step.specs.Links.{told_on}
 use Rattle.cluster_step.specs.Worlds.{part_of_machine, no_part, world_of_parts}
 use Rattle.cluster_step.specs.Starts.{StartIn, StartsBy, IsStartPart}

@@ -6,19 +6,19 @@ use Rattle.std.proofs.lemmas.Bool.{cases_lt}
 use Rattle.std.proofs.lemmas.List.{get_or_past, length-map}
 use Rattle.gl_base.specs.declared.refusals.Refused.{Refused}
 use Rattle.gl_base.specs.declared.scopes.ScopeId.{ScopeId}
-use Rattle.cluster_core.specs.Messages.{Ask, Done, Message, Ready}
-use Rattle.cluster_core.specs.Parts.{Part}
-use Rattle.cluster_core.specs.Places.{ArePlaces, IsExclusive}
-use Rattle.cluster_core.specs.Settings.{Chromatic, Engine, Locking, IsSetting, Setting}
-use Rattle.cluster_core.specs.Stages.{Stage}
-use Rattle.cluster_core.specs.Ways.{IsToldTo}
-use Rattle.cluster_core.specs.Worlds.{World, way, with_part}
-use Rattle.cluster_core.proofs.Basics.{set_at-cases, set_at-kept}
-use Rattle.cluster_core.proofs.Nearness.{part_low}
-use Rattle.cluster_places.proofs.Standing.{aside_keeps}
-use Rattle.cluster_places.specs.Steps.{AreApart, IsOfColour}
-use Rattle.cluster_cuts.specs.Goings.{IsOneStep}
-use Rattle.cluster_cuts.proofs.CutsGoOn.{goes_then, step_goes}
+use Rattle.cluster_laws.specs.cluster_core.Messages.{Ask, Done, Message, Ready}
+use Rattle.cluster_laws.specs.cluster_core.Parts.{Part}
+use Rattle.cluster_laws.specs.cluster_core.Places.{ArePlaces, IsExclusive}
+use Rattle.cluster_laws.specs.cluster_core.Settings.{Chromatic, Engine, Locking, IsSetting, Setting}
+use Rattle.cluster_laws.specs.cluster_core.Stages.{Stage}
+use Rattle.cluster_laws.specs.cluster_core.Ways.{IsToldTo}
+use Rattle.cluster_laws.specs.cluster_core.Worlds.{World, way, with_part}
+use Rattle.cluster_laws.proofs.cluster_core.Basics.{set_at-cases, set_at-kept}
+use Rattle.cluster_laws.proofs.cluster_core.Nearness.{part_low}
+use Rattle.cluster_laws.proofs.cluster_places.Standing.{aside_keeps}
+use Rattle.cluster_laws.specs.cluster_places.Steps.{AreApart, IsOfColour}
+use Rattle.cluster_laws.specs.cluster_cuts.Goings.{IsOneStep}
+use Rattle.cluster_laws.proofs.cluster_cuts.CutsGoOn.{goes_then, step_goes}
 use Rattle.cluster_whole.specs.Views.{IsMove, IsTurned}
 use Rattle.cluster_whole.proofs.Keeping.{move_step}
 use Rattle.step_worlds.specs.Going.{GoesInStep, IsAtStandstill, IsStepMessage}

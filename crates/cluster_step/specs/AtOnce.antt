@@ -1,9 +1,9 @@
 -- An update at once, as a move of the cluster.
-pub use Rattle.cluster_core.specs.Actions.{MayAdmit}
-pub use Rattle.cluster_core.specs.Runs.{IsActionRun}
+pub use Rattle.cluster_laws.specs.cluster_core.Actions.{MayAdmit}
+pub use Rattle.cluster_laws.specs.cluster_core.Runs.{IsActionRun}
 pub use Rattle.interior_scopes.specs.AtOnce.{MayUpdateAtOnce, actions_at_once, after_at_once}
 use Rattle.std.specs.Prelude.{ℕ, ◌≡◌, ◌≢◌, ◌⊎◌}
-use Rattle.cluster_core.specs.Settings.{Locking}
+use Rattle.cluster_laws.specs.cluster_core.Settings.{Locking}
 use Rattle.gl_base.specs.declared.numbers.MachineNo.{MachineNo}
 use Rattle.cluster_step.specs.Events.{CanNotMakeEvent}
 use Rattle.cluster_step.specs.Worlds.{Part, Setting, World, world_of_parts}

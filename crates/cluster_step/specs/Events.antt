@@ -1,7 +1,7 @@
 -- The events of a cluster, as actions of the cluster's law.
-pub use Rattle.cluster_core.specs.Actions.{Action, HasFirst, IsActionStep, MayHappen}
+pub use Rattle.cluster_laws.specs.cluster_core.Actions.{Action, HasFirst, IsActionStep, MayHappen}
 use Rattle.std.specs.Prelude.{false, ℕ, ⊤, ◌<◌, ◌≡◌}
-use Rattle.cluster_core.specs.Actions as law
+use Rattle.cluster_laws.specs.cluster_core.Actions as law
 use Rattle.cluster_step.specs.Worlds.{Part, Setting, World, world_of_parts}
 use Rattle.cluster_step.specs.declared.events.Event.{Event}
 use Rattle.cluster_step.specs.declared.events.Event.TheVariants.{Admit, Deliver, Grant, Send, Update}

@@ -1,7 +1,7 @@
 -- Locks that a machine grants in turn, as actions of the cluster.
 use Rattle.std.specs.Prelude.{ℕ, List, ◌∷◌, map}
-use Rattle.cluster_core.specs.Actions.{Grant}
-use Rattle.cluster_core.specs.Runs.{IsActionRun}
+use Rattle.cluster_laws.specs.cluster_core.Actions.{Grant}
+use Rattle.cluster_laws.specs.cluster_core.Runs.{IsActionRun}
 use Rattle.cluster_step.specs.Worlds.{Part, Setting, world_of_parts}
 use Rattle.cluster_step.specs.declared.parts.Parts.{Parts}
 

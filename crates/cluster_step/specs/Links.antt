@@ -1,7 +1,7 @@
 -- The links between machines, as plain lists.
 pub use Rattle.cluster_machines.specs.Told.{MessageView, message_view, message_read}
 use Rattle.std.specs.Prelude.{List, [], map, slice_index_or, ℕ}
-use Rattle.cluster_core.specs.Messages.{Message}
+use Rattle.cluster_laws.specs.cluster_core.Messages.{Message}
 
 -- The messages on a link, the first first, and for how many more there is room.
 pub record LinkView : Type 0 where

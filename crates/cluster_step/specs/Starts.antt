@@ -1,20 +1,20 @@
 -- How a cluster begins, and what can be read of what has happened in it since.
-pub use Rattle.cluster_core.specs.Settings.{IsSetting}
+pub use Rattle.cluster_laws.specs.cluster_core.Settings.{IsSetting}
 pub use Rattle.cluster_step.specs.Worlds.{Part, Setting, World, part_of_machine, world_of_parts}
 use Rattle.std.specs.List.{AllByRecursion, list_any}
 use Rattle.std.specs.Prelude.{Bool, List, None, Some, [], false, length, slice_get, true, ℕ, ⊤, ◌+◌, ◌<◌, ◌≡◌, ◌⊎◌, ◌↔◌}
 use Rattle.gl_base.specs.declared.entries.Entry.{Entry}
 use Rattle.gl_base.specs.declared.scopes.ScopeId.{ScopeId}
-use Rattle.cluster_core.specs.Copies.{agreed, from_owner, to_owner}
-use Rattle.cluster_core.specs.Messages.{Ask, Done, Message, Ready}
-pub use Rattle.cluster_core.specs.Replays.{IsFresh, IsTask, entries_of, replay_of, tasks_of}
-pub use Rattle.cluster_core.specs.Runs.{IsStart}
+use Rattle.cluster_laws.specs.cluster_core.Copies.{agreed, from_owner, to_owner}
+use Rattle.cluster_laws.specs.cluster_core.Messages.{Ask, Done, Message, Ready}
+pub use Rattle.cluster_laws.specs.cluster_core.Replays.{IsFresh, IsTask, entries_of, replay_of, tasks_of}
+pub use Rattle.cluster_laws.specs.cluster_core.Runs.{IsStart}
 pub use Rattle.graph_core.specs.DataGraph.{size}
-use Rattle.cluster_core.specs.Scopes.{takes_part}
-use Rattle.cluster_core.specs.Settings.{Chromatic, Engine, Locking, nth_edge}
-use Rattle.cluster_core.specs.Worlds.{way}
-use Rattle.cluster_cuts.specs.Goings.{AreUpdatesFrom, IsByOwner, IsOfVertexBelow}
-use Rattle.cluster_places.specs.Steps.{AreApart}
+use Rattle.cluster_laws.specs.cluster_core.Scopes.{takes_part}
+use Rattle.cluster_laws.specs.cluster_core.Settings.{Chromatic, Engine, Locking, nth_edge}
+use Rattle.cluster_laws.specs.cluster_core.Worlds.{way}
+use Rattle.cluster_laws.specs.cluster_cuts.Goings.{AreUpdatesFrom, IsByOwner, IsOfVertexBelow}
+use Rattle.cluster_laws.specs.cluster_places.Steps.{AreApart}
 use Rattle.seq_run.specs.Orders.{IsValidFrom, all_tasks}
 use Rattle.cluster_step.specs.declared.events.Event.{Event}
 use Rattle.cluster_step.specs.declared.events.Event.TheVariants.{Admit, Deliver, Grant, Send, Update}

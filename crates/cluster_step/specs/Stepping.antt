@@ -1,6 +1,6 @@
 -- Steps of a cluster whose vertices run by colours.
 pub use Rattle.cluster_machines.specs.Steps.{IsStepOver, IsShareDone, closes, steps_to}
-pub use Rattle.cluster_core.specs.Worlds.{way, with_part}
+pub use Rattle.cluster_laws.specs.cluster_core.Worlds.{way, with_part}
 use Rattle.std.specs.Prelude.{[], false, if◌then◌else◌, length, nat_lt, ℕ, ◌<◌, ◌≡◌}
 use Rattle.cluster_step.specs.Worlds.{Part, Setting, World, world_of_parts}
 use Rattle.cluster_step.specs.declared.parts.Parts.{Parts}

@@ -1,8 +1,8 @@
 -- A cluster's machines and links, and the world of the cluster's law that they stand for.
 pub use Rattle.cluster_machines.specs.Promises.{Part, Setting}
-pub use Rattle.cluster_core.specs.Worlds.{World}
+pub use Rattle.cluster_laws.specs.cluster_core.Worlds.{World}
 use Rattle.std.specs.Prelude.{List, None, [], false, map, slice_index_or, true, ℕ}
-use Rattle.cluster_core.specs.Effects.{nothing_saved}
+use Rattle.cluster_laws.specs.cluster_core.Effects.{nothing_saved}
 use Rattle.cluster_step.specs.Links.{told_on}
 use Rattle.cluster_step.specs.declared.parts.Parts.{Parts}
 

@@ -1,10 +1,10 @@
 -- What is kept of a whole cluster whose vertices run by colours.
 use Rattle.std.proofs.Common.{◌≡◌, ℕ, subst}
-use Rattle.cluster_core.specs.Settings.{Chromatic, Engine, Locking, Setting}
-use Rattle.cluster_core.specs.Places.{ArePlaces}
-use Rattle.cluster_core.specs.Stages.{Stage}
+use Rattle.cluster_laws.specs.cluster_core.Settings.{Chromatic, Engine, Locking, Setting}
+use Rattle.cluster_laws.specs.cluster_core.Places.{ArePlaces}
+use Rattle.cluster_laws.specs.cluster_core.Stages.{Stage}
 use Rattle.gl_base.specs.declared.scopes.ScopeId.{ScopeId}
-use Rattle.cluster_model.specs.Clusters.{Cluster}
+use Rattle.cluster_laws.specs.cluster_model.Clusters.{Cluster}
 use Rattle.cluster_whole.specs.Steps.{AreInTurn}
 use Rattle.cluster_whole.specs.Views.{world_of}
 use Rattle.cluster_whole.specs.Whole.{AreKeptApart, IsWhole}

@@ -5,14 +5,14 @@ use Rattle.std.proofs.lemmas.Bool.{cases_lt, both_ways}
 use Rattle.std.proofs.lemmas.List.Sums.{sum_by-append}
 use Rattle.gl_base.specs.declared.scopes.Counted.{Counted}
 use Rattle.gl_base.specs.declared.scopes.ScopeId.{ScopeId}
-use Rattle.cluster_core.specs.Messages.{Ask, Done, Message, Ready}
-use Rattle.cluster_core.specs.Settings.{Setting}
-use Rattle.cluster_core.specs.Worlds.{way}
-use Rattle.cluster_model.specs.Clusters.{Cluster}
-use Rattle.cluster_model.specs.Machines.{Machine}
-use Rattle.cluster_model.specs.Rounds.{AreEven, Rounds, StepIsDue}
-use Rattle.cluster_model.specs.Totals.{total, total_from}
-use Rattle.cluster_model.specs.TwoWaves.{received_of, sent_of, total_received, total_sent}
+use Rattle.cluster_laws.specs.cluster_core.Messages.{Ask, Done, Message, Ready}
+use Rattle.cluster_laws.specs.cluster_core.Settings.{Setting}
+use Rattle.cluster_laws.specs.cluster_core.Worlds.{way}
+use Rattle.cluster_laws.specs.cluster_model.Clusters.{Cluster}
+use Rattle.cluster_laws.specs.cluster_model.Machines.{Machine}
+use Rattle.cluster_laws.specs.cluster_model.Rounds.{AreEven, Rounds, StepIsDue}
+use Rattle.cluster_laws.specs.cluster_model.Totals.{total, total_from}
+use Rattle.cluster_laws.specs.cluster_model.TwoWaves.{received_of, sent_of, total_received, total_sent}
 use Rattle.cluster_whole.specs.Steps.{AreInTurn, ComesBetween, IsCalled, Holds, StaysShut, Tells, Told, Turn, come_of, has_come, is_told, under_way}
 use Rattle.cluster_whole.specs.Views.{world_of}
 use Rattle.cluster_whole.proofs.Flows.{nothing_under_way, total_from-below}

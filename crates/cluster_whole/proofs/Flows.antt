@@ -1,14 +1,14 @@
 -- Sums over the machines, and how many messages are under way as parts and links change.
 use Rattle.std.proofs.Common.{◌≡◌, ◌≢◌, ◌⊎◌, ℕ, zero, suc, ◌+◌, ◌-◌, ◌<◌, ◌≤◌, List, [], ◌∷◌, ◌++◌, length, refl, sym, ◌∙◌, ap, subst, ⊎_elim, inl, inr, le_antisymm, le_refl, ne_of_lt, length-append, arith}
 use Rattle.std.proofs.lemmas.Bool.{cases_eq, cases_lt}
-use Rattle.cluster_core.specs.Messages.{Message}
-use Rattle.cluster_core.specs.Parts.{Part}
-use Rattle.cluster_core.specs.Ranges.{set_at}
-use Rattle.cluster_core.specs.Settings.{Setting}
-use Rattle.cluster_core.specs.Worlds.{World, way}
-use Rattle.cluster_core.proofs.Basics.{set_at-other, set_at-same}
-use Rattle.cluster_model.specs.Machines.{gained}
-use Rattle.cluster_model.specs.Totals.{total, total_from}
+use Rattle.cluster_laws.specs.cluster_core.Messages.{Message}
+use Rattle.cluster_laws.specs.cluster_core.Parts.{Part}
+use Rattle.cluster_laws.specs.cluster_core.Ranges.{set_at}
+use Rattle.cluster_laws.specs.cluster_core.Settings.{Setting}
+use Rattle.cluster_laws.specs.cluster_core.Worlds.{World, way}
+use Rattle.cluster_laws.proofs.cluster_core.Basics.{set_at-other, set_at-same}
+use Rattle.cluster_laws.specs.cluster_model.Machines.{gained}
+use Rattle.cluster_laws.specs.cluster_model.Totals.{total, total_from}
 use Rattle.cluster_whole.specs.Steps.{under_way}
 
 start_low : (k many : ℕ) → k < k + suc many

@@ -3,17 +3,17 @@ use Rattle.std.proofs.Common.{◌≡◌, ◌≢◌, ℕ, pred, ◌+◌, ◌<◌,
 use Rattle.std.specs.List.{AllByRecursion}
 use Rattle.std.proofs.lemmas.Bool.{both_ways, cases_eq}
 use Rattle.gl_base.specs.declared.scopes.ScopeId.{ScopeId}
-use Rattle.cluster_core.specs.Messages.{Message}
-use Rattle.cluster_core.specs.Ranges.{set_at}
-use Rattle.cluster_core.specs.Settings.{Setting}
-use Rattle.cluster_core.specs.Worlds.{way}
-use Rattle.cluster_core.proofs.Basics.{set_at-holds, set_at-kept, set_at-other, set_at-same}
-use Rattle.cluster_model.specs.Calls.{Begin, Call, Committed, Step, Wave}
-use Rattle.cluster_model.specs.Clusters.{Cluster, call_way, with_calls, with_machine}
-use Rattle.cluster_model.specs.Machines.{Machine}
-use Rattle.cluster_model.specs.Rounds.{Rounds}
-use Rattle.cluster_model.specs.Totals.{total}
-use Rattle.cluster_model.specs.Working.{takes_call}
+use Rattle.cluster_laws.specs.cluster_core.Messages.{Message}
+use Rattle.cluster_laws.specs.cluster_core.Ranges.{set_at}
+use Rattle.cluster_laws.specs.cluster_core.Settings.{Setting}
+use Rattle.cluster_laws.specs.cluster_core.Worlds.{way}
+use Rattle.cluster_laws.proofs.cluster_core.Basics.{set_at-holds, set_at-kept, set_at-other, set_at-same}
+use Rattle.cluster_laws.specs.cluster_model.Calls.{Begin, Call, Committed, Step, Wave}
+use Rattle.cluster_laws.specs.cluster_model.Clusters.{Cluster, call_way, with_calls, with_machine}
+use Rattle.cluster_laws.specs.cluster_model.Machines.{Machine}
+use Rattle.cluster_laws.specs.cluster_model.Rounds.{Rounds}
+use Rattle.cluster_laws.specs.cluster_model.Totals.{total}
+use Rattle.cluster_laws.specs.cluster_model.Working.{takes_call}
 use Rattle.cluster_whole.specs.Steps.{AreInTurn, Holds, IsAt, ComesBetween, IsCalled, StaysShut, Tells, Told, Turn, calls_of, come_of, counts_in, has_come, held_of, is_told, reports_of, rounds_in, step_of}
 use Rattle.cluster_whole.specs.Views.{world_of}
 use Rattle.cluster_whole.proofs.Flows.{same_flows}

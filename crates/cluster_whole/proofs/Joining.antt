@@ -2,22 +2,22 @@
 use Rattle.std.proofs.Common.{◌≡◌, ℕ, suc, pred, Bool, ◌&&◌, is_some, None, Option, Some, List, [], ◌∷◌, ◌++◌, inl, inr, refl, sym, ◌∙◌, ap, subst, append-nil}
 use Rattle.gl_base.specs.declared.entries.Entry.{Entry}
 use Rattle.gl_base.specs.declared.entries.Entry.TheVariants.{Go}
-use Rattle.cluster_core.specs.Actions.{Action, HasFirst, HasOrder, HasSection, MayHappen, after, begins_one, collects, delivers, draws, hears, marks, records, sends, sends_section, updates}
-use Rattle.cluster_core.specs.Messages as core
-use Rattle.cluster_core.specs.Messages.{Message}
-use Rattle.cluster_core.specs.Parts.{Part}
-use Rattle.cluster_core.specs.Ranges.{set_at}
-use Rattle.cluster_core.specs.Settings.{Setting}
-use Rattle.cluster_core.specs.Worlds.{World, with_part}
-use Rattle.cluster_core.specs.Actions as act
-use Rattle.cluster_core.proofs.Basics.{set_at-holds, set_at-kept, set_at-other, set_at-same}
-use Rattle.cluster_model.specs.Calls.{Begin, Call, Committed, Count, Report, Saved, Step, Want, Wave, begins_in, sections_in}
-use Rattle.cluster_model.specs.Clusters.{BaseView, Cluster, call_way, report_way, with_machine}
-use Rattle.cluster_model.specs.Events.{Event, Admit, DeliverCall, DeliverReport, Deliver, Fail, Grant, Mark, MayDo, PutBegin, PutStep, PutWave, Record, Recover, Section, Send, SendCall, SendReport, Stop, Update, after_event, delivers_call, delivers_message, delivers_report, makes, saves, sends_call, sends_message, sends_report}
-use Rattle.cluster_model.specs.Rounds.{with_step}
-use Rattle.cluster_model.specs.Leading.{Come}
-use Rattle.cluster_model.specs.Machines.{Machine, count_of}
-use Rattle.cluster_model.specs.Working.{admits, asks_if, asks_more, commits, fails, grants, hands, hands_report, is_done, makes_mark, makes_update, or_zero, prompt, receives, sections, takes_call, works_on}
+use Rattle.cluster_laws.specs.cluster_core.Actions.{Action, HasFirst, HasOrder, HasSection, MayHappen, after, begins_one, collects, delivers, draws, hears, marks, records, sends, sends_section, updates}
+use Rattle.cluster_laws.specs.cluster_core.Messages as core
+use Rattle.cluster_laws.specs.cluster_core.Messages.{Message}
+use Rattle.cluster_laws.specs.cluster_core.Parts.{Part}
+use Rattle.cluster_laws.specs.cluster_core.Ranges.{set_at}
+use Rattle.cluster_laws.specs.cluster_core.Settings.{Setting}
+use Rattle.cluster_laws.specs.cluster_core.Worlds.{World, with_part}
+use Rattle.cluster_laws.specs.cluster_core.Actions as act
+use Rattle.cluster_laws.proofs.cluster_core.Basics.{set_at-holds, set_at-kept, set_at-other, set_at-same}
+use Rattle.cluster_laws.specs.cluster_model.Calls.{Begin, Call, Committed, Count, Report, Saved, Step, Want, Wave, begins_in, sections_in}
+use Rattle.cluster_laws.specs.cluster_model.Clusters.{BaseView, Cluster, call_way, report_way, with_machine}
+use Rattle.cluster_laws.specs.cluster_model.Events.{Event, Admit, DeliverCall, DeliverReport, Deliver, Fail, Grant, Mark, MayDo, PutBegin, PutStep, PutWave, Record, Recover, Section, Send, SendCall, SendReport, Stop, Update, after_event, delivers_call, delivers_message, delivers_report, makes, saves, sends_call, sends_message, sends_report}
+use Rattle.cluster_laws.specs.cluster_model.Rounds.{with_step}
+use Rattle.cluster_laws.specs.cluster_model.Leading.{Come}
+use Rattle.cluster_laws.specs.cluster_model.Machines.{Machine, count_of}
+use Rattle.cluster_laws.specs.cluster_model.Working.{admits, asks_if, asks_more, commits, fails, grants, hands, hands_report, is_done, makes_mark, makes_update, or_zero, prompt, receives, sections, takes_call, works_on}
 use Rattle.cluster_whole.specs.Views.{IsMove, IsTurned, section_of, world_of}
 use Rattle.cluster_whole.proofs.Pieces.{begins-append, begins_pushed, passed, read_at, sections-append, sections_pushed, sections_told, set_twice}
 

@@ -3,23 +3,23 @@ use Rattle.std.proofs.Common.{◌≡◌, ℕ, ◌⊎◌, refl, sym, ap, subst, i
 use Rattle.std.specs.List.{AllByRecursion}
 use Rattle.gl_base.specs.declared.scopes.Datum.{Datum}
 use Rattle.gl_base.specs.declared.scopes.ScopeId.{ScopeId}
-use Rattle.cluster_core.specs.Actions.{Action, IsActionStep}
-use Rattle.cluster_core.specs.Marks.{IsMarking}
-use Rattle.cluster_core.specs.Parts.{Part}
-use Rattle.cluster_core.specs.Places.{ArePlaces, IsExclusive}
-use Rattle.cluster_core.specs.Settings.{IsSetting, Locking, Setting}
-use Rattle.cluster_core.specs.Snapshots.{IsConsistent}
-use Rattle.cluster_core.specs.Stages.{Stage}
-use Rattle.cluster_core.specs.Worlds.{World, way, with_part}
-use Rattle.cluster_core.proofs.Basics.{set_at-kept}
-use Rattle.cluster_numbers.proofs.Quiet.{IsQuiet, dones}
-use Rattle.cluster_numbers.proofs.QuietWorlds.{IsQuietStep, copies_quiet, part_quiet, replay_quiet}
-use Rattle.cluster_places.proofs.PlacesKept.{action_keeps}
-use Rattle.cluster_places.proofs.Standing.{aside_keeps}
-use Rattle.cluster_cuts.specs.Goings.{BeginsOne, IsOneStep, StaysSo, UpdatesOne}
-use Rattle.cluster_cuts.proofs.CutFrames.{cut_framed, quiet_named, still_frame}
-use Rattle.cluster_cuts.proofs.CutsKept.{one_step}
-use Rattle.cluster_cuts.proofs.MarkSteps.{IsStillStep, marking-dones, marking-from_dones, marks_still}
+use Rattle.cluster_laws.specs.cluster_core.Actions.{Action, IsActionStep}
+use Rattle.cluster_laws.specs.cluster_core.Marks.{IsMarking}
+use Rattle.cluster_laws.specs.cluster_core.Parts.{Part}
+use Rattle.cluster_laws.specs.cluster_core.Places.{ArePlaces, IsExclusive}
+use Rattle.cluster_laws.specs.cluster_core.Settings.{IsSetting, Locking, Setting}
+use Rattle.cluster_laws.specs.cluster_core.Snapshots.{IsConsistent}
+use Rattle.cluster_laws.specs.cluster_core.Stages.{Stage}
+use Rattle.cluster_laws.specs.cluster_core.Worlds.{World, way, with_part}
+use Rattle.cluster_laws.proofs.cluster_core.Basics.{set_at-kept}
+use Rattle.cluster_laws.proofs.cluster_numbers.Quiet.{IsQuiet, dones}
+use Rattle.cluster_laws.proofs.cluster_numbers.QuietWorlds.{IsQuietStep, copies_quiet, part_quiet, replay_quiet}
+use Rattle.cluster_laws.proofs.cluster_places.PlacesKept.{action_keeps}
+use Rattle.cluster_laws.proofs.cluster_places.Standing.{aside_keeps}
+use Rattle.cluster_laws.specs.cluster_cuts.Goings.{BeginsOne, IsOneStep, StaysSo, UpdatesOne}
+use Rattle.cluster_laws.proofs.cluster_cuts.CutFrames.{cut_framed, quiet_named, still_frame}
+use Rattle.cluster_laws.proofs.cluster_cuts.CutsKept.{one_step}
+use Rattle.cluster_laws.proofs.cluster_cuts.MarkSteps.{IsStillStep, marking-dones, marking-from_dones, marks_still}
 use Rattle.cluster_whole.specs.Views.{IsMove, IsTurned, MayTurn}
 
 -- ---- a turn

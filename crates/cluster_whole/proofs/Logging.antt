@@ -5,12 +5,12 @@ use Rattle.std.proofs.lemmas.Bool.{cases_lt, false_from_ne_true}
 use Rattle.gl_base.specs.declared.entries.Entry.{Entry}
 use Rattle.gl_base.specs.declared.entries.Entry.TheVariants.{Go}
 use Rattle.graph_core.proofs.HalvesLaws.{each-append}
-use Rattle.cluster_core.specs.Cuts.{cut_of}
-use Rattle.cluster_core.specs.Marks.{mark_of}
-use Rattle.cluster_core.specs.Settings.{IsSetting, Setting}
-use Rattle.cluster_core.specs.Snapshots.{IsConsistent}
-use Rattle.cluster_core.specs.Worlds.{World}
-use Rattle.cluster_cuts.specs.Goings.{BeginsOne, IsOneStep, StaysSo, UpdatesOne}
+use Rattle.cluster_laws.specs.cluster_core.Cuts.{cut_of}
+use Rattle.cluster_laws.specs.cluster_core.Marks.{mark_of}
+use Rattle.cluster_laws.specs.cluster_core.Settings.{IsSetting, Setting}
+use Rattle.cluster_laws.specs.cluster_core.Snapshots.{IsConsistent}
+use Rattle.cluster_laws.specs.cluster_core.Worlds.{World}
+use Rattle.cluster_laws.specs.cluster_cuts.Goings.{BeginsOne, IsOneStep, StaysSo, UpdatesOne}
 use Rattle.cluster_whole.specs.Logged.{IsLogged, Logged, all_entries, entries_to, entry_of, is_up_to}
 
 -- ---- one update more

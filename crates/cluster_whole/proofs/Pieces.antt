@@ -1,9 +1,9 @@
 -- What is seen of lists that are joined, and of functions changed at one place.
 use Rattle.std.proofs.Common.{◌≡◌, ◌≢◌, ℕ, Bool, true, false, if◌then◌else◌, List, [], ◌∷◌, ◌++◌, refl, sym, ◌∙◌, ap, ⊎_elim, append_assoc, append-nil}
 use Rattle.std.proofs.lemmas.Bool.{cases_eq, eq-eqb, ne_eqb}
-use Rattle.cluster_core.specs.Messages.{Section}
-use Rattle.cluster_core.specs.Ranges.{set_at}
-use Rattle.cluster_model.specs.Calls.{Begin, Call, Committed, Count, Report, Saved, Step, Want, Wave, begins_in, sections_in}
+use Rattle.cluster_laws.specs.cluster_core.Messages.{Section}
+use Rattle.cluster_laws.specs.cluster_core.Ranges.{set_at}
+use Rattle.cluster_laws.specs.cluster_model.Calls.{Begin, Call, Committed, Count, Report, Saved, Step, Want, Wave, begins_in, sections_in}
 
 pub begins-append : (xs ys : List Call) → begins_in (xs ++ ys) ≡ begins_in xs ++ begins_in ys
 begins-append [] ys = refl

@@ -2,13 +2,13 @@
 use Rattle.std.proofs.Common.{◌≡◌, ℕ, suc, pred, ◌<◌, ◌≤◌, true, false, None, Some, List, [], ◌∷◌, ◌++◌, slice_index_or, refl, sym, ◌∙◌, ap, subst, append-nil, arith}
 use Rattle.std.specs.List.{AllByRecursion}
 use Rattle.std.proofs.lemmas.Bool.{both_ways}
-use Rattle.cluster_core.specs.Settings.{Setting}
-use Rattle.cluster_model.specs.Calls.{Call, Step, Wave}
-use Rattle.cluster_model.specs.Clusters.{Cluster, call_way, with_coordinator}
-use Rattle.cluster_model.specs.Leading.{puts_step, puts_wave}
-use Rattle.cluster_model.specs.Rounds.{Rounds, StepIsDue, with_step, with_wave}
-use Rattle.cluster_model.specs.TwoWaves.{turned}
-use Rattle.cluster_places.specs.Steps.{IsOfColour}
+use Rattle.cluster_laws.specs.cluster_core.Settings.{Setting}
+use Rattle.cluster_laws.specs.cluster_model.Calls.{Call, Step, Wave}
+use Rattle.cluster_laws.specs.cluster_model.Clusters.{Cluster, call_way, with_coordinator}
+use Rattle.cluster_laws.specs.cluster_model.Leading.{puts_step, puts_wave}
+use Rattle.cluster_laws.specs.cluster_model.Rounds.{Rounds, StepIsDue, with_step, with_wave}
+use Rattle.cluster_laws.specs.cluster_model.TwoWaves.{turned}
+use Rattle.cluster_laws.specs.cluster_places.Steps.{IsOfColour}
 use Rattle.cluster_whole.specs.Steps.{AreInTurn, Holds, IsAt, ComesBetween, IsCalled, Tells, Told, Turn, calls_of, held_of, is_told, reports_of, rounds_in, step_of}
 use Rattle.cluster_whole.proofs.Due.{due_closed, due_free, due_made, due_ways}
 use Rattle.cluster_whole.proofs.Turning.{rounds_pushed}

@@ -7,28 +7,28 @@ use Rattle.gl_base.specs.declared.entries.Entry.TheVariants.{Go}
 use Rattle.gl_base.specs.declared.scopes.Claim.{Claim}
 use Rattle.gl_base.specs.declared.scopes.ScopeId.{ScopeId}
 use Rattle.graph_core.proofs.HalvesLaws.{each-append}
-use Rattle.cluster_core.specs.Actions.{Action, HasFirst, IsItsTurn, MayHappen, after, delivers, hears, marks, sends, updates}
-use Rattle.cluster_core.specs.Actions as act
-use Rattle.cluster_core.specs.Effects.{admitted_by, mark_news, news_for, received, tell}
-use Rattle.cluster_core.specs.Messages.{Ask, Done, Message, News, Ready}
-use Rattle.cluster_core.specs.Parts.{Part}
-use Rattle.cluster_core.specs.Ranges.{set_at}
-use Rattle.cluster_core.specs.Scopes.{takes_part}
-use Rattle.cluster_core.specs.Settings.{Chromatic, Engine, IsSetting, Setting}
-use Rattle.cluster_core.specs.Worlds.{World, way}
-use Rattle.cluster_core.proofs.Basics.{set_at-holds, set_at-kept, set_at-other, set_at-same}
-use Rattle.cluster_core.proofs.Nearness.{part_low}
-use Rattle.cluster_core.proofs.Taking.{same_way, sent-way, taken, taken-here, taken-there}
-use Rattle.cluster_places.proofs.StepsKept.{action_stays}
-use Rattle.cluster_places.specs.Steps.{IsInStep}
+use Rattle.cluster_laws.specs.cluster_core.Actions.{Action, HasFirst, IsItsTurn, MayHappen, after, delivers, hears, marks, sends, updates}
+use Rattle.cluster_laws.specs.cluster_core.Actions as act
+use Rattle.cluster_laws.specs.cluster_core.Effects.{admitted_by, mark_news, news_for, received, tell}
+use Rattle.cluster_laws.specs.cluster_core.Messages.{Ask, Done, Message, News, Ready}
+use Rattle.cluster_laws.specs.cluster_core.Parts.{Part}
+use Rattle.cluster_laws.specs.cluster_core.Ranges.{set_at}
+use Rattle.cluster_laws.specs.cluster_core.Scopes.{takes_part}
+use Rattle.cluster_laws.specs.cluster_core.Settings.{Chromatic, Engine, IsSetting, Setting}
+use Rattle.cluster_laws.specs.cluster_core.Worlds.{World, way}
+use Rattle.cluster_laws.proofs.cluster_core.Basics.{set_at-holds, set_at-kept, set_at-other, set_at-same}
+use Rattle.cluster_laws.proofs.cluster_core.Nearness.{part_low}
+use Rattle.cluster_laws.proofs.cluster_core.Taking.{same_way, sent-way, taken, taken-here, taken-there}
+use Rattle.cluster_laws.proofs.cluster_places.StepsKept.{action_stays}
+use Rattle.cluster_laws.specs.cluster_places.Steps.{IsInStep}
 use Rattle.graph_core.specs.DataGraph.{size}
-use Rattle.cluster_model.specs.Calls.{Begin, Call, Committed, Count, Report, Saved, Step, Want, Wave, begins_in, sections_in}
-use Rattle.cluster_model.specs.Clusters.{BaseView, Cluster, call_way, report_way}
-use Rattle.cluster_model.specs.Events.{Event, Admit, DeliverCall, DeliverReport, Deliver, Fail, Grant, Mark, MayDo, PutBegin, PutStep, PutWave, Record, Recover, Section, Send, SendCall, SendReport, Stop, Update, after_event, delivers_call, delivers_message, delivers_report, makes, saves, sends_call, sends_message, sends_report}
-use Rattle.cluster_model.specs.Machines.{Machine, gained}
-use Rattle.cluster_model.specs.Rounds.{Rounds}
-use Rattle.cluster_model.specs.Totals.{total}
-use Rattle.cluster_model.specs.Working.{admits, asks_more, commits, fails, hands, hands_report, makes_mark, makes_update, prompt, receives, sections, takes_call, works_on}
+use Rattle.cluster_laws.specs.cluster_model.Calls.{Begin, Call, Committed, Count, Report, Saved, Step, Want, Wave, begins_in, sections_in}
+use Rattle.cluster_laws.specs.cluster_model.Clusters.{BaseView, Cluster, call_way, report_way}
+use Rattle.cluster_laws.specs.cluster_model.Events.{Event, Admit, DeliverCall, DeliverReport, Deliver, Fail, Grant, Mark, MayDo, PutBegin, PutStep, PutWave, Record, Recover, Section, Send, SendCall, SendReport, Stop, Update, after_event, delivers_call, delivers_message, delivers_report, makes, saves, sends_call, sends_message, sends_report}
+use Rattle.cluster_laws.specs.cluster_model.Machines.{Machine, gained}
+use Rattle.cluster_laws.specs.cluster_model.Rounds.{Rounds}
+use Rattle.cluster_laws.specs.cluster_model.Totals.{total}
+use Rattle.cluster_laws.specs.cluster_model.Working.{admits, asks_more, commits, fails, hands, hands_report, makes_mark, makes_update, prompt, receives, sections, takes_call, works_on}
 use Rattle.cluster_whole.specs.Steps.{AreInTurn, ComesBetween, IsWordBetween, counts_in, rounds_in, under_way}
 use Rattle.cluster_whole.specs.Views.{world_of}
 use Rattle.cluster_whole.specs.Windows.{AreWithin, StaysWithin}

@@ -4,15 +4,15 @@ use Rattle.std.proofs.lemmas.Bool.{both_ways, cases_Bool, cases_eq}
 use Rattle.std.proofs.lemmas.List.{get_or-replicate, length-replicate, length-set}
 use Rattle.std.proofs.lemmas.List.Folds.{list_all_at}
 use Rattle.gl_base.specs.declared.scopes.Counted.{Counted}
-use Rattle.cluster_core.specs.Ranges.{set_at}
-use Rattle.cluster_core.specs.Settings.{Setting}
-use Rattle.cluster_core.proofs.Basics.{set_at-holds, set_at-other, set_at-same}
-use Rattle.cluster_model.specs.Calls.{Count, Report, Saved, Want}
-use Rattle.cluster_model.specs.Clusters.{Cluster, with_coordinator, with_reports}
-use Rattle.cluster_model.specs.Counting.{MayBeCounted}
-use Rattle.cluster_model.specs.Leading.{takes_report}
-use Rattle.cluster_model.specs.Rounds.{Rounds, with_counts}
-use Rattle.cluster_model.specs.TwoWaves.{TwoWaves, all_answered, no_counts, turned}
+use Rattle.cluster_laws.specs.cluster_core.Ranges.{set_at}
+use Rattle.cluster_laws.specs.cluster_core.Settings.{Setting}
+use Rattle.cluster_laws.proofs.cluster_core.Basics.{set_at-holds, set_at-other, set_at-same}
+use Rattle.cluster_laws.specs.cluster_model.Calls.{Count, Report, Saved, Want}
+use Rattle.cluster_laws.specs.cluster_model.Clusters.{Cluster, with_coordinator, with_reports}
+use Rattle.cluster_laws.specs.cluster_model.Counting.{MayBeCounted}
+use Rattle.cluster_laws.specs.cluster_model.Leading.{takes_report}
+use Rattle.cluster_laws.specs.cluster_model.Rounds.{Rounds, with_counts}
+use Rattle.cluster_laws.specs.cluster_model.TwoWaves.{TwoWaves, all_answered, no_counts, turned}
 use Rattle.cluster_whole.specs.Steps.{AreInTurn, Holds, IsAt, IsCalled, StaysShut, Tells, Told, Turn, calls_of, come_of, counts_in, has_come, held_of, is_told, reports_of, step_of}
 
 pub turned_whole : (ws : TwoWaves) → all_answered ws.wave ≡ true → turned ws ≡ record { before = ws.wave; wave = no_counts (length ws.wave) }

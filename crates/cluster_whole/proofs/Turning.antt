@@ -3,18 +3,18 @@ use Rattle.std.proofs.Common.{◌≡◌, ◌≢◌, ℕ, pred, ◌+◌, ◌<◌,
 use Rattle.std.specs.List.{AllByRecursion}
 use Rattle.std.proofs.lemmas.Bool.{and_parts, both_ways, cases_eq, eqb-true, or_cases}
 use Rattle.gl_base.specs.declared.scopes.ScopeId.{ScopeId}
-use Rattle.cluster_core.specs.Messages.{Message}
-use Rattle.cluster_core.specs.Ranges.{first_passing, set_at}
-use Rattle.cluster_core.specs.Settings.{Chromatic, Engine, Setting}
-use Rattle.cluster_core.specs.Worlds.{World, way}
-use Rattle.cluster_core.proofs.Basics.{set_at-holds, set_at-kept, set_at-other, set_at-same}
-use Rattle.cluster_model.specs.Calls.{Begin, Call, Committed, Count, Report, Saved, Step, Want, Wave}
-use Rattle.cluster_model.specs.Clusters.{Cluster, call_way, report_way, with_machine}
-use Rattle.cluster_model.specs.Machines.{Machine, count_of}
-use Rattle.cluster_model.specs.Rounds.{Rounds}
-use Rattle.cluster_model.specs.Totals.{total}
-use Rattle.cluster_model.specs.Working.{answers_if, is_done, is_offered, or_zero, prompt}
-use Rattle.cluster_places.specs.Steps.{IsInStep, IsOfColour}
+use Rattle.cluster_laws.specs.cluster_core.Messages.{Message}
+use Rattle.cluster_laws.specs.cluster_core.Ranges.{first_passing, set_at}
+use Rattle.cluster_laws.specs.cluster_core.Settings.{Chromatic, Engine, Setting}
+use Rattle.cluster_laws.specs.cluster_core.Worlds.{World, way}
+use Rattle.cluster_laws.proofs.cluster_core.Basics.{set_at-holds, set_at-kept, set_at-other, set_at-same}
+use Rattle.cluster_laws.specs.cluster_model.Calls.{Begin, Call, Committed, Count, Report, Saved, Step, Want, Wave}
+use Rattle.cluster_laws.specs.cluster_model.Clusters.{Cluster, call_way, report_way, with_machine}
+use Rattle.cluster_laws.specs.cluster_model.Machines.{Machine, count_of}
+use Rattle.cluster_laws.specs.cluster_model.Rounds.{Rounds}
+use Rattle.cluster_laws.specs.cluster_model.Totals.{total}
+use Rattle.cluster_laws.specs.cluster_model.Working.{answers_if, is_done, is_offered, or_zero, prompt}
+use Rattle.cluster_laws.specs.cluster_places.Steps.{IsInStep, IsOfColour}
 use Rattle.graph_core.specs.DataGraph.{size}
 use Rattle.cluster_whole.specs.Steps.{AreInTurn, Holds, IsAt, ComesBetween, IsCalled, StaysShut, Tells, Told, Turn, calls_of, come_of, counts_in, has_come, held_of, is_told, reports_of, rounds_in, step_of, under_way}
 use Rattle.cluster_whole.specs.Views.{world_of}

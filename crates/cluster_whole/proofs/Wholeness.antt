@@ -1,22 +1,22 @@
 -- Each event leaves a whole cluster whole, and so does every list of events.
 use Rattle.std.proofs.Common.{ℕ, ◌≡◌, List, [], ◌∷◌, refl, sym, ap, subst, ◌++◌, arith, ◌<◌}
 use Rattle.std.specs.List.{AllByRecursion}
-use Rattle.cluster_core.specs.Actions.{MayRecord}
-use Rattle.cluster_core.specs.Places.{IsExclusive}
-use Rattle.cluster_core.specs.Recovering.{recovered}
-use Rattle.cluster_core.specs.Settings.{Chromatic, Engine, IsSetting, Locking, Setting}
-use Rattle.cluster_core.specs.Snapshots.{IsConsistent}
-use Rattle.cluster_core.specs.Stages.{Idle}
-use Rattle.cluster_core.specs.Worlds.{World}
-use Rattle.cluster_places.proofs.Excluding.{exclusive}
-use Rattle.cluster_places.proofs.PlacesKept.{start_placed}
-use Rattle.cluster_places.proofs.StepsKept.{step_excludes}
-use Rattle.cluster_cuts.specs.Goings.{GoesOn, IsOneStep}
-use Rattle.cluster_cuts.proofs.Beginning.{first_kept, recovered_starts, recovered_unmarked}
-use Rattle.cluster_cuts.proofs.CutsGoOn.{goes_not, goes_then, step_goes}
-use Rattle.cluster_model.specs.Clusters.{BaseView, Cluster}
-use Rattle.cluster_model.specs.Events.{Event, Admit, DeliverCall, DeliverReport, Deliver, Fail, Grant, Mark, MayDo, IsCourse, PutBegin, PutStep, PutWave, Record, Recover, Section, Send, SendCall, SendReport, Stop, Update, after_event, recovers, setting_after}
-use Rattle.cluster_model.specs.Leading.{RecordIsDue}
+use Rattle.cluster_laws.specs.cluster_core.Actions.{MayRecord}
+use Rattle.cluster_laws.specs.cluster_core.Places.{IsExclusive}
+use Rattle.cluster_laws.specs.cluster_core.Recovering.{recovered}
+use Rattle.cluster_laws.specs.cluster_core.Settings.{Chromatic, Engine, IsSetting, Locking, Setting}
+use Rattle.cluster_laws.specs.cluster_core.Snapshots.{IsConsistent}
+use Rattle.cluster_laws.specs.cluster_core.Stages.{Idle}
+use Rattle.cluster_laws.specs.cluster_core.Worlds.{World}
+use Rattle.cluster_laws.proofs.cluster_places.Excluding.{exclusive}
+use Rattle.cluster_laws.proofs.cluster_places.PlacesKept.{start_placed}
+use Rattle.cluster_laws.proofs.cluster_places.StepsKept.{step_excludes}
+use Rattle.cluster_laws.specs.cluster_cuts.Goings.{GoesOn, IsOneStep}
+use Rattle.cluster_laws.proofs.cluster_cuts.Beginning.{first_kept, recovered_starts, recovered_unmarked}
+use Rattle.cluster_laws.proofs.cluster_cuts.CutsGoOn.{goes_not, goes_then, step_goes}
+use Rattle.cluster_laws.specs.cluster_model.Clusters.{BaseView, Cluster}
+use Rattle.cluster_laws.specs.cluster_model.Events.{Event, Admit, DeliverCall, DeliverReport, Deliver, Fail, Grant, Mark, MayDo, IsCourse, PutBegin, PutStep, PutWave, Record, Recover, Section, Send, SendCall, SendReport, Stop, Update, after_event, recovers, setting_after}
+use Rattle.cluster_laws.specs.cluster_model.Leading.{RecordIsDue}
 use Rattle.cluster_whole.specs.Logged.{IsLogged, Logged}
 use Rattle.cluster_whole.specs.Views.{section_of, world_of}
 use Rattle.cluster_whole.specs.Whole.{AreColoured, AreKeptApart, IsNoRecovery, IsWhole, setting_behind}

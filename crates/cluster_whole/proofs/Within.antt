@@ -5,16 +5,16 @@ use Rattle.std.proofs.lemmas.Bool.{and_from, both_ways, cases_Bool, false_from_n
 use Rattle.gl_base.specs.declared.entries.Entry.{Entry}
 use Rattle.gl_base.specs.declared.scopes.Claim.{Claim}
 use Rattle.gl_base.specs.declared.scopes.ScopeId.{ScopeId}
-use Rattle.cluster_core.specs.Effects.{admitted_by, first_pending, first_unmarked, is_at, knows, pends_for, seed_if, asks_for, begins, first_granted, goes_away, goes_on, in_flight, moves_on, next_scope, posts, received, sets_out, takes_lock}
-use Rattle.cluster_core.specs.Messages.{Ask, Done, Message, Ready}
-use Rattle.cluster_core.specs.Parts.{Part, Stand}
-use Rattle.cluster_core.specs.Scopes.{is_scope, machines_from, own_from, set_for}
-use Rattle.cluster_core.specs.Settings.{Chromatic, Engine, Locking, Setting}
-use Rattle.cluster_core.proofs.Basics.{apart_turned, scope_cases, scopes_apart, scopes_same, set_for-holds, set_for-other, set_for-same}
-use Rattle.cluster_model.specs.Calls.{Begin, Call, Committed, Report, Step, Wave}
-use Rattle.cluster_model.specs.Events.{MayAdmitNow}
-use Rattle.cluster_model.specs.Machines.{Machine, outside}
-use Rattle.cluster_model.specs.Working.{admits, asks_if, asks_more, before_at, behind_at, commits, ends_plan, fails, goes_back, grants, hands, hands_report, has_room, makes_mark, makes_update, prompt, receives, rest_of, sections, snapshot_in, takes_call, works_on}
+use Rattle.cluster_laws.specs.cluster_core.Effects.{admitted_by, first_pending, first_unmarked, is_at, knows, pends_for, seed_if, asks_for, begins, first_granted, goes_away, goes_on, in_flight, moves_on, next_scope, posts, received, sets_out, takes_lock}
+use Rattle.cluster_laws.specs.cluster_core.Messages.{Ask, Done, Message, Ready}
+use Rattle.cluster_laws.specs.cluster_core.Parts.{Part, Stand}
+use Rattle.cluster_laws.specs.cluster_core.Scopes.{is_scope, machines_from, own_from, set_for}
+use Rattle.cluster_laws.specs.cluster_core.Settings.{Chromatic, Engine, Locking, Setting}
+use Rattle.cluster_laws.proofs.cluster_core.Basics.{apart_turned, scope_cases, scopes_apart, scopes_same, set_for-holds, set_for-other, set_for-same}
+use Rattle.cluster_laws.specs.cluster_model.Calls.{Begin, Call, Committed, Report, Step, Wave}
+use Rattle.cluster_laws.specs.cluster_model.Events.{MayAdmitNow}
+use Rattle.cluster_laws.specs.cluster_model.Machines.{Machine, outside}
+use Rattle.cluster_laws.specs.cluster_model.Working.{admits, asks_if, asks_more, before_at, behind_at, commits, ends_plan, fails, goes_back, grants, hands, hands_report, has_room, makes_mark, makes_update, prompt, receives, rest_of, sections, snapshot_in, takes_call, works_on}
 use Rattle.seq_run.specs.States.{GraphState}
 use Rattle.cluster_whole.specs.Windows.{StaysWithin, one_where, plan_where, scope_at, sum_below}
 use Rattle.cluster_whole.proofs.Counting.{sum_below-changed, sum_below-same, sum_below-term}

@@ -2,10 +2,10 @@
 use Rattle.std.specs.List.{AllByRecursion}
 use Rattle.std.specs.Prelude.{Bool, List, filter, map, nat_le, suc, ℕ, ◌<◌, ◌≡◌, ◌≤◌}
 use Rattle.gl_base.specs.declared.entries.Entry.{Entry}
-use Rattle.cluster_core.specs.Cuts.{cut_of}
-use Rattle.cluster_core.specs.Settings.{Setting}
-use Rattle.cluster_core.specs.Snapshots.{IsConsistent}
-use Rattle.cluster_core.specs.Worlds.{World}
+use Rattle.cluster_laws.specs.cluster_core.Cuts.{cut_of}
+use Rattle.cluster_laws.specs.cluster_core.Settings.{Setting}
+use Rattle.cluster_laws.specs.cluster_core.Snapshots.{IsConsistent}
+use Rattle.cluster_laws.specs.cluster_core.Worlds.{World}
 
 -- an update, and the number of the first snapshot that has it
 pub record Logged : Type 0 where

@@ -3,17 +3,17 @@ use Rattle.std.specs.List.{AllByRecursion}
 use Rattle.std.specs.Prelude.{Bool, List, None, Option, Some, [], false, if◌then◌else◌, length, pred, slice_index_or, true, ℕ, ⊤, ◌++◌, ◌+◌, ◌<◌, ◌∷◌, ◌≡◌, ◌≤◌}
 use Rattle.gl_base.specs.declared.scopes.Counted.{Counted}
 use Rattle.gl_base.specs.declared.scopes.ScopeId.{ScopeId}
-use Rattle.cluster_core.specs.Messages.{Ask, Done, Message, News, Ready}
-use Rattle.cluster_core.specs.Scopes.{takes_part}
-use Rattle.cluster_core.specs.Settings.{Setting}
-use Rattle.cluster_core.specs.Worlds.{World, way}
-use Rattle.cluster_model.specs.Calls.{Begin, Call, Committed, Count, Report, Saved, Step, Want, Wave}
-use Rattle.cluster_model.specs.Clusters.{Cluster, call_way, report_way}
-use Rattle.cluster_model.specs.Machines.{Machine}
-use Rattle.cluster_model.specs.Rounds.{Rounds}
-use Rattle.cluster_model.specs.Totals.{total}
-use Rattle.cluster_model.specs.TwoWaves.{turned}
-use Rattle.cluster_places.specs.Steps.{IsInStep}
+use Rattle.cluster_laws.specs.cluster_core.Messages.{Ask, Done, Message, News, Ready}
+use Rattle.cluster_laws.specs.cluster_core.Scopes.{takes_part}
+use Rattle.cluster_laws.specs.cluster_core.Settings.{Setting}
+use Rattle.cluster_laws.specs.cluster_core.Worlds.{World, way}
+use Rattle.cluster_laws.specs.cluster_model.Calls.{Begin, Call, Committed, Count, Report, Saved, Step, Want, Wave}
+use Rattle.cluster_laws.specs.cluster_model.Clusters.{Cluster, call_way, report_way}
+use Rattle.cluster_laws.specs.cluster_model.Machines.{Machine}
+use Rattle.cluster_laws.specs.cluster_model.Rounds.{Rounds}
+use Rattle.cluster_laws.specs.cluster_model.Totals.{total}
+use Rattle.cluster_laws.specs.cluster_model.TwoWaves.{turned}
+use Rattle.cluster_laws.specs.cluster_places.Steps.{IsInStep}
 use Rattle.cluster_whole.specs.Views.{world_of}
 use Rattle.graph_core.specs.DataGraph.{size}
 

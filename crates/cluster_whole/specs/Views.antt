@@ -1,13 +1,13 @@
 -- What the laws of the core see of a cluster: its machines' parts, its links, its tickets and its snapshots.
 use Rattle.std.specs.Prelude.{None, Option, Some, ℕ, ◌≡◌, ◌⊎◌}
-use Rattle.cluster_core.specs.Actions.{Action, IsActionStep}
-use Rattle.cluster_core.specs.Messages.{Section}
-use Rattle.cluster_core.specs.Parts.{Part}
-use Rattle.cluster_core.specs.Settings.{Setting}
-use Rattle.cluster_core.specs.Worlds.{World, with_part}
-use Rattle.cluster_model.specs.Calls.{begins_in, sections_in}
-use Rattle.cluster_model.specs.Clusters.{Cluster, call_way, report_way}
-use Rattle.cluster_model.specs.Leading.{Come}
+use Rattle.cluster_laws.specs.cluster_core.Actions.{Action, IsActionStep}
+use Rattle.cluster_laws.specs.cluster_core.Messages.{Section}
+use Rattle.cluster_laws.specs.cluster_core.Parts.{Part}
+use Rattle.cluster_laws.specs.cluster_core.Settings.{Setting}
+use Rattle.cluster_laws.specs.cluster_core.Worlds.{World, with_part}
+use Rattle.cluster_laws.specs.cluster_model.Calls.{begins_in, sections_in}
+use Rattle.cluster_laws.specs.cluster_model.Clusters.{Cluster, call_way, report_way}
+use Rattle.cluster_laws.specs.cluster_model.Leading.{Come}
 
 -- the numbers of a section that has come
 abbrev pub section_of : Option Come → Option Section

@@ -1,13 +1,13 @@
 -- A cluster as a whole, with locks and with colours.
 use Rattle.std.specs.Prelude.{List, [], ⊤, ◌∷◌, ◌≡◌}
 use Rattle.gl_base.specs.declared.scopes.ScopeId.{ScopeId}
-use Rattle.cluster_core.specs.Places.{ArePlaces}
-use Rattle.cluster_core.specs.Settings.{Chromatic, Engine, Locking, Setting}
-use Rattle.cluster_core.specs.Snapshots.{IsConsistent}
-use Rattle.cluster_core.specs.Stages.{Stage}
-use Rattle.cluster_model.specs.Clusters.{BaseView, Cluster}
-use Rattle.cluster_model.specs.Events.{Event, Recover, setting_after}
-use Rattle.cluster_places.specs.Steps.{AreApart}
+use Rattle.cluster_laws.specs.cluster_core.Places.{ArePlaces}
+use Rattle.cluster_laws.specs.cluster_core.Settings.{Chromatic, Engine, Locking, Setting}
+use Rattle.cluster_laws.specs.cluster_core.Snapshots.{IsConsistent}
+use Rattle.cluster_laws.specs.cluster_core.Stages.{Stage}
+use Rattle.cluster_laws.specs.cluster_model.Clusters.{BaseView, Cluster}
+use Rattle.cluster_laws.specs.cluster_model.Events.{Event, Recover, setting_after}
+use Rattle.cluster_laws.specs.cluster_places.Steps.{AreApart}
 use Rattle.cluster_whole.specs.Steps.{AreInTurn}
 use Rattle.cluster_whole.specs.Views.{world_of}
 use Rattle.cluster_whole.specs.Windows.{AreWithin}

@@ -1,9 +1,9 @@
 -- What a machine keeps by itself: how many of its scopes are in flight, and that its window is never passed.
 use Rattle.std.specs.Prelude.{Bool, None, Option, Some, false, suc, true, zero, ℕ, ◌+◌, ◌<◌, ◌≡◌, ◌≤◌}
 use Rattle.gl_base.specs.declared.scopes.ScopeId.{ScopeId}
-use Rattle.cluster_core.specs.Settings.{Setting}
-use Rattle.cluster_model.specs.Clusters.{Cluster}
-use Rattle.cluster_model.specs.Machines.{Machine, outside}
+use Rattle.cluster_laws.specs.cluster_core.Settings.{Setting}
+use Rattle.cluster_laws.specs.cluster_model.Clusters.{Cluster}
+use Rattle.cluster_laws.specs.cluster_model.Machines.{Machine, outside}
 
 -- f 0 + f 1 + .., so many numbers
 abbrev pub sum_below : (ℕ → ℕ) → ℕ → ℕ

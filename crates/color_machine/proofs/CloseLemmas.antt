@@ -4,12 +4,12 @@ use Rattle.std.specs.Prelude.{IfNone, IfSome, is_some}
 use Rattle.std.proofs.lemmas.Bool.{cases_Bool, eqb-true}
 use Rattle.gl_base.specs.declared.numbers.Vertex.{Vertex}
 use Rattle.gl_base.specs.declared.scopes.ScopeId.{ScopeId}
-use Rattle.cluster_core.specs.Actions.{MayUpdate}
+use Rattle.cluster_laws.specs.cluster_core.Actions.{MayUpdate}
 use Rattle.machine_numbers.specs.Views.{flag_there}
 use Rattle.color_tasks.specs.Scopes.{slot_at}
-use Rattle.color_parts.specs.declared.cores.ColorCore.{ColorCore}
-use Rattle.color_parts.specs.Order.{IsInStepOrder}
-use Rattle.color_parts.specs.Parts.{ScopesView, centre_in_step, number_of, pending_here, part_in_steps, place_at}
+use Rattle.machine_core.specs.declared.color_parts.cores.ColorCore.{ColorCore}
+use Rattle.machine_core.specs.color_parts.Order.{IsInStepOrder}
+use Rattle.machine_core.specs.color_parts.Parts.{ScopesView, centre_in_step, number_of, pending_here, part_in_steps, place_at}
 use Rattle.color_machine.specs.Admitting.{CanAdmitOne, MayAdmitNoOne}
 use Rattle.color_machine.specs.Closing.{FliesHere, GoesOnHere, HasDoneItsShare, IsIdleInStep}
 use Rattle.color_machine.specs.Inner.Flying.{IsDueAt}

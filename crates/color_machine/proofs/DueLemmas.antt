@@ -5,18 +5,18 @@ use Rattle.std.specs.List.{list_any}
 use Rattle.std.proofs.lemmas.Bool.{cases_Bool, lt-ltb, ltb-true}
 use Rattle.std.proofs.lemmas.Option.{same_Some, slice_get-get_or}
 use Rattle.gl_base.specs.declared.numbers.Vertex.{Vertex}
-use Rattle.cluster_core.specs.Actions.{MayAdmit, IsItsTurn}
-use Rattle.cluster_core.specs.Settings.{Engine, Chromatic}
+use Rattle.cluster_laws.specs.cluster_core.Actions.{MayAdmit, IsItsTurn}
+use Rattle.cluster_laws.specs.cluster_core.Settings.{Engine, Chromatic}
 use Rattle.machine_numbers.specs.Views.{flag_there, task_here}
 use Rattle.task_sched.specs.Tasks.{TasksView, is_flagged, is_free, is_open, IsPicked, IsNextPick}
 use Rattle.task_sched.specs.declared.task_sets.Pick.{Pick}
-use Rattle.machine_scopes.proofs.HeldLemmas.{own_in, own_from_setting}
-use Rattle.machine_scopes.proofs.LawLemmas.{some_number}
-use Rattle.machine_scopes.proofs.PickLemmas.{flag_inside, free_parts, free_from, own_place}
-use Rattle.color_parts.specs.declared.cores.ColorCore.{ColorCore}
-use Rattle.color_parts.specs.Order.{IsInStepOrder, HasScope}
-use Rattle.color_parts.specs.Parts.{HasColour, is_in_line, place_at, is_own, pending_here, admitted_here, centre_in_step, number_of, part_in_steps}
-use Rattle.color_parts.specs.Settings.{Setting, IsPartInSteps}
+use Rattle.machine_core.proofs.machine_scopes.HeldLemmas.{own_in, own_from_setting}
+use Rattle.machine_core.proofs.machine_scopes.LawLemmas.{some_number}
+use Rattle.machine_core.proofs.machine_scopes.PickLemmas.{flag_inside, free_parts, free_from, own_place}
+use Rattle.machine_core.specs.declared.color_parts.cores.ColorCore.{ColorCore}
+use Rattle.machine_core.specs.color_parts.Order.{IsInStepOrder, HasScope}
+use Rattle.machine_core.specs.color_parts.Parts.{HasColour, is_in_line, place_at, is_own, pending_here, admitted_here, centre_in_step, number_of, part_in_steps}
+use Rattle.machine_core.specs.color_parts.Settings.{Setting, IsPartInSteps}
 use Rattle.color_machine.specs.Admitting.{CanAdmitOne, MayAdmitNoOne}
 use Rattle.color_machine.specs.Inner.Flying.{IsDueAt}
 

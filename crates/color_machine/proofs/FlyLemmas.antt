@@ -8,17 +8,17 @@ use Rattle.gl_base.specs.declared.numbers.Vertex.{Vertex}
 use Rattle.gl_base.specs.declared.scopes.ScopeId.{ScopeId}
 use Rattle.scope_lists.specs.Scopes.{is_scope, set_for}
 use Rattle.scope_lists.proofs.SameScope.{one_or_two, set_for-here, set_for-there}
-use Rattle.cluster_core.specs.Effects.{admitted, admitted_by, next_scope}
-use Rattle.cluster_core.specs.Settings.{Engine, Chromatic}
+use Rattle.cluster_laws.specs.cluster_core.Effects.{admitted, admitted_by, next_scope}
+use Rattle.cluster_laws.specs.cluster_core.Settings.{Engine, Chromatic}
 use Rattle.machine_numbers.specs.declared.keeping.Numbers.{Numbers}
 use Rattle.machine_numbers.specs.Views.{flag_there, task_here}
 use Rattle.task_sched.specs.Tasks.{TasksView, is_flagged, is_free}
-use Rattle.machine_scopes.proofs.PickLemmas.{own_place}
+use Rattle.machine_core.proofs.machine_scopes.PickLemmas.{own_place}
 use Rattle.color_tasks.proofs.SlotLemmas.{next_is_new}
-use Rattle.color_parts.specs.declared.cores.ColorCore.{ColorCore}
-use Rattle.color_parts.specs.Order.{IsInStepOrder, AreScopesInOrder, AreLinesInOrder, HasScope}
-use Rattle.color_parts.specs.Parts.{place_at, is_own, admitted_here, centre_in_step, next_of_step, next_serial, flying_count, number_of, part_in_steps}
-use Rattle.color_parts.specs.Settings.{Setting, IsPartInSteps, StaysInSettings}
+use Rattle.machine_core.specs.declared.color_parts.cores.ColorCore.{ColorCore}
+use Rattle.machine_core.specs.color_parts.Order.{IsInStepOrder, AreScopesInOrder, AreLinesInOrder, HasScope}
+use Rattle.machine_core.specs.color_parts.Parts.{place_at, is_own, admitted_here, centre_in_step, next_of_step, next_serial, flying_count, number_of, part_in_steps}
+use Rattle.machine_core.specs.color_parts.Settings.{Setting, IsPartInSteps, StaysInSettings}
 use Rattle.color_machine.specs.Admitting.{HasAdmittedOne}
 use Rattle.color_machine.specs.Inner.Flying.{IsDueAt, HasFlown}
 use Rattle.color_machine.proofs.DueLemmas.{due_within, due_place, due_own, due_off, due_task, can_one}

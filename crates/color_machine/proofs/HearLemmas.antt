@@ -12,23 +12,23 @@ use Rattle.gl_base.specs.declared.scopes.Mode.{Mode}
 use Rattle.gl_base.specs.declared.scopes.ScopeId.{ScopeId}
 use Rattle.scope_lists.specs.Scopes.{is_scope, set_for}
 use Rattle.wire_msgs.specs.declared.messages.Done.{Done}
-use Rattle.cluster_core.specs.Effects.{applied, nothing_saved, first_unmarked, first_pending, seed_if, is_at, knows, newer_datum}
-use Rattle.cluster_core.proofs.Basics.{same_truth}
+use Rattle.cluster_laws.specs.cluster_core.Effects.{applied, nothing_saved, first_unmarked, first_pending, seed_if, is_at, knows, newer_datum}
+use Rattle.cluster_laws.proofs.cluster_core.Basics.{same_truth}
 use Rattle.machine_numbers.specs.declared.keeping.Numbers.{Numbers}
 use Rattle.machine_numbers.specs.Views.{TasksView, AreTasksOf, flag_there, ghost_datum, news_of, is_named}
 use Rattle.machine_numbers.specs.Steps.{HasLearned, IsSideHere}
 use Rattle.machine_numbers.specs.Settings.{with_numbers}
-use Rattle.machine_parts.specs.Order.{IsGraphInOrder, AreNumbersInOrder}
-use Rattle.machine_scopes.proofs.HeldLemmas.{stands_in}
-use Rattle.machine_updates.proofs.SeedLemmas.{no_seed, not_below, seed_none}
-use Rattle.machine_scopes.proofs.PickLemmas.{flag_inside, free_parts, free_from}
+use Rattle.machine_core.specs.machine_parts.Order.{IsGraphInOrder, AreNumbersInOrder}
+use Rattle.machine_core.proofs.machine_scopes.HeldLemmas.{stands_in}
+use Rattle.machine_core.proofs.machine_updates.SeedLemmas.{no_seed, not_below, seed_none}
+use Rattle.machine_core.proofs.machine_scopes.PickLemmas.{flag_inside, free_parts, free_from}
 use Rattle.task_sched.specs.Tasks.{is_flagged, is_free}
-use Rattle.color_parts.specs.declared.cores.ColorCore.{ColorCore}
-use Rattle.color_parts.specs.Enlisting.{HasEnlisted}
-use Rattle.color_parts.specs.declared.enlisting.Which.TheVariants.{Tasks}
-use Rattle.color_parts.specs.Order.{IsInStepOrder}
-use Rattle.color_parts.specs.Parts.{LinesView, LocalView, is_in_line, place_at, is_own, sides_at, datum_here, pending_here, admitted_here, part_in_steps}
-use Rattle.color_parts.specs.Settings.{Setting, IsLocalOf, IsPartInSteps, StaysInSettings}
+use Rattle.machine_core.specs.declared.color_parts.cores.ColorCore.{ColorCore}
+use Rattle.machine_core.specs.color_parts.Enlisting.{HasEnlisted}
+use Rattle.machine_core.specs.declared.color_parts.enlisting.Which.TheVariants.{Tasks}
+use Rattle.machine_core.specs.color_parts.Order.{IsInStepOrder}
+use Rattle.machine_core.specs.color_parts.Parts.{LinesView, LocalView, is_in_line, place_at, is_own, sides_at, datum_here, pending_here, admitted_here, part_in_steps}
+use Rattle.machine_core.specs.color_parts.Settings.{Setting, IsLocalOf, IsPartInSteps, StaysInSettings}
 use Rattle.color_machine.specs.Hearing.{CanHear, HasHeardDone}
 use Rattle.color_machine.proofs.PlaceLemmas.{vertex_at}
 

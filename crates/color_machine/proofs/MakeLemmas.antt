@@ -6,7 +6,7 @@ use Rattle.gl_base.specs.declared.entries.Entry.{Entry}
 use Rattle.gl_base.specs.declared.numbers.Vertex.{Vertex}
 use Rattle.gl_base.specs.declared.scopes.Peer.TheVariants.{Machine}
 use Rattle.gl_base.specs.declared.scopes.ScopeId.{ScopeId}
-use Rattle.cluster_core.specs.Effects.{news_for, tell}
+use Rattle.cluster_laws.specs.cluster_core.Effects.{news_for, tell}
 use Rattle.local_graph.specs.declared.sides.Side.{Side}
 use Rattle.local_graph.specs.declared.works.Outcome.{Outcome}
 use Rattle.local_graph.specs.declared.works.Work.{Work}
@@ -15,16 +15,16 @@ use Rattle.machine_numbers.specs.declared.keeping.Numbers.{Numbers}
 use Rattle.machine_numbers.specs.Steps.{HasTakenOut, HasRun, HasUpdated, TellsOf}
 use Rattle.machine_numbers.specs.Settings.{IsMadeOfWork, IsOutcomeOf, with_numbers}
 use Rattle.machine_numbers.specs.Views.{AreTasksOf, TasksView, edge_here}
-use Rattle.machine_parts.specs.Order.{IsGraphInOrder}
-use Rattle.machine_parts.specs.Rooms.{HaveSameMessages}
-use Rattle.machine_updates.specs.declared.reserving.Prepared.{Prepared}
-use Rattle.machine_updates.specs.Committing.{after_told, done_told}
-use Rattle.machine_updates.specs.Telling.{HasWord}
-use Rattle.machine_updates.proofs.CommitLemmas.{outbox_told}
-use Rattle.machine_updates.proofs.ToldLemmas.{told_many}
-use Rattle.machine_at_once.proofs.Numbers.{graph_kept, is_outcome, out_is, updated_from}
-use Rattle.machine_parts.specs.Parts.{message_of}
-use Rattle.color_parts.specs.Parts.{OutboxesView, Part, is_own, links_at, messages_for, parts_at, place_at, sides_at}
+use Rattle.machine_core.specs.machine_parts.Order.{IsGraphInOrder}
+use Rattle.machine_core.specs.machine_parts.Rooms.{HaveSameMessages}
+use Rattle.machine_core.specs.declared.machine_updates.reserving.Prepared.{Prepared}
+use Rattle.machine_core.specs.machine_updates.Committing.{after_told, done_told}
+use Rattle.machine_core.specs.machine_updates.Telling.{HasWord}
+use Rattle.machine_core.proofs.machine_updates.CommitLemmas.{outbox_told}
+use Rattle.machine_core.proofs.machine_updates.ToldLemmas.{told_many}
+use Rattle.machine_core.proofs.machine_at_once.Numbers.{graph_kept, is_outcome, out_is, updated_from}
+use Rattle.machine_core.specs.machine_parts.Parts.{message_of}
+use Rattle.machine_core.specs.color_parts.Parts.{OutboxesView, Part, is_own, links_at, messages_for, parts_at, place_at, sides_at}
 use Rattle.color_machine.specs.Admitting.{Setting}
 use Rattle.color_machine.specs.Updating.{IsLocalOf, IsSetting}
 use Rattle.color_machine.specs.Inner.Making.{CanBeKeptAndTold, CanBeRun, HasMadeAndTold, HasRoomToRun, is_to_be_told}

@@ -2,7 +2,7 @@
 use Rattle.std.proofs.Common.{◌≡◌, Option, List, length, sym, ap, ◌∙◌, subst}
 use Rattle.update_api.specs.declared.links.Link.{Link}
 use Rattle.local_graph.specs.declared.sides.Side.{Side}
-use Rattle.machine_turns.specs.Turns.{HasEachRow, IsRowIn, LocalView, links_at, sides_at}
+use Rattle.machine_core.specs.machine_turns.Turns.{HasEachRow, IsRowIn, LocalView, links_at, sides_at}
 use Rattle.color_machine.specs.Inner.Making.{KeepsGraph}
 
 pub rows_stay : (old new : LocalView) → KeepsGraph old new → HasEachRow old → HasEachRow new

@@ -2,9 +2,9 @@
 use Rattle.std.proofs.Common.{◌≡◌, Some}
 use Rattle.gl_base.specs.declared.numbers.Vertex.{Vertex}
 use Rattle.gl_base.specs.declared.scopes.ScopeId.{ScopeId}
-use Rattle.color_parts.specs.declared.cores.ColorCore.{ColorCore}
-use Rattle.color_parts.specs.Order.{IsInStepOrder}
-use Rattle.color_parts.specs.Parts.{centre_in_step}
+use Rattle.machine_core.specs.declared.color_parts.cores.ColorCore.{ColorCore}
+use Rattle.machine_core.specs.color_parts.Order.{IsInStepOrder}
+use Rattle.machine_core.specs.color_parts.Parts.{centre_in_step}
 use Rattle.color_machine.specs.Inner.Making.{CanBeRun}
 use Rattle.color_machine.proofs.CloseLemmas.{no_pending}
 

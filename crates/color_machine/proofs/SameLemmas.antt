@@ -4,15 +4,15 @@ use Rattle.gl_base.specs.declared.entries.Entry.{Entry}
 use Rattle.gl_base.specs.declared.scopes.Peer.TheVariants.{Machine}
 use Rattle.machine_numbers.specs.declared.keeping.Numbers.{Numbers}
 use Rattle.machine_numbers.specs.Views.{edge_here}
-use Rattle.machine_parts.specs.Order.{IsGraphInOrder}
-use Rattle.machine_parts.specs.Rooms.{HaveSameMessages}
-use Rattle.machine_updates.proofs.GraphLemmas.{SameGraph, graph_kept}
-use Rattle.machine_updates.proofs.OrderLemmas.{HaveTheirRows, local_kept}
-use Rattle.color_parts.specs.declared.cores.ColorCore.{ColorCore}
-use Rattle.color_parts.specs.Order.{IsInStepOrder}
-use Rattle.machine_parts.specs.Parts.{message_of}
-use Rattle.color_parts.specs.Parts.{OutboxesView, part_in_steps, links_at}
-use Rattle.color_parts.specs.Settings.{Setting, IsLocalOf, IsPartInSteps, StaysInSettings}
+use Rattle.machine_core.specs.machine_parts.Order.{IsGraphInOrder}
+use Rattle.machine_core.specs.machine_parts.Rooms.{HaveSameMessages}
+use Rattle.machine_core.proofs.machine_updates.GraphLemmas.{SameGraph, graph_kept}
+use Rattle.machine_core.proofs.machine_updates.OrderLemmas.{HaveTheirRows, local_kept}
+use Rattle.machine_core.specs.declared.color_parts.cores.ColorCore.{ColorCore}
+use Rattle.machine_core.specs.color_parts.Order.{IsInStepOrder}
+use Rattle.machine_core.specs.machine_parts.Parts.{message_of}
+use Rattle.machine_core.specs.color_parts.Parts.{OutboxesView, part_in_steps, links_at}
+use Rattle.machine_core.specs.color_parts.Settings.{Setting, IsLocalOf, IsPartInSteps, StaysInSettings}
 use Rattle.color_machine.specs.Inner.Making.{HasSameNumbers}
 
 module _ (m : ColorCore) (n : Numbers) (out : OutboxesView) (same : HasSameNumbers m.numbers n) (silent : HaveSameMessages m.out out) where

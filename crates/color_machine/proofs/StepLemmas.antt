@@ -3,12 +3,12 @@ use Rattle.std.proofs.Common.{◌≡◌, ℕ, false, true≢false, Option, Some,
 use Rattle.std.specs.Prelude.{is_some}
 use Rattle.gl_base.specs.declared.numbers.Vertex.{Vertex}
 use Rattle.gl_base.specs.declared.scopes.ScopeId.{ScopeId}
-use Rattle.cluster_core.specs.Effects.{steps_to}
+use Rattle.cluster_laws.specs.cluster_core.Effects.{steps_to}
 use Rattle.color_tasks.specs.Scopes.{HasBegunAnew}
-use Rattle.color_parts.specs.declared.cores.ColorCore.{ColorCore}
-use Rattle.color_parts.specs.Order.{IsInStepOrder}
-use Rattle.color_parts.specs.Parts.{ScopesView, centre_in_step, number_of, part_in_steps}
-use Rattle.color_parts.specs.Settings.{StaysInSettings}
+use Rattle.machine_core.specs.declared.color_parts.cores.ColorCore.{ColorCore}
+use Rattle.machine_core.specs.color_parts.Order.{IsInStepOrder}
+use Rattle.machine_core.specs.color_parts.Parts.{ScopesView, centre_in_step, number_of, part_in_steps}
+use Rattle.machine_core.specs.color_parts.Settings.{StaysInSettings}
 
 -- no number, no centre
 pub no_centre : (o : Option Vertex) → number_of o ≡ None → o ≡ None

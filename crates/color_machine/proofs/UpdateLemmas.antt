@@ -11,8 +11,8 @@ use Rattle.gl_base.specs.declared.scopes.Datum.{Datum}
 use Rattle.gl_base.specs.declared.scopes.ScopeId.{ScopeId}
 use Rattle.scope_lists.specs.Scopes.{is_scope, set_for}
 use Rattle.scope_lists.proofs.SameScope.{one_or_two, set_for-here, set_for-there}
-use Rattle.cluster_core.specs.Effects.{updated}
-use Rattle.cluster_core.proofs.Basics.{same_truth, set_at-cases}
+use Rattle.cluster_laws.specs.cluster_core.Effects.{updated}
+use Rattle.cluster_laws.proofs.cluster_core.Basics.{same_truth, set_at-cases}
 use Rattle.ghost_cache.specs.Caches.{CacheView}
 use Rattle.local_graph.specs.declared.sides.Side.{Side}
 use Rattle.update_api.specs.Updates.{Update}
@@ -23,19 +23,19 @@ use Rattle.machine_numbers.specs.Views.{TasksView, flag_there, ghost_datum, task
 use Rattle.machine_numbers.specs.Steps.{renewed, wakes_of, wakes_there}
 use Rattle.machine_numbers.specs.Settings.{with_numbers, IsRowOf}
 use Rattle.machine_numbers.proofs.JoinLemmas.{updated_is}
-use Rattle.machine_parts.specs.Order.{IsGraphInOrder, AreNumbersInOrder}
-use Rattle.machine_scopes.proofs.PickLemmas.{flag_inside, free_parts, free_from, own_place}
-use Rattle.machine_updates.proofs.GraphLemmas.{SameGraph, place_kept, me_kept, sides_kept, ghosts_kept, graph_kept, sides_here}
-use Rattle.machine_updates.proofs.LeaveLemmas.{flag_other, flag_here, some_none}
-use Rattle.machine_updates.proofs.OrderLemmas.{HaveTheirRows, local_kept}
+use Rattle.machine_core.specs.machine_parts.Order.{IsGraphInOrder, AreNumbersInOrder}
+use Rattle.machine_core.proofs.machine_scopes.PickLemmas.{flag_inside, free_parts, free_from, own_place}
+use Rattle.machine_core.proofs.machine_updates.GraphLemmas.{SameGraph, place_kept, me_kept, sides_kept, ghosts_kept, graph_kept, sides_here}
+use Rattle.machine_core.proofs.machine_updates.LeaveLemmas.{flag_other, flag_here, some_none}
+use Rattle.machine_core.proofs.machine_updates.OrderLemmas.{HaveTheirRows, local_kept}
 use Rattle.task_sched.specs.Tasks.{is_flagged, is_free}
 use Rattle.color_tasks.specs.Scopes.{HasLeftStep}
-use Rattle.color_parts.specs.declared.cores.ColorCore.{ColorCore}
-use Rattle.color_parts.specs.Enlisting.{HasEnlisted, ends_of}
-use Rattle.color_parts.specs.declared.enlisting.Which.TheVariants.{Tasks}
-use Rattle.color_parts.specs.Order.{IsInStepOrder, AreScopesInOrder, AreLinesInOrder}
-use Rattle.color_parts.specs.Parts.{LinesView, OutboxesView, ScopesView, is_in_line, place_at, is_own, sides_at, datum_here, pending_here, admitted_here, centre_in_step, flying_count, number_of, part_in_steps}
-use Rattle.color_parts.specs.Settings.{Setting, IsLocalOf, IsPartInSteps, StaysInSettings}
+use Rattle.machine_core.specs.declared.color_parts.cores.ColorCore.{ColorCore}
+use Rattle.machine_core.specs.color_parts.Enlisting.{HasEnlisted, ends_of}
+use Rattle.machine_core.specs.declared.color_parts.enlisting.Which.TheVariants.{Tasks}
+use Rattle.machine_core.specs.color_parts.Order.{IsInStepOrder, AreScopesInOrder, AreLinesInOrder}
+use Rattle.machine_core.specs.color_parts.Parts.{LinesView, OutboxesView, ScopesView, is_in_line, place_at, is_own, sides_at, datum_here, pending_here, admitted_here, centre_in_step, flying_count, number_of, part_in_steps}
+use Rattle.machine_core.specs.color_parts.Settings.{Setting, IsLocalOf, IsPartInSteps, StaysInSettings}
 use Rattle.color_machine.specs.Updating.{HasUpdatedInStep, IsSetting}
 use Rattle.color_machine.specs.Inner.Making.{HasMadeAndTold}
 use Rattle.color_machine.proofs.CloseLemmas.{home_of, may_update}

@@ -1,13 +1,13 @@
 -- What an admission in a step promises, for each setting of which the machine is a part.
-pub use Rattle.cluster_core.specs.Actions.{MayAdmit}
-pub use Rattle.cluster_core.specs.Effects.{admitted}
-pub use Rattle.color_parts.specs.Order.{IsInStepOrder}
-pub use Rattle.color_parts.specs.Parts.{part_in_steps, pending_here, next_of_step}
-pub use Rattle.color_parts.specs.Settings.{Setting, IsPartInSteps, StaysInSettings}
+pub use Rattle.cluster_laws.specs.cluster_core.Actions.{MayAdmit}
+pub use Rattle.cluster_laws.specs.cluster_core.Effects.{admitted}
+pub use Rattle.machine_core.specs.color_parts.Order.{IsInStepOrder}
+pub use Rattle.machine_core.specs.color_parts.Parts.{part_in_steps, pending_here, next_of_step}
+pub use Rattle.machine_core.specs.color_parts.Settings.{Setting, IsPartInSteps, StaysInSettings}
 pub use Rattle.task_sched.specs.Tasks.{is_open}
 use Rattle.std.specs.Prelude.{◌≡◌, ◌⊎◌, ℕ, true}
 use Rattle.gl_base.specs.declared.numbers.Vertex.{Vertex}
-use Rattle.color_parts.specs.declared.cores.ColorCore.{ColorCore}
+use Rattle.machine_core.specs.declared.color_parts.cores.ColorCore.{ColorCore}
 
 -- A scope of this vertex may be admitted, in each setting of which the machine is a part, and the window has room.
 pub record CanAdmitOne (m : ColorCore) : Type 0 where

@@ -1,9 +1,9 @@
 -- When a machine's share of a step is done.
-pub use Rattle.cluster_core.specs.Actions.{MayUpdate}
-pub use Rattle.cluster_core.specs.Effects.{closes}
+pub use Rattle.cluster_laws.specs.cluster_core.Actions.{MayUpdate}
+pub use Rattle.cluster_laws.specs.cluster_core.Effects.{closes}
 use Rattle.std.specs.Prelude.{◌≡◌, ◌⊎◌, ℕ, true, None, Some}
 use Rattle.gl_base.specs.declared.scopes.ScopeId.{ScopeId}
-use Rattle.color_parts.specs.declared.cores.ColorCore.{ColorCore}
+use Rattle.machine_core.specs.declared.color_parts.cores.ColorCore.{ColorCore}
 use Rattle.color_machine.specs.Admitting.{CanAdmitOne, MayAdmitNoOne, part_in_steps}
 
 -- a scope is in flight here

@@ -2,11 +2,11 @@
 use Rattle.std.specs.Prelude.{◌≡◌, ◌==◌, true, false, []}
 use Rattle.std.specs.List.{All, list_any}
 use Rattle.wire_msgs.specs.declared.messages.Done.{Done}
-use Rattle.cluster_core.specs.Effects.{received}
-use Rattle.cluster_core.specs.Messages as law
+use Rattle.cluster_laws.specs.cluster_core.Effects.{received}
+use Rattle.cluster_laws.specs.cluster_core.Messages as law
 use Rattle.machine_numbers.specs.Views.{HasEdge, news_of}
-use Rattle.color_parts.specs.declared.cores.ColorCore.{ColorCore}
-use Rattle.color_parts.specs.Parts.{is_own}
+use Rattle.machine_core.specs.declared.color_parts.cores.ColorCore.{ColorCore}
+use Rattle.machine_core.specs.color_parts.Parts.{is_own}
 use Rattle.color_machine.specs.Admitting.{Setting, IsPartInSteps, part_in_steps}
 
 -- The update is of a ghost; the edges are here, the vertices that it wakes are own ones, and it tells of no snapshot.

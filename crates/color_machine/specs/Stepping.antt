@@ -1,2 +1,2 @@
 -- How a step begins.
-pub use Rattle.cluster_core.specs.Effects.{steps_to}
+pub use Rattle.cluster_laws.specs.cluster_core.Effects.{steps_to}

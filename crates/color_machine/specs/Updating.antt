@@ -1,13 +1,13 @@
 -- What the update of a scope in a step asks of a machine, and what it leaves.
-pub use Rattle.cluster_core.specs.Actions.{MayUpdate}
-pub use Rattle.cluster_core.specs.Effects.{updated}
-pub use Rattle.cluster_core.specs.Settings.{IsSetting}
-pub use Rattle.machine_turns.specs.Turns.{HasEachRow, IsLocalOf}
+pub use Rattle.cluster_laws.specs.cluster_core.Actions.{MayUpdate}
+pub use Rattle.cluster_laws.specs.cluster_core.Effects.{updated}
+pub use Rattle.cluster_laws.specs.cluster_core.Settings.{IsSetting}
+pub use Rattle.machine_core.specs.machine_turns.Turns.{HasEachRow, IsLocalOf}
 use Rattle.std.specs.Prelude.{◌≡◌, ℕ}
 use Rattle.gl_base.specs.declared.entries.Entry.TheVariants.{Go}
 use Rattle.gl_base.specs.declared.scopes.ScopeId.{ScopeId}
 use Rattle.update_api.specs.Updates.{Update}
-use Rattle.color_parts.specs.declared.cores.ColorCore.{ColorCore}
+use Rattle.machine_core.specs.declared.color_parts.cores.ColorCore.{ColorCore}
 use Rattle.color_machine.specs.Admitting.{Setting, IsPartInSteps, part_in_steps}
 
 -- The scope might make its update. For each setting of which the machine is a part, and whose program is this one, the part is what

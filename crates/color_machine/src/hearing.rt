@@ -3,7 +3,7 @@ ghost use Rattle.std.specs.Prelude.{◌≡◌};
 ghost use Rattle.color_machine.specs.Admitting.{IsInStepOrder, StaysInSettings};
 ghost use Rattle.color_machine.specs.Hearing.{CanHear, HasHeardDone};
 
-use color_parts::{ColorCore, Which, enlist_all};
+use machine_core::color_parts::{ColorCore, Which, enlist_all};
 use wire_msgs::Done;
 
 /// Word of an update elsewhere has come: its numbers are kept, and the vertices that it wakes are tasks, each in the line of its colour. It

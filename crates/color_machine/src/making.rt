@@ -2,13 +2,13 @@
 ghost use Rattle.std.specs.Prelude.{◌≡◌, ℕ, ◌==◌, true, Some, length, if◌then◌else◌, IfOk, OnOk, OnErr};
 ghost use Rattle.gl_base.specs.declared.entries.Entry.TheVariants.{Go};
 ghost use Rattle.machine_numbers.specs.Views.{AreTasksOf};
-ghost use Rattle.color_parts.specs.Parts.{is_own, links_at, place_at, sides_at};
+ghost use Rattle.machine_core.specs.color_parts.Parts.{is_own, links_at, place_at, sides_at};
 ghost use Rattle.color_machine.specs.Inner.Making.{CanBeKeptAndTold, CanBeRun, HasMadeAndTold, HasRoomToRun, HasRun, HasSameNumbers, HasUpdated, HasWord, HaveSameMessages, IsRowIn, after_told, done_told, is_to_be_told};
 
 use gl_base::{Entry, NoMemory, ScopeId, Vertex};
 use local_graph::Outcome;
 use machine_numbers::{Numbers, Spent};
-use machine_updates::{Prepared, Spares, prepare, reserve_log, tell_all};
+use machine_core::machine_updates::{Prepared, Spares, prepare, reserve_log, tell_all};
 use outboxes::Outboxes;
 use std::alloc::Global;
 use update_api::Program;

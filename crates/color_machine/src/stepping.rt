@@ -4,7 +4,7 @@ ghost use Rattle.gl_base.specs.declared.scopes.ScopeId.{ScopeId};
 ghost use Rattle.color_machine.specs.Admitting.{IsInStepOrder, StaysInSettings, part_in_steps};
 ghost use Rattle.color_machine.specs.Stepping.{steps_to};
 
-use color_parts::ColorCore;
+use machine_core::color_parts::ColorCore;
 
 /// The step of this colour begins here, where no scope is in flight: from now on vertices of this colour are admitted, and no others. It
 /// takes no memory.

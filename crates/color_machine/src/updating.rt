@@ -1,13 +1,13 @@
 //! The update of a scope in a step.
 ghost use Rattle.std.specs.Prelude.{◌≡◌, ℕ, OnOk, OnErr, IsErrOf};
-ghost use Rattle.color_parts.specs.Parts.{links_at};
+ghost use Rattle.machine_core.specs.color_parts.Parts.{links_at};
 ghost use Rattle.color_machine.specs.Admitting.{IsInStepOrder, StaysInSettings, part_in_steps};
 ghost use Rattle.color_machine.specs.Updating.{HasEachRow, HasUpdatedInStep, MayUpdate};
 
 use crate::making::{Ticketed, make};
-use color_parts::{ColorCore, Which, enlist_near};
+use machine_core::color_parts::{ColorCore, Which, enlist_near};
 use gl_base::{NoMemory, Refused, ScopeId};
-use machine_updates::Spares;
+use machine_core::machine_updates::Spares;
 use std::alloc::Global;
 use update_api::Program;
 

@@ -1,7 +1,7 @@
 -- The cluster on which a run by colours begins.
 use Rattle.std.proofs.Common.{◌≡◌, ℕ, List, refl, subst, sym}
 use Rattle.std.specs.Prelude.{slice_index_or}
-use Rattle.cluster_core.specs.Settings.{Chromatic, Engine}
+use Rattle.cluster_laws.specs.cluster_core.Settings.{Chromatic, Engine}
 use Rattle.cluster_plays.specs.Beginnings.{Setting}
 use Rattle.cluster_plays.specs.Plans.{IsPlaced}
 use Rattle.cluster_plays.proofs.StartLemmas.{each_owned, first_setting}

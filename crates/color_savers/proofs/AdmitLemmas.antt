@@ -6,25 +6,25 @@ use Rattle.gl_base.specs.declared.numbers.MachineNo.{MachineNo}
 use Rattle.gl_base.specs.declared.numbers.Vertex.{Vertex}
 use Rattle.graph_core.specs.DataGraph.{size}
 use Rattle.update_api.specs.Updates.{Update}
-use Rattle.cluster_core.specs.Actions.{IsItsTurn, MayAdmit}
-use Rattle.cluster_core.specs.Effects.{admitted, admitted_by, in_flight}
-use Rattle.cluster_core.specs.Parts.{Part}
-use Rattle.cluster_core.specs.Ranges.{first_passing}
-use Rattle.cluster_core.specs.Settings.{Chromatic, Engine}
+use Rattle.cluster_laws.specs.cluster_core.Actions.{IsItsTurn, MayAdmit}
+use Rattle.cluster_laws.specs.cluster_core.Effects.{admitted, admitted_by, in_flight}
+use Rattle.cluster_laws.specs.cluster_core.Parts.{Part}
+use Rattle.cluster_laws.specs.cluster_core.Ranges.{first_passing}
+use Rattle.cluster_laws.specs.cluster_core.Settings.{Chromatic, Engine}
 use Rattle.cluster_ending.proofs.Growing.{admitted_longer}
-use Rattle.cluster_model.specs.Events.{MayAdmitNow}
-use Rattle.cluster_model.specs.Working.{admits, has_room, is_done, is_offered}
+use Rattle.cluster_laws.specs.cluster_model.Events.{MayAdmitNow}
+use Rattle.cluster_laws.specs.cluster_model.Working.{admits, has_room, is_done, is_offered}
 use Rattle.cluster_moves.proofs.DueKept.{IsKept, admitted_kept}
 use Rattle.color_snaps.specs.Admitting.{CanAdmitByColour, HasAdmittedByColour, MayAdmitNoneByColour}
 use Rattle.color_snaps.specs.Machines.{IsInSameStep, with_locking}
 use Rattle.machine_numbers.specs.Views.{TasksView}
 use Rattle.machine_numbers.specs.declared.keeping.Numbers.{Numbers}
 use Rattle.machine_numbers.proofs.WakeLemmas.{own_inside}
-use Rattle.machine_parts.specs.declared.cores.Core.{Core}
-use Rattle.machine_parts.specs.Order.{IsOrderly, KnowsPlaces}
-use Rattle.machine_parts.specs.Parts.{number_of, part_of, pending_here}
-use Rattle.machine_scopes.specs.Admitting.{with_pick}
-use Rattle.machine_scopes.proofs.HeldLemmas.{own_from_setting}
+use Rattle.machine_core.specs.declared.machine_parts.cores.Core.{Core}
+use Rattle.machine_core.specs.machine_parts.Order.{IsOrderly, KnowsPlaces}
+use Rattle.machine_core.specs.machine_parts.Parts.{number_of, part_of, pending_here}
+use Rattle.machine_core.specs.machine_scopes.Admitting.{with_pick}
+use Rattle.machine_core.proofs.machine_scopes.HeldLemmas.{own_from_setting}
 use Rattle.seen_parts.proofs.GuardLemmas.{admit_may, alike_turned}
 use Rattle.seen_parts.proofs.SeenLemmas.{admit_alike}
 use Rattle.snap_members.specs.Going.{IsSnapSetting}

@@ -6,8 +6,8 @@ use Rattle.gl_base.specs.declared.refusals.Refused.{Refused}
 use Rattle.gl_base.specs.declared.scopes.Claim.{Claim}
 use Rattle.gl_base.specs.declared.scopes.ScopeId.{ScopeId}
 use Rattle.update_api.specs.Updates.{Update}
-use Rattle.cluster_core.specs.Actions.{MayMark, MayUpdate}
-use Rattle.machine_parts.specs.Order.{IsOrderly}
+use Rattle.cluster_laws.specs.cluster_core.Actions.{MayMark, MayUpdate}
+use Rattle.machine_core.specs.machine_parts.Order.{IsOrderly}
 use Rattle.snap_members.specs.Deeds.{Deed, Grant}
 use Rattle.snap_members.specs.Promises.{CanNotDo, HasDone, HasHeard, HasReceived, StandsStill}
 use Rattle.snap_savers.proofs.AnswerLemmas.{mark_home as mark_home_apart, update_home as update_home_apart}

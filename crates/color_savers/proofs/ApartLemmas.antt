@@ -2,11 +2,11 @@
 -- holds of it too.
 use Rattle.std.proofs.Common.{◌≡◌, ℕ, ◌<◌, true, None, [], refl, sym, ap, ◌∙◌, subst}
 use Rattle.update_api.specs.Updates.{Update}
-use Rattle.cluster_core.specs.Parts.{Part}
-use Rattle.cluster_core.specs.Settings.{IsSetting}
-use Rattle.color_parts.specs.Settings.{GoesByColours}
+use Rattle.cluster_laws.specs.cluster_core.Parts.{Part}
+use Rattle.cluster_laws.specs.cluster_core.Settings.{IsSetting}
+use Rattle.machine_core.specs.color_parts.Settings.{GoesByColours}
 use Rattle.color_snaps.specs.Machines.{IsInSameStep, IsSameColorSnap, with_locking}
-use Rattle.machine_parts.specs.Settings.{IsPartOf, SameSettings}
+use Rattle.machine_core.specs.machine_parts.Settings.{IsPartOf, SameSettings}
 use Rattle.saving_machines.specs.Machines.{SnapMachineView}
 use Rattle.snap_members.specs.Going.{IsSnapSetting}
 use Rattle.snap_members.specs.Promises.{StandsStill}

@@ -1,10 +1,10 @@
 -- What the machine hears from the coordinator, for each machine of the law.
 use Rattle.std.proofs.Common.{◌≡◌, ℕ, ◌+◌, ◌≤◌, false, Some, List, length, refl, sym, ap, ◌∙◌, subst, arith}
 use Rattle.update_api.specs.Updates.{Update}
-use Rattle.cluster_core.specs.Messages.{Message}
-use Rattle.cluster_core.specs.Parts.{Part}
-use Rattle.cluster_model.specs.Calls.{Begin, Committed, Step, Wave}
-use Rattle.cluster_model.specs.Working.{asks, commits, takes_call}
+use Rattle.cluster_laws.specs.cluster_core.Messages.{Message}
+use Rattle.cluster_laws.specs.cluster_core.Parts.{Part}
+use Rattle.cluster_laws.specs.cluster_model.Calls.{Begin, Committed, Step, Wave}
+use Rattle.cluster_laws.specs.cluster_model.Working.{asks, commits, takes_call}
 use Rattle.color_snaps.specs.Machines.{IsInSameStep, IsSameColorSnap, with_locking}
 use Rattle.color_snaps.specs.Snapshots.{HasBegunInStep, HasFewerOutside, HasOtherPending}
 use Rattle.snap_machines.specs.Hearing.{HasBegun}

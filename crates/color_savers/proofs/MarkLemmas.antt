@@ -3,14 +3,14 @@ use Rattle.std.proofs.Common.{◌≡◌, ◌↔◌, ℕ, ◌+◌, ◌≤◌, ◌
 use Rattle.gl_base.specs.declared.numbers.MachineNo.{MachineNo}
 use Rattle.gl_base.specs.declared.scopes.ScopeId.{ScopeId}
 use Rattle.update_api.specs.Updates.{Update}
-use Rattle.cluster_core.specs.Actions.{MayMark, MaySend}
-use Rattle.cluster_core.specs.Effects.{marked}
-use Rattle.cluster_core.specs.Messages.{Message}
-use Rattle.cluster_core.specs.Parts.{Part}
-use Rattle.cluster_model.specs.Working.{makes_mark, prompt, sections}
+use Rattle.cluster_laws.specs.cluster_core.Actions.{MayMark, MaySend}
+use Rattle.cluster_laws.specs.cluster_core.Effects.{marked}
+use Rattle.cluster_laws.specs.cluster_core.Messages.{Message}
+use Rattle.cluster_laws.specs.cluster_core.Parts.{Part}
+use Rattle.cluster_laws.specs.cluster_model.Working.{makes_mark, prompt, sections}
 use Rattle.color_snaps.specs.Machines.{IsInSameStep, with_locking}
 use Rattle.color_snaps.specs.Snapshots.{HasEndedPlan, HasMarkedInStep, HasSavedMore, HasSavedOnce, MayNotSendInStep, MaySendInStep}
-use Rattle.machine_parts.specs.Order.{IsOrderly}
+use Rattle.machine_core.specs.machine_parts.Order.{IsOrderly}
 use Rattle.seen_parts.proofs.GuardLemmas.{alike_turned, mark_may, send_may}
 use Rattle.snap_machines.specs.Marking.{HasMarked}
 use Rattle.snap_machines.specs.Sending.{MaySendSection}

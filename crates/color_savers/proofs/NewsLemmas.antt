@@ -6,24 +6,24 @@ use Rattle.std.proofs.lemmas.Bool.{eq-eqb, false_from_ne_true}
 use Rattle.std.proofs.lemmas.List.Folds.{list_any_at}
 use Rattle.gl_base.specs.declared.numbers.Vertex.{Vertex}
 use Rattle.update_api.specs.Updates.{Update}
-use Rattle.cluster_core.specs.Messages.{Done, Message, News}
-use Rattle.cluster_core.specs.Parts.{Part}
-use Rattle.cluster_core.specs.Settings.{IsSetting}
-use Rattle.cluster_core.specs.Ways.{IsNewsFor, IsToldTo}
-use Rattle.cluster_core.proofs.Nearness.{near_within}
-use Rattle.cluster_model.specs.Clusters.{Cluster}
-use Rattle.cluster_model.specs.Working.{receives}
+use Rattle.cluster_laws.specs.cluster_core.Messages.{Done, Message, News}
+use Rattle.cluster_laws.specs.cluster_core.Parts.{Part}
+use Rattle.cluster_laws.specs.cluster_core.Settings.{IsSetting}
+use Rattle.cluster_laws.specs.cluster_core.Ways.{IsNewsFor, IsToldTo}
+use Rattle.cluster_laws.proofs.cluster_core.Nearness.{near_within}
+use Rattle.cluster_laws.specs.cluster_model.Clusters.{Cluster}
+use Rattle.cluster_laws.specs.cluster_model.Working.{receives}
 use Rattle.cluster_whole.specs.Steps.{IsWordBetween}
 use Rattle.cluster_whole.proofs.Colours.{in_turn}
 use Rattle.cluster_whole.proofs.Stepping.{front_between}
 use Rattle.color_snaps.specs.Machines.{IsInSameStep, with_locking}
 use Rattle.color_snaps.specs.Snapshots.{CanHearNews, HasHeardNews}
 use Rattle.machine_numbers.specs.Views.{is_named}
-use Rattle.machine_parts.specs.declared.cores.Core.{Core}
-use Rattle.machine_parts.specs.Parts.{is_own}
-use Rattle.machine_parts.specs.Settings.{IsLocalOf}
-use Rattle.machine_scopes.proofs.HeldLemmas.{own_from_setting, own_in}
-use Rattle.machine_updates.proofs.WordLemmas.{edge_known, ghost_known, told_some}
+use Rattle.machine_core.specs.declared.machine_parts.cores.Core.{Core}
+use Rattle.machine_core.specs.machine_parts.Parts.{is_own}
+use Rattle.machine_core.specs.machine_parts.Settings.{IsLocalOf}
+use Rattle.machine_core.proofs.machine_scopes.HeldLemmas.{own_from_setting, own_in}
+use Rattle.machine_core.proofs.machine_updates.WordLemmas.{edge_known, ghost_known, told_some}
 use Rattle.snap_machines.specs.Learning.{HasLearnedNews, news_of}
 use Rattle.snap_members.specs.Promises.{HasReceived, IsFirstFrom, MayReceiveFirst}
 use Rattle.snap_savers.proofs.ReceiveLemmas.{done_standing, unmarked_yet}

@@ -2,12 +2,12 @@
 use Rattle.std.proofs.Common.{◌≡◌, ℕ, ◌+◌, ◌<◌, ◌≤◌, ◌&&◌, ◌||◌, ◌++◌, Bool, true, false, true≢false, Option, None, Some, [], ◌∷◌, length, refl, sym, ap, ◌∙◌, subst, arith}
 use Rattle.std.specs.Prelude.{is_some}
 use Rattle.update_api.specs.Updates.{Update}
-use Rattle.cluster_core.specs.Effects.{closes}
-use Rattle.cluster_core.specs.Parts.{Part}
-use Rattle.cluster_core.specs.Settings.{Chromatic, Engine}
-use Rattle.cluster_model.specs.Calls.{Count}
-use Rattle.cluster_model.specs.Machines.{is_idle}
-use Rattle.cluster_model.specs.Working.{answers_if, has_room, is_done, prompt}
+use Rattle.cluster_laws.specs.cluster_core.Effects.{closes}
+use Rattle.cluster_laws.specs.cluster_core.Parts.{Part}
+use Rattle.cluster_laws.specs.cluster_core.Settings.{Chromatic, Engine}
+use Rattle.cluster_laws.specs.cluster_model.Calls.{Count}
+use Rattle.cluster_laws.specs.cluster_model.Machines.{is_idle}
+use Rattle.cluster_laws.specs.cluster_model.Working.{answers_if, has_room, is_done, prompt}
 use Rattle.color_snaps.specs.Steps.{HasShareDone}
 use Rattle.snap_members.specs.Going.{IsSnapSetting}
 use Rattle.snap_savers.proofs.StandLemmas.{room_is as locking_room}

@@ -4,9 +4,9 @@ use Rattle.std.specs.Prelude.{slice_get}
 use Rattle.gl_base.specs.declared.numbers.MachineNo.{MachineNo}
 use Rattle.gl_base.specs.declared.scopes.Peer.TheVariants as peer
 use Rattle.update_api.specs.Updates.{Update}
-use Rattle.cluster_core.specs.Actions.{HasFirst}
-use Rattle.cluster_model.specs.Events.{HasNext}
-use Rattle.cluster_model.specs.Working.{fails, hands, hands_report}
+use Rattle.cluster_laws.specs.cluster_core.Actions.{HasFirst}
+use Rattle.cluster_laws.specs.cluster_model.Events.{HasNext}
+use Rattle.cluster_laws.specs.cluster_model.Working.{fails, hands, hands_report}
 use Rattle.color_snaps.specs.Machines.{IsInSameStep, with_locking}
 use Rattle.outboxes.specs.Outboxes.{has_waiting, outbox_to, waiting_for, with_outbox, without_first}
 use Rattle.snap_members.specs.Promises.{IsReporting, OfEach, SendsItsFirst, StandsStill}

@@ -6,19 +6,19 @@ use Rattle.gl_base.specs.declared.entries.Entry.TheVariants.{Go}
 use Rattle.gl_base.specs.declared.numbers.MachineNo.{MachineNo}
 use Rattle.gl_base.specs.declared.scopes.ScopeId.{ScopeId}
 use Rattle.update_api.specs.Updates.{Update}
-use Rattle.cluster_core.specs.Actions.{MayUpdate}
-use Rattle.cluster_core.specs.Effects.{marked, nothing_saved, updated}
-use Rattle.cluster_core.specs.Messages.{Message}
-use Rattle.cluster_core.specs.Parts.{Part}
-use Rattle.cluster_core.specs.Scopes.{takes_part}
-use Rattle.cluster_model.specs.Totals.{total_from}
-use Rattle.cluster_model.specs.Working.{makes_update, prompt, works_on}
+use Rattle.cluster_laws.specs.cluster_core.Actions.{MayUpdate}
+use Rattle.cluster_laws.specs.cluster_core.Effects.{marked, nothing_saved, updated}
+use Rattle.cluster_laws.specs.cluster_core.Messages.{Message}
+use Rattle.cluster_laws.specs.cluster_core.Parts.{Part}
+use Rattle.cluster_laws.specs.cluster_core.Scopes.{takes_part}
+use Rattle.cluster_laws.specs.cluster_model.Totals.{total_from}
+use Rattle.cluster_laws.specs.cluster_model.Working.{makes_update, prompt, works_on}
 use Rattle.color_snaps.specs.Machines.{IsInSameStep, with_locking}
 use Rattle.color_snaps.specs.Updating.{HasLogged, HasRunOf, HasUpdatedInColour}
 use Rattle.machine_numbers.specs.Views.{place_at}
-use Rattle.machine_parts.specs.Order.{IsOrderly}
-use Rattle.machine_parts.specs.Parts.{part_of}
-use Rattle.machine_turns.specs.Turns.{HasMadeUpdate}
+use Rattle.machine_core.specs.machine_parts.Order.{IsOrderly}
+use Rattle.machine_core.specs.machine_parts.Parts.{part_of}
+use Rattle.machine_core.specs.machine_turns.Turns.{HasMadeUpdate}
 use Rattle.saving_machines.specs.Machines.{SnapView}
 use Rattle.seen_parts.proofs.GuardLemmas.{alike_turned, update_may}
 use Rattle.snap_members.specs.Deeds.{Update as UpdateDeed, updates_centre}

@@ -1,7 +1,7 @@
 -- How a machine answers the wave that it holds, and what is made sure of before.
 pub use Rattle.snap_members.specs.Promises.{OfEach}
 use Rattle.std.specs.Prelude.{true, is_some, ◌+◌, ◌/◌, ◌<◌, ◌≡◌}
-use Rattle.cluster_model.specs.Working.{prompt}
+use Rattle.cluster_laws.specs.cluster_model.Working.{prompt}
 use Rattle.snap_savers.specs.Asking.{with_wish}
 use Rattle.snap_update.specs.Snaps.{asked_behind, with_asking}
 use Rattle.update_api.specs.Updates.{Update}

@@ -9,30 +9,30 @@ use Rattle.std.proofs.lemmas.Option.{slice_get-get_or, slice_get_within}
 use Rattle.gl_base.specs.declared.numbers.Vertex.{Vertex}
 use Rattle.gl_base.specs.declared.scopes.ScopeId.{ScopeId}
 use Rattle.graph_core.specs.DataGraph.{size}
-use Rattle.cluster_core.specs.Actions.{IsItsTurn, MayAdmit}
-use Rattle.cluster_core.specs.Effects.{admitted_by}
-use Rattle.cluster_core.specs.Ranges.{first_passing}
-use Rattle.cluster_core.specs.Scopes.{is_found}
-use Rattle.cluster_core.specs.Settings.{Engine}
-use Rattle.cluster_core.proofs.Basics.{first_passing-some}
-use Rattle.cluster_model.specs.Machines.{Machine}
-use Rattle.cluster_model.specs.Working.{has_room, is_done, is_offered}
+use Rattle.cluster_laws.specs.cluster_core.Actions.{IsItsTurn, MayAdmit}
+use Rattle.cluster_laws.specs.cluster_core.Effects.{admitted_by}
+use Rattle.cluster_laws.specs.cluster_core.Ranges.{first_passing}
+use Rattle.cluster_laws.specs.cluster_core.Scopes.{is_found}
+use Rattle.cluster_laws.specs.cluster_core.Settings.{Engine}
+use Rattle.cluster_laws.proofs.cluster_core.Basics.{first_passing-some}
+use Rattle.cluster_laws.specs.cluster_model.Machines.{Machine}
+use Rattle.cluster_laws.specs.cluster_model.Working.{has_room, is_done, is_offered}
 use Rattle.local_parts.proofs.FoundLemmas.{found_first}
 use Rattle.machine_numbers.specs.Views.{flag_there, is_flagged, place_at}
-use Rattle.machine_parts.specs.Parts.{admitted_here, flight_at, is_own, number_of, pending_here, task_here}
-use Rattle.machine_scopes.specs.Admitting.{with_pick}
-use Rattle.machine_scopes.proofs.HeldLemmas.{own_from_setting}
-use Rattle.machine_scopes.proofs.PickLemmas.{own_place}
+use Rattle.machine_core.specs.machine_parts.Parts.{admitted_here, flight_at, is_own, number_of, pending_here, task_here}
+use Rattle.machine_core.specs.machine_scopes.Admitting.{with_pick}
+use Rattle.machine_core.proofs.machine_scopes.HeldLemmas.{own_from_setting}
+use Rattle.machine_core.proofs.machine_scopes.PickLemmas.{own_place}
 use Rattle.scope_pipe.specs.declared.flights.Flight.{Flight}
 use Rattle.scope_pipe.specs.Pipes.{either, flight_count, flight_scope}
 use Rattle.scope_lists.specs.Found.{by_scope}
-use Rattle.step_scopes.specs.Admitting.{HasAdmittedInStep, IsAdmittedThere, in_flight_ready}
+use Rattle.machine_core.specs.step_scopes.Admitting.{HasAdmittedInStep, IsAdmittedThere, in_flight_ready}
 use Rattle.task_sched.specs.Tasks.{TasksView, is_open}
 use Rattle.task_sched.specs.declared.task_sets.Pick.{Pick}
-use Rattle.color_parts.specs.Enlisting.{is_such, is_free_such}
-use Rattle.color_parts.specs.declared.enlisting.Which.{Which}
-use Rattle.color_parts.specs.declared.enlisting.Which.TheVariants.{Pending, Tasks}
-use Rattle.color_parts.specs.Parts.{HasColour, LinesView, is_in_line}
+use Rattle.machine_core.specs.color_parts.Enlisting.{is_such, is_free_such}
+use Rattle.machine_core.specs.declared.color_parts.enlisting.Which.{Which}
+use Rattle.machine_core.specs.declared.color_parts.enlisting.Which.TheVariants.{Pending, Tasks}
+use Rattle.machine_core.specs.color_parts.Parts.{HasColour, LinesView, is_in_line}
 use Rattle.color_snaps.specs.Admitting.{CanAdmitByColour, HasAdmittedByColour, MayAdmitNoneByColour, MayAdmitNonePending}
 use Rattle.color_snaps.specs.Machines.{ColorSnapView, IsColorSnapPart, IsOrderly, KnowsPlaces, Part, Setting, SnapMachineView, part_of, part_of_steps, with_locking, with_snaps}
 use Rattle.color_snaps.specs.Steps.{HasShareDone}

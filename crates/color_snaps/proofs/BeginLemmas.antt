@@ -2,15 +2,15 @@
 use Rattle.std.proofs.Common.{◌≡◌, ℕ, ◌<◌, ◌||◌, Bool, Option, Some, length, sym, ap, ◌∙◌, subst}
 use Rattle.std.proofs.Math.Bool.{or-true}
 use Rattle.gl_base.specs.declared.numbers.Vertex.{Vertex}
-use Rattle.cluster_core.specs.Effects.{first_pending, first_unmarked, is_at, knows, seed_if}
+use Rattle.cluster_laws.specs.cluster_core.Effects.{first_pending, first_unmarked, is_at, knows, seed_if}
 use Rattle.machine_numbers.specs.Views.{flag_there, is_flagged, place_at}
-use Rattle.machine_parts.specs.declared.cores.Core.{Core}
-use Rattle.machine_parts.specs.Parts.{pending_here}
+use Rattle.machine_core.specs.declared.machine_parts.cores.Core.{Core}
+use Rattle.machine_core.specs.machine_parts.Parts.{pending_here}
 use Rattle.snap_machines.specs.Hearing.{HasBegun}
 use Rattle.snap_machines.specs.Seeding.{HasOtherPending}
-use Rattle.color_parts.specs.Enlisting.{is_such}
-use Rattle.color_parts.specs.declared.enlisting.Which.TheVariants.{Pending, Tasks}
-use Rattle.color_parts.specs.Parts.{LinesView, TasksView}
+use Rattle.machine_core.specs.color_parts.Enlisting.{is_such}
+use Rattle.machine_core.specs.declared.color_parts.enlisting.Which.TheVariants.{Pending, Tasks}
+use Rattle.machine_core.specs.color_parts.Parts.{LinesView, TasksView}
 use Rattle.color_snaps.specs.Machines.{IsOrderly, IsPartOf, KnowsPlaces, Part, Setting, SnapView, part_of, with_snaps}
 use Rattle.color_snaps.specs.Inner.Keeping.{AreBothInLine, AreJustInLine, HasFirstInLine, IsWithoutLocks}
 use Rattle.color_snaps.proofs.FreeLemmas.{bare_free, begun_free, kept_free}

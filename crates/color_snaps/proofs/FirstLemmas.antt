@@ -5,10 +5,10 @@ use Rattle.std.specs.List.{list_any}
 use Rattle.std.proofs.lemmas.Bool.{and_parts, eq-eqb, or_cases}
 use Rattle.gl_base.specs.declared.numbers.Vertex.{Vertex}
 use Rattle.task_sched.specs.Tasks.{IsPicked, is_free}
-use Rattle.color_parts.specs.Enlisting.{is_free_such}
-use Rattle.color_parts.specs.declared.enlisting.Which.TheVariants.{Pending}
-use Rattle.color_parts.proofs.EnlistLemmas.{one_kept}
-use Rattle.color_parts.specs.Parts.{LinesView, TasksView, is_in_line}
+use Rattle.machine_core.specs.color_parts.Enlisting.{is_free_such}
+use Rattle.machine_core.specs.declared.color_parts.enlisting.Which.TheVariants.{Pending}
+use Rattle.machine_core.proofs.color_parts.EnlistLemmas.{one_kept}
+use Rattle.machine_core.specs.color_parts.Parts.{LinesView, TasksView, is_in_line}
 use Rattle.color_snaps.specs.Inner.Keeping.{HasDueInLine, HasFirstInLine}
 
 -- the first of the list is one of it

@@ -4,8 +4,8 @@ use Rattle.gl_base.specs.declared.entries.Entry.{Entry}
 use Rattle.gl_base.specs.declared.scopes.Mode.{Mode}
 use Rattle.gl_base.specs.declared.scopes.ScopeId.{ScopeId}
 use Rattle.scope_lists.specs.Scopes.{is_scope, set_for}
-use Rattle.cluster_core.specs.Effects.{applied, begins, in_flight, marked, next_scope, updated}
-use Rattle.cluster_core.specs.Messages.{News}
+use Rattle.cluster_laws.specs.cluster_core.Effects.{applied, begins, in_flight, marked, next_scope, updated}
+use Rattle.cluster_laws.specs.cluster_core.Messages.{News}
 use Rattle.color_snaps.specs.Machines.{Part, Setting, SnapView, with_snaps}
 use Rattle.color_snaps.specs.Inner.Keeping.{IsWithoutLocks}
 

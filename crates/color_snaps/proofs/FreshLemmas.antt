@@ -4,8 +4,8 @@ use Rattle.std.specs.Prelude.{nat_lt}
 use Rattle.std.proofs.lemmas.Bool.{and_from, lt-ltb}
 use Rattle.update_api.specs.Updates.{Update}
 use Rattle.machine_numbers.specs.Views.{is_flagged}
-use Rattle.machine_parts.specs.Parts.{number_of, stand_at}
-use Rattle.color_parts.specs.Parts.{LinesView, is_in_line}
+use Rattle.machine_core.specs.machine_parts.Parts.{number_of, stand_at}
+use Rattle.machine_core.specs.color_parts.Parts.{LinesView, is_in_line}
 use Rattle.color_snaps.specs.Machines.{IsColorSnapOf, IsFreshInSteps, Setting, SnapMachineView, in_no_step}
 use Rattle.color_snaps.specs.Inner.Keeping.{IsKeptInSteps, seen_in_steps}
 

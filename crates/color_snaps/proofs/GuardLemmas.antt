@@ -2,7 +2,7 @@
 use Rattle.std.proofs.Common.{ℕ, Bool, List, Option, None, Some}
 use Rattle.std.specs.Prelude.{Err, IfNone, Ok, OnOk, Result}
 use Rattle.gl_base.specs.declared.scopes.ScopeId.{ScopeId}
-use Rattle.cluster_core.specs.Actions.{MayMark, MayUpdate}
+use Rattle.cluster_laws.specs.cluster_core.Actions.{MayMark, MayUpdate}
 use Rattle.color_snaps.specs.Machines.{ColorSnapView, SnapMachineView, part_of, part_of_steps, with_locking}
 use Rattle.color_snaps.specs.Snapshots.{MayNotSendInStep, MaySendInStep}
 use Rattle.color_snaps.specs.Inner.Keeping.{seen_in_steps}

@@ -6,11 +6,11 @@ use Rattle.gl_base.specs.declared.numbers.MachineNo.{MachineNo}
 use Rattle.gl_base.specs.declared.numbers.Vertex.{Vertex}
 use Rattle.gl_base.specs.declared.scopes.ScopeId.{ScopeId}
 use Rattle.wire_msgs.specs.declared.messages.Done.{Done}
-use Rattle.cluster_core.specs.Effects.{applied, begins}
-use Rattle.cluster_core.specs.Parts.{Stand}
+use Rattle.cluster_laws.specs.cluster_core.Effects.{applied, begins}
+use Rattle.cluster_laws.specs.cluster_core.Parts.{Stand}
 use Rattle.machine_numbers.specs.Views.{news_of}
-use Rattle.machine_parts.specs.declared.cores.Core.{Core}
-use Rattle.machine_parts.specs.Parts.{EnteredView, entered_at, lock_asked, machine_numbers, stand_at}
+use Rattle.machine_core.specs.declared.machine_parts.cores.Core.{Core}
+use Rattle.machine_core.specs.machine_parts.Parts.{EnteredView, entered_at, lock_asked, machine_numbers, stand_at}
 use Rattle.snap_machines.specs.Learning.{CanLearnNews, HasLearnedNews}
 use Rattle.snap_machines.specs.Seeding.{HasOtherPending}
 use Rattle.snap_machines.proofs.SeedLemmas.{settings_pended}

@@ -5,13 +5,13 @@ use Rattle.std.proofs.lemmas.Bool.{and_parts, lt-ltb, ltb-true}
 use Rattle.std.proofs.lemmas.Option.{slice_get-get_or}
 use Rattle.graph_core.specs.DataGraph.{size}
 use Rattle.update_api.specs.Updates.{Update}
-use Rattle.cluster_core.specs.Effects.{first_pending, first_unmarked, seed_if}
-use Rattle.cluster_core.proofs.Basics.{first_passing-none}
+use Rattle.cluster_laws.specs.cluster_core.Effects.{first_pending, first_unmarked, seed_if}
+use Rattle.cluster_laws.proofs.cluster_core.Basics.{first_passing-none}
 use Rattle.machine_numbers.specs.Views.{place_at}
-use Rattle.machine_parts.specs.declared.cores.Core.{Core}
-use Rattle.machine_parts.specs.Parts.{is_own}
-use Rattle.machine_parts.specs.Settings.{SameSettings}
-use Rattle.color_parts.specs.Parts.{LinesView}
+use Rattle.machine_core.specs.declared.machine_parts.cores.Core.{Core}
+use Rattle.machine_core.specs.machine_parts.Parts.{is_own}
+use Rattle.machine_core.specs.machine_parts.Settings.{SameSettings}
+use Rattle.machine_core.specs.color_parts.Parts.{LinesView}
 use Rattle.color_snaps.specs.Machines.{ColorSnapView, IsInSameStep, IsOrderly, IsPartOf, IsSameColorSnap, KnowsPlaces, Part, Setting, SnapMachineView, part_of, with_locking}
 use Rattle.color_snaps.specs.Inner.Keeping.{AreBothInLine, IsKeptInSteps, IsWithoutLocks, seen_in_steps}
 use Rattle.color_snaps.proofs.LineLemmas.{StandApart}

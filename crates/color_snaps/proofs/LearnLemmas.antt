@@ -6,19 +6,19 @@ use Rattle.std.proofs.lemmas.Bool.{eq-eqb}
 use Rattle.gl_base.specs.declared.numbers.Vertex.{Vertex}
 use Rattle.gl_base.specs.declared.scopes.ScopeId.{ScopeId}
 use Rattle.graph_core.specs.DataGraph.{size}
-use Rattle.cluster_core.specs.Effects.{applied, begins, first_pending, first_unmarked, is_at, knows, learns, nothing_saved, part_seeded, seed_if}
-use Rattle.cluster_core.specs.Messages.{News}
-use Rattle.cluster_core.specs.Ranges.{first_passing}
-use Rattle.cluster_core.specs.Scopes.{is_found}
-use Rattle.cluster_core.proofs.Basics.{first_passing-some}
+use Rattle.cluster_laws.specs.cluster_core.Effects.{applied, begins, first_pending, first_unmarked, is_at, knows, learns, nothing_saved, part_seeded, seed_if}
+use Rattle.cluster_laws.specs.cluster_core.Messages.{News}
+use Rattle.cluster_laws.specs.cluster_core.Ranges.{first_passing}
+use Rattle.cluster_laws.specs.cluster_core.Scopes.{is_found}
+use Rattle.cluster_laws.proofs.cluster_core.Basics.{first_passing-some}
 use Rattle.local_parts.proofs.FoundLemmas.{found_first}
 use Rattle.wire_msgs.specs.declared.messages.Done.{Done}
 use Rattle.machine_numbers.specs.Views.{LocalView, flag_there, is_flagged, is_named, news_of, place_at}
-use Rattle.machine_parts.specs.declared.cores.Core.{Core}
+use Rattle.machine_core.specs.declared.machine_parts.cores.Core.{Core}
 use Rattle.snap_machines.specs.Learning.{HasLearnedNews}
-use Rattle.color_parts.specs.Enlisting.{HasEnlisted}
-use Rattle.color_parts.specs.declared.enlisting.Which.TheVariants.{All, Pending, Tasks}
-use Rattle.color_parts.specs.Parts.{LinesView, TasksView}
+use Rattle.machine_core.specs.color_parts.Enlisting.{HasEnlisted}
+use Rattle.machine_core.specs.declared.color_parts.enlisting.Which.TheVariants.{All, Pending, Tasks}
+use Rattle.machine_core.specs.color_parts.Parts.{LinesView, TasksView}
 use Rattle.color_snaps.specs.Machines.{IsOrderly, IsPartOf, KnowsPlaces, Part, Setting, SnapView, part_of, with_snaps}
 use Rattle.color_snaps.specs.Inner.Keeping.{AreBothInLine, IsWithoutLocks}
 use Rattle.color_snaps.proofs.FreeLemmas.{bare_free, kept_free, learned_free}

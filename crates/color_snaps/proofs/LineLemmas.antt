@@ -4,15 +4,15 @@ use Rattle.std.proofs.Math.Bool.{or-true}
 use Rattle.std.proofs.lemmas.Bool.{and_from, and_parts, cases_eq, eq-eqb, eqb-true, ne_eqb, or_cases}
 use Rattle.std.proofs.lemmas.Option.{get_or_from_slice_get, slice_get_within}
 use Rattle.gl_base.specs.declared.numbers.Vertex.{Vertex}
-use Rattle.cluster_core.specs.Effects.{is_at}
-use Rattle.cluster_core.proofs.Basics.{same_truth}
+use Rattle.cluster_laws.specs.cluster_core.Effects.{is_at}
+use Rattle.cluster_laws.proofs.cluster_core.Basics.{same_truth}
 use Rattle.machine_numbers.specs.declared.keeping.Numbers.{Numbers}
 use Rattle.machine_numbers.specs.Views.{LocalView, is_flagged, is_named, place_at}
-use Rattle.machine_scopes.proofs.HeldLemmas.{stands_in}
-use Rattle.color_parts.specs.Enlisting.{HasEnlisted, is_such, is_free_such}
-use Rattle.color_parts.specs.declared.enlisting.Which.{Which}
-use Rattle.color_parts.specs.declared.enlisting.Which.TheVariants.{All, Pending}
-use Rattle.color_parts.specs.Parts.{LinesView, TasksView, is_in_line}
+use Rattle.machine_core.proofs.machine_scopes.HeldLemmas.{stands_in}
+use Rattle.machine_core.specs.color_parts.Enlisting.{HasEnlisted, is_such, is_free_such}
+use Rattle.machine_core.specs.declared.color_parts.enlisting.Which.{Which}
+use Rattle.machine_core.specs.declared.color_parts.enlisting.Which.TheVariants.{All, Pending}
+use Rattle.machine_core.specs.color_parts.Parts.{LinesView, TasksView, is_in_line}
 use Rattle.color_snaps.specs.Inner.Keeping.{AreJustInLine, HasDueInLine}
 
 -- ---- who is due

@@ -6,10 +6,10 @@ use Rattle.gl_base.specs.declared.entries.Entry.TheVariants.{Go}
 use Rattle.gl_base.specs.declared.numbers.Vertex.{Vertex}
 use Rattle.gl_base.specs.declared.scopes.ScopeId.{ScopeId}
 use Rattle.update_api.specs.Updates.{Update}
-use Rattle.cluster_core.specs.Settings.{IsSetting}
+use Rattle.cluster_laws.specs.cluster_core.Settings.{IsSetting}
 use Rattle.machine_numbers.specs.Views.{datum_here}
-use Rattle.machine_parts.specs.Parts.{flight_at}
-use Rattle.machine_turns.specs.Turns.{HasMadeUpdate}
+use Rattle.machine_core.specs.machine_parts.Parts.{flight_at}
+use Rattle.machine_core.specs.machine_turns.Turns.{HasMadeUpdate}
 use Rattle.snap_machines.specs.Marking.{HasMarked}
 use Rattle.snap_update.specs.Snaps.{IsSameButRoom, newly_begun, with_begun, with_entry}
 use Rattle.saving_machines.specs.Updates.{HasLogged}

@@ -2,11 +2,11 @@
 use Rattle.std.proofs.Common.{◌≡◌, ℕ, ◌==◌, true, ◌∙◌}
 use Rattle.std.specs.List.{list_any}
 use Rattle.gl_base.specs.declared.numbers.Vertex.{Vertex}
-use Rattle.cluster_core.specs.Settings.{IsSetting, is_near}
+use Rattle.cluster_laws.specs.cluster_core.Settings.{IsSetting, is_near}
 use Rattle.local_graph.specs.declared.sides.Side.{Side}
-use Rattle.machine_parts.specs.declared.cores.Core.{Core}
-use Rattle.machine_parts.specs.Parts.{is_own, sides_at}
-use Rattle.machine_turns.specs.Turns.{HasEachRow}
+use Rattle.machine_core.specs.declared.machine_parts.cores.Core.{Core}
+use Rattle.machine_core.specs.machine_parts.Parts.{is_own, sides_at}
+use Rattle.machine_core.specs.machine_turns.Turns.{HasEachRow}
 use Rattle.snap_machines.proofs.EndLemmas.{row_of}
 use Rattle.snap_machines.proofs.MarkLemmas.{near_is}
 use Rattle.color_snaps.specs.Machines.{IsPartOf, Setting, SnapView}

@@ -12,22 +12,22 @@ use Rattle.gl_base.specs.declared.scopes.ScopeId.{ScopeId}
 use Rattle.graph_core.specs.DataGraph.{size}
 use Rattle.seq_run.specs.States.{wakes}
 use Rattle.update_api.specs.Updates.{Update}
-use Rattle.cluster_core.specs.Effects.{ends, first_pending, first_unmarked, is_at, is_left, mark_news, marked, marked_datum, pends_for, save, seed_if, updated}
-use Rattle.cluster_core.specs.Parts.{lent}
-use Rattle.cluster_core.specs.Ranges.{set_at}
-use Rattle.cluster_core.specs.Settings.{IsSetting, is_near}
-use Rattle.cluster_numbers.proofs.EdgeEnds.{wakes_near}
+use Rattle.cluster_laws.specs.cluster_core.Effects.{ends, first_pending, first_unmarked, is_at, is_left, mark_news, marked, marked_datum, pends_for, save, seed_if, updated}
+use Rattle.cluster_laws.specs.cluster_core.Parts.{lent}
+use Rattle.cluster_laws.specs.cluster_core.Ranges.{set_at}
+use Rattle.cluster_laws.specs.cluster_core.Settings.{IsSetting, is_near}
+use Rattle.cluster_laws.proofs.cluster_numbers.EdgeEnds.{wakes_near}
 use Rattle.local_graph.specs.declared.sides.Side.{Side}
 use Rattle.machine_numbers.specs.Views.{flag_there, is_flagged, place_at}
-use Rattle.machine_parts.specs.declared.cores.Core.{Core}
-use Rattle.machine_parts.specs.Parts.{flight_at, pending_here, sides_at}
-use Rattle.machine_scopes.proofs.PickLemmas.{own_place}
-use Rattle.machine_turns.specs.Turns.{HasMadeUpdate, HasRunOf}
-use Rattle.machine_updates.proofs.LeaveLemmas.{flag_here}
+use Rattle.machine_core.specs.declared.machine_parts.cores.Core.{Core}
+use Rattle.machine_core.specs.machine_parts.Parts.{flight_at, pending_here, sides_at}
+use Rattle.machine_core.proofs.machine_scopes.PickLemmas.{own_place}
+use Rattle.machine_core.specs.machine_turns.Turns.{HasMadeUpdate, HasRunOf}
+use Rattle.machine_core.proofs.machine_updates.LeaveLemmas.{flag_here}
 use Rattle.snap_machines.specs.Marking.{HasEndedPlan, HasMarked}
-use Rattle.color_parts.specs.Enlisting.{HasEnlisted, ends_of, is_such, is_free_such}
-use Rattle.color_parts.specs.declared.enlisting.Which.TheVariants.{Pending, Tasks}
-use Rattle.color_parts.specs.Parts.{LinesView, TasksView, is_in_line}
+use Rattle.machine_core.specs.color_parts.Enlisting.{HasEnlisted, ends_of, is_such, is_free_such}
+use Rattle.machine_core.specs.declared.color_parts.enlisting.Which.TheVariants.{Pending, Tasks}
+use Rattle.machine_core.specs.color_parts.Parts.{LinesView, TasksView, is_in_line}
 use Rattle.color_snaps.specs.Machines.{IsOrderly, IsPartOf, KnowsPlaces, Part, Setting, SnapView, part_of, with_snaps}
 use Rattle.color_snaps.specs.Inner.Keeping.{AreBothInLine, HasFirstInLine, IsWithoutLocks}
 use Rattle.color_snaps.proofs.FreeLemmas.{bare_free, kept_free, marked_free, updated_free}

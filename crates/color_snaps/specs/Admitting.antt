@@ -1,11 +1,11 @@
 -- What an admission in a step promises of a machine that takes part in snapshots, for each setting of which it is a part.
-pub use Rattle.cluster_core.specs.Actions.{MayAdmit}
-pub use Rattle.cluster_core.specs.Effects.{admitted}
-pub use Rattle.step_scopes.specs.Admitting.{IsAdmittedThere, next_id}
+pub use Rattle.cluster_laws.specs.cluster_core.Actions.{MayAdmit}
+pub use Rattle.cluster_laws.specs.cluster_core.Effects.{admitted}
+pub use Rattle.machine_core.specs.step_scopes.Admitting.{IsAdmittedThere, next_id}
 pub use Rattle.task_sched.specs.Tasks.{is_open}
 use Rattle.std.specs.Prelude.{◌≡◌, ◌⊎◌, ℕ, true, false, Some, slice_get}
 use Rattle.gl_base.specs.declared.numbers.Vertex.{Vertex}
-use Rattle.machine_parts.specs.Parts.{pending_here}
+use Rattle.machine_core.specs.machine_parts.Parts.{pending_here}
 use Rattle.task_sched.specs.declared.task_sets.Pick.{Pick}
 use Rattle.color_snaps.specs.Machines.{ColorSnapView, IsColorSnapPart, Setting, part_of_steps}
 

@@ -1,12 +1,12 @@
 -- A machine that goes by colours and takes part in snapshots, as contracts see it.
-pub use Rattle.cluster_core.specs.Parts.{Part}
-pub use Rattle.color_parts.specs.Settings.{GoesByColours}
-pub use Rattle.machine_parts.specs.Settings.{IsPartOf, Setting}
+pub use Rattle.cluster_laws.specs.cluster_core.Parts.{Part}
+pub use Rattle.machine_core.specs.color_parts.Settings.{GoesByColours}
+pub use Rattle.machine_core.specs.machine_parts.Settings.{IsPartOf, Setting}
 pub use Rattle.saving_machines.specs.Machines.{IsOrderly, KnowsPlaces, SnapMachineView, SnapView, outside_of, part_of}
 pub use Rattle.snap_machines.specs.Keeping.{with_snaps}
 use Rattle.std.specs.Prelude.{◌≡◌, ℕ, Bool, true, false, List, length, nat_lt}
-use Rattle.cluster_core.specs.Settings.{IsSetting, Locking}
-use Rattle.machine_parts.specs.declared.cores.Core.{Core}
+use Rattle.cluster_laws.specs.cluster_core.Settings.{IsSetting, Locking}
+use Rattle.machine_core.specs.declared.machine_parts.cores.Core.{Core}
 use Rattle.scope_pipe.specs.Pipes.{IsEmpty}
 use Rattle.task_sched.specs.Tasks.{is_flagged}
 use Rattle.update_api.specs.Updates.{Update}

@@ -1,6 +1,6 @@
 -- What a machine that goes by colours does of snapshots, for each setting of which it is a part.
-pub use Rattle.cluster_core.specs.Actions.{MayMark, MaySend}
-pub use Rattle.cluster_core.specs.Effects.{applied, begins, marked}
+pub use Rattle.cluster_laws.specs.cluster_core.Actions.{MayMark, MaySend}
+pub use Rattle.cluster_laws.specs.cluster_core.Effects.{applied, begins, marked}
 pub use Rattle.snap_machines.specs.Hearing.{HasFewerOutside}
 pub use Rattle.snap_machines.specs.Learning.{news_of}
 pub use Rattle.snap_machines.specs.Marking.{HasEndedPlan, HasOnlyMadeRoom, HasSavedMore, HasSavedOnce}
@@ -9,10 +9,10 @@ use Rattle.std.specs.Prelude.{◌≡◌, ◌≢◌, ℕ, ◌==◌, true, false}
 use Rattle.std.specs.List.{All, list_any}
 use Rattle.gl_base.specs.declared.scopes.ScopeId.{ScopeId}
 use Rattle.wire_msgs.specs.declared.messages.Done.{Done}
-use Rattle.cluster_core.specs.Settings.{IsSetting}
+use Rattle.cluster_laws.specs.cluster_core.Settings.{IsSetting}
 use Rattle.machine_numbers.specs.Views.{HasEdge}
-use Rattle.machine_parts.specs.declared.cores.Core.{Core}
-use Rattle.machine_parts.specs.Parts.{is_own}
+use Rattle.machine_core.specs.declared.machine_parts.cores.Core.{Core}
+use Rattle.machine_core.specs.machine_parts.Parts.{is_own}
 use Rattle.color_snaps.specs.Machines.{ColorSnapView, IsColorSnapPart, Setting, part_of_steps}
 
 -- snapshot k has begun

@@ -1,8 +1,8 @@
 -- The step of a machine that takes part in snapshots: how it begins, and when the machine's share of it is done.
-pub use Rattle.cluster_core.specs.Effects.{closes, steps_to}
-pub use Rattle.cluster_model.specs.Machines.{Machine}
+pub use Rattle.cluster_laws.specs.cluster_core.Effects.{closes, steps_to}
+pub use Rattle.cluster_laws.specs.cluster_model.Machines.{Machine}
 use Rattle.std.specs.Prelude.{◌≡◌, Bool}
-use Rattle.cluster_model.specs.Working.{has_room, is_done}
+use Rattle.cluster_laws.specs.cluster_model.Working.{has_room, is_done}
 use Rattle.task_sched.specs.Tasks.{is_open}
 use Rattle.color_snaps.specs.Machines.{ColorSnapView, IsColorSnapPart, Setting, part_of_steps}
 

@@ -1,12 +1,12 @@
 -- What the update of a scope in a step asks of a machine that takes part in snapshots, and what it leaves.
-pub use Rattle.cluster_core.specs.Actions.{MayUpdate}
-pub use Rattle.machine_turns.specs.Turns.{HasRunOf}
+pub use Rattle.cluster_laws.specs.cluster_core.Actions.{MayUpdate}
+pub use Rattle.machine_core.specs.machine_turns.Turns.{HasRunOf}
 pub use Rattle.saving_machines.specs.Updates.{HasLogged}
 use Rattle.std.specs.Prelude.{◌≡◌, ℕ}
 use Rattle.gl_base.specs.declared.entries.Entry.TheVariants.{Go}
 use Rattle.gl_base.specs.declared.scopes.ScopeId.{ScopeId}
-use Rattle.cluster_core.specs.Effects.{updated}
-use Rattle.cluster_core.specs.Settings.{IsSetting}
+use Rattle.cluster_laws.specs.cluster_core.Effects.{updated}
+use Rattle.cluster_laws.specs.cluster_core.Settings.{IsSetting}
 use Rattle.update_api.specs.Updates.{Update}
 use Rattle.color_snaps.specs.Machines.{ColorSnapView, IsColorSnapPart, Setting, part_of_steps}
 

@@ -1,12 +1,12 @@
 //! What is read of the machine, and what leaves its outboxes.
 ghost use Rattle.std.specs.Prelude.{◌≡◌, length, option_map, slice_get};
-ghost use Rattle.machine_rest.specs.Rest.{is_idle, total};
+ghost use Rattle.machine_core.specs.machine_rest.Rest.{is_idle, total};
 ghost use Rattle.outboxes.specs.Outboxes.{message_view, outbox_to, waiting_for, with_outbox, without_first};
 ghost use Rattle.color_snaps.specs.Machines.{IsColorSnapPart, IsInSameStep, IsOrderly, KnowsPlaces, Setting, outside_of, part_of_steps};
 
 use crate::machines::ColorSnapMachine;
 use gl_base::{Entry, Peer};
-use machine_parts::Core;
+use machine_core::machine_parts::Core;
 use snap_update::SnapPart;
 use update_api::Program;
 use wire_msgs::Message;

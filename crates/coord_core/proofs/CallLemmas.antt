@@ -7,13 +7,13 @@ use Rattle.gl_base.specs.declared.entries.Entry.TheVariants.{Restart}
 use Rattle.std.specs.List.{list_all}
 use Rattle.std.proofs.lemmas.Bool.{and_parts}
 use Rattle.update_api.specs.declared.woken.Woken.TheVariants.{Nobody}
-use Rattle.cluster_core.specs.Parts.{Part}
-use Rattle.cluster_core.specs.Settings as law
-use Rattle.cluster_model.specs.Calls.{Begin, Committed, Wave, Step}
-use Rattle.cluster_model.specs.Leading.{Come, Snapshot, entries_held}
-use Rattle.cluster_model.specs.Machines.{Machine}
-use Rattle.cluster_model.specs.Rounds.{Rounds}
-use Rattle.cluster_model.specs.Totals.{total, total_from}
+use Rattle.cluster_laws.specs.cluster_core.Parts.{Part}
+use Rattle.cluster_laws.specs.cluster_core.Settings as law
+use Rattle.cluster_laws.specs.cluster_model.Calls.{Begin, Committed, Wave, Step}
+use Rattle.cluster_laws.specs.cluster_model.Leading.{Come, Snapshot, entries_held}
+use Rattle.cluster_laws.specs.cluster_model.Machines.{Machine}
+use Rattle.cluster_laws.specs.cluster_model.Rounds.{Rounds}
+use Rattle.cluster_laws.specs.cluster_model.Totals.{total, total_from}
 use Rattle.graph_core.specs.DataGraph.{DataEdge}
 use Rattle.snap_update.specs.Holding.{last_of_edge, last_of_vertex}
 use Rattle.wire_msgs.specs.Views as wire

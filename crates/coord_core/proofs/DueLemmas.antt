@@ -1,10 +1,10 @@
 -- What is due, as the law has it.
 use Rattle.std.proofs.Common.{◌≡◌, ℕ, suc, ◌+◌, ◌<◌, true, false, inl, inr, refl, sym, ap, add-one, arith, subst, ◌∙◌}
 use Rattle.std.specs.Prelude.{◌⊎◌}
-use Rattle.cluster_core.specs.Settings as law
-use Rattle.cluster_model.specs.Events.{MayDo, PutBegin, PutStep, PutWave, Record}
-use Rattle.cluster_model.specs.Leading.{IsWaveTime, RecordIsDue, SnapshotIsDue}
-use Rattle.cluster_model.specs.Rounds.{StepIsDue, with_step}
+use Rattle.cluster_laws.specs.cluster_core.Settings as law
+use Rattle.cluster_laws.specs.cluster_model.Events.{MayDo, PutBegin, PutStep, PutWave, Record}
+use Rattle.cluster_laws.specs.cluster_model.Leading.{IsWaveTime, RecordIsDue, SnapshotIsDue}
+use Rattle.cluster_laws.specs.cluster_model.Rounds.{StepIsDue, with_step}
 use Rattle.coord_core.specs.declared.leading.Due.TheVariants as due
 use Rattle.coord_core.specs.declared.steps.Engine.{Engine}
 use Rattle.coord_core.specs.declared.steps.Engine.TheVariants.{Chromatic, Locking}

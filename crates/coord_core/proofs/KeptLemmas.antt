@@ -3,7 +3,7 @@ use Rattle.std.proofs.Common.{◌≡◌, ℕ, ◌+◌, ◌*◌, ◌^◌, ◌<◌
 use Rattle.std.specs.Prelude.{slice_set}
 use Rattle.std.proofs.lemmas.Bool.{cases_eq, cases_lt}
 use Rattle.std.proofs.lemmas.List.{get_or-replicate, get_or_past, length-replicate, length-set}
-use Rattle.cluster_model.specs.Totals.{total_from}
+use Rattle.cluster_laws.specs.cluster_model.Totals.{total_from}
 use Rattle.coord_core.specs.Inner.Kept.{IsSavingKept}
 use Rattle.coord_core.specs.Saving.{HasRoomForRecord, IsApart, IsApartWhereCome, IsRecordDue, SavingView, SectionView, StoreView, come_at, entries_come, saving_nothing, saved_length, saved_before, with_acknowledged, saving_begun, saving_section, with_want}
 

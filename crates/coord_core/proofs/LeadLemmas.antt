@@ -5,10 +5,10 @@ use Rattle.std.specs.List.{list_all}
 use Rattle.std.proofs.lemmas.Bool.{cases_lt}
 use Rattle.std.proofs.lemmas.List.{get_or_past, length-set, set-get_or}
 use Rattle.std.proofs.lemmas.List.Folds.{list_all-append}
-use Rattle.cluster_core.proofs.Basics.{set_at-same, set_at-other}
-use Rattle.cluster_core.specs.Ranges.{set_at}
-use Rattle.cluster_model.specs.Calls.{Begin, Committed, Count, Saved, Step, Want, Wave}
-use Rattle.cluster_model.specs.Rounds.{Rounds, first_rounds, with_step, with_wave}
+use Rattle.cluster_laws.proofs.cluster_core.Basics.{set_at-same, set_at-other}
+use Rattle.cluster_laws.specs.cluster_core.Ranges.{set_at}
+use Rattle.cluster_laws.specs.cluster_model.Calls.{Begin, Committed, Count, Saved, Step, Want, Wave}
+use Rattle.cluster_laws.specs.cluster_model.Rounds.{Rounds, first_rounds, with_step, with_wave}
 use Rattle.gl_base.specs.declared.scopes.Counted.{Counted}
 use Rattle.outboxes.specs.Outboxes.{left_behind, without_first}
 use Rattle.wire_msgs.specs.declared.messages.Message.{Message}

@@ -5,9 +5,9 @@ use Rattle.std.specs.List.Sorted.{IsPermutation}
 use Rattle.gl_base.specs.declared.entries.Entry.{Entry}
 use Rattle.gl_base.specs.declared.snapshots.Record.{Record}
 use Rattle.gl_base.specs.declared.snapshots.SavedPart.{SavedPart}
-use Rattle.cluster_core.specs.Settings.{Setting}
-use Rattle.cluster_model.specs.Events as law
-use Rattle.cluster_model.specs.Leading.{Come, Coordinator, come_or}
+use Rattle.cluster_laws.specs.cluster_core.Settings.{Setting}
+use Rattle.cluster_laws.specs.cluster_model.Events as law
+use Rattle.cluster_laws.specs.cluster_model.Leading.{Come, Coordinator, come_or}
 use Rattle.coord_core.specs.Calls.{IsRecordFor, IsSavedPart, snapshot_come}
 use Rattle.coord_core.specs.Coordinators.{IsComeOf, IsSavingOf}
 use Rattle.coord_core.specs.Inner.Kept.{IsSavingKept}

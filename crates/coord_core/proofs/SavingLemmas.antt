@@ -4,12 +4,12 @@ use Rattle.std.specs.Prelude.{◌↔◌, is_some, slice_set, sum_by}
 use Rattle.std.proofs.lemmas.Bool.{cases_Bool, cases_eq}
 use Rattle.std.proofs.lemmas.List.{get_or-replicate, length-replicate, length-set}
 use Rattle.std.proofs.lemmas.List.Sums.{sum_by-append}
-use Rattle.cluster_core.proofs.Basics.{set_at-other, set_at-same}
-use Rattle.cluster_core.specs.Ranges.{set_at}
-use Rattle.cluster_core.specs.Settings.{Setting}
-use Rattle.cluster_model.specs.Leading.{Come, Coordinator, HasSeenTheEnd, HasStoreRoom, RecordIsDue, Snapshot, SnapshotIsDue, acknowledges, begins_snapshot, come_or, entries_held, entries_in, first_coordinator, record_length, updates_told}
+use Rattle.cluster_laws.proofs.cluster_core.Basics.{set_at-other, set_at-same}
+use Rattle.cluster_laws.specs.cluster_core.Ranges.{set_at}
+use Rattle.cluster_laws.specs.cluster_core.Settings.{Setting}
+use Rattle.cluster_laws.specs.cluster_model.Leading.{Come, Coordinator, HasSeenTheEnd, HasStoreRoom, RecordIsDue, Snapshot, SnapshotIsDue, acknowledges, begins_snapshot, come_or, entries_held, entries_in, first_coordinator, record_length, updates_told}
 use Rattle.graph_core.specs.DataGraph.{size}
-use Rattle.cluster_model.specs.Totals.{total, total_from}
+use Rattle.cluster_laws.specs.cluster_model.Totals.{total, total_from}
 use Rattle.coord_core.specs.Coordinators.{Counting, CoordinatorView, IsComeAs, IsComeOf, IsCoordinatorOf, IsSavingOf}
 use Rattle.coord_core.specs.Inner.Kept.{IsSavingKept}
 use Rattle.coord_core.specs.Inner.Seen.{HasShownTheEnd, WantsSnapshot}

@@ -1,9 +1,9 @@
 -- What the coordinator knows of its steps: what always holds of it, whose it is, and when a step is due.
 use Rattle.std.proofs.Common.{◌≡◌, ℕ, suc, ◌≤◌, ◌==◌, min, Bool, true, false, inl, inr, refl, sym, ap, arith, subst, ◌∙◌}
 use Rattle.std.specs.Prelude.{if◌then◌else◌, ◌⊎◌}
-use Rattle.cluster_core.specs.Settings as law
-use Rattle.cluster_model.specs.Counting.{Counting}
-use Rattle.cluster_model.specs.Rounds.{AreEven, Rounds, StepIsDue, next_colour, with_counts, with_step, with_wave}
+use Rattle.cluster_laws.specs.cluster_core.Settings as law
+use Rattle.cluster_laws.specs.cluster_model.Counting.{Counting}
+use Rattle.cluster_laws.specs.cluster_model.Rounds.{AreEven, Rounds, StepIsDue, next_colour, with_counts, with_step, with_wave}
 use Rattle.gl_base.specs.declared.scopes.Counted.{Counted}
 use Rattle.quiet_waves.specs.Waves.{AreEvenWaves}
 use Rattle.coord_core.specs.Inner.Kept.{AreStepsKept, greatest_colour}

@@ -7,7 +7,7 @@ use Rattle.std.proofs.lemmas.List.{append-nil, drop_all, drop_more, get_or-map, 
 use Rattle.gl_base.specs.declared.snapshots.SavedPart.{SavedPart}
 use Rattle.coord_core.specs.Records.{IsPartOfRecord}
 use Rattle.coord_core.specs.Saving.{HaveAllCome, SectionView, come_at, entries_come, entries_told, section_view}
-use Rattle.cluster_model.specs.Totals.{total_from}
+use Rattle.cluster_laws.specs.cluster_model.Totals.{total_from}
 use Rattle.coord_core.proofs.SavingLemmas.{total_last}
 use Rattle.wire_msgs.specs.declared.messages.Section.{Section}
 

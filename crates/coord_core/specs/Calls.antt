@@ -4,11 +4,11 @@ use Rattle.std.specs.Prelude.{◌≡◌, ℕ, ◌<◌, ◌↔◌, true, false, s
 use Rattle.std.specs.List.Sorted.{IsStrictlyIncreasing}
 use Rattle.gl_base.specs.declared.snapshots.Record.{Record}
 use Rattle.gl_base.specs.declared.snapshots.SavedPart.{SavedPart}
-use Rattle.cluster_core.specs.Messages.{Section}
-use Rattle.cluster_model.specs.Calls.{Count, Want}
-use Rattle.cluster_model.specs.Events as law
-use Rattle.cluster_model.specs.Leading.{RecordIsDue, Snapshot, SnapshotIsDue, come_or}
-use Rattle.cluster_model.specs.Rounds.{with_step}
+use Rattle.cluster_laws.specs.cluster_core.Messages.{Section}
+use Rattle.cluster_laws.specs.cluster_model.Calls.{Count, Want}
+use Rattle.cluster_laws.specs.cluster_model.Events as law
+use Rattle.cluster_laws.specs.cluster_model.Leading.{RecordIsDue, Snapshot, SnapshotIsDue, come_or}
+use Rattle.cluster_laws.specs.cluster_model.Rounds.{with_step}
 use Rattle.graph_core.specs.DataGraph.{size}
 use Rattle.snap_update.specs.Holding.{AreSavedIn, IsSectionReport}
 use Rattle.wire_msgs.specs.declared.messages.Message.{Message}

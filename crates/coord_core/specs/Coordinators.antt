@@ -1,14 +1,14 @@
 -- What the coordinator holds, and whose part it is in a cluster.
 pub use Rattle.outboxes.specs.Outboxes.{OutboxView, OutboxesView, MessageView, no_outbox, message_view}
-pub use Rattle.cluster_core.specs.Settings.{Setting, Locking}
-pub use Rattle.cluster_model.specs.Calls.{Call, Report}
-pub use Rattle.cluster_model.specs.Clusters.{Cluster}
-pub use Rattle.cluster_model.specs.Counting.{Counting, MayBeCounted, count_answer, count_wave, first_counting}
-pub use Rattle.cluster_model.specs.Leading.{Come, Coordinator, HasSeenTheEnd, acknowledges, begins_snapshot, entries_in, first_coordinator, hands_call, puts_step, puts_wave, takes_report}
+pub use Rattle.cluster_laws.specs.cluster_core.Settings.{Setting, Locking}
+pub use Rattle.cluster_laws.specs.cluster_model.Calls.{Call, Report}
+pub use Rattle.cluster_laws.specs.cluster_model.Clusters.{Cluster}
+pub use Rattle.cluster_laws.specs.cluster_model.Counting.{Counting, MayBeCounted, count_answer, count_wave, first_counting}
+pub use Rattle.cluster_laws.specs.cluster_model.Leading.{Come, Coordinator, HasSeenTheEnd, acknowledges, begins_snapshot, entries_in, first_coordinator, hands_call, puts_step, puts_wave, takes_report}
 pub use Rattle.coord_core.specs.Saving.{SavingView, StoreView, come_at}
 pub use Rattle.coord_core.specs.Steps.{AreStepsOf, IsEngineOf, StepsView}
 use Rattle.std.specs.Prelude.{◌≡◌, ℕ, ◌<◌, ◌↔◌, true, false, Option, None, Some, List, [], ◌∷◌, length, slice_index_or, ⊤}
-use Rattle.cluster_model.specs.Calls.{Begin, Committed, Wave, Step}
+use Rattle.cluster_laws.specs.cluster_model.Calls.{Begin, Committed, Wave, Step}
 use Rattle.graph_core.specs.DataGraph.{size}
 use Rattle.snap_update.specs.Holding.{AreSavedIn}
 use Rattle.wire_msgs.specs.Views.{SectionView}

@@ -1,5 +1,5 @@
 -- The record of a snapshot, from the sections of its machines.
-pub use Rattle.cluster_core.specs.Replays.{ticket_of}
+pub use Rattle.cluster_laws.specs.cluster_core.Replays.{ticket_of}
 use Rattle.std.specs.List.Sorted.{IsNonDecreasingBy, IsPermutation}
 use Rattle.std.specs.Prelude.{List, None, Option, Some, [], length, slice_index_or, suc, zero, ℕ, ◌++◌, ◌<◌, ◌≡◌}
 use Rattle.gl_base.specs.declared.entries.Entry.{Entry}

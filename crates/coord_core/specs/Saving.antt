@@ -3,7 +3,7 @@ pub use Rattle.wire_msgs.specs.Views.{SectionView, section_view}
 use Rattle.std.specs.List.{IsDistinct}
 use Rattle.std.specs.Prelude.{Bool, List, None, Option, Some, [], false, is_some, length, map, nat_eq, replicate, slice_index_or, slice_set, true, ℕ, ⊤, ◌*◌, ◌+◌, ◌<◌, ◌==◌, ◌||◌, ◌≡◌, ◌≤◌, ◌⊎◌}
 use Rattle.gl_base.specs.declared.entries.Entry.{Entry}
-use Rattle.cluster_model.specs.Totals.{total}
+use Rattle.cluster_laws.specs.cluster_model.Totals.{total}
 
 pub record SavingView : Type 0 where
   -- whether snapshots are taken; how many vertices and edges the graph has, where they are

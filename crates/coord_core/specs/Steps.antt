@@ -1,7 +1,7 @@
 -- What the coordinator knows of its steps.
 use Rattle.std.specs.Prelude.{Bool, if◌then◌else◌, min, suc, true, ℕ, ⊤, ◌<◌, ◌==◌, ◌≡◌, ◌↔◌, ◌⊎◌}
-use Rattle.cluster_core.specs.Settings as law
-use Rattle.cluster_model.specs.Rounds.{Rounds}
+use Rattle.cluster_laws.specs.cluster_core.Settings as law
+use Rattle.cluster_laws.specs.cluster_model.Rounds.{Rounds}
 use Rattle.coord_core.specs.declared.steps.Engine.{Engine}
 use Rattle.coord_core.specs.declared.steps.Engine.TheVariants.{Chromatic, Locking}
 

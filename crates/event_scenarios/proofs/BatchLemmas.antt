@@ -4,7 +4,7 @@ use Rattle.std.specs.List.{AllPairs}
 use Rattle.std.proofs.lemmas.List.{get_or_append_left, get_or_push, length_push}
 use Rattle.local_graph.specs.declared.works.Work.{Work}
 use Rattle.machine_core.specs.Updates.{IsOut}
-use Rattle.machine_parts.specs.declared.cores.Core.{Core}
+use Rattle.machine_core.specs.declared.machine_parts.cores.Core.{Core}
 
 -- no two of them are of one vertex
 abbrev pub AreApart : List Work → Type 0

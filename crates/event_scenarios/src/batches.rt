@@ -13,7 +13,7 @@ use gl_base::{MachineNo, Refused};
 use graph_core::Graph;
 use local_graph::Work;
 use machine_core::Machine;
-use machine_updates::Spares;
+use machine_core::machine_updates::Spares;
 use program_machines::ProgramMachine;
 use std::alloc::Global;
 use update_api::Program;

@@ -1,6 +1,6 @@
 //! Clusters that begin.
 ghost use Rattle.std.specs.Prelude.{◌≡◌, ◌<◌, All, IfOk, IsTrue, false, length};
-ghost use Rattle.cluster_core.specs.Settings.{Locking};
+ghost use Rattle.cluster_laws.specs.cluster_core.Settings.{Locking};
 ghost use Rattle.graph_core.specs.DataGraph.{size};
 ghost use Rattle.placed_clusters.specs.Running.{AreStartIn, IsBaseFor, Setting};
 

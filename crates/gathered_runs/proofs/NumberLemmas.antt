@@ -4,8 +4,8 @@ use Rattle.std.specs.Prelude.{nat_lt, slice_index}
 use Rattle.std.proofs.lemmas.Bool.{cases_lt, lt-ltb, ltb-true}
 use Rattle.std.proofs.lemmas.List.{get_or_append_left, get_or_push}
 use Rattle.gl_base.specs.declared.limits.TheConstants.{MAX_VERTICES}
-use Rattle.cluster_core.specs.Settings.{Setting}
-use Rattle.cluster_core.specs.Parts.{Part}
+use Rattle.cluster_laws.specs.cluster_core.Settings.{Setting}
+use Rattle.cluster_laws.specs.cluster_core.Parts.{Part}
 use Rattle.cluster_step.specs.Clusters.{ClusterView, InEachSetting, OfTheOrder}
 use Rattle.cluster_step.specs.Starts.{replay_of, size}
 use Rattle.seq_run.specs.Runs.{AreNumbers}

@@ -5,9 +5,9 @@ use Rattle.std.specs.Prelude.{Err, IfOk, Ok, Result}
 use Rattle.std.proofs.lemmas.List.{map-append}
 use Rattle.gl_base.specs.declared.entries.Entry.{Entry}
 use Rattle.gl_base.specs.declared.entries.Entry.TheVariants.{Go, Restart}
-use Rattle.cluster_core.specs.Settings.{Setting}
-use Rattle.cluster_core.specs.Parts.{Part}
-use Rattle.cluster_cuts.specs.Goings.{AreUpdatesFrom, IsByOwner, IsOfVertexBelow}
+use Rattle.cluster_laws.specs.cluster_core.Settings.{Setting}
+use Rattle.cluster_laws.specs.cluster_core.Parts.{Part}
+use Rattle.cluster_laws.specs.cluster_cuts.Goings.{AreUpdatesFrom, IsByOwner, IsOfVertexBelow}
 use Rattle.cluster_step.specs.Clusters.{ClusterView, InEachSetting, OfTheOrder, part_now}
 use Rattle.cluster_step.specs.Starts.{IsOrderSince, StartIn, size}
 use Rattle.merged_logs.specs.Merges.{IsByMachineBelow, IsByTicket, IsMerge, all_logged, entries_of, logs_of, ticket_of}

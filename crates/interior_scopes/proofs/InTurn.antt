@@ -1,13 +1,13 @@
 -- Grants of one machine, one after another, are a run of the cluster.
 use Rattle.std.proofs.Common.{◌≡◌, ℕ, List, [], ◌∷◌, ◌++◌, map, inl, inr, refl, sym, ◌∙◌, ap, subst, eq-eqb, ne_eqb}
 use Rattle.std.proofs.lemmas.Bool.{cases_eq}
-use Rattle.cluster_core.specs.Actions.{Grant}
-use Rattle.cluster_core.specs.Effects.{granted}
-use Rattle.cluster_core.specs.Parts.{Part}
-use Rattle.cluster_core.specs.Ranges.{set_at}
-use Rattle.cluster_core.specs.Runs.{IsActionRun}
-use Rattle.cluster_core.specs.Settings.{Setting}
-use Rattle.cluster_core.specs.Worlds.{World, with_part}
+use Rattle.cluster_laws.specs.cluster_core.Actions.{Grant}
+use Rattle.cluster_laws.specs.cluster_core.Effects.{granted}
+use Rattle.cluster_laws.specs.cluster_core.Parts.{Part}
+use Rattle.cluster_laws.specs.cluster_core.Ranges.{set_at}
+use Rattle.cluster_laws.specs.cluster_core.Runs.{IsActionRun}
+use Rattle.cluster_laws.specs.cluster_core.Settings.{Setting}
+use Rattle.cluster_laws.specs.cluster_core.Worlds.{World, with_part}
 use Rattle.interior_scopes.specs.InTurn.{AreGranted}
 use Rattle.interior_scopes.proofs.Running.{part_again, part_there}
 

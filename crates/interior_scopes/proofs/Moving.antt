@@ -3,11 +3,11 @@ use Rattle.std.proofs.Common.{◌≡◌, ℕ, ◌<◌, List, [], ◌∷◌, ◌+
 use Rattle.std.proofs.lemmas.List.{append-nil}
 use Rattle.std.proofs.lemmas.Option.{none-some}
 use Rattle.graph_core.specs.DataGraph.{size}
-use Rattle.cluster_core.specs.Actions.{Action, IsItsTurn, after}
-use Rattle.cluster_core.specs.Effects.{next_scope}
-use Rattle.cluster_core.specs.Runs.{IsActionRun, IsStart}
-use Rattle.cluster_core.specs.Settings.{Engine, Locking, Setting, IsSetting}
-use Rattle.cluster_core.specs.Worlds.{World}
+use Rattle.cluster_laws.specs.cluster_core.Actions.{Action, IsItsTurn, after}
+use Rattle.cluster_laws.specs.cluster_core.Effects.{next_scope}
+use Rattle.cluster_laws.specs.cluster_core.Runs.{IsActionRun, IsStart}
+use Rattle.cluster_laws.specs.cluster_core.Settings.{Engine, Locking, Setting, IsSetting}
+use Rattle.cluster_laws.specs.cluster_core.Worlds.{World}
 use Rattle.interior_scopes.specs.AtOnce.{IsInterior, MayUpdateAtOnce}
 use Rattle.interior_scopes.specs.Moves.{AreMoves, AtOnce, MayMove, Move, One, actions_of, moved}
 use Rattle.interior_scopes.proofs.Running.{at_once_runs}

@@ -5,14 +5,14 @@ use Rattle.std.proofs.lemmas.Option.{none-some}
 use Rattle.gl_base.specs.declared.scopes.Mode.{Mode}
 use Rattle.gl_base.specs.declared.scopes.ScopeId.{ScopeId}
 use Rattle.graph_core.specs.DataGraph.{size}
-use Rattle.cluster_core.specs.Actions.{Grant, Update, MayGrant, MayUpdate, after, draws, updates}
-use Rattle.cluster_core.specs.Effects.{granted, updated}
-use Rattle.cluster_core.specs.Parts.{Part}
-use Rattle.cluster_core.specs.Ranges.{all_passing, first_passing}
-use Rattle.cluster_core.specs.Runs.{IsActionRun}
-use Rattle.cluster_core.specs.Settings.{Locking, Setting, IsSetting, is_in_scope}
-use Rattle.cluster_core.specs.Worlds.{World, with_part}
-use Rattle.cluster_core.proofs.Basics.{set_at-same, set_for-same}
+use Rattle.cluster_laws.specs.cluster_core.Actions.{Grant, Update, MayGrant, MayUpdate, after, draws, updates}
+use Rattle.cluster_laws.specs.cluster_core.Effects.{granted, updated}
+use Rattle.cluster_laws.specs.cluster_core.Parts.{Part}
+use Rattle.cluster_laws.specs.cluster_core.Ranges.{all_passing, first_passing}
+use Rattle.cluster_laws.specs.cluster_core.Runs.{IsActionRun}
+use Rattle.cluster_laws.specs.cluster_core.Settings.{Locking, Setting, IsSetting, is_in_scope}
+use Rattle.cluster_laws.specs.cluster_core.Worlds.{World, with_part}
+use Rattle.cluster_laws.proofs.cluster_core.Basics.{set_at-same, set_for-same}
 use Rattle.interior_scopes.specs.AtOnce.{MayUpdateAtOnce, actions_at_once, after_at_once, entry_at_once}
 use Rattle.interior_scopes.proofs.Walking.{set_at-twice, its, is_its, held_below, claim_for, walks, admitted_walks, not_yet, held_past, granted_walks, updated_walks}
 

@@ -6,14 +6,14 @@ use Rattle.gl_base.specs.declared.scopes.Claim.{Claim}
 use Rattle.gl_base.specs.declared.scopes.Mode.{Mode}
 use Rattle.gl_base.specs.declared.scopes.ScopeId.{ScopeId}
 use Rattle.graph_core.specs.DataGraph.{size}
-use Rattle.cluster_core.specs.Parts.{Part, Stand}
-use Rattle.cluster_core.specs.Ranges.{all_passing, first_passing, set_at}
-use Rattle.cluster_core.specs.Settings.{Engine, Locking, Setting, IsSetting, is_in_scope}
-use Rattle.cluster_core.specs.Scopes.{is_scope, set_for, mode_at, own_from, is_found, takes_part, machines_from}
-use Rattle.cluster_core.specs.Effects.{next_scope, in_flight, admitted, admitted_by, sets_out, asks_for, moves_on, takes_lock, first_granted, granted, released, tell, news_for, updated}
-use Rattle.cluster_core.specs.Messages.{Done, News}
-use Rattle.cluster_core.proofs.Basics.{set_at-same, set_at-other, set_for-same, set_for-other, scope_cases, first_passing-some}
-use Rattle.cluster_core.proofs.Nearness.{is_own, owner_takes_part, part_low, scoped_itself}
+use Rattle.cluster_laws.specs.cluster_core.Parts.{Part, Stand}
+use Rattle.cluster_laws.specs.cluster_core.Ranges.{all_passing, first_passing, set_at}
+use Rattle.cluster_laws.specs.cluster_core.Settings.{Engine, Locking, Setting, IsSetting, is_in_scope}
+use Rattle.cluster_laws.specs.cluster_core.Scopes.{is_scope, set_for, mode_at, own_from, is_found, takes_part, machines_from}
+use Rattle.cluster_laws.specs.cluster_core.Effects.{next_scope, in_flight, admitted, admitted_by, sets_out, asks_for, moves_on, takes_lock, first_granted, granted, released, tell, news_for, updated}
+use Rattle.cluster_laws.specs.cluster_core.Messages.{Done, News}
+use Rattle.cluster_laws.proofs.cluster_core.Basics.{set_at-same, set_at-other, set_for-same, set_for-other, scope_cases, first_passing-some}
+use Rattle.cluster_laws.proofs.cluster_core.Nearness.{is_own, owner_takes_part, part_low, scoped_itself}
 use Rattle.interior_scopes.specs.AtOnce.{IsInterior, MayUpdateAtOnce, at_once}
 
 -- ---- functions that are changed twice at one place, or back

@@ -1,14 +1,14 @@
 -- An update of a vertex whose scope lies on one machine, made at once: no lock is taken and no message is sent.
-pub use Rattle.cluster_core.specs.Actions.{Action, Admit, Grant, Update, MayAdmit, draws}
-pub use Rattle.cluster_core.specs.Effects.{next_scope, renewed}
-pub use Rattle.cluster_core.specs.Parts.{Part, lent}
-pub use Rattle.cluster_core.specs.Settings.{Setting, IsSetting, Locking, is_in_scope}
-pub use Rattle.cluster_core.specs.Worlds.{World, with_part}
+pub use Rattle.cluster_laws.specs.cluster_core.Actions.{Action, Admit, Grant, Update, MayAdmit, draws}
+pub use Rattle.cluster_laws.specs.cluster_core.Effects.{next_scope, renewed}
+pub use Rattle.cluster_laws.specs.cluster_core.Parts.{Part, lent}
+pub use Rattle.cluster_laws.specs.cluster_core.Settings.{Setting, IsSetting, Locking, is_in_scope}
+pub use Rattle.cluster_laws.specs.cluster_core.Worlds.{World, with_part}
 use Rattle.std.specs.Prelude.{◌≡◌, ℕ, suc, ◌<◌, ◌==◌, ◌&&◌, ◌||◌, not, true, false, None, List, [], ◌∷◌, ◌++◌, map}
 use Rattle.gl_base.specs.declared.entries.Entry.{Entry}
 use Rattle.gl_base.specs.declared.entries.Entry.TheVariants.{Go}
 use Rattle.gl_base.specs.declared.scopes.ScopeId.{ScopeId}
-use Rattle.cluster_core.specs.Ranges.{all_passing, set_at}
+use Rattle.cluster_laws.specs.cluster_core.Ranges.{all_passing, set_at}
 use Rattle.graph_core.specs.DataGraph.{size}
 use Rattle.seq_run.specs.States.{after_update, new_number, wakes}
 

@@ -1,9 +1,9 @@
 -- Locks of one machine that are granted one after another.
 use Rattle.std.specs.Prelude.{◌≡◌, ℕ, List, [], ◌∷◌}
-use Rattle.cluster_core.specs.Actions.{MayGrant}
-use Rattle.cluster_core.specs.Effects.{granted}
-use Rattle.cluster_core.specs.Parts.{Part}
-use Rattle.cluster_core.specs.Settings.{Setting}
+use Rattle.cluster_laws.specs.cluster_core.Actions.{MayGrant}
+use Rattle.cluster_laws.specs.cluster_core.Effects.{granted}
+use Rattle.cluster_laws.specs.cluster_core.Parts.{Part}
+use Rattle.cluster_laws.specs.cluster_core.Settings.{Setting}
 
 -- the locks of these vertices of machine a are granted in turn, each of which may be then
 abbrev pub AreGranted : Setting → ℕ → List ℕ → Part → Part → Type 0

@@ -1,6 +1,6 @@
 -- Actions and updates at once, mixed in any order.
 use Rattle.std.specs.Prelude.{◌≡◌, ℕ, List, [], ◌∷◌, ◌++◌}
-use Rattle.cluster_core.specs.Actions.{MayHappen, after}
+use Rattle.cluster_laws.specs.cluster_core.Actions.{MayHappen, after}
 use Rattle.interior_scopes.specs.AtOnce.{Action, MayUpdateAtOnce, Setting, World, actions_at_once, after_at_once}
 
 -- one action, or the update of a machine's vertex at once

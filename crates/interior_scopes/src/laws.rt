@@ -1,6 +1,6 @@
 //! Laws of updates that are made at once. Each is the contract of a function that does nothing.
 ghost use Rattle.std.specs.Prelude.{◌≡◌, ℕ, ◌<◌, ◌++◌, ◌∷◌, [], false, List, map};
-ghost use Rattle.cluster_core.specs.Runs.{IsActionRun, IsStart};
+ghost use Rattle.cluster_laws.specs.cluster_core.Runs.{IsActionRun, IsStart};
 ghost use Rattle.graph_core.specs.DataGraph.{size};
 ghost use Rattle.interior_scopes.specs.AtOnce.{Action, Grant, Part, with_part, IsInterior, IsSetting, Locking, MayUpdateAtOnce, Setting, World, actions_at_once, after_at_once};
 ghost use Rattle.interior_scopes.specs.InTurn.{AreGranted};

@@ -1,7 +1,7 @@
 -- Runs of a program on a graph that is placed on machines.
 pub use Rattle.atom_cut.specs.Cuts.{IsGrowthCut, atom_numbers}
 pub use Rattle.atom_place.specs.Placing.{IsPlacing}
-pub use Rattle.cluster_cuts.specs.Goings.{AreUpdatesFrom, IsByOwner}
+pub use Rattle.cluster_laws.specs.cluster_cuts.Goings.{AreUpdatesFrom, IsByOwner}
 pub use Rattle.local_graph.specs.Locals.{machine_numbers}
 pub use Rattle.merged_logs.specs.Merges.{is_of}
 pub use Rattle.placed_graphs.specs.Placed.{placed_owner}

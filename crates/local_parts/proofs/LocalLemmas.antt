@@ -19,8 +19,8 @@ use Rattle.graph_core.specs.Colourings.{joins}
 use Rattle.graph_core.specs.DataGraph.{DataGraph, size}
 use Rattle.graph_core.specs.Neighbours.{neighbours_of}
 use Rattle.atom_cut.specs.Atoms.{is_in, is_ghost}
-use Rattle.cluster_core.specs.Ranges.{all_passing}
-use Rattle.cluster_core.specs.Settings.{Setting, IsSetting}
+use Rattle.cluster_laws.specs.cluster_core.Ranges.{all_passing}
+use Rattle.cluster_laws.specs.cluster_core.Settings.{Setting, IsSetting}
 use Rattle.local_graph.specs.declared.outlines.Outline.{Outline}
 use Rattle.local_graph.specs.Locals.{LocalView, AreTheirPlaces, at_place, got_at, place_of_vertex, is_placed, is_own, id_at}
 use Rattle.local_graph.specs.Played.{IsPlayedFrom, no_datum, numbers_of}

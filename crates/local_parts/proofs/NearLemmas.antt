@@ -9,7 +9,7 @@ use Rattle.graph_core.specs.Colourings.{joins}
 use Rattle.graph_core.specs.DataGraph.{DataEdge, DataGraph, IsDataGraph, IsEdge, size}
 use Rattle.graph_core.specs.Halves.{DataHalf, half_at, halves_from, halves_of}
 use Rattle.graph_core.specs.Neighbours.{neighbours_of}
-use Rattle.cluster_core.proofs.Nearness.{joins_turned}
+use Rattle.cluster_laws.proofs.cluster_core.Nearness.{joins_turned}
 use Rattle.local_parts.proofs.FoundLemmas.{found_with}
 
 abbrev no_edge : DataEdge

@@ -1,7 +1,7 @@
 -- Numbers of a range that pass, as lists that are filtered and as lists that are counted out.
 use Rattle.std.proofs.Common.{◌≡◌, ℕ, zero, suc, ◌+◌, ◌<◌, ◌≤◌, ◌==◌, ◌&&◌, ◌||◌, ◌++◌, Bool, true, false, not, if◌then◌else◌, cond, List, [], ◌∷◌, length, get_or, map, refl, sym, ap, ◌∙◌, subst, arith, inl, inr, add-one}
 use Rattle.std.specs.List.{filter, list_any, range_with_len}
-use Rattle.cluster_core.specs.Ranges.{all_passing}
+use Rattle.cluster_laws.specs.cluster_core.Ranges.{all_passing}
 
 pub filter_mapped : {X : Type 0} (p : X → Bool) (f : ℕ → X) (xs : List ℕ) → filter p (map f xs) ≡ map f (filter (λ k. p (f k)) xs)
 filter_mapped p f [] = refl

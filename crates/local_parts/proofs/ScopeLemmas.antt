@@ -19,10 +19,10 @@ use Rattle.graph_core.specs.Neighbours.{neighbours_of}
 use Rattle.graph_core.specs.declared.halves.Half.{Half}
 use Rattle.update_api.specs.declared.links.Link.{Link}
 use Rattle.atom_cut.specs.Atoms.{is_in}
-use Rattle.cluster_core.specs.Ranges.{all_passing, first_passing}
-use Rattle.cluster_core.specs.Scopes.{is_found, machines_from, own_from, takes_part}
-use Rattle.cluster_core.specs.Settings.{Setting, IsSetting, is_in_scope, is_near}
-use Rattle.cluster_core.proofs.Basics.{first_passing-some}
+use Rattle.cluster_laws.specs.cluster_core.Ranges.{all_passing, first_passing}
+use Rattle.cluster_laws.specs.cluster_core.Scopes.{is_found, machines_from, own_from, takes_part}
+use Rattle.cluster_laws.specs.cluster_core.Settings.{Setting, IsSetting, is_in_scope, is_near}
+use Rattle.cluster_laws.proofs.cluster_core.Basics.{first_passing-some}
 use Rattle.local_graph.specs.declared.outlines.Outline.{Outline}
 use Rattle.local_graph.specs.declared.sides.Side.{Side}
 use Rattle.local_graph.specs.Lines.{halves_of_lines, links_from}

@@ -5,8 +5,8 @@ use Rattle.std.proofs.lemmas.Bool.{cases_eq, eq-eqb, ne_eqb}
 use Rattle.std.proofs.lemmas.List.Elements.{All-head, All-tail}
 use Rattle.graph_core.specs.DataGraph.{DataEdge, IsDataGraph, size}
 use Rattle.graph_core.specs.Halves.{DataHalf, half_at, halves_from, halves_of}
-use Rattle.cluster_core.specs.Effects.{is_shared}
-use Rattle.cluster_core.specs.Settings.{Setting, IsSetting, nth_edge}
+use Rattle.cluster_laws.specs.cluster_core.Effects.{is_shared}
+use Rattle.cluster_laws.specs.cluster_core.Settings.{Setting, IsSetting, nth_edge}
 use Rattle.local_parts.specs.Parts.{AreOfTwoEdges, ShareEdges, is_shared_by}
 use Rattle.local_parts.proofs.NearLemmas.{IsAmong, all_among}
 

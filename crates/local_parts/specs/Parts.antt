@@ -1,7 +1,7 @@
 -- A machine's part of a graph, for a setting of a cluster.
-pub use Rattle.cluster_core.specs.Settings.{Setting, IsSetting, is_in_scope, nth_edge}
-pub use Rattle.cluster_core.specs.Scopes.{machines_from}
-pub use Rattle.cluster_core.specs.Effects.{is_shared}
+pub use Rattle.cluster_laws.specs.cluster_core.Settings.{Setting, IsSetting, is_in_scope, nth_edge}
+pub use Rattle.cluster_laws.specs.cluster_core.Scopes.{machines_from}
+pub use Rattle.cluster_laws.specs.cluster_core.Effects.{is_shared}
 pub use Rattle.local_graph.specs.Locals.{LocalView, place_at, is_placed, is_own, id_at, links_at, sides_at, parts_at, part_at, machine_numbers}
 pub use Rattle.local_graph.specs.Played.{IsPlayedFrom, numbers_of}
 pub use Rattle.local_graph.specs.Works.{IsRow}
@@ -16,7 +16,7 @@ use Rattle.update_api.specs.Directions.{leads_out, leads_into}
 use Rattle.update_api.specs.declared.links.Link.{Link}
 use Rattle.atom_file.specs.Atoms.{atom_of}
 use Rattle.atom_cut.specs.Atoms.{graph_atom}
-use Rattle.cluster_core.specs.Ranges.{all_passing}
+use Rattle.cluster_laws.specs.cluster_core.Ranges.{all_passing}
 use Rattle.local_graph.specs.declared.outlines.Outline.{Outline}
 use Rattle.local_graph.specs.declared.sides.Side.{Side}
 

@@ -1,3 +1,3 @@
 -- What is said of updates that an order lacks.
-pub use Rattle.cluster_core.specs.Replays.{ticket_of}
+pub use Rattle.cluster_laws.specs.cluster_core.Replays.{ticket_of}
 pub use Rattle.whole_calls.specs.Lost.{is_lacking, is_update_at}

@@ -7,19 +7,19 @@ use Rattle.gl_base.specs.declared.numbers.Vertex.{Vertex}
 use Rattle.gl_base.specs.declared.scopes.ScopeId.{ScopeId}
 use Rattle.scope_lists.specs.Scopes.{mode_at}
 use Rattle.scope_lists.proofs.SameScope.{same_scope}
-use Rattle.cluster_core.specs.Messages.{Ask, Done, Message, News, Ready}
-use Rattle.cluster_core.specs.Parts.{Part}
-use Rattle.cluster_core.specs.Places.{ArePlaces, IsStageOf}
-use Rattle.cluster_core.specs.Receiving.{MayAsk, MayBecomeReady}
-use Rattle.cluster_core.specs.Settings.{Setting, IsSetting, is_in_scope}
-use Rattle.cluster_core.specs.Stages.{Asks, Ends, Idle, IsAsked, IsDone, IsReady, Returns, Stage, Stays, Token, Waits, has_lock, held, one_if, sight_of, some_if, token_of, tokens_of}
-use Rattle.cluster_core.specs.Worlds.{World}
-use Rattle.machine_parts.specs.declared.cores.Core.{Core}
-use Rattle.machine_parts.specs.Parts.{part_of, machine_numbers}
-use Rattle.machine_parts.specs.Order.{IsOrderly}
-use Rattle.machine_parts.specs.Settings.{IsPartOf}
-use Rattle.machine_scopes.specs.Asking.{IsNewAt, AreMachinesFor, CanBecomeReady}
-use Rattle.machine_scopes.proofs.LawLemmas.{ask_is_new, ask_goes_on, word_comes}
+use Rattle.cluster_laws.specs.cluster_core.Messages.{Ask, Done, Message, News, Ready}
+use Rattle.cluster_laws.specs.cluster_core.Parts.{Part}
+use Rattle.cluster_laws.specs.cluster_core.Places.{ArePlaces, IsStageOf}
+use Rattle.cluster_laws.specs.cluster_core.Receiving.{MayAsk, MayBecomeReady}
+use Rattle.cluster_laws.specs.cluster_core.Settings.{Setting, IsSetting, is_in_scope}
+use Rattle.cluster_laws.specs.cluster_core.Stages.{Asks, Ends, Idle, IsAsked, IsDone, IsReady, Returns, Stage, Stays, Token, Waits, has_lock, held, one_if, sight_of, some_if, token_of, tokens_of}
+use Rattle.cluster_laws.specs.cluster_core.Worlds.{World}
+use Rattle.machine_core.specs.declared.machine_parts.cores.Core.{Core}
+use Rattle.machine_core.specs.machine_parts.Parts.{part_of, machine_numbers}
+use Rattle.machine_core.specs.machine_parts.Order.{IsOrderly}
+use Rattle.machine_core.specs.machine_parts.Settings.{IsPartOf}
+use Rattle.machine_core.specs.machine_scopes.Asking.{IsNewAt, AreMachinesFor, CanBecomeReady}
+use Rattle.machine_core.proofs.machine_scopes.LawLemmas.{ask_is_new, ask_goes_on, word_comes}
 
 -- ---- what is told of a scope
 

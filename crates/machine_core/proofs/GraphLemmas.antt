@@ -5,18 +5,18 @@ use Rattle.std.proofs.lemmas.Bool.{cases_Bool, cases_eq, eq-eqb, and_from}
 use Rattle.std.proofs.lemmas.Option.{slice_get-map}
 use Rattle.gl_base.specs.declared.numbers.MachineNo.{MachineNo}
 use Rattle.gl_base.specs.declared.numbers.Vertex.{Vertex}
-use Rattle.cluster_core.specs.Ranges.{all_passing}
-use Rattle.cluster_core.specs.Scopes.{machines_from, takes_part}
-use Rattle.cluster_core.specs.Settings.{Setting, IsSetting, is_in_scope}
-use Rattle.cluster_core.proofs.Nearness.{owner_takes_part, part_low, scoped_itself}
+use Rattle.cluster_laws.specs.cluster_core.Ranges.{all_passing}
+use Rattle.cluster_laws.specs.cluster_core.Scopes.{machines_from, takes_part}
+use Rattle.cluster_laws.specs.cluster_core.Settings.{Setting, IsSetting, is_in_scope}
+use Rattle.cluster_laws.proofs.cluster_core.Nearness.{owner_takes_part, part_low, scoped_itself}
 use Rattle.graph_core.specs.DataGraph.{size}
 use Rattle.local_graph.specs.Locals.{LocalView, is_own, part_at, parts_at}
 use Rattle.local_parts.specs.Parts.{IsLocalOf, own_in_scope}
-use Rattle.machine_parts.specs.Parts.{number_of}
-use Rattle.machine_parts.specs.Order.{IsGraphInOrder}
-use Rattle.machine_scopes.proofs.HeldLemmas.{one_of, own_in, own_from_setting}
-use Rattle.machine_scopes.proofs.LawLemmas.{passing_at, part_is, some_number}
-use Rattle.machine_scopes.proofs.OwnLemmas.{low_of_placed, placed_of_part}
+use Rattle.machine_core.specs.machine_parts.Parts.{number_of}
+use Rattle.machine_core.specs.machine_parts.Order.{IsGraphInOrder}
+use Rattle.machine_core.proofs.machine_scopes.HeldLemmas.{one_of, own_in, own_from_setting}
+use Rattle.machine_core.proofs.machine_scopes.LawLemmas.{passing_at, part_is, some_number}
+use Rattle.machine_core.proofs.machine_scopes.OwnLemmas.{low_of_placed, placed_of_part}
 
 -- ---- ranges
 

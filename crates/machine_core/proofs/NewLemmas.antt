@@ -1,12 +1,12 @@
 -- A new machine is in order.
 use Rattle.std.proofs.Common.{◌≡◌, ℕ, ◌≤◌, Bool, true, false, Option, None, Some, is_some, List, length, refl, sym, ap, ◌∙◌, subst, All, arith, true≢false}
-use Rattle.cluster_core.specs.Settings.{Setting, IsSetting}
+use Rattle.cluster_laws.specs.cluster_core.Settings.{Setting, IsSetting}
 use Rattle.local_graph.specs.Locals.{place_at}
 use Rattle.machine_numbers.specs.Views.{flag_there, is_flagged}
 use Rattle.machine_numbers.proofs.PartLemmas.{sides_are}
-use Rattle.machine_parts.specs.declared.cores.Core.{Core}
-use Rattle.machine_parts.specs.Order.{IsGraphInOrder, IsOrderly, StandsAtLock, nobody}
-use Rattle.machine_parts.specs.Settings.{IsPartOf}
+use Rattle.machine_core.specs.declared.machine_parts.cores.Core.{Core}
+use Rattle.machine_core.specs.machine_parts.Order.{IsGraphInOrder, IsOrderly, StandsAtLock, nobody}
+use Rattle.machine_core.specs.machine_parts.Settings.{IsPartOf}
 use Rattle.machine_core.specs.Machines.{IsNewMachine}
 use Rattle.machine_core.proofs.GraphLemmas.{graph_in_order}
 

@@ -4,10 +4,10 @@ use Rattle.std.proofs.lemmas.Bool.{lt-ltb}
 use Rattle.std.proofs.lemmas.Option.{slice_get_read}
 use Rattle.gl_base.specs.declared.numbers.Vertex.{Vertex}
 use Rattle.machine_numbers.specs.Views.{flag_there, is_flagged}
-use Rattle.machine_parts.specs.declared.cores.Core.{Core}
-use Rattle.machine_parts.specs.Order.{IsOrderly, KnowsPlaces}
-use Rattle.machine_parts.specs.Parts.{is_own, place_at, task_here}
-use Rattle.machine_scopes.proofs.PickLemmas.{flag_inside}
+use Rattle.machine_core.specs.declared.machine_parts.cores.Core.{Core}
+use Rattle.machine_core.specs.machine_parts.Order.{IsOrderly, KnowsPlaces}
+use Rattle.machine_core.specs.machine_parts.Parts.{is_own, place_at, task_here}
+use Rattle.machine_core.proofs.machine_scopes.PickLemmas.{flag_inside}
 
 module _ (m : Core) (k : ℕ) (v : Vertex) (places : KnowsPlaces m) (flagged : is_flagged m.numbers.tasks.task k ≡ true) (read : v ≡ get_or m.by_place.items k v) where
   place_is : place_at m.numbers.local v.0 ≡ Some k

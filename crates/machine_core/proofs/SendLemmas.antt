@@ -4,15 +4,15 @@ use Rattle.std.proofs.lemmas.Bool.{cases_eq, eq-eqb, ne_eqb, lt-ltb}
 use Rattle.std.proofs.lemmas.List.{length-set, set-get_or}
 use Rattle.gl_base.specs.declared.numbers.MachineNo.{MachineNo}
 use Rattle.gl_base.specs.declared.scopes.Peer.TheVariants.{Machine}
-use Rattle.cluster_core.specs.Actions.{HasFirst}
-use Rattle.cluster_core.specs.Messages as law
-use Rattle.cluster_core.specs.Ranges.{set_at}
+use Rattle.cluster_laws.specs.cluster_core.Actions.{HasFirst}
+use Rattle.cluster_laws.specs.cluster_core.Messages as law
+use Rattle.cluster_laws.specs.cluster_core.Ranges.{set_at}
 use Rattle.outboxes.specs.Outboxes.{OutboxView, OutboxesView, MessageView, no_outbox, outbox_to, waiting_for, with_outbox, left_behind, without_first}
 use Rattle.wire_msgs.specs.Views.{message_view}
 use Rattle.wire_msgs.specs.declared.messages.Message.{Message}
-use Rattle.machine_parts.specs.declared.cores.Core.{Core}
-use Rattle.machine_parts.specs.Order.{IsGraphInOrder, HasComeRight}
-use Rattle.machine_parts.specs.Parts.{message_of, messages_for, part_of}
+use Rattle.machine_core.specs.declared.machine_parts.cores.Core.{Core}
+use Rattle.machine_core.specs.machine_parts.Order.{IsGraphInOrder, HasComeRight}
+use Rattle.machine_core.specs.machine_parts.Parts.{message_of, messages_for, part_of}
 use Rattle.machine_core.specs.Machines.{IsMachine}
 use Rattle.machine_core.specs.Messages.{HasSentFirst, message_told}
 

@@ -3,3 +3,12 @@ pub mod Updates
 pub mod Turns
 pub mod Messages
 pub mod Reading
+pub mod machine_parts
+pub mod lock_release
+pub mod machine_scopes
+pub mod step_scopes
+pub mod machine_updates
+pub mod machine_turns
+pub mod machine_at_once
+pub mod machine_rest
+pub mod color_parts

@@ -1,24 +1,24 @@
 -- A machine and its calls, and a new machine.
-pub use Rattle.cluster_core.specs.Effects.{next_scope}
-pub use Rattle.cluster_core.specs.Messages.{Message, News, Done}
-pub use Rattle.cluster_core.specs.Places.{ArePlaces}
-pub use Rattle.cluster_core.specs.Receiving.{MayAsk, MayBecomeReady}
-pub use Rattle.cluster_core.specs.Settings.{is_in_scope}
-pub use Rattle.cluster_core.specs.Stages.{Stage}
-pub use Rattle.cluster_core.specs.Worlds.{World}
-pub use Rattle.machine_parts.specs.Order.{IsOrderly, KnowsPlaces}
-pub use Rattle.machine_parts.specs.Parts.{part_of, machine_numbers}
-pub use Rattle.machine_parts.specs.Rooms.{HasOnlyMadeRoom}
-pub use Rattle.machine_parts.specs.Settings.{Setting, IsPartOf, SameSettings}
-pub use Rattle.machine_scopes.specs.Granting.{MayGrantLock, MayNotGrantLock, HasGrantedInTurn, HasGrantedLock, WaitsFirst, WantedNext}
-pub use Rattle.machine_scopes.specs.Asking.{IsSetting, IsNewAt, AreMachinesFor, CanBecomeReady, HasReceivedMessage, Ask, Ready, come}
-pub use Rattle.machine_scopes.specs.Admitting.{CanAdmitPick, MayAdmitNone, HasAdmittedPick}
+pub use Rattle.cluster_laws.specs.cluster_core.Effects.{next_scope}
+pub use Rattle.cluster_laws.specs.cluster_core.Messages.{Message, News, Done}
+pub use Rattle.cluster_laws.specs.cluster_core.Places.{ArePlaces}
+pub use Rattle.cluster_laws.specs.cluster_core.Receiving.{MayAsk, MayBecomeReady}
+pub use Rattle.cluster_laws.specs.cluster_core.Settings.{is_in_scope}
+pub use Rattle.cluster_laws.specs.cluster_core.Stages.{Stage}
+pub use Rattle.cluster_laws.specs.cluster_core.Worlds.{World}
+pub use Rattle.machine_core.specs.machine_parts.Order.{IsOrderly, KnowsPlaces}
+pub use Rattle.machine_core.specs.machine_parts.Parts.{part_of, machine_numbers}
+pub use Rattle.machine_core.specs.machine_parts.Rooms.{HasOnlyMadeRoom}
+pub use Rattle.machine_core.specs.machine_parts.Settings.{Setting, IsPartOf, SameSettings}
+pub use Rattle.machine_core.specs.machine_scopes.Granting.{MayGrantLock, MayNotGrantLock, HasGrantedInTurn, HasGrantedLock, WaitsFirst, WantedNext}
+pub use Rattle.machine_core.specs.machine_scopes.Asking.{IsSetting, IsNewAt, AreMachinesFor, CanBecomeReady, HasReceivedMessage, Ask, Ready, come}
+pub use Rattle.machine_core.specs.machine_scopes.Admitting.{CanAdmitPick, MayAdmitNone, HasAdmittedPick}
 use Rattle.std.specs.Prelude.{◌≡◌, ℕ, ◌==◌, true, false, is_some}
 use Rattle.std.specs.List.{list_any}
 use Rattle.local_parts.specs.Parts.{AreIn}
 use Rattle.machine_numbers.specs.Views.{AreTasksOf, ghost_datum, is_flagged}
-use Rattle.machine_parts.specs.declared.cores.Core.{Core}
-use Rattle.machine_parts.specs.Parts.{is_own, is_owned, datum_here}
+use Rattle.machine_core.specs.declared.machine_parts.cores.Core.{Core}
+use Rattle.machine_core.specs.machine_parts.Parts.{is_own, is_owned, datum_here}
 use Rattle.scope_pipe.specs.Pipes.{IsEmpty}
 use Rattle.vertex_locks.specs.Tables.{IsUnclaimed}
 

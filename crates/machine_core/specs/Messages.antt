@@ -1,14 +1,14 @@
 -- What a machine receives and sends.
-pub use Rattle.cluster_core.specs.Actions.{HasFirst}
+pub use Rattle.cluster_laws.specs.cluster_core.Actions.{HasFirst}
 pub use Rattle.wire_msgs.specs.Views.{message_view}
 use Rattle.std.specs.Prelude.{◌≡◌, ℕ, ◌<◌, List, ◌∷◌}
-use Rattle.cluster_core.specs.Messages.{Message}
-use Rattle.cluster_core.specs.Parts.{Part}
-use Rattle.cluster_core.specs.Ranges.{set_at}
-use Rattle.machine_parts.specs.declared.cores.Core.{Core}
-use Rattle.machine_parts.specs.Parts.{message_of}
-use Rattle.machine_scopes.specs.Asking.{IsNewAt, AreMachinesFor, CanBecomeReady, come}
-use Rattle.machine_updates.specs.Learning.{CanLearn}
+use Rattle.cluster_laws.specs.cluster_core.Messages.{Message}
+use Rattle.cluster_laws.specs.cluster_core.Parts.{Part}
+use Rattle.cluster_laws.specs.cluster_core.Ranges.{set_at}
+use Rattle.machine_core.specs.declared.machine_parts.cores.Core.{Core}
+use Rattle.machine_core.specs.machine_parts.Parts.{message_of}
+use Rattle.machine_core.specs.machine_scopes.Asking.{IsNewAt, AreMachinesFor, CanBecomeReady, come}
+use Rattle.machine_core.specs.machine_updates.Learning.{CanLearn}
 use Rattle.wire_msgs.specs.declared.messages.Message as sent
 use Rattle.wire_msgs.specs.declared.messages.Message.TheVariants as wire
 

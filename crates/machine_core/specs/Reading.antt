@@ -1,3 +1,3 @@
 -- What is read of a machine.
 pub use Rattle.machine_numbers.specs.Views.{HasEdge}
-pub use Rattle.machine_parts.specs.Parts.{is_own}
+pub use Rattle.machine_core.specs.machine_parts.Parts.{is_own}

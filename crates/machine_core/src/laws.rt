@@ -3,7 +3,7 @@ ghost use Rattle.std.specs.Prelude.{◌≡◌, ℕ, ◌∷◌, true, is_some, Li
 ghost use Rattle.gl_base.specs.declared.numbers.MachineNo.{MachineNo};
 ghost use Rattle.gl_base.specs.declared.numbers.Vertex.{Vertex};
 ghost use Rattle.gl_base.specs.declared.scopes.ScopeId.{ScopeId};
-ghost use Rattle.machine_parts.specs.declared.cores.Core.{Core};
+ghost use Rattle.machine_core.specs.declared.machine_parts.cores.Core.{Core};
 ghost use Rattle.machine_core.specs.Machines.{Setting, IsSetting, IsPartOf, IsNewMachine, IsOrderly, IsNewAt, AreMachinesFor, CanBecomeReady, MayAsk, MayBecomeReady, World, ArePlaces, Stage, Message, News, Ask, Ready, Done, part_of, machine_numbers, is_in_scope};
 
 /// A new machine that is a part of some setting is in order.

@@ -3,8 +3,8 @@ ghost use Rattle.std.specs.Prelude.{◌≡◌, ℕ, ◌<◌, true, IfOk, IfErr, 
 ghost use Rattle.machine_core.specs.Machines.{IsMachine, IsOrderly, KnowsPlaces, SameSettings, HasOnlyMadeRoom, part_of, come, next_scope, machine_numbers, MayGrantLock, MayNotGrantLock, HasGrantedInTurn, HasGrantedLock, WaitsFirst, WantedNext, IsNewAt, AreMachinesFor, CanBecomeReady, HasReceivedMessage, Ask, Ready, CanAdmitPick, MayAdmitNone, HasAdmittedPick};
 
 use gl_base::{MachineNo, Refused, ScopeId, Vertex};
-use machine_parts::Core;
-use machine_scopes::Moved;
+use crate::machine_parts::Core;
+use crate::machine_scopes::Moved;
 use std::alloc::Global;
 use std::marker::Model;
 
@@ -15,7 +15,7 @@ pub struct Machine {
 }
 
 impl Model for Machine {
-    ghost use Rattle.machine_parts.specs.declared.cores.Core.{Core};
+    ghost use Rattle.machine_core.specs.declared.machine_parts.cores.Core.{Core};
     ghost use Rattle.machine_core.specs.Machines.{IsMachine};
 
     ghost Value = { Core };
@@ -56,7 +56,7 @@ impl Machine {
         ensures unchanged { OnErr result (part_of self.new ≡ part_of self.old) }
         ensures local { self.new.numbers.local ≡ self.old.numbers.local }
     {
-        machine_scopes::admit(alloc, &mut self.core)
+        crate::machine_scopes::admit(alloc, &mut self.core)
     }
 
     /// The first that waits for the lock of x holds it and goes on, where it goes together with each holder: it asks for the next
@@ -72,7 +72,7 @@ impl Machine {
         ensures unchanged { OnErr result (HasOnlyMadeRoom self.old self.new × (part_of self.new ≡ part_of self.old)) }
         ensures numbers { self.new.numbers ≡ self.old.numbers }
     {
-        machine_scopes::grant(&mut self.core, x)
+        crate::machine_scopes::grant(&mut self.core, x)
     }
 
     /// The first that waits for the lock of x holds it, where it goes together with each holder, and goes on; and then it is granted
@@ -86,7 +86,7 @@ impl Machine {
         ensures unchanged { OnErr result (HasOnlyMadeRoom self.old self.new × (part_of self.new ≡ part_of self.old)) }
         ensures numbers { self.new.numbers ≡ self.old.numbers }
     {
-        machine_scopes::grant_in_turn(&mut self.core, x)
+        crate::machine_scopes::grant_in_turn(&mut self.core, x)
     }
 
     /// A vertex whose lock may be granted, and `None` exactly where there is none. It takes no memory, and no claim changes.
@@ -96,7 +96,7 @@ impl Machine {
         ensures none { IfNone result ((x : ℕ) → MayNotGrantLock self.old x) }
         ensures same { self.new ≡ self.old }
     {
-        machine_scopes::next_grant(&mut self.core)
+        crate::machine_scopes::next_grant(&mut self.core)
     }
 
     /// The scope of this centre has come, and has the machines `rest` still to come: it asks for its locks here, or goes on at once
@@ -117,7 +117,7 @@ impl Machine {
         ensures unchanged { OnErr result (HasOnlyMadeRoom self.old self.new × (part_of self.new ≡ part_of self.old)) }
         ensures numbers { self.new.numbers ≡ self.old.numbers }
     {
-        machine_scopes::receive_ask(alloc, &mut self.core, scope, centre, rest)
+        crate::machine_scopes::receive_ask(alloc, &mut self.core, scope, centre, rest)
     }
 
     /// Word has come that a scope of this home has all its locks: it is ready. It takes no memory.
@@ -127,6 +127,6 @@ impl Machine {
         ensures received { HasReceivedMessage self.old self.new (Ready scope) }
         ensures numbers { self.new.numbers ≡ self.old.numbers }
     {
-        machine_scopes::receive_ready(&mut self.core, scope);
+        crate::machine_scopes::receive_ready(&mut self.core, scope);
     }
 }

@@ -6,7 +6,7 @@ ghost use Rattle.machine_core.specs.Turns.{CanNotUpdatePick, CanUpdatePick, HasE
 
 use crate::machines::Machine;
 use gl_base::{Refused, ScopeId, Vertex};
-use machine_updates::Spares;
+use crate::machine_updates::Spares;
 use std::alloc::Global;
 use update_api::Program;
 
@@ -31,7 +31,7 @@ impl Machine {
         ensures local { let old = self.old.numbers.local in let new = self.new.numbers.local in new ≡ record old { kept = new.kept; rows = new.rows; numbers = new.numbers } }
         ensures settings { SameSettings self.old self.new }
     {
-        machine_turns::update(alloc, &mut self.core, spares, program, scope, ticket)
+        crate::machine_turns::update(alloc, &mut self.core, spares, program, scope, ticket)
     }
 
     /// Updates the vertex that the tasks pick, where it is not pending, its scope has this machine alone, and nobody holds or waits for
@@ -55,7 +55,7 @@ impl Machine {
         ensures local { let old = self.old.numbers.local in let new = self.new.numbers.local in new ≡ record old { kept = new.kept; rows = new.rows; numbers = new.numbers } }
         ensures settings { SameSettings self.old self.new }
     {
-        machine_at_once::update_at_once(alloc, &mut self.core, spares, program, ticket)
+        crate::machine_at_once::update_at_once(alloc, &mut self.core, spares, program, ticket)
     }
 
     /// A ready scope whose update may be made; `None` exactly where there is none. It looks at the ready scopes in turn.
@@ -64,6 +64,6 @@ impl Machine {
         ensures home { IfSome result (λ s. s.home ≡ self.now.numbers.local.me) }
         ensures none { IfNone result ((s : ScopeId) → MayUpdate s (part_of self.now) 1 → ⊥) }
     {
-        machine_turns::next_ready(&self.core)
+        crate::machine_turns::next_ready(&self.core)
     }
 }

@@ -9,7 +9,7 @@ use crate::machines::Machine;
 use gl_base::{NoMemory, Refused, ScopeId};
 use local_graph::{Batch, Outcome, Work};
 use machine_numbers::{Spare, Spent};
-use machine_updates::{Prepared, Spares};
+use crate::machine_updates::{Prepared, Spares};
 use scope_pipe::Flight;
 use std::alloc::Global;
 use wire_msgs::Done;
@@ -30,7 +30,7 @@ impl Machine {
         ensures settings { SameSettings self.old self.new }
         ensures rest { self.new ≡ record self.old { numbers = record self.old.numbers { local = record self.old.numbers.local { rows = self.new.numbers.local.rows } } } }
     {
-        machine_updates::take_work(&mut self.core, flight, spare)
+        crate::machine_updates::take_work(&mut self.core, flight, spare)
     }
 
     /// Takes out every scope that is ready for an ordinary update and isn't taken yet, in the order in which they stand among the
@@ -43,7 +43,7 @@ impl Machine {
         ensures some { OnOk result (NoneToTake self.old → ⊥) }
         ensures unchanged { OnErr result (self.new ≡ self.old) }
     {
-        machine_updates::take_batch(alloc, &mut self.core, spares)
+        crate::machine_updates::take_batch(alloc, &mut self.core, spares)
     }
 
     /// Puts back a work of which no update was made: no number changes, and its scope may be taken again. It takes no memory, and
@@ -57,7 +57,7 @@ impl Machine {
         ensures rest { self.new ≡ record self.old { numbers = record self.old.numbers { local = record self.old.numbers.local { rows = self.new.numbers.local.rows; numbers = self.new.numbers.local.numbers } } } }
         ensures spare { (result.edges ≡ work.row.numbers) × (result.near ≡ work.near) }
     {
-        machine_updates::put_back(&mut self.core, work)
+        crate::machine_updates::put_back(&mut self.core, work)
     }
 
     /// Makes room for the commit of a scope in flight: in the log, and for what each other machine of it will be told, which it
@@ -73,7 +73,7 @@ impl Machine {
         ensures part { part_of self.new ≡ part_of self.old }
         ensures settings { SameSettings self.old self.new }
     {
-        machine_updates::reserve_commit(alloc, &mut self.core, scope)
+        crate::machine_updates::reserve_commit(alloc, &mut self.core, scope)
     }
 
     /// Commits an update that was made: the other machines of the scope are told, its locks here are released, it is in flight no
@@ -99,7 +99,7 @@ impl Machine {
         ensures spare { (result.edges ≡ outcome.work.row.numbers) × (result.near ≡ outcome.work.near) }
         ensures made { result.made ≡ outcome.edges }
     {
-        machine_updates::commit(&mut self.core, outcome, prepared, ticket)
+        crate::machine_updates::commit(&mut self.core, outcome, prepared, ticket)
     }
 
     /// Word of an update elsewhere has come: its numbers are kept, the vertices that it wakes are tasks, and its scope's locks here
@@ -111,6 +111,6 @@ impl Machine {
         ensures local { self.new.numbers.local ≡ record self.old.numbers.local { numbers = self.new.numbers.local.numbers } }
         ensures rest { self.new ≡ record self.old { numbers = self.new.numbers; locks = self.new.locks } }
     {
-        machine_updates::receive_done(&mut self.core, done);
+        crate::machine_updates::receive_done(&mut self.core, done);
     }
 }

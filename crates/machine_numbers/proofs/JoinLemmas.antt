@@ -9,7 +9,7 @@ use Rattle.gl_base.specs.declared.numbers.Vertex.{Vertex}
 use Rattle.gl_base.specs.declared.numbers.EdgeNo.{EdgeNo}
 use Rattle.gl_base.specs.declared.scopes.ScopeId.{ScopeId}
 use Rattle.graph_core.specs.Halves.{DataHalf, halves_of}
-use Rattle.cluster_core.specs.Effects.{told_edge}
+use Rattle.cluster_laws.specs.cluster_core.Effects.{told_edge}
 use Rattle.seq_run.specs.States.{GraphState, near_of, with_marks, after_update}
 use Rattle.update_api.specs.Updates.{Update}
 use Rattle.update_api.specs.declared.links.Link.{Link}

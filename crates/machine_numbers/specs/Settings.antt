@@ -1,6 +1,6 @@
 -- The same in a cluster, for a setting.
-pub use Rattle.cluster_core.specs.Effects.{applied, updated, news_for}
-pub use Rattle.cluster_core.specs.Parts.{Part}
+pub use Rattle.cluster_laws.specs.cluster_core.Effects.{applied, updated, news_for}
+pub use Rattle.cluster_laws.specs.cluster_core.Parts.{Part}
 pub use Rattle.local_parts.specs.Parts.{Setting, IsLocalOf, IsRowOf, ShareEdges}
 use Rattle.std.specs.Prelude.{◌≡◌, ℕ, List, [], ◌∷◌, ◌++◌}
 use Rattle.std.specs.List.{All}

@@ -1,6 +1,6 @@
 -- What the calls ask and leave.
-pub use Rattle.cluster_core.specs.Effects.{datum_after, edge_after, newer_datum, renewed, told_datum}
-pub use Rattle.cluster_core.specs.Ranges.{set_at}
+pub use Rattle.cluster_laws.specs.cluster_core.Effects.{datum_after, edge_after, newer_datum, renewed, told_datum}
+pub use Rattle.cluster_laws.specs.cluster_core.Ranges.{set_at}
 use Rattle.std.specs.Prelude.{◌+◌, slice_set, ◌≡◌, ℕ, ◌<◌, ◌≤◌, ◌==◌, ◌&&◌, ◌||◌, Bool, true, false, not, Some, None, List, [], ◌∷◌, ◌++◌, length, if◌then◌else◌, vec_len, vec_capacity}
 use Rattle.std.specs.List.{All}
 use Rattle.gl_base.specs.declared.entries.Entry.{Entry}

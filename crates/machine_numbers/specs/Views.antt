@@ -3,7 +3,7 @@ pub use Rattle.local_graph.specs.Locals.{LocalView, at_place, place_at, own_datu
 pub use Rattle.local_graph.specs.Played.{no_datum, IsPlayedFrom}
 pub use Rattle.ghost_cache.specs.Caches.{ghost_datum}
 pub use Rattle.task_sched.specs.Tasks.{TasksView, is_flagged}
-pub use Rattle.cluster_core.specs.Messages.{News}
+pub use Rattle.cluster_laws.specs.cluster_core.Messages.{News}
 use Rattle.std.specs.Prelude.{◌≡◌, ℕ, ◌==◌, Bool, false, Option, Some, None, List, [], ◌∷◌, length, map, nat_lt, if◌then◌else◌}
 use Rattle.std.specs.List.{list_any}
 use Rattle.gl_base.specs.declared.numbers.EdgeNo.{EdgeNo}

@@ -10,7 +10,7 @@ use Rattle.graph_core.specs.Growth.{numbers_of}
 use Rattle.local_graph.specs.Locals.{got_at}
 use Rattle.machine_core.proofs.GraphLemmas.{passing_up}
 use Rattle.machine_numbers.specs.declared.keeping.Numbers.{Numbers}
-use Rattle.machine_parts.specs.Parts.{number_of}
+use Rattle.machine_core.specs.machine_parts.Parts.{number_of}
 use Rattle.placed_graphs.specs.Placed.{Setting, is_own}
 use Rattle.placed_graphs.specs.Beginnings.{IsReadyPart}
 use Rattle.placed_graphs.proofs.BeginLemmas.{owned_by, owned_own}

@@ -1,6 +1,6 @@
 -- The own vertices of a machine have the first places.
-pub use Rattle.machine_parts.specs.Order.{StandByPlace}
-pub use Rattle.machine_parts.specs.Parts.{LocalView, place_at}
+pub use Rattle.machine_core.specs.machine_parts.Order.{StandByPlace}
+pub use Rattle.machine_core.specs.machine_parts.Parts.{LocalView, place_at}
 use Rattle.std.specs.Prelude.{◌≡◌, ℕ, ◌<◌, Some, length, slice_get}
 use Rattle.gl_base.specs.declared.numbers.Vertex.{Vertex}
 

@@ -1,7 +1,7 @@
 -- Entries of many logs in one order.
 pub use Rattle.std.specs.List.Sorted.{IsPermutation, IsNonDecreasingBy}
-pub use Rattle.cluster_core.specs.Replays.{entries_of, is_of, ticket_of}
-pub use Rattle.cluster_cuts.specs.Goings.{AreUpdatesFrom}
+pub use Rattle.cluster_laws.specs.cluster_core.Replays.{entries_of, is_of, ticket_of}
+pub use Rattle.cluster_laws.specs.cluster_cuts.Goings.{AreUpdatesFrom}
 use Rattle.std.specs.Prelude.{ℕ, ◌<◌, List, map, AllPairs}
 use Rattle.std.specs.List.{flat_map, range_with_len}
 use Rattle.gl_base.specs.declared.entries.Entry.{Entry}

@@ -7,9 +7,9 @@ use Rattle.gl_base.specs.declared.jobs.FailureAt.{FailureAt}
 use Rattle.gl_base.specs.declared.snapshots.Base.{Base}
 use Rattle.attempts.specs.Beginnings.{IsBeginning, nothing}
 use Rattle.attempts.proofs.Opening.{plain_begins, resumed_begins}
-use Rattle.cluster_model.specs.ByTicket.{StandByTicket}
+use Rattle.cluster_laws.specs.cluster_model.ByTicket.{StandByTicket}
 use Rattle.cluster_records.specs.Recorded.{HaveSameNumbers}
-use Rattle.cluster_runs.specs.Attempts.{Beginning, Shared}
+use Rattle.cluster_laws.specs.cluster_runs.Attempts.{Beginning, Shared}
 use Rattle.seq_run.specs.Orders.{IsValidOrder, replay, tasks_after}
 use Rattle.seq_run.specs.States.{GraphState, start_state}
 use Rattle.seq_run.proofs.GoingOn.{replay_from-append}

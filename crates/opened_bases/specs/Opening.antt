@@ -1,9 +1,9 @@
 -- What the law sees of the base with which a call opens, and of the cluster before its first attempt.
 pub use Rattle.attempts.specs.EngineCalls.{ticket_above}
-pub use Rattle.cluster_model.specs.Clusters.{BaseView, Cluster}
+pub use Rattle.cluster_laws.specs.cluster_model.Clusters.{BaseView, Cluster}
 pub use Rattle.cluster_records.specs.Bases.{IsBase}
-pub use Rattle.cluster_runs.specs.Recorded.{shared_of}
-pub use Rattle.cluster_core.specs.Settings.{Setting}
+pub use Rattle.cluster_laws.specs.cluster_runs.Recorded.{shared_of}
+pub use Rattle.cluster_laws.specs.cluster_core.Settings.{Setting}
 pub use Rattle.graph_core.specs.DataGraph.{size}
 pub use Rattle.recovery.specs.GoodStores.{IsGoodBase}
 pub use Rattle.seq_run.specs.Runs.{AreNumbers}
@@ -14,7 +14,7 @@ use Rattle.gl_base.specs.declared.entries.Entry.{Entry}
 use Rattle.gl_base.specs.declared.entries.Entry.TheVariants.{Restart}
 use Rattle.gl_base.specs.declared.snapshots.Base.{Base}
 use Rattle.cluster_ending.specs.FourWaves.{fresh_cluster}
-use Rattle.cluster_model.specs.Leading.{first_coordinator}
+use Rattle.cluster_laws.specs.cluster_model.Leading.{first_coordinator}
 use Rattle.seq_run.specs.States.{GraphState}
 
 -- its numbers by vertex and by edge

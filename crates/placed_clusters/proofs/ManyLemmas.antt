@@ -4,7 +4,7 @@ use Rattle.std.proofs.lemmas.Bool.{cases_lt}
 use Rattle.std.proofs.lemmas.List.{get_or_push, length-append}
 use Rattle.std.proofs.Math.ListN.{get_or-append}
 use Rattle.gl_base.specs.declared.snapshots.Base.{Base}
-use Rattle.machine_parts.specs.declared.cores.Core.{Core}
+use Rattle.machine_core.specs.declared.machine_parts.cores.Core.{Core}
 use Rattle.placed_clusters.specs.Beginning.{AreNewIn, AreUnsetParts, BeginsWith, CanAllStart, CanStart, GoesBy, IsNewIn, IsUnsetPart, LocalView, Setting}
 use Rattle.placed_clusters.specs.declared.cores.NewTerms.{NewTerms}
 

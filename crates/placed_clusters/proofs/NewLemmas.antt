@@ -6,17 +6,17 @@ use Rattle.gl_base.specs.declared.numbers.Vertex.{Vertex}
 use Rattle.gl_base.specs.declared.scopes.Datum.{Datum}
 use Rattle.gl_base.specs.declared.scopes.Peer.TheVariants.{Machine}
 use Rattle.graph_core.specs.DataGraph.{size}
-use Rattle.cluster_core.specs.Scopes.{takes_part}
-use Rattle.cluster_core.proofs.Nearness.{owner_takes_part, scoped_itself}
+use Rattle.cluster_laws.specs.cluster_core.Scopes.{takes_part}
+use Rattle.cluster_laws.proofs.cluster_core.Nearness.{owner_takes_part, scoped_itself}
 use Rattle.local_graph.specs.Locals.{place_at}
 use Rattle.local_parts.proofs.FoundLemmas.{any_mapped}
 use Rattle.machine_core.proofs.NewLemmas.{new_is}
 use Rattle.machine_numbers.specs.Views.{datum_here, flag_there, is_flagged}
-use Rattle.machine_parts.specs.declared.cores.Core.{Core}
-use Rattle.machine_parts.specs.declared.cores.Terms.{Terms}
-use Rattle.machine_parts.specs.Order.{StandByPlace}
-use Rattle.machine_parts.specs.Parts.{is_owned, is_own, message_of, number_of, stand_at}
-use Rattle.machine_scopes.proofs.HeldLemmas.{own_in}
+use Rattle.machine_core.specs.declared.machine_parts.cores.Core.{Core}
+use Rattle.machine_core.specs.declared.machine_parts.cores.Terms.{Terms}
+use Rattle.machine_core.specs.machine_parts.Order.{StandByPlace}
+use Rattle.machine_core.specs.machine_parts.Parts.{is_owned, is_own, message_of, number_of, stand_at}
+use Rattle.machine_core.proofs.machine_scopes.HeldLemmas.{own_in}
 use Rattle.placed_graphs.proofs.BeginLemmas.{ghost_listed, listed_is, owned_by}
 use Rattle.machine_core.specs.Machines.{IsNewMachine, IsOrderly, KnowsPlaces}
 use Rattle.placed_graphs.specs.Beginnings.{AreFirstNumbers, AreFreshTasks, BeginsAt, IsReadyPart}

@@ -2,7 +2,7 @@
 use Rattle.std.proofs.Common.{◌≡◌, ◌<◌, ℕ, ◌∙◌, Bool, true, false, if◌then◌else◌, Option, Some, None, is_some, List, length, get_or, All, ap, sym, subst, refl, slice_index, true≢false}
 use Rattle.std.specs.Prelude.{slice_get}
 use Rattle.std.proofs.lemmas.Option.{get_or_from_slice_get, slice_get_within}
-use Rattle.cluster_core.specs.Settings.{Engine, Locking}
+use Rattle.cluster_laws.specs.cluster_core.Settings.{Engine, Locking}
 use Rattle.cluster_step.specs.Clusters.{ClusterView}
 use Rattle.cluster_step.specs.Starts.{StartsBy}
 use Rattle.cluster_step.specs.declared.parts.Parts.{Parts}
@@ -10,12 +10,12 @@ use Rattle.gl_base.specs.declared.numbers.AtomNo.{AtomNo}
 use Rattle.gl_base.specs.declared.numbers.MachineNo.{MachineNo}
 use Rattle.gl_base.specs.declared.snapshots.Base.{Base}
 use Rattle.graph_core.specs.DataGraph.{DataGraph, IsDataGraph, size}
-use Rattle.machine_parts.specs.declared.cores.Core.{Core}
+use Rattle.machine_core.specs.declared.machine_parts.cores.Core.{Core}
 use Rattle.machine_places.proofs.OwnerLemmas.{owner_low}
 use Rattle.local_graph.specs.Locals.{LocalView, is_own, links_at, sides_at}
 use Rattle.local_parts.specs.Parts.{AreIn, IsLocalOf}
-use Rattle.machine_parts.specs.Parts.{part_of}
-use Rattle.machine_turns.specs.Turns.{HasEachRow, IsRowIn}
+use Rattle.machine_core.specs.machine_parts.Parts.{part_of}
+use Rattle.machine_core.specs.machine_turns.Turns.{HasEachRow, IsRowIn}
 use Rattle.update_api.specs.declared.links.Link.{Link}
 use Rattle.update_api.specs.Updates.{Update}
 use Rattle.placed_clusters.specs.Beginning.{AreNewIn, GoesBy, IsNewIn}

@@ -4,11 +4,11 @@ pub use Rattle.machine_core.specs.Machines.{IsPartOf, part_of}
 pub use Rattle.placed_graphs.specs.Beginnings.{BeginsWith}
 pub use Rattle.placed_graphs.specs.Placed.{AreIn, AreUnsetParts, IsUnsetPart, LocalView}
 use Rattle.std.specs.Prelude.{◌≡◌, ℕ, ◌<◌, true, List, None, Option, length, slice_index_or}
-use Rattle.cluster_core.specs.Settings.{Locking}
+use Rattle.cluster_laws.specs.cluster_core.Settings.{Locking}
 use Rattle.gl_base.specs.declared.snapshots.Base.{Base}
 use Rattle.graph_core.specs.DataGraph.{size}
-use Rattle.machine_parts.specs.declared.cores.Core.{Core}
-use Rattle.machine_parts.specs.Settings.{window_of}
+use Rattle.machine_core.specs.declared.machine_parts.cores.Core.{Core}
+use Rattle.machine_core.specs.machine_parts.Settings.{window_of}
 use Rattle.placed_clusters.specs.declared.cores.NewTerms.{NewTerms}
 
 -- The cluster has so many machines and vertices; scopes take locks, and so many of one machine may be in flight; snapshots are taken where

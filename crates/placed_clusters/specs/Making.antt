@@ -3,9 +3,9 @@ use Rattle.std.specs.Prelude.{◌≡◌, ◌==◌, ℕ, [], length}
 use Rattle.std.specs.List.{list_any}
 use Rattle.gl_base.specs.declared.scopes.Peer.{Peer}
 use Rattle.machine_numbers.specs.declared.keeping.Numbers.{Numbers}
-use Rattle.machine_parts.specs.declared.cores.Core.{Core}
-use Rattle.machine_parts.specs.Order.{StandByPlace}
-use Rattle.machine_parts.specs.Parts.{is_owned, waiting_for}
+use Rattle.machine_core.specs.declared.machine_parts.cores.Core.{Core}
+use Rattle.machine_core.specs.machine_parts.Order.{StandByPlace}
+use Rattle.machine_core.specs.machine_parts.Parts.{is_owned, waiting_for}
 use Rattle.scope_pipe.specs.Pipes.{IsEmpty}
 use Rattle.vertex_locks.specs.Tables.{IsUnclaimed}
 use Rattle.placed_clusters.specs.declared.cores.NewTerms.{NewTerms}

@@ -6,11 +6,11 @@ pub use Rattle.placed_graphs.specs.Placed.{IsOwnedBy, atom_numbers, machine_numb
 pub use Rattle.placed_graphs.specs.Weights.{IsBalanced, IsGrowthCut, IsPlacing, atom_weights}
 pub use Rattle.program_machines.specs.Machines.{IsMachineOf, ProgramMachineView}
 use Rattle.std.specs.Prelude.{◌≡◌, List, ℕ, false}
-use Rattle.cluster_core.specs.Settings.{IsSetting, Locking}
+use Rattle.cluster_laws.specs.cluster_core.Settings.{IsSetting, Locking}
 use Rattle.cluster_step.specs.Clusters.{ClusterView}
 use Rattle.gl_base.specs.declared.snapshots.Base.{Base}
 use Rattle.graph_core.specs.DataGraph.{DataGraph}
-use Rattle.machine_parts.specs.Parts.{part_of}
+use Rattle.machine_core.specs.machine_parts.Parts.{part_of}
 use Rattle.update_api.specs.Updates.{Update}
 use Rattle.placed_clusters.specs.declared.clusters.Run.{Run}
 

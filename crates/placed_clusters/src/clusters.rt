@@ -1,6 +1,6 @@
 //! Clusters of new machines.
 ghost use Rattle.std.specs.Prelude.{◌≡◌, ℕ, ◌+◌, ◌^◌, ◌<◌, ◌≤◌, [], None, false, length, All, IfOk};
-ghost use Rattle.cluster_core.specs.Settings.{Locking};
+ghost use Rattle.cluster_laws.specs.cluster_core.Settings.{Locking};
 ghost use Rattle.graph_core.specs.DataGraph.{IsDataGraph, size};
 ghost use Rattle.update_api.specs.Updates.{Update};
 ghost use Rattle.placed_clusters.specs.Beginning.{AreNewIn, GoesBy};
@@ -13,7 +13,7 @@ use cluster_step::Cluster;
 use gl_base::{AtomNo, Base, MachineNo, NoMemory, Vertex};
 use graph_core::Graph;
 use machine_core::Machine;
-use machine_parts::Terms;
+use machine_core::machine_parts::Terms;
 use placed_graphs::placed;
 use program_machines::ProgramMachine;
 use std::alloc::Global;

@@ -11,11 +11,11 @@ use Rattle.gl_base.specs.declared.numbers.Vertex.{Vertex}
 use Rattle.gl_base.specs.declared.scopes.Datum.{Datum}
 use Rattle.graph_core.specs.DataGraph.{size}
 use Rattle.graph_core.specs.Neighbours.{neighbours_of}
-use Rattle.cluster_core.specs.Ranges.{all_passing}
-use Rattle.cluster_core.specs.Scopes.{is_found, takes_part, own_from}
-use Rattle.cluster_core.specs.Settings.{is_near}
-use Rattle.cluster_core.proofs.Basics.{same_truth}
-use Rattle.cluster_core.proofs.Nearness as near
+use Rattle.cluster_laws.specs.cluster_core.Ranges.{all_passing}
+use Rattle.cluster_laws.specs.cluster_core.Scopes.{is_found, takes_part, own_from}
+use Rattle.cluster_laws.specs.cluster_core.Settings.{is_near}
+use Rattle.cluster_laws.proofs.cluster_core.Basics.{same_truth}
+use Rattle.cluster_laws.proofs.cluster_core.Nearness as near
 use Rattle.local_parts.specs.Parts.{is_ghost_of}
 use Rattle.local_parts.proofs.FoundLemmas.{Passes, any_mapped, few_passing, found_with, passing_all}
 use Rattle.local_parts.proofs.NearLemmas.{neighbour_passes}

@@ -9,7 +9,7 @@ use Rattle.gl_base.specs.declared.numbers.Vertex.{Vertex}
 use Rattle.gl_base.specs.declared.scopes.Datum.{Datum}
 use Rattle.gl_base.specs.declared.snapshots.Base.{Base}
 use Rattle.graph_core.specs.DataGraph.{DataGraph, size}
-use Rattle.cluster_core.specs.Scopes.{takes_part}
+use Rattle.cluster_laws.specs.cluster_core.Scopes.{takes_part}
 use Rattle.local_graph.specs.Inner.Kept.{IsWellKept}
 use Rattle.local_graph.specs.Locals.{got_at, links_at, place_at}
 use Rattle.local_graph.specs.Played.{no_datum}

@@ -16,7 +16,7 @@ use Rattle.gl_base.specs.declared.scopes.Datum.{Datum}
 use Rattle.graph_core.specs.DataGraph.{DataGraph, IsDataGraph, size}
 use Rattle.atom_cut.specs.Atoms.{AreAtoms}
 use Rattle.update_api.specs.declared.woken.Woken.TheVariants.{Nobody}
-use Rattle.cluster_core.specs.Settings.{IsSetting, Locking}
+use Rattle.cluster_laws.specs.cluster_core.Settings.{IsSetting, Locking}
 use Rattle.local_graph.specs.declared.outlines.Outline.{Outline}
 use Rattle.local_graph.specs.Locals.{got_at, place_at}
 use Rattle.local_graph.specs.Played.{IsPlayedFrom}

@@ -7,7 +7,7 @@ use Rattle.gl_base.specs.declared.scopes.Datum.{Datum}
 use Rattle.gl_base.specs.declared.snapshots.Base.{Base}
 use Rattle.graph_core.specs.DataGraph.{DataGraph, IsDataGraph, size}
 use Rattle.update_api.specs.Updates.{Update}
-use Rattle.cluster_core.specs.Scopes.{takes_part}
+use Rattle.cluster_laws.specs.cluster_core.Scopes.{takes_part}
 use Rattle.local_parts.specs.Parts.{is_ghost_of}
 use Rattle.machine_numbers.specs.declared.keeping.Numbers.{Numbers}
 use Rattle.placed_graphs.specs.Placed.{AreIn, AreUnsetParts, IsLocalOf, IsUnsetPart, LocalView, Setting}

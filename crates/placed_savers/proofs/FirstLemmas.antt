@@ -4,14 +4,14 @@ use Rattle.std.specs.Prelude.{is_some, nat_lt}
 use Rattle.gl_base.specs.declared.scopes.Peer.TheVariants.{Machine as ToMachine}
 use Rattle.gl_base.specs.declared.scopes.ScopeId.{ScopeId}
 use Rattle.graph_core.specs.DataGraph.{size}
-use Rattle.cluster_core.specs.Effects.{nothing_saved}
-use Rattle.cluster_core.specs.Parts.{Part}
-use Rattle.cluster_core.specs.Recovering.{begun_again}
+use Rattle.cluster_laws.specs.cluster_core.Effects.{nothing_saved}
+use Rattle.cluster_laws.specs.cluster_core.Parts.{Part}
+use Rattle.cluster_laws.specs.cluster_core.Recovering.{begun_again}
 use Rattle.machine_numbers.specs.declared.keeping.Numbers.{Numbers}
 use Rattle.machine_numbers.specs.Views.{flag_there, is_flagged, place_at}
-use Rattle.machine_parts.specs.declared.cores.Core.{Core}
-use Rattle.machine_parts.specs.declared.cores.Terms.{Terms}
-use Rattle.machine_parts.specs.Parts.{message_of, number_of, part_of, stand_at}
+use Rattle.machine_core.specs.declared.machine_parts.cores.Core.{Core}
+use Rattle.machine_core.specs.declared.machine_parts.cores.Terms.{Terms}
+use Rattle.machine_core.specs.machine_parts.Parts.{message_of, number_of, part_of, stand_at}
 use Rattle.placed_clusters.specs.Making.{IsMadeWith}
 use Rattle.placed_clusters.specs.declared.cores.NewTerms.{NewTerms}
 use Rattle.placed_clusters.proofs.NewLemmas.{begins_here, is_new, made_itself, orderly_here, part_is, places_here}
@@ -24,7 +24,7 @@ use Rattle.snap_machines.specs.Keeping.{with_snaps}
 use Rattle.snap_savers.specs.Savers.{IsSnapPartOf}
 use Rattle.snap_update.specs.Snaps.{SnapRoom, SnapView, nothing_since}
 use Rattle.snap_update.proofs.SavedOnce.{nothing_once}
-use Rattle.cluster_model.specs.Totals.{total}
+use Rattle.cluster_laws.specs.cluster_model.Totals.{total}
 use Rattle.wave_counts.specs.Counts.{none_counted}
 use Rattle.wave_counts.proofs.CountLemmas.{total_from-nothing}
 use Rattle.placed_savers.specs.Inner.Making.{GoesBy, IsSaverOf, Machine, SaverView, SavesBy, Setting, Update, goes_back}

@@ -1,8 +1,8 @@
 -- There is an attempt that begins as it is to.
 use Rattle.std.proofs.Common.{◌≡◌, ◌+◌, ◌*◌, ◌<◌, ℕ, List, refl, slice_index, arith}
 use Rattle.cluster_ending.specs.FourWaves.{fresh_cluster, fresh_machine, fresh_part}
-use Rattle.cluster_model.specs.Leading.{first_coordinator}
-use Rattle.cluster_model.specs.Totals.{total}
+use Rattle.cluster_laws.specs.cluster_model.Leading.{first_coordinator}
+use Rattle.cluster_laws.specs.cluster_model.Totals.{total}
 use Rattle.gl_base.specs.declared.snapshots.Base.{Base}
 use Rattle.graph_core.specs.DataGraph.{DataGraph, IsDataGraph, size}
 use Rattle.update_api.specs.Updates.{Update}

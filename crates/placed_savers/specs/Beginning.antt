@@ -1,13 +1,13 @@
 -- How the machines of an attempt that takes snapshots begin.
-pub use Rattle.cluster_model.specs.Clusters.{BaseView, Cluster}
+pub use Rattle.cluster_laws.specs.cluster_model.Clusters.{BaseView, Cluster}
 pub use Rattle.placed_graphs.specs.Beginnings.{IsBaseFor}
 pub use Rattle.placed_graphs.specs.Placed.{IsOwnedBy, placed_owner}
 pub use Rattle.snap_members.specs.Going.{IsSnapSetting}
 pub use Rattle.snap_savers.specs.Savers.{IsSaverOf, SaverView, Setting}
 use Rattle.std.specs.Prelude.{All, List, length, slice_index, slice_index_or, ℕ, ◌<◌, ◌≡◌}
-use Rattle.cluster_core.specs.Recovering.{going_on}
-use Rattle.cluster_core.specs.Settings.{Locking}
-use Rattle.cluster_model.specs.Events.{recovers}
+use Rattle.cluster_laws.specs.cluster_core.Recovering.{going_on}
+use Rattle.cluster_laws.specs.cluster_core.Settings.{Locking}
+use Rattle.cluster_laws.specs.cluster_model.Events.{recovers}
 use Rattle.gl_base.specs.declared.snapshots.Base.{Base}
 use Rattle.graph_core.specs.DataGraph.{DataGraph, size}
 use Rattle.seq_run.specs.Runs.{AreNumbers}

@@ -7,7 +7,7 @@ ghost use Rattle.placed_savers.specs.Inner.Making.{GoesBy, IsRunFrom, Update};
 use crate::machines::new_savers;
 use gl_base::{AtomNo, Base, MachineNo, NoMemory, Vertex};
 use graph_core::Graph;
-use machine_parts::Terms;
+use machine_core::machine_parts::Terms;
 use placed_clusters::NewTerms;
 use placed_graphs::placed;
 use snap_savers::Saver;

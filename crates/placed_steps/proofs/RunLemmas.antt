@@ -2,11 +2,11 @@
 use Rattle.std.proofs.Common.{true, ◌≡◌, ◌<◌, ℕ, ◌∙◌, false, List, Some, length, get_or, ap, sym, subst, refl, slice_index}
 use Rattle.std.specs.Prelude.{All, slice_get, slice_index_or}
 use Rattle.std.proofs.lemmas.Option.{get_or_from_slice_get, slice_get_within}
-use Rattle.cluster_core.specs.Settings.{Chromatic, Engine}
+use Rattle.cluster_laws.specs.cluster_core.Settings.{Chromatic, Engine}
 use Rattle.cluster_step.specs.Clusters.{ClusterView}
 use Rattle.cluster_step.specs.Starts.{StartsBy}
 use Rattle.cluster_step.specs.declared.parts.Parts.{Parts}
-use Rattle.cluster_places.specs.Steps.{AreApart}
+use Rattle.cluster_laws.specs.cluster_places.Steps.{AreApart}
 use Rattle.gl_base.specs.declared.numbers.AtomNo.{AtomNo}
 use Rattle.gl_base.specs.declared.numbers.MachineNo.{MachineNo}
 use Rattle.gl_base.specs.declared.snapshots.Base.{Base}

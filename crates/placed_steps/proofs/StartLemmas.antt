@@ -9,26 +9,26 @@ use Rattle.gl_base.specs.declared.scopes.Datum.{Datum}
 use Rattle.gl_base.specs.declared.scopes.Peer.TheVariants.{Machine}
 use Rattle.gl_base.specs.declared.scopes.ScopeId.{ScopeId}
 use Rattle.graph_core.specs.DataGraph.{size}
-use Rattle.cluster_core.specs.Scopes.{takes_part}
-use Rattle.cluster_core.proofs.Basics.{same_truth}
-use Rattle.cluster_core.proofs.Nearness.{owner_takes_part, scoped_itself}
+use Rattle.cluster_laws.specs.cluster_core.Scopes.{takes_part}
+use Rattle.cluster_laws.proofs.cluster_core.Basics.{same_truth}
+use Rattle.cluster_laws.proofs.cluster_core.Nearness.{owner_takes_part, scoped_itself}
 use Rattle.machine_core.proofs.GraphLemmas.{graph_in_order}
 use Rattle.machine_numbers.specs.declared.keeping.Numbers.{Numbers}
 use Rattle.machine_numbers.specs.Views.{datum_here, flag_there}
 use Rattle.machine_numbers.proofs.PartLemmas.{sides_are}
-use Rattle.machine_parts.specs.Order.{IsGraphInOrder, StandByPlace}
-use Rattle.machine_scopes.proofs.HeldLemmas.{own_in}
-use Rattle.machine_scopes.proofs.PickLemmas.{flag_inside, free_from, free_parts}
-use Rattle.machine_turns.specs.Turns.{HasEachRow}
-use Rattle.machine_turns.proofs.TurnLemmas.{row_in}
+use Rattle.machine_core.specs.machine_parts.Order.{IsGraphInOrder, StandByPlace}
+use Rattle.machine_core.proofs.machine_scopes.HeldLemmas.{own_in}
+use Rattle.machine_core.proofs.machine_scopes.PickLemmas.{flag_inside, free_from, free_parts}
+use Rattle.machine_core.specs.machine_turns.Turns.{HasEachRow}
+use Rattle.machine_core.proofs.machine_turns.TurnLemmas.{row_in}
 use Rattle.task_sched.specs.Tasks.{is_flagged, is_free}
 use Rattle.placed_graphs.specs.Beginnings.{AreFirstNumbers, AreFreshTasks, BeginsAt, IsReadyPart}
 use Rattle.placed_graphs.proofs.BeginLemmas.{ghost_listed}
 use Rattle.color_tasks.specs.Scopes.{ScopesView, centre_in_step}
-use Rattle.color_parts.specs.declared.cores.ColorCore.{ColorCore}
-use Rattle.color_parts.specs.Order.{IsInStepOrder, AreLinesInOrder}
-use Rattle.machine_parts.specs.Parts.{LocalView, message_of}
-use Rattle.color_parts.specs.Parts.{flying_count, is_in_line, is_own, links_at, number_of, place_at}
+use Rattle.machine_core.specs.declared.color_parts.cores.ColorCore.{ColorCore}
+use Rattle.machine_core.specs.color_parts.Order.{IsInStepOrder, AreLinesInOrder}
+use Rattle.machine_core.specs.machine_parts.Parts.{LocalView, message_of}
+use Rattle.machine_core.specs.color_parts.Parts.{flying_count, is_in_line, is_own, links_at, number_of, place_at}
 use Rattle.placed_steps.specs.Beginning.{GoesInSteps, IsNewInSteps, IsPartInSteps, IsStartPart, Setting, part_in_steps}
 use Rattle.placed_steps.specs.Inner.Making.{HaveColours, IsMadeInSteps}
 

@@ -6,8 +6,8 @@ pub use Rattle.step_machines.specs.Machines.{ColorMachineView, IsPartInSteps, Se
 use Rattle.std.specs.Prelude.{◌≡◌, ℕ, ◌<◌, All, true, false, List, length, slice_index_or}
 use Rattle.gl_base.specs.declared.snapshots.Base.{Base}
 use Rattle.graph_core.specs.DataGraph.{size}
-use Rattle.cluster_core.specs.Settings.{Chromatic}
-use Rattle.color_parts.specs.declared.cores.ColorCore.{ColorCore}
+use Rattle.cluster_laws.specs.cluster_core.Settings.{Chromatic}
+use Rattle.machine_core.specs.declared.color_parts.cores.ColorCore.{ColorCore}
 
 -- The cluster has so many machines; vertices run by colours, and these are theirs; no snapshots are taken.
 pub record GoesInSteps (st : Setting) (colours : List ℕ) (machines : ℕ) : Type 0 where

@@ -5,7 +5,7 @@ pub use Rattle.placed_graphs.specs.Beginnings.{BeginsWith, IsBaseFor}
 pub use Rattle.placed_graphs.specs.Placed.{IsOwnedBy, placed_owner}
 pub use Rattle.step_machines.specs.Machines.{ColorMachineView, IsColorMachineOf, Setting, part_in_steps}
 use Rattle.std.specs.Prelude.{◌≡◌, ℕ, ◌<◌, false, List, slice_index_or}
-use Rattle.cluster_core.specs.Settings.{Chromatic}
+use Rattle.cluster_laws.specs.cluster_core.Settings.{Chromatic}
 use Rattle.cluster_step.specs.Clusters.{ClusterView}
 use Rattle.gl_base.specs.declared.snapshots.Base.{Base}
 use Rattle.graph_core.specs.DataGraph.{DataGraph, size}

@@ -5,17 +5,17 @@ use Rattle.gl_base.specs.declared.numbers.MachineNo.{MachineNo}
 use Rattle.gl_base.specs.declared.numbers.Vertex.{Vertex}
 use Rattle.gl_base.specs.declared.refusals.Refused.{Refused}
 use Rattle.gl_base.specs.declared.scopes.ScopeId.{ScopeId}
-use Rattle.cluster_core.specs.Actions.{MayAdmit, MayGrant, MayUpdate}
-use Rattle.cluster_core.specs.Effects.{next_scope}
-use Rattle.cluster_core.specs.Parts.{Part}
+use Rattle.cluster_laws.specs.cluster_core.Actions.{MayAdmit, MayGrant, MayUpdate}
+use Rattle.cluster_laws.specs.cluster_core.Effects.{next_scope}
+use Rattle.cluster_laws.specs.cluster_core.Parts.{Part}
 use Rattle.update_api.specs.Updates.{Update}
 use Rattle.local_graph.specs.Locals.{LocalView}
-use Rattle.machine_parts.specs.declared.cores.Core.{Core}
-use Rattle.machine_parts.specs.Settings.{SameSettings, window_of}
-use Rattle.machine_scopes.specs.Admitting.{CanAdmitPick, HasAdmittedPick, MayAdmitNone, is_open}
-use Rattle.machine_scopes.specs.Granting.{HasGrantedInTurn, HasGrantedLock, MayGrantLock, MayNotGrantLock, WaitsFirst}
-use Rattle.machine_turns.specs.Turns.{HasMadeUpdate, IsAsBefore}
-use Rattle.machine_at_once.specs.Picks.{CanUpdatePick, HasNoneAtOnce, HasUpdatedPick}
+use Rattle.machine_core.specs.declared.machine_parts.cores.Core.{Core}
+use Rattle.machine_core.specs.machine_parts.Settings.{SameSettings, window_of}
+use Rattle.machine_core.specs.machine_scopes.Admitting.{CanAdmitPick, HasAdmittedPick, MayAdmitNone, is_open}
+use Rattle.machine_core.specs.machine_scopes.Granting.{HasGrantedInTurn, HasGrantedLock, MayGrantLock, MayNotGrantLock, WaitsFirst}
+use Rattle.machine_core.specs.machine_turns.Turns.{HasMadeUpdate, IsAsBefore}
+use Rattle.machine_core.specs.machine_at_once.Picks.{CanUpdatePick, HasNoneAtOnce, HasUpdatedPick}
 use Rattle.task_sched.specs.Tasks.{is_below}
 use Rattle.cluster_machines.specs.Promises.{AdmitsNone, AdmitsSome, AreGranted, GrantsIt, GrantsNone, GrantsNot, IsAdmission, IsGrant, IsSameMachine, IsUpdateAtOnce, MakesAdmission, MakesGrant, MakesGrants, MakesUpdate, MakesUpdateAtOnce, MayUpdateAtOnce, UpdatesAtOnce, UpdatesIt, UpdatesNoneAtOnce}
 use Rattle.program_machines.specs.Machines.{HasEachRow, IsMachineOf, IsPartOf, ProgramMachineView, Setting, part_of}

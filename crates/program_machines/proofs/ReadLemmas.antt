@@ -4,7 +4,7 @@ use Rattle.std.specs.Prelude.{Option, IfSome, nat_lt}
 use Rattle.gl_base.specs.declared.numbers.Vertex.{Vertex}
 use Rattle.graph_core.specs.DataGraph.{size}
 use Rattle.update_api.specs.Updates.{Update}
-use Rattle.machine_parts.specs.Parts.{is_own}
+use Rattle.machine_core.specs.machine_parts.Parts.{is_own}
 use Rattle.cluster_machines.specs.Promises.{SaysWhether, is_owner_of, is_owner_with}
 use Rattle.program_machines.specs.Machines.{IsMachineOf, ProgramMachineView, Setting}
 use Rattle.program_machines.proofs.CallLemmas.{belongs_to}

@@ -1,18 +1,18 @@
 -- What a machine of some cluster may receive its parts can receive, and what it has received is told alike.
 use Rattle.std.proofs.Common.{◌≡◌, ℕ, ◌<◌, ◌∷◌, None, Some, refl, sym, ap, ◌∙◌, subst, arith}
 use Rattle.std.specs.Prelude.{Option, Result, Ok, Err, IfErr, IfNone, IfSome, OnErr, OnOk}
-use Rattle.cluster_core.specs.Effects.{received}
-use Rattle.cluster_core.specs.Messages.{Message}
-use Rattle.cluster_core.specs.Parts.{Part}
-use Rattle.cluster_core.specs.Receiving.{MayReceive}
-use Rattle.cluster_core.specs.Settings.{IsSetting}
+use Rattle.cluster_laws.specs.cluster_core.Effects.{received}
+use Rattle.cluster_laws.specs.cluster_core.Messages.{Message}
+use Rattle.cluster_laws.specs.cluster_core.Parts.{Part}
+use Rattle.cluster_laws.specs.cluster_core.Receiving.{MayReceive}
+use Rattle.cluster_laws.specs.cluster_core.Settings.{IsSetting}
 use Rattle.update_api.specs.Updates.{Update}
-use Rattle.machine_parts.specs.declared.cores.Core.{Core}
-use Rattle.machine_parts.specs.Order.{IsOrderly}
-use Rattle.machine_parts.specs.Parts.{machine_numbers, message_of, number_of}
-use Rattle.machine_scopes.specs.Asking.{HasReceivedMessage}
-use Rattle.machine_scopes.proofs.LawLemmas.{ask_is_new, ask_goes_on, word_comes}
-use Rattle.machine_updates.proofs.WordLemmas.{done_can_be_learned}
+use Rattle.machine_core.specs.declared.machine_parts.cores.Core.{Core}
+use Rattle.machine_core.specs.machine_parts.Order.{IsOrderly}
+use Rattle.machine_core.specs.machine_parts.Parts.{machine_numbers, message_of, number_of}
+use Rattle.machine_core.specs.machine_scopes.Asking.{HasReceivedMessage}
+use Rattle.machine_core.proofs.machine_scopes.LawLemmas.{ask_is_new, ask_goes_on, word_comes}
+use Rattle.machine_core.proofs.machine_updates.WordLemmas.{done_can_be_learned}
 use Rattle.machine_core.specs.Messages.{CanReceiveMessage, HasSentFirst, message_told}
 use Rattle.wire_msgs.specs.Views.{MessageView, message_view}
 use Rattle.wire_msgs.specs.Views as told

@@ -1,11 +1,11 @@
 -- A machine with its program, as contracts see it.
-pub use Rattle.cluster_core.specs.Settings.{Setting, IsSetting}
-pub use Rattle.machine_parts.specs.Parts.{part_of}
-pub use Rattle.machine_parts.specs.Settings.{IsPartOf}
-pub use Rattle.machine_turns.specs.Turns.{HasEachRow}
+pub use Rattle.cluster_laws.specs.cluster_core.Settings.{Setting, IsSetting}
+pub use Rattle.machine_core.specs.machine_parts.Parts.{part_of}
+pub use Rattle.machine_core.specs.machine_parts.Settings.{IsPartOf}
+pub use Rattle.machine_core.specs.machine_turns.Turns.{HasEachRow}
 use Rattle.std.specs.Prelude.{◌≡◌, ℕ}
 use Rattle.update_api.specs.Updates.{Update}
-use Rattle.machine_parts.specs.declared.cores.Core.{Core}
+use Rattle.machine_core.specs.declared.machine_parts.cores.Core.{Core}
 
 -- its parts, and its program
 pub record ProgramMachineView (P : Type 0) : Type 0 where

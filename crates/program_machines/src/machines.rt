@@ -4,7 +4,7 @@ ghost use Rattle.program_machines.specs.Machines.{HasEachRow};
 
 use gl_base::NoMemory;
 use machine_core::Machine;
-use machine_updates::Spares;
+use machine_core::machine_updates::Spares;
 use std::alloc::Global;
 use std::marker::Model;
 use update_api::Program;

@@ -5,10 +5,10 @@ use wave_counts::WaveMachine;
 
 impl<P: Program> WaveMachine for ProgramMachine<P> {
     fn is_idle(&self) -> bool {
-        machine_rest::is_idle(self.machine.core())
+        machine_core::machine_rest::is_idle(self.machine.core())
     }
 
     fn waiting(&self) -> u128 {
-        machine_rest::waiting(self.machine.core())
+        machine_core::machine_rest::waiting(self.machine.core())
     }
 }

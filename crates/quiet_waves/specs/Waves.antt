@@ -1,6 +1,6 @@
 -- What the last two waves brought in, and when they show the end.
-pub use Rattle.cluster_model.specs.TwoWaves.{TwoWaves, IsIdleAnswer, sent_of, received_of, total_sent, total_received, ShowTheEnd, all_answered, no_counts, no_waves, turned, answered}
-pub use Rattle.cluster_model.specs.Leading.{updates_told}
+pub use Rattle.cluster_laws.specs.cluster_model.TwoWaves.{TwoWaves, IsIdleAnswer, sent_of, received_of, total_sent, total_received, ShowTheEnd, all_answered, no_counts, no_waves, turned, answered}
+pub use Rattle.cluster_laws.specs.cluster_model.Leading.{updates_told}
 use Rattle.std.specs.Prelude.{◌≡◌, ℕ, ◌<◌, None, length, slice_index_or}
 
 -- machine m has not answered this wave yet, or the next one where this one is whole

@@ -7,7 +7,7 @@ use Rattle.graph_core.specs.DataGraph.{DataGraph, size}
 use Rattle.update_api.specs.Updates.{Update}
 use Rattle.seq_run.specs.Orders.{replay}
 use Rattle.seq_run.specs.Runs.{AreNumbers}
-use Rattle.cluster_runs.specs.Attempts.{Shared}
+use Rattle.cluster_laws.specs.cluster_runs.Attempts.{Shared}
 use Rattle.attempts.specs.EngineCalls.{IsOrderInTurn}
 use Rattle.attempts.specs.Stores.{AreGoodOrders, last_order}
 use Rattle.attempts.proofs.Storing.{last_in_turn}

@@ -4,6 +4,6 @@ pub use Rattle.update_api.specs.Updates.{Update}
 pub use Rattle.seq_run.specs.States.{start_state}
 pub use Rattle.seq_run.specs.Orders.{replay}
 pub use Rattle.seq_run.specs.Runs.{AreNumbers}
-pub use Rattle.cluster_runs.specs.Attempts.{Shared}
+pub use Rattle.cluster_laws.specs.cluster_runs.Attempts.{Shared}
 pub use Rattle.attempts.specs.EngineCalls.{IsOrderInTurn}
 pub use Rattle.attempts.specs.Stores.{AreGoodOrders}

@@ -6,7 +6,7 @@ use Rattle.std.proofs.lemmas.Bool.{cases_lt}
 use Rattle.gl_base.specs.declared.numbers.EdgeNo.{EdgeNo}
 use Rattle.gl_base.specs.declared.numbers.Vertex.{Vertex}
 use Rattle.gl_base.specs.declared.snapshots.SavedPart.{SavedPart}
-use Rattle.cluster_core.specs.Messages.{Section}
+use Rattle.cluster_laws.specs.cluster_core.Messages.{Section}
 use Rattle.coord_core.specs.Calls.{IsSavedPart}
 use Rattle.snap_update.specs.Holding.{last_of_edge, last_of_vertex, later_number}
 use Rattle.store_format.specs.ReadBack.{edge_pair, vertex_pair}

@@ -10,12 +10,12 @@ use Rattle.gl_base.specs.declared.jobs.FailureAt.{FailureAt}
 use Rattle.gl_base.specs.declared.snapshots.Record.{Record}
 use Rattle.gl_base.specs.declared.snapshots.SavedPart.{SavedPart}
 use Rattle.attempts.specs.Entries.{is_restart}
-use Rattle.cluster_core.specs.Messages.{Section}
-use Rattle.cluster_core.specs.Replays.{ticket_of}
-use Rattle.cluster_core.specs.Settings.{Setting}
-use Rattle.cluster_model.specs.Clusters.{BaseView, Cluster}
-use Rattle.cluster_model.specs.Events.{Event, entries_below}
-use Rattle.cluster_model.specs.Leading.{RecordIsDue}
+use Rattle.cluster_laws.specs.cluster_core.Messages.{Section}
+use Rattle.cluster_laws.specs.cluster_core.Replays.{ticket_of}
+use Rattle.cluster_laws.specs.cluster_core.Settings.{Setting}
+use Rattle.cluster_laws.specs.cluster_model.Clusters.{BaseView, Cluster}
+use Rattle.cluster_laws.specs.cluster_model.Events.{Event, entries_below}
+use Rattle.cluster_laws.specs.cluster_model.Leading.{RecordIsDue}
 use Rattle.cluster_records.specs.Recorded.{IsOwnUpdate, snapshot_due}
 use Rattle.graph_core.specs.DataGraph.{size}
 use Rattle.graph_core.proofs.HalvesLaws.{each-append, each-back, each-both}

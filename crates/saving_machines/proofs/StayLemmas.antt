@@ -11,14 +11,14 @@ use Rattle.gl_base.specs.declared.scopes.Peer.TheVariants.{Coordinator, Machine}
 use Rattle.gl_base.specs.declared.scopes.ScopeId.{ScopeId}
 use Rattle.machine_numbers.specs.declared.keeping.Numbers.{Numbers}
 use Rattle.machine_numbers.specs.Views.{LocalView, TasksView, datum_here, ghost_datum, links_at, own_datum, own_or_ghost, place_at, sides_at}
-use Rattle.machine_parts.specs.declared.cores.Core.{Core}
+use Rattle.machine_core.specs.declared.machine_parts.cores.Core.{Core}
 use Rattle.outboxes.specs.Outboxes.{OutboxView, OutboxesView, with_outbox}
-use Rattle.machine_parts.specs.Order.{HasComeRight, IsGraphInOrder}
-use Rattle.machine_parts.specs.Parts.{flight_at}
-use Rattle.machine_scopes.specs.Admitting.{with_pick}
-use Rattle.machine_turns.specs.Turns.{HasRunOf, IsRowIn}
-use Rattle.machine_updates.proofs.CommitLemmas.{placed}
-use Rattle.step_scopes.specs.Admitting.{HasAdmittedInStep, IsAdmittedThere}
+use Rattle.machine_core.specs.machine_parts.Order.{HasComeRight, IsGraphInOrder}
+use Rattle.machine_core.specs.machine_parts.Parts.{flight_at}
+use Rattle.machine_core.specs.machine_scopes.Admitting.{with_pick}
+use Rattle.machine_core.specs.machine_turns.Turns.{HasRunOf, IsRowIn}
+use Rattle.machine_core.proofs.machine_updates.CommitLemmas.{placed}
+use Rattle.machine_core.specs.step_scopes.Admitting.{HasAdmittedInStep, IsAdmittedThere}
 use Rattle.snap_update.specs.Snaps.{IsSameButRoom, newly_begun, nothing_since, with_begun, with_committed, with_entry, with_section}
 use Rattle.snap_machines.specs.Hearing.{HasFewerOutside}
 use Rattle.snap_machines.specs.Marking.{HasSavedMore}

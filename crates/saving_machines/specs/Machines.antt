@@ -1,14 +1,14 @@
 -- A machine with its program and with what it keeps for snapshots, as contracts see it.
-pub use Rattle.machine_parts.specs.Order.{IsOrderly, KnowsPlaces}
-pub use Rattle.machine_parts.specs.Parts.{is_own, part_of}
-pub use Rattle.machine_parts.specs.Settings.{SameSettings}
-pub use Rattle.machine_turns.specs.Turns.{HasEachRow}
+pub use Rattle.machine_core.specs.machine_parts.Order.{IsOrderly, KnowsPlaces}
+pub use Rattle.machine_core.specs.machine_parts.Parts.{is_own, part_of}
+pub use Rattle.machine_core.specs.machine_parts.Settings.{SameSettings}
+pub use Rattle.machine_core.specs.machine_turns.Turns.{HasEachRow}
 pub use Rattle.snap_machines.specs.Keeping.{SnapView}
 pub use Rattle.snap_machines.specs.Seeding.{AreMarkedBelow}
 pub use Rattle.snap_machines.specs.Sending.{AreMarksUpTo}
 pub use Rattle.snap_update.specs.Snaps.{outside_of}
 use Rattle.std.specs.Prelude.{◌≡◌, ℕ, ◌≤◌}
-use Rattle.machine_parts.specs.declared.cores.Core.{Core}
+use Rattle.machine_core.specs.declared.machine_parts.cores.Core.{Core}
 
 -- its parts, what it keeps, and its program
 pub record SnapMachineView (P : Type 0) : Type 0 where

@@ -4,8 +4,8 @@ use Rattle.gl_base.specs.declared.entries.Entry.TheVariants.{Go}
 use Rattle.gl_base.specs.declared.numbers.Vertex.{Vertex}
 use Rattle.gl_base.specs.declared.scopes.ScopeId.{ScopeId}
 use Rattle.machine_numbers.specs.Views.{datum_here}
-use Rattle.machine_parts.specs.declared.cores.Core.{Core}
-use Rattle.machine_parts.specs.Parts.{flight_at}
+use Rattle.machine_core.specs.declared.machine_parts.cores.Core.{Core}
+use Rattle.machine_core.specs.machine_parts.Parts.{flight_at}
 use Rattle.snap_update.specs.Snaps.{IsSameButRoom, with_entry}
 use Rattle.saving_machines.specs.Machines.{SnapView}
 

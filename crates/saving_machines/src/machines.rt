@@ -4,8 +4,8 @@ ghost use Rattle.snap_update.specs.Snaps.{nothing_since};
 ghost use Rattle.saving_machines.specs.Machines.{IsFreshMachine};
 
 use gl_base::NoMemory;
-use machine_parts::Core;
-use machine_updates::Spares;
+use machine_core::machine_parts::Core;
+use machine_core::machine_updates::Spares;
 use snap_update::SnapPart;
 use std::alloc::Global;
 use std::marker::Model;

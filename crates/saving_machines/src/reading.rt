@@ -1,12 +1,12 @@
 //! What is read of the machine, and what leaves its outboxes.
 ghost use Rattle.std.specs.Prelude.{◌≡◌, length, option_map, slice_get};
-ghost use Rattle.machine_rest.specs.Rest.{IsPartOf, Setting, is_idle, part_of, total};
+ghost use Rattle.machine_core.specs.machine_rest.Rest.{IsPartOf, Setting, is_idle, part_of, total};
 ghost use Rattle.outboxes.specs.Outboxes.{message_view, outbox_to, waiting_for, with_outbox, without_first};
 ghost use Rattle.saving_machines.specs.Machines.{HasEachRow, IsOrderly, KnowsPlaces, SameSettings, outside_of};
 
 use crate::machines::SnapMachine;
 use gl_base::Peer;
-use machine_parts::Core;
+use machine_core::machine_parts::Core;
 use snap_update::SnapPart;
 use update_api::Program;
 use wire_msgs::Message;
@@ -41,14 +41,14 @@ impl<P: Program> SnapMachine<P> {
     pub fn is_idle(&self) -> bool
         ensures { (st : Setting) → IsPartOf st self.now.core → result ≡ is_idle st (part_of self.now.core) }
     {
-        machine_rest::is_idle(&self.core)
+        machine_core::machine_rest::is_idle(&self.core)
     }
 
     /// How many messages wait to be sent to machines.
     pub fn waiting(&self) -> u128
         ensures { (st : Setting) → IsPartOf st self.now.core → result ≡ total st.machines (λ q. length ((part_of self.now.core).out q)) }
     {
-        machine_rest::waiting(&self.core)
+        machine_core::machine_rest::waiting(&self.core)
     }
 
     /// Takes the first message that waits for a machine or for the coordinator; `None` exactly where none waits.

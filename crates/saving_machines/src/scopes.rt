@@ -1,14 +1,14 @@
 //! How scopes are admitted and go on. What is kept for snapshots stays as it is.
 ghost use Rattle.std.specs.Prelude.{◌≡◌, ◌↔◌, ℕ, ◌<◌, true, false, IfOk, IfErr, IfSome, IfNone, IsOk, OnOk, OnErr, IsErrOf};
-ghost use Rattle.machine_scopes.specs.Admitting.{CanAdmitPick, HasAdmittedPick, KeepsPlans, MayAdmitNone, next_id};
-ghost use Rattle.machine_scopes.specs.Asking.{AreMachinesFor, Ask, CanBecomeReady, HasOnlyMadeRoom, HasReceivedMessage, IsNewAt, Ready, come, machine_numbers};
-ghost use Rattle.machine_scopes.specs.Granting.{HasGrantedLock, MayGrantLock, MayNotGrantLock, WaitsFirst, WantedNext};
-ghost use Rattle.step_scopes.specs.Admitting.{CanTake, HasAdmittedInStep, HasPlaceInFlight};
+ghost use Rattle.machine_core.specs.machine_scopes.Admitting.{CanAdmitPick, HasAdmittedPick, KeepsPlans, MayAdmitNone, next_id};
+ghost use Rattle.machine_core.specs.machine_scopes.Asking.{AreMachinesFor, Ask, CanBecomeReady, HasOnlyMadeRoom, HasReceivedMessage, IsNewAt, Ready, come, machine_numbers};
+ghost use Rattle.machine_core.specs.machine_scopes.Granting.{HasGrantedLock, MayGrantLock, MayNotGrantLock, WaitsFirst, WantedNext};
+ghost use Rattle.machine_core.specs.step_scopes.Admitting.{CanTake, HasAdmittedInStep, HasPlaceInFlight};
 ghost use Rattle.saving_machines.specs.Machines.{SameSettings, part_of};
 
 use crate::machines::SnapMachine;
 use gl_base::{MachineNo, NoMemory, Refused, ScopeId, Vertex};
-use machine_scopes::Moved;
+use machine_core::machine_scopes::Moved;
 use update_api::Program;
 
 impl<P: Program> SnapMachine<P> {
@@ -26,7 +26,7 @@ impl<P: Program> SnapMachine<P> {
         ensures terms { self.new.core.terms ≡ self.old.core.terms }
         ensures settings { SameSettings self.old.core self.new.core }
     {
-        machine_scopes::admit(self.alloc, &mut self.core)
+        machine_core::machine_scopes::admit(self.alloc, &mut self.core)
     }
 
     /// Admits a scope of the own vertex at this place, for its snapshot update or else for an update, where scopes take no locks: it is
@@ -43,7 +43,7 @@ impl<P: Program> SnapMachine<P> {
         ensures program { self.new.program ≡ self.old.program }
         ensures settings { SameSettings self.old.core self.new.core }
     {
-        step_scopes::admit_in_step(&mut self.core, place, snapshot)
+        machine_core::step_scopes::admit_in_step(&mut self.core, place, snapshot)
     }
 
     /// The first that waits for the lock of x holds it and goes on, where it goes together with each holder.
@@ -60,7 +60,7 @@ impl<P: Program> SnapMachine<P> {
         ensures terms { self.new.core.terms ≡ self.old.core.terms }
         ensures settings { SameSettings self.old.core self.new.core }
     {
-        machine_scopes::grant(&mut self.core, x)
+        machine_core::machine_scopes::grant(&mut self.core, x)
     }
 
     /// A vertex whose lock may be granted, and `None` exactly where there is none. It takes no memory, and nothing changes.
@@ -69,7 +69,7 @@ impl<P: Program> SnapMachine<P> {
         ensures none { IfNone result ((x : ℕ) → MayNotGrantLock self.old.core x) }
         ensures same { self.new ≡ self.old }
     {
-        machine_scopes::next_grant(&mut self.core)
+        machine_core::machine_scopes::next_grant(&mut self.core)
     }
 
     /// The scope of this centre has come, and has the machines `rest` still to come. Scopes take locks at the machine. Where there is not
@@ -93,7 +93,7 @@ impl<P: Program> SnapMachine<P> {
         ensures terms { self.new.core.terms ≡ self.old.core.terms }
         ensures settings { SameSettings self.old.core self.new.core }
     {
-        machine_scopes::receive_ask(self.alloc, &mut self.core, scope, centre, rest)
+        machine_core::machine_scopes::receive_ask(self.alloc, &mut self.core, scope, centre, rest)
     }
 
     /// Word has come that a scope of this home has all its locks: it is ready. It takes no memory.
@@ -106,6 +106,6 @@ impl<P: Program> SnapMachine<P> {
         ensures terms { self.new.core.terms ≡ self.old.core.terms }
         ensures settings { SameSettings self.old.core self.new.core }
     {
-        machine_scopes::receive_ready(&mut self.core, scope);
+        machine_core::machine_scopes::receive_ready(&mut self.core, scope);
     }
 }

@@ -1,8 +1,8 @@
 //! Updates, which are counted beside what is kept for snapshots.
 ghost use Rattle.std.specs.Prelude.{◌≡◌, ◌&&◌, not, true, false, None, Some, IfNone, IfOk, IfSome, OnOk, OnErr, IsErrOf};
 ghost use Rattle.gl_base.specs.declared.scopes.ScopeId.{ScopeId};
-ghost use Rattle.machine_at_once.specs.Picks.{CanUpdatePick, HasNoneAtOnce, HasRunAtOnce, HasUpdatedPick};
-ghost use Rattle.machine_turns.specs.Turns.{HasMadeUpdate, HasRunOf, MayUpdate, flight_at, pending_here, task_here};
+ghost use Rattle.machine_core.specs.machine_at_once.Picks.{CanUpdatePick, HasNoneAtOnce, HasRunAtOnce, HasUpdatedPick};
+ghost use Rattle.machine_core.specs.machine_turns.Turns.{HasMadeUpdate, HasRunOf, MayUpdate, flight_at, pending_here, task_here};
 ghost use Rattle.snap_update.specs.Snaps.{IsSameButRoom, asked_behind, with_asking};
 ghost use Rattle.saving_machines.specs.Machines.{SameSettings, part_of};
 ghost use Rattle.saving_machines.specs.Updates.{HasLogged, HasLoggedAtOnce};
@@ -10,7 +10,7 @@ ghost use Rattle.saving_machines.specs.Updates.{HasLogged, HasLoggedAtOnce};
 use crate::machines::SnapMachine;
 use gl_base::{Entry, Refused, ScopeId, Vertex};
 use machine_numbers::Numbers;
-use machine_parts::Core;
+use machine_core::machine_parts::Core;
 use update_api::Program;
 
 impl<P: Program> SnapMachine<P> {
@@ -39,7 +39,7 @@ impl<P: Program> SnapMachine<P> {
             return Err(Refused::NoMemory);
         }
         let mark = self.core.numbers.datum(centre).mark;
-        match machine_turns::update(
+        match machine_core::machine_turns::update(
             self.alloc,
             &mut self.core,
             &mut self.spares,
@@ -78,9 +78,9 @@ impl<P: Program> SnapMachine<P> {
         ensures settings { SameSettings self.old.core self.new.core }
     {
         if self.snaps.reserve().is_err() {
-            return Err(machine_at_once::refusal(&self.core));
+            return Err(machine_core::machine_at_once::refusal(&self.core));
         }
-        match machine_at_once::update_at_once(
+        match machine_core::machine_at_once::update_at_once(
             self.alloc,
             &mut self.core,
             &mut self.spares,
@@ -105,7 +105,7 @@ impl<P: Program> SnapMachine<P> {
         ensures not_now { result ≡ Refused.NotNow → HasNoneAtOnce self.now.core }
         ensures no_memory { result ≡ Refused.NoMemory → CanUpdatePick self.now.core }
     {
-        machine_at_once::refusal(&self.core)
+        machine_core::machine_at_once::refusal(&self.core)
     }
 
     /// Whether a scope may make its update now.
@@ -122,7 +122,7 @@ impl<P: Program> SnapMachine<P> {
         ensures home { IfSome result (λ s. s.home ≡ self.now.core.numbers.local.me) }
         ensures none { IfNone result ((s : ScopeId) → MayUpdate s (part_of self.now.core) 1 → ⊥) }
     {
-        machine_turns::next_ready(&self.core)
+        machine_core::machine_turns::next_ready(&self.core)
     }
 
     /// The last acknowledged snapshot that is known, where one behind it is to be asked for: so many updates are outside, and it wasn't

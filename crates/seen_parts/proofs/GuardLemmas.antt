@@ -2,9 +2,9 @@
 use Rattle.std.proofs.Common.{◌≡◌, ℕ, ◌<◌, sym, ap, ◌∙◌, subst}
 use Rattle.gl_base.specs.declared.scopes.Datum.{Datum}
 use Rattle.gl_base.specs.declared.scopes.ScopeId.{ScopeId}
-use Rattle.cluster_core.specs.Actions.{IsItsTurn, MayAdmit, MayGrant, MayMark, MaySend, MayUpdate}
-use Rattle.cluster_core.specs.Parts.{Part}
-use Rattle.cluster_core.specs.Settings.{Chromatic, Engine, IsSetting, Locking, Setting}
+use Rattle.cluster_laws.specs.cluster_core.Actions.{IsItsTurn, MayAdmit, MayGrant, MayMark, MaySend, MayUpdate}
+use Rattle.cluster_laws.specs.cluster_core.Parts.{Part}
+use Rattle.cluster_laws.specs.cluster_core.Settings.{Chromatic, Engine, IsSetting, Locking, Setting}
 use Rattle.seen_parts.specs.Alike.{LooksAlike, with_copies}
 use Rattle.seen_parts.proofs.SeenLemmas.{own_seen, seen_of}
 

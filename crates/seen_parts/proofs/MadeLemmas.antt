@@ -12,14 +12,14 @@ use Rattle.graph_core.specs.Halves.{DataHalf, halves_of}
 use Rattle.graph_core.proofs.HalvesLaws.{IsHalfAt, each-weaker, halves_are}
 use Rattle.update_api.specs.Near.{Near}
 use Rattle.seq_run.specs.States.{after_update, near_of, new_number, wakes}
-use Rattle.cluster_core.specs.Effects.{ends, is_end, is_left, is_shared, mark_news, marked, marked_datum, news_for, number_if, other_end, pends_for, renewed, save, saves_edge, tell, told_datum, told_edge, updated}
-use Rattle.cluster_core.specs.Messages.{Done, Message, News}
-use Rattle.cluster_core.specs.Parts.{Part, lent}
-use Rattle.cluster_core.specs.Ranges.{first_passing, set_at}
-use Rattle.cluster_core.specs.Scopes.{takes_part}
-use Rattle.cluster_core.specs.Settings.{IsSetting, Setting, is_near, nth_edge}
-use Rattle.cluster_core.proofs.Nearness.{near_other, near_turned, near_within, owner_takes_part, scoped_near}
-use Rattle.cluster_numbers.proofs.EdgeEnds.{edge_after-same, ends_near, half_between, new_number-same, wakes-same}
+use Rattle.cluster_laws.specs.cluster_core.Effects.{ends, is_end, is_left, is_shared, mark_news, marked, marked_datum, news_for, number_if, other_end, pends_for, renewed, save, saves_edge, tell, told_datum, told_edge, updated}
+use Rattle.cluster_laws.specs.cluster_core.Messages.{Done, Message, News}
+use Rattle.cluster_laws.specs.cluster_core.Parts.{Part, lent}
+use Rattle.cluster_laws.specs.cluster_core.Ranges.{first_passing, set_at}
+use Rattle.cluster_laws.specs.cluster_core.Scopes.{takes_part}
+use Rattle.cluster_laws.specs.cluster_core.Settings.{IsSetting, Setting, is_near, nth_edge}
+use Rattle.cluster_laws.proofs.cluster_core.Nearness.{near_other, near_turned, near_within, owner_takes_part, scoped_near}
+use Rattle.cluster_laws.proofs.cluster_numbers.EdgeEnds.{edge_after-same, ends_near, half_between, new_number-same, wakes-same}
 use Rattle.seen_parts.specs.Alike.{LooksAlike, with_copies}
 use Rattle.seen_parts.proofs.SeenLemmas.{AreSeen, alike_by, alike_with, and_where, own_seen, seeded_alike}
 

@@ -5,13 +5,13 @@ use Rattle.std.proofs.lemmas.Bool.{eqb-true}
 use Rattle.gl_base.specs.declared.scopes.Datum.{Datum}
 use Rattle.gl_base.specs.declared.scopes.ScopeId.{ScopeId}
 use Rattle.graph_core.specs.DataGraph.{size}
-use Rattle.cluster_core.specs.Effects.{admitted, begins, datum_after, edge_after, first_pending, first_unmarked, granted, is_at, knows, learns, part_seeded, received, seed_if}
-use Rattle.cluster_core.specs.Messages.{Ask, Done, Message, News, Ready}
-use Rattle.cluster_core.specs.Parts.{Part}
-use Rattle.cluster_core.specs.Ranges.{first_passing}
-use Rattle.cluster_core.specs.Scopes.{takes_part}
-use Rattle.cluster_core.specs.Settings.{IsSetting, Setting}
-use Rattle.cluster_core.proofs.Nearness.{owner_takes_part, scoped_itself}
+use Rattle.cluster_laws.specs.cluster_core.Effects.{admitted, begins, datum_after, edge_after, first_pending, first_unmarked, granted, is_at, knows, learns, part_seeded, received, seed_if}
+use Rattle.cluster_laws.specs.cluster_core.Messages.{Ask, Done, Message, News, Ready}
+use Rattle.cluster_laws.specs.cluster_core.Parts.{Part}
+use Rattle.cluster_laws.specs.cluster_core.Ranges.{first_passing}
+use Rattle.cluster_laws.specs.cluster_core.Scopes.{takes_part}
+use Rattle.cluster_laws.specs.cluster_core.Settings.{IsSetting, Setting}
+use Rattle.cluster_laws.proofs.cluster_core.Nearness.{owner_takes_part, scoped_itself}
 use Rattle.seen_parts.specs.Alike.{LooksAlike, with_copies}
 use Rattle.seen_parts.proofs.ApartLemmas.{admit_apart, grant_apart, on_apart}
 

@@ -1,12 +1,12 @@
 -- Parts of a machine that differ at most where it doesn't look.
-pub use Rattle.cluster_core.specs.Actions.{MayAdmit, MayGrant, MayMark, MaySend, MayUpdate}
-pub use Rattle.cluster_core.specs.Effects.{admitted, begins, granted, marked, received, updated}
-pub use Rattle.cluster_core.specs.Messages.{Message}
-pub use Rattle.cluster_core.specs.Parts.{Part}
-pub use Rattle.cluster_core.specs.Settings.{IsSetting, Setting}
+pub use Rattle.cluster_laws.specs.cluster_core.Actions.{MayAdmit, MayGrant, MayMark, MaySend, MayUpdate}
+pub use Rattle.cluster_laws.specs.cluster_core.Effects.{admitted, begins, granted, marked, received, updated}
+pub use Rattle.cluster_laws.specs.cluster_core.Messages.{Message}
+pub use Rattle.cluster_laws.specs.cluster_core.Parts.{Part}
+pub use Rattle.cluster_laws.specs.cluster_core.Settings.{IsSetting, Setting}
 use Rattle.std.specs.Prelude.{length, true, ℕ, ◌<◌, ◌≡◌}
 use Rattle.gl_base.specs.declared.scopes.Datum.{Datum}
-use Rattle.cluster_core.specs.Scopes.{takes_part}
+use Rattle.cluster_laws.specs.cluster_core.Scopes.{takes_part}
 use Rattle.graph_core.specs.DataGraph.{size}
 
 -- the part with these data and numbers of edges

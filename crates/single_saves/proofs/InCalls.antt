@@ -8,17 +8,17 @@ use Rattle.gl_base.specs.declared.jobs.FailureAt.{FailureAt}
 use Rattle.graph_core.specs.DataGraph.{size}
 use Rattle.graph_core.proofs.HalvesLaws.{each-append, each-front, each-weaker}
 use Rattle.attempts.specs.EngineCalls.{EngineCall, first_ticket, made_of, ticket_above}
-use Rattle.cluster_core.specs.Messages.{Section}
-use Rattle.cluster_core.specs.Recovering.{going_on}
-use Rattle.cluster_core.specs.Replays.{ticket_of}
-use Rattle.cluster_core.specs.Settings.{IsSetting, Setting}
-use Rattle.cluster_core.specs.Worlds.{World}
-use Rattle.cluster_cuts.proofs.MarkEvents.{all_known, section_come}
+use Rattle.cluster_laws.specs.cluster_core.Messages.{Section}
+use Rattle.cluster_laws.specs.cluster_core.Recovering.{going_on}
+use Rattle.cluster_laws.specs.cluster_core.Replays.{ticket_of}
+use Rattle.cluster_laws.specs.cluster_core.Settings.{IsSetting, Setting}
+use Rattle.cluster_laws.specs.cluster_core.Worlds.{World}
+use Rattle.cluster_laws.proofs.cluster_cuts.MarkEvents.{all_known, section_come}
 use Rattle.cluster_ending.proofs.Courses.{setting_same}
-use Rattle.cluster_model.specs.ByTicket.{StandByTicket}
-use Rattle.cluster_model.specs.Clusters.{BaseView, Cluster}
-use Rattle.cluster_model.specs.Events.{Event, IsCourse, MayDo, Recover, Update, after_event, entries_below, recovers, setting_after}
-use Rattle.cluster_model.specs.Leading.{RecordIsDue}
+use Rattle.cluster_laws.specs.cluster_model.ByTicket.{StandByTicket}
+use Rattle.cluster_laws.specs.cluster_model.Clusters.{BaseView, Cluster}
+use Rattle.cluster_laws.specs.cluster_model.Events.{Event, IsCourse, MayDo, Recover, Update, after_event, entries_below, recovers, setting_after}
+use Rattle.cluster_laws.specs.cluster_model.Leading.{RecordIsDue}
 use Rattle.cluster_records.specs.Bases.{IsBased}
 use Rattle.cluster_records.specs.Listed.{is_first_in}
 use Rattle.cluster_records.specs.Recorded.{IsAccounted, IsOwnUpdate, snapshot_due}

@@ -5,23 +5,23 @@ use Rattle.std.proofs.lemmas.Bool.{and_parts, cases_Bool, cases_eq, cases_lt, co
 use Rattle.gl_base.specs.declared.entries.Entry.TheVariants.{Go}
 use Rattle.gl_base.specs.declared.scopes.ScopeId.{ScopeId}
 use Rattle.graph_core.specs.DataGraph.{DataEdge, size}
-use Rattle.cluster_core.specs.Actions.{Action, IsActionStep, MayHappen, after, collects, delivers, hears, sends}
-use Rattle.cluster_core.specs.Actions as act
-use Rattle.cluster_core.specs.Cuts.{IsCut}
-use Rattle.cluster_core.specs.Effects.{admitted, begins, granted, is_end, is_left, marked, nothing_saved, other_end, received, saves_edge, updated}
-use Rattle.cluster_core.specs.Marks.{mark_of}
-use Rattle.cluster_core.specs.Messages.{Ask, Done, Message, Ready, Section}
-use Rattle.cluster_core.specs.Parts.{Part}
-use Rattle.cluster_core.specs.Places.{IsExclusive, done_near}
-use Rattle.cluster_core.specs.Ranges.{set_at}
-use Rattle.cluster_core.specs.Settings.{IsSetting, Setting, is_near, nth_edge}
-use Rattle.cluster_core.specs.Snapshots.{IsConsistent}
-use Rattle.cluster_core.specs.Worlds.{World, way, with_part}
-use Rattle.cluster_core.proofs.Basics.{set_at-cases, set_at-here, set_at-kept, set_at-there}
-use Rattle.cluster_core.proofs.Nearness.{near_within}
-use Rattle.cluster_numbers.proofs.Keeping.{marks_is, updates_is}
-use Rattle.cluster_numbers.proofs.Quiet.{IsQuiet, admitted-quiet, goes_on-quiet, granted-quiet}
-use Rattle.cluster_cuts.proofs.MarkMade.{home_low, home_newest, home_unmarked, left_low}
+use Rattle.cluster_laws.specs.cluster_core.Actions.{Action, IsActionStep, MayHappen, after, collects, delivers, hears, sends}
+use Rattle.cluster_laws.specs.cluster_core.Actions as act
+use Rattle.cluster_laws.specs.cluster_core.Cuts.{IsCut}
+use Rattle.cluster_laws.specs.cluster_core.Effects.{admitted, begins, granted, is_end, is_left, marked, nothing_saved, other_end, received, saves_edge, updated}
+use Rattle.cluster_laws.specs.cluster_core.Marks.{mark_of}
+use Rattle.cluster_laws.specs.cluster_core.Messages.{Ask, Done, Message, Ready, Section}
+use Rattle.cluster_laws.specs.cluster_core.Parts.{Part}
+use Rattle.cluster_laws.specs.cluster_core.Places.{IsExclusive, done_near}
+use Rattle.cluster_laws.specs.cluster_core.Ranges.{set_at}
+use Rattle.cluster_laws.specs.cluster_core.Settings.{IsSetting, Setting, is_near, nth_edge}
+use Rattle.cluster_laws.specs.cluster_core.Snapshots.{IsConsistent}
+use Rattle.cluster_laws.specs.cluster_core.Worlds.{World, way, with_part}
+use Rattle.cluster_laws.proofs.cluster_core.Basics.{set_at-cases, set_at-here, set_at-kept, set_at-there}
+use Rattle.cluster_laws.proofs.cluster_core.Nearness.{near_within}
+use Rattle.cluster_laws.proofs.cluster_numbers.Keeping.{marks_is, updates_is}
+use Rattle.cluster_laws.proofs.cluster_numbers.Quiet.{IsQuiet, admitted-quiet, goes_on-quiet, granted-quiet}
+use Rattle.cluster_laws.proofs.cluster_cuts.MarkMade.{home_low, home_newest, home_unmarked, left_low}
 use Rattle.cluster_whole.specs.Views.{IsMove, IsTurned, MayTurn}
 
 -- no edge is saved by two machines that know one snapshot

@@ -8,14 +8,14 @@ use Rattle.gl_base.specs.declared.scopes.Mode.{Mode}
 use Rattle.gl_base.specs.declared.scopes.Mode.TheVariants.{Reader, Writer}
 use Rattle.graph_core.specs.DataGraph.{DataEdge, IsBefore, IsEdge, size}
 use Rattle.seq_run.specs.Examples.{edge}
-use Rattle.cluster_core.specs.Ranges.{all_passing, first_passing}
-use Rattle.cluster_core.specs.Scopes.{is_scope}
-use Rattle.cluster_core.specs.Settings.{IsSetting}
+use Rattle.cluster_laws.specs.cluster_core.Ranges.{all_passing, first_passing}
+use Rattle.cluster_laws.specs.cluster_core.Scopes.{is_scope}
+use Rattle.cluster_laws.specs.cluster_core.Settings.{IsSetting}
 use Rattle.cluster_ending.specs.FourWaves.{first_base, fresh_cluster, started_from}
-use Rattle.cluster_model.specs.Clusters.{Cluster}
-use Rattle.cluster_model.specs.Events.{IsCourse, Section, after_event, entries_below}
-use Rattle.cluster_model.specs.Leading.{Come, RecordIsDue}
-use Rattle.cluster_model.specs.Totals.{total_from}
+use Rattle.cluster_laws.specs.cluster_model.Clusters.{Cluster}
+use Rattle.cluster_laws.specs.cluster_model.Events.{IsCourse, Section, after_event, entries_below}
+use Rattle.cluster_laws.specs.cluster_model.Leading.{Come, RecordIsDue}
+use Rattle.cluster_laws.specs.cluster_model.Totals.{total_from}
 use Rattle.cluster_records.specs.Recorded.{snapshot_due}
 use Rattle.cluster_whole.specs.Windows.{scope_at}
 use Rattle.single_saves.specs.EdgeSaved.{both_come, both_marked, first_marked, first_marks, one_wants, pair_saves_once, pair_with_store, second_marks, sections_go, one_wanted}

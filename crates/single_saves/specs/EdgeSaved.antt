@@ -1,9 +1,9 @@
 -- Two machines with a vertex each and an edge between them, up to where a record is due.
 use Rattle.std.specs.Prelude.{List, [], true, ◌++◌, ◌∷◌}
-use Rattle.cluster_core.specs.Settings.{Setting}
+use Rattle.cluster_laws.specs.cluster_core.Settings.{Setting}
 use Rattle.cluster_ending.specs.FourWaves.{first_vertex, hop, led_through, on_a_pair, started_from}
-use Rattle.cluster_model.specs.Clusters.{Cluster}
-use Rattle.cluster_model.specs.Events.{Admit, DeliverCall, DeliverReport, Event, Grant, Mark, PutBegin, Section, SendCall, SendReport}
+use Rattle.cluster_laws.specs.cluster_model.Clusters.{Cluster}
+use Rattle.cluster_laws.specs.cluster_model.Events.{Admit, DeliverCall, DeliverReport, Event, Grant, Mark, PutBegin, Section, SendCall, SendReport}
 use Rattle.cluster_whole.specs.Windows.{scope_at}
 
 -- with a store and a window of 1

@@ -2,8 +2,8 @@
 ghost use Rattle.std.specs.Prelude.{None, Some, [], false, ◌+◌, ◌∷◌, ◌≡◌};
 ghost use Rattle.gl_base.specs.declared.entries.Entry.TheVariants.{Go};
 ghost use Rattle.cluster_ending.specs.FourWaves.{first_base, fresh_cluster};
-ghost use Rattle.cluster_model.specs.Events.{entries_below};
-ghost use Rattle.cluster_model.specs.Leading.{RecordIsDue};
+ghost use Rattle.cluster_laws.specs.cluster_model.Events.{entries_below};
+ghost use Rattle.cluster_laws.specs.cluster_model.Leading.{RecordIsDue};
 ghost use Rattle.cluster_records.specs.Recorded.{snapshot_due};
 ghost use Rattle.single_saves.specs.EdgeSaved.{both_come, pair_saves_once, pair_with_store};
 ghost use Rattle.whole_calls.specs.Opened.{IsCourseOfCall};

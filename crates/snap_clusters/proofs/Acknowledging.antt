@@ -3,8 +3,8 @@ use Rattle.std.proofs.Common.{◌≡◌, ℕ, false, true, refl}
 use Rattle.std.specs.Prelude.{Err, IfOk, Ok, Result}
 use Rattle.gl_base.specs.declared.refusals.Refused.{Refused}
 use Rattle.gl_base.specs.declared.snapshots.Record.{Record}
-use Rattle.cluster_model.specs.Events as law
-use Rattle.cluster_model.specs.Leading.{acknowledges}
+use Rattle.cluster_laws.specs.cluster_model.Events as law
+use Rattle.cluster_laws.specs.cluster_model.Leading.{acknowledges}
 use Rattle.coord_core.specs.Calls.{HasRecorded, IsReadyToRecord}
 use Rattle.coord_core.specs.Coordinators.{CoordinatorView}
 use Rattle.coord_core.proofs.SavingLemmas.{law_due, law_room}

@@ -8,9 +8,9 @@ use Rattle.gl_base.specs.declared.numbers.MachineNo.{MachineNo}
 use Rattle.gl_base.specs.declared.refusals.Refused.{Refused}
 use Rattle.gl_base.specs.declared.refusals.Refused.TheVariants.{NoMemory, NotNow}
 use Rattle.gl_base.specs.declared.scopes.ScopeId.{ScopeId}
-use Rattle.cluster_core.specs.Actions.{HasFirst}
-use Rattle.cluster_core.specs.Messages as law_messages
-use Rattle.cluster_model.specs.Events as law
+use Rattle.cluster_laws.specs.cluster_core.Actions.{HasFirst}
+use Rattle.cluster_laws.specs.cluster_core.Messages as law_messages
+use Rattle.cluster_laws.specs.cluster_model.Events as law
 use Rattle.cluster_step.specs.Inner.Writing.{HasLinkBetween, behind_first, with_link_between}
 use Rattle.cluster_step.specs.Links.{LinkView, link_between, message_read}
 use Rattle.cluster_step.proofs.WorldLemmas.{has_stays, links_stay}

@@ -12,15 +12,15 @@ use Rattle.gl_base.specs.declared.refusals.Refused.{Refused}
 use Rattle.gl_base.specs.declared.snapshots.Record.{Record}
 use Rattle.gl_base.specs.declared.snapshots.SavedPart.{SavedPart}
 use Rattle.graph_core.specs.DataGraph.{size}
-use Rattle.cluster_core.specs.Ranges.{first_passing}
-use Rattle.cluster_core.specs.Recovering.{going_on}
-use Rattle.cluster_core.specs.Replays.{replay_of}
-use Rattle.cluster_core.proofs.Basics.{first_passing-some}
+use Rattle.cluster_laws.specs.cluster_core.Ranges.{first_passing}
+use Rattle.cluster_laws.specs.cluster_core.Recovering.{going_on}
+use Rattle.cluster_laws.specs.cluster_core.Replays.{replay_of}
+use Rattle.cluster_laws.proofs.cluster_core.Basics.{first_passing-some}
 use Rattle.cluster_ending.proofs.Finding.{left_finished, no_task_left}
 use Rattle.cluster_ending.specs.Ends.{HasFinishedOrder}
-use Rattle.cluster_model.specs.Events.{after_event, entries_below, entries_in_all, recovers, snapshot_numbers}
-use Rattle.cluster_model.specs.Leading.{RecordIsDue, Snapshot, acknowledges, first_coordinator}
-use Rattle.cluster_model.specs.Working.{or_zero}
+use Rattle.cluster_laws.specs.cluster_model.Events.{after_event, entries_below, entries_in_all, recovers, snapshot_numbers}
+use Rattle.cluster_laws.specs.cluster_model.Leading.{RecordIsDue, Snapshot, acknowledges, first_coordinator}
+use Rattle.cluster_laws.specs.cluster_model.Working.{or_zero}
 use Rattle.cluster_records.proofs.Gathering.{all_gathered}
 use Rattle.cluster_records.proofs.Numbering.{passing_own, replay-append, replayed_same, same_then, valid-append, valid_same}
 use Rattle.cluster_records.proofs.Recording.{all_new, due_good, one_recorded}

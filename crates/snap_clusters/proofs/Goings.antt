@@ -1,10 +1,10 @@
 -- A cluster of the law goes on, whatever happens but a recovery.
 use Rattle.std.proofs.Common.{◌≡◌, List, [], ◌∷◌, ◌++◌, refl, sym, subst}
 use Rattle.std.specs.List.{AllByRecursion}
-use Rattle.cluster_core.specs.Recovering.{going_on}
-use Rattle.cluster_core.specs.Settings.{Chromatic, Engine, Locking, Setting}
-use Rattle.cluster_model.specs.Clusters.{BaseView, Cluster}
-use Rattle.cluster_model.specs.Events.{Event, IsCourse, MayOccur, after_event, recovers}
+use Rattle.cluster_laws.specs.cluster_core.Recovering.{going_on}
+use Rattle.cluster_laws.specs.cluster_core.Settings.{Chromatic, Engine, Locking, Setting}
+use Rattle.cluster_laws.specs.cluster_model.Clusters.{BaseView, Cluster}
+use Rattle.cluster_laws.specs.cluster_model.Events.{Event, IsCourse, MayOccur, after_event, recovers}
 use Rattle.cluster_ending.proofs.Courses.{courses_followed, setting_same}
 use Rattle.cluster_ending.proofs.Putting.{recovered_watched}
 use Rattle.cluster_ending.proofs.Reporting.{courses_informed, recovered_informed}

@@ -8,12 +8,12 @@ use Rattle.gl_base.specs.declared.refusals.Refused.{Refused}
 use Rattle.gl_base.specs.declared.refusals.Refused.TheVariants.{NoMemory, NotNow}
 use Rattle.gl_base.specs.declared.scopes.Counted.{Counted}
 use Rattle.cluster_ending.proofs.Coming.{may_be_counted}
-use Rattle.cluster_model.specs.Calls.{Begin, Call, Committed, Count, Report, Step, Wave}
-use Rattle.cluster_model.specs.Clusters.{with_coordinator}
-use Rattle.cluster_model.specs.Counting.{Counting, MayBeCounted}
-use Rattle.cluster_model.specs.Events as law
-use Rattle.cluster_model.specs.Leading.{Coordinator}
-use Rattle.cluster_model.specs.Working.{prompt, takes_call}
+use Rattle.cluster_laws.specs.cluster_model.Calls.{Begin, Call, Committed, Count, Report, Step, Wave}
+use Rattle.cluster_laws.specs.cluster_model.Clusters.{with_coordinator}
+use Rattle.cluster_laws.specs.cluster_model.Counting.{Counting, MayBeCounted}
+use Rattle.cluster_laws.specs.cluster_model.Events as law
+use Rattle.cluster_laws.specs.cluster_model.Leading.{Coordinator}
+use Rattle.cluster_laws.specs.cluster_model.Working.{prompt, takes_call}
 use Rattle.cluster_step.specs.Inner.Writing.{behind_first}
 use Rattle.cluster_step.specs.Links.{LinkView}
 use Rattle.cluster_whole.specs.Whole.{IsNoRecovery}

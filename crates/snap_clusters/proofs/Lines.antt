@@ -2,10 +2,10 @@
 use Rattle.std.proofs.Common.{◌≡◌, ◌≢◌, ℕ, ◌<◌, ◌++◌, inl, inr, None, Some, List, [], ◌∷◌, get_or, map, set, refl, sym, ap, ◌∙◌, get_or-set_other, get_or-set_same}
 use Rattle.std.specs.Prelude.{◌⊎◌, slice_get}
 use Rattle.std.proofs.lemmas.Bool.{cases_eq}
-use Rattle.cluster_core.specs.Ranges.{set_at}
-use Rattle.cluster_core.specs.Messages.{Message}
-use Rattle.cluster_core.proofs.Basics.{set_at-other, set_at-same}
-use Rattle.cluster_model.specs.Calls.{Call, Report}
+use Rattle.cluster_laws.specs.cluster_core.Ranges.{set_at}
+use Rattle.cluster_laws.specs.cluster_core.Messages.{Message}
+use Rattle.cluster_laws.proofs.cluster_core.Basics.{set_at-other, set_at-same}
+use Rattle.cluster_laws.specs.cluster_model.Calls.{Call, Report}
 use Rattle.cluster_step.specs.Inner.Writing.{HasLinkBetween, behind_first, with_link_between}
 use Rattle.cluster_step.specs.Links.{LinkView, empty_link, link_between, message_read, told_on}
 use Rattle.coord_core.specs.Coordinators.{AreCalls}

@@ -7,15 +7,15 @@ use Rattle.std.specs.declared.vec.Vec.{Vec}
 use Rattle.std.proofs.lemmas.Bool.{cases_eq}
 use Rattle.std.proofs.lemmas.List.{map-append}
 use Rattle.gl_base.specs.declared.scopes.ScopeId.{ScopeId}
-use Rattle.cluster_core.specs.Actions.{MayMark, MayUpdate}
-use Rattle.cluster_core.specs.Messages as law_messages
-use Rattle.cluster_core.specs.Ranges.{set_at}
-use Rattle.cluster_core.proofs.Basics.{set_at-other, set_at-same}
-use Rattle.cluster_model.specs.Calls.{Call, Report}
-use Rattle.cluster_model.specs.Clusters.{with_calls, with_coordinator, with_machine, with_messages, with_reports}
-use Rattle.cluster_model.specs.Events as law
-use Rattle.cluster_model.specs.Leading.{Coordinator, hands_call, takes_report}
-use Rattle.cluster_model.specs.Working.{fails, hands, hands_report, prompt, receives, takes_call}
+use Rattle.cluster_laws.specs.cluster_core.Actions.{MayMark, MayUpdate}
+use Rattle.cluster_laws.specs.cluster_core.Messages as law_messages
+use Rattle.cluster_laws.specs.cluster_core.Ranges.{set_at}
+use Rattle.cluster_laws.proofs.cluster_core.Basics.{set_at-other, set_at-same}
+use Rattle.cluster_laws.specs.cluster_model.Calls.{Call, Report}
+use Rattle.cluster_laws.specs.cluster_model.Clusters.{with_calls, with_coordinator, with_machine, with_messages, with_reports}
+use Rattle.cluster_laws.specs.cluster_model.Events as law
+use Rattle.cluster_laws.specs.cluster_model.Leading.{Coordinator, hands_call, takes_report}
+use Rattle.cluster_laws.specs.cluster_model.Working.{fails, hands, hands_report, prompt, receives, takes_call}
 use Rattle.cluster_step.specs.Inner.Writing.{HasLinkBetween}
 use Rattle.cluster_step.specs.Links.{LinkView, message_read}
 use Rattle.cluster_step.proofs.WorldLemmas.{has_link}

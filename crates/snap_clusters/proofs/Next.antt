@@ -5,9 +5,9 @@ use Rattle.std.proofs.lemmas.Bool.{lt-ltb}
 use Rattle.gl_base.specs.declared.numbers.MachineNo.{MachineNo}
 use Rattle.gl_base.specs.declared.numbers.Vertex.{Vertex}
 use Rattle.gl_base.specs.declared.scopes.ScopeId.{ScopeId}
-use Rattle.cluster_core.specs.Actions.{HasFirst}
-use Rattle.cluster_model.specs.Calls.{Call, Report}
-use Rattle.cluster_model.specs.Events as law
+use Rattle.cluster_laws.specs.cluster_core.Actions.{HasFirst}
+use Rattle.cluster_laws.specs.cluster_model.Calls.{Call, Report}
+use Rattle.cluster_laws.specs.cluster_model.Events as law
 use Rattle.cluster_step.specs.Links.{message_read}
 use Rattle.coord_core.specs.Coordinators.{no_outbox}
 use Rattle.outboxes.specs.Outboxes.{has_waiting}

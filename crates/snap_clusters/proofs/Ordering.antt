@@ -4,9 +4,9 @@ use Rattle.std.specs.List.{AllByRecursion}
 use Rattle.std.proofs.lemmas.Bool.{lt-ltb}
 use Rattle.gl_base.specs.declared.entries.Entry.{Entry}
 use Rattle.graph_core.specs.DataGraph.{size}
-use Rattle.cluster_core.specs.Recovering.{going_on}
-use Rattle.cluster_core.specs.Settings.{IsSetting}
-use Rattle.cluster_model.specs.Events.{Event, IsCourse, recovers}
+use Rattle.cluster_laws.specs.cluster_core.Recovering.{going_on}
+use Rattle.cluster_laws.specs.cluster_core.Settings.{IsSetting}
+use Rattle.cluster_laws.specs.cluster_model.Events.{Event, IsCourse, recovers}
 use Rattle.cluster_records.proofs.Courses.{begun, courses_go}
 use Rattle.cluster_records.proofs.Numbering.{all_own, all_same, left_same, replay-append, tasks-append, valid-append, valid_same}
 use Rattle.cluster_records.specs.Bases.{IsBase, IsBased}

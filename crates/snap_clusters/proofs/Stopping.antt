@@ -3,9 +3,9 @@ use Rattle.std.proofs.Common.{◌≡◌, ℕ, List, [], ◌∷◌, None, Option,
 use Rattle.std.specs.Prelude.{Err, Ok, Result}
 use Rattle.gl_base.specs.declared.refusals.Refused.{Refused}
 use Rattle.gl_base.specs.declared.scopes.ScopeId.{ScopeId}
-use Rattle.cluster_core.specs.Messages.{Message}
-use Rattle.cluster_model.specs.Calls.{Call, Report}
-use Rattle.cluster_model.specs.Events as law
+use Rattle.cluster_laws.specs.cluster_core.Messages.{Message}
+use Rattle.cluster_laws.specs.cluster_model.Calls.{Call, Report}
+use Rattle.cluster_laws.specs.cluster_model.Events as law
 use Rattle.snap_clusters.specs.Clusters.{Cluster, Machine, Parts, Setting, StandsForSameSaving, StandsForSaving}
 use Rattle.snap_clusters.specs.Events.{AnswersEvent, IsNamedEvent, IsNoStop, TakesPlace}
 use Rattle.snap_clusters.specs.declared.events.Event.{Event}

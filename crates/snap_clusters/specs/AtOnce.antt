@@ -6,9 +6,9 @@ use Rattle.gl_base.specs.declared.numbers.MachineNo.{MachineNo}
 use Rattle.gl_base.specs.declared.numbers.Vertex.{Vertex}
 use Rattle.gl_base.specs.declared.refusals.Refused.{Refused}
 use Rattle.gl_base.specs.declared.refusals.Refused.TheVariants.{NoMemory, NotNow}
-use Rattle.cluster_core.specs.Effects.{next_scope}
-use Rattle.cluster_core.specs.Settings.{Locking}
-use Rattle.cluster_model.specs.Events as law
+use Rattle.cluster_laws.specs.cluster_core.Effects.{next_scope}
+use Rattle.cluster_laws.specs.cluster_core.Settings.{Locking}
+use Rattle.cluster_laws.specs.cluster_model.Events as law
 use Rattle.snap_clusters.specs.Events.{CanNotTakePlace}
 use Rattle.snap_clusters.specs.declared.events.Event.TheVariants as event
 use Rattle.snap_clusters.specs.declared.events.Local.TheVariants as local

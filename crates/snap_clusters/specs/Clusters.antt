@@ -1,5 +1,5 @@
 -- A cluster that takes snapshots, and the cluster of the law that it stands for.
-pub use Rattle.cluster_model.specs.Clusters.{BaseView, Cluster}
+pub use Rattle.cluster_laws.specs.cluster_model.Clusters.{BaseView, Cluster}
 pub use Rattle.cluster_step.specs.Inner.Writing.{HaveLinks}
 pub use Rattle.coord_core.specs.Coordinators.{AreCalls, IsCoordinatorOf, IsEngineOf, StoreView}
 pub use Rattle.coord_core.specs.declared.steps.Engine.{Engine}
@@ -8,8 +8,8 @@ pub use Rattle.snap_clusters.specs.Lines.{AreReports, messages_on, told_on}
 pub use Rattle.snap_members.specs.Promises.{Machine, Setting}
 pub use Rattle.snap_clusters.specs.declared.parts.Parts.{Parts}
 use Rattle.std.specs.Prelude.{List, false, length, slice_index_or, suc, ℕ, ◌+◌, ◌<◌, ◌^◌, ◌≡◌}
-use Rattle.cluster_core.specs.Recovering.{going_on}
-use Rattle.cluster_model.specs.Events.{MayOccur, Recover, recovers}
+use Rattle.cluster_laws.specs.cluster_core.Recovering.{going_on}
+use Rattle.cluster_laws.specs.cluster_model.Events.{MayOccur, Recover, recovers}
 use Rattle.graph_core.specs.DataGraph.{size}
 
 -- These parts stand for this cluster of the law; and events have led to that. The coordinator's links stand behind the machines'.

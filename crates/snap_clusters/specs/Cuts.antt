@@ -5,13 +5,13 @@ use Rattle.std.specs.Prelude.{List, is_some, slice_index_or, ℕ, ◌++◌}
 use Rattle.gl_base.specs.declared.entries.Entry.{Entry}
 use Rattle.gl_base.specs.declared.snapshots.Record.{Record}
 use Rattle.gl_base.specs.declared.snapshots.SavedPart.{SavedPart}
-use Rattle.cluster_core.specs.Ranges.{first_passing}
-use Rattle.cluster_core.specs.Replays.{replay_of}
-use Rattle.cluster_core.specs.Settings.{Setting}
-use Rattle.cluster_model.specs.Clusters.{Cluster}
-use Rattle.cluster_model.specs.Events.{entries_in_all, snapshot_numbers}
-use Rattle.cluster_model.specs.Leading.{Snapshot}
-use Rattle.cluster_model.specs.Working.{or_zero}
+use Rattle.cluster_laws.specs.cluster_core.Ranges.{first_passing}
+use Rattle.cluster_laws.specs.cluster_core.Replays.{replay_of}
+use Rattle.cluster_laws.specs.cluster_core.Settings.{Setting}
+use Rattle.cluster_laws.specs.cluster_model.Clusters.{Cluster}
+use Rattle.cluster_laws.specs.cluster_model.Events.{entries_in_all, snapshot_numbers}
+use Rattle.cluster_laws.specs.cluster_model.Leading.{Snapshot}
+use Rattle.cluster_laws.specs.cluster_model.Working.{or_zero}
 use Rattle.cluster_records.specs.Bases.{IsOpening}
 use Rattle.cluster_records.specs.Recorded.{HaveSameNumbers}
 use Rattle.coord_core.specs.Calls.{IsRecordFor}

@@ -2,7 +2,7 @@
 use Rattle.std.specs.Prelude.{Bool, IsErrOf, List, None, OnErr, OnOk, Option, Result, Some, false, slice_index_or, ℕ, ⊤, ◌<◌, ◌≡◌}
 use Rattle.gl_base.specs.declared.refusals.Refused.{Refused}
 use Rattle.gl_base.specs.declared.refusals.Refused.TheVariants.{NoMemory, NotNow}
-use Rattle.cluster_model.specs.Events as law
+use Rattle.cluster_laws.specs.cluster_model.Events as law
 use Rattle.coord_core.specs.Calls.{IsReadyToRecord}
 use Rattle.snap_clusters.specs.Clusters.{Cluster, IsSavingClusterOf, Machine, InEachCluster, Parts, Setting, StandsForSameSaving}
 use Rattle.snap_clusters.specs.declared.events.Event.{Event}

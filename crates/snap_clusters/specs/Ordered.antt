@@ -1,9 +1,9 @@
 -- The updates of an attempt, and of all attempts of a call, as one order.
 use Rattle.std.specs.Prelude.{List, ℕ, ◌++◌, ◌<◌, ◌≡◌}
 use Rattle.gl_base.specs.declared.entries.Entry.{Entry}
-use Rattle.cluster_core.specs.Replays.{IsReplay, tasks_of}
-use Rattle.cluster_core.specs.Settings.{Setting}
-use Rattle.cluster_model.specs.Clusters.{Cluster}
+use Rattle.cluster_laws.specs.cluster_core.Replays.{IsReplay, tasks_of}
+use Rattle.cluster_laws.specs.cluster_core.Settings.{Setting}
+use Rattle.cluster_laws.specs.cluster_model.Clusters.{Cluster}
 use Rattle.cluster_whole.specs.Views.{world_of}
 use Rattle.graph_core.specs.DataGraph.{size}
 use Rattle.seq_run.specs.Orders.{IsValidOrder, replay, tasks_after}

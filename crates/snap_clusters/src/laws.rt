@@ -1,9 +1,9 @@
 //! A law of bases. It is the contract of a function that does nothing.
 ghost use Rattle.std.specs.Prelude.{List};
-ghost use Rattle.cluster_core.specs.Recovering.{going_on};
-ghost use Rattle.cluster_core.specs.Settings.{IsSetting, Setting};
-ghost use Rattle.cluster_model.specs.Clusters.{BaseView, Cluster};
-ghost use Rattle.cluster_model.specs.Events.{Event, IsCourse, recovers};
+ghost use Rattle.cluster_laws.specs.cluster_core.Recovering.{going_on};
+ghost use Rattle.cluster_laws.specs.cluster_core.Settings.{IsSetting, Setting};
+ghost use Rattle.cluster_laws.specs.cluster_model.Clusters.{BaseView, Cluster};
+ghost use Rattle.cluster_laws.specs.cluster_model.Events.{Event, IsCourse, recovers};
 ghost use Rattle.cluster_records.specs.Bases.{IsBase};
 ghost use Rattle.cluster_whole.specs.Whole.{AreColoured, setting_behind};
 ghost use Rattle.snap_clusters.specs.Cuts.{HasGoodBase};

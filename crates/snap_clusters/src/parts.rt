@@ -1,7 +1,7 @@
 //! The machines of a cluster that takes snapshots, their links, the coordinator, and the tickets.
 ghost use Rattle.std.specs.Prelude.{◌≡◌, ◌+◌, ◌-◌, ◌^◌, ◌<◌, ◌≤◌, ◌⊎◌, true, false, length, replicate, slice_index_or, IfOk, IfSome, IfNone, IsErrOf, IsTrue, OnOk};
-ghost use Rattle.cluster_core.specs.Recovering.{going_on};
-ghost use Rattle.cluster_model.specs.Events.{recovers};
+ghost use Rattle.cluster_laws.specs.cluster_core.Recovering.{going_on};
+ghost use Rattle.cluster_laws.specs.cluster_model.Events.{recovers};
 ghost use Rattle.cluster_step.specs.Inner.Writing.{HasLinkBetween};
 ghost use Rattle.coord_core.specs.Stores.{store_view};
 ghost use Rattle.snap_clusters.specs.AtOnce.{AnswersAtOnce};

@@ -2,11 +2,11 @@
 use Rattle.std.proofs.Common.{◌≡◌, ℕ, suc, ◌==◌, Bool, true, false, if◌then◌else◌, Option, Some, None, List, [], ◌∷◌, refl}
 use Rattle.gl_base.specs.declared.scopes.Claim.{Claim}
 use Rattle.gl_base.specs.declared.scopes.ScopeId.{ScopeId}
-use Rattle.cluster_core.specs.Effects.{admitted, admitted_by, asks_for, first_granted, goes_away, goes_on, granted, in_flight, moves_on, next_scope, posts, sets_out, takes_lock}
-use Rattle.cluster_core.specs.Messages.{Ask, Ready}
-use Rattle.cluster_core.specs.Parts.{Part, Stand}
-use Rattle.cluster_core.specs.Scopes.{machines_from, own_from, set_for}
-use Rattle.cluster_core.specs.Settings.{Chromatic, Engine, Locking, Setting}
+use Rattle.cluster_laws.specs.cluster_core.Effects.{admitted, admitted_by, asks_for, first_granted, goes_away, goes_on, granted, in_flight, moves_on, next_scope, posts, sets_out, takes_lock}
+use Rattle.cluster_laws.specs.cluster_core.Messages.{Ask, Ready}
+use Rattle.cluster_laws.specs.cluster_core.Parts.{Part, Stand}
+use Rattle.cluster_laws.specs.cluster_core.Scopes.{machines_from, own_from, set_for}
+use Rattle.cluster_laws.specs.cluster_core.Settings.{Chromatic, Engine, Locking, Setting}
 use Rattle.snap_machines.specs.Keeping.{SnapView, with_snaps}
 
 away_apart : (a : ℕ) (s : ScopeId) (v : ℕ) (rest : List ℕ) (w : SnapView) (part : Part) → goes_away a s v rest (with_snaps w part) ≡ with_snaps w (goes_away a s v rest part)

@@ -1,10 +1,10 @@
 -- A snapshot that begins, and sections.
 use Rattle.std.proofs.Common.{◌≡◌, ℕ, Bool, true, false, if◌then◌else◌, max, refl, sym, ap, ◌∙◌, subst, arith}
 use Rattle.std.specs.Prelude.{nat_lt}
-use Rattle.cluster_core.specs.Effects.{knows, nothing_saved, part_seeded}
-use Rattle.cluster_core.specs.Parts.{Part}
+use Rattle.cluster_laws.specs.cluster_core.Effects.{knows, nothing_saved, part_seeded}
+use Rattle.cluster_laws.specs.cluster_core.Parts.{Part}
 use Rattle.machine_numbers.specs.declared.keeping.Numbers.{Numbers}
-use Rattle.machine_parts.specs.declared.cores.Core.{Core}
+use Rattle.machine_core.specs.declared.machine_parts.cores.Core.{Core}
 use Rattle.snap_update.specs.Snaps.{IsSameButRoom, newly_begun, with_begun}
 use Rattle.snap_machines.specs.Hearing.{HasBegun}
 use Rattle.snap_machines.specs.Keeping.{SnapView, part_of, saved_in, with_snaps}

@@ -11,13 +11,13 @@ use Rattle.update_api.specs.declared.links.Link.{Link}
 use Rattle.vertex_queue.proofs.Queueing.{flag_within}
 use Rattle.local_graph.specs.declared.sides.Side.{Side}
 use Rattle.local_graph.proofs.PlaceLemmas.{at_written}
-use Rattle.cluster_core.specs.Effects.{part_seeded}
+use Rattle.cluster_laws.specs.cluster_core.Effects.{part_seeded}
 use Rattle.machine_numbers.specs.declared.keeping.Numbers.{Numbers}
 use Rattle.machine_numbers.specs.Views.{AreTasksOf, LocalView, TasksView, flag_there, is_flagged, ghost_datum, is_named, own_datum, own_or_ghost}
-use Rattle.machine_parts.specs.declared.cores.Core.{Core}
-use Rattle.machine_parts.specs.Order.{IsOrderly}
-use Rattle.machine_parts.specs.Parts.{number_of as number_in}
-use Rattle.machine_parts.specs.Settings.{SameSettings}
+use Rattle.machine_core.specs.declared.machine_parts.cores.Core.{Core}
+use Rattle.machine_core.specs.machine_parts.Order.{IsOrderly}
+use Rattle.machine_core.specs.machine_parts.Parts.{number_of as number_in}
+use Rattle.machine_core.specs.machine_parts.Settings.{SameSettings}
 use Rattle.snap_update.specs.Snaps.{IsSameButRoom, with_edge}
 use Rattle.snap_machines.specs.Keeping.{SnapView, part_of, with_snaps}
 use Rattle.snap_machines.specs.Marking.{HasEachRow, HasMarked, HasOnlyMadeRoom, HasSavedMore, MayMark, marked}

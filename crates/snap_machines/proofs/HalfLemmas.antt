@@ -8,10 +8,10 @@ use Rattle.std.specs.Option.{unwrap_or}
 use Rattle.graph_core.specs.Colourings.{joins}
 use Rattle.graph_core.specs.DataGraph.{DataEdge}
 use Rattle.graph_core.specs.Halves.{DataHalf, half_at, halves_from, halves_of}
-use Rattle.cluster_core.specs.Effects.{is_end, other_end}
-use Rattle.cluster_core.specs.Settings.{Setting, IsSetting, is_near, nth_edge}
-use Rattle.cluster_core.proofs.Nearness.{near_other}
-use Rattle.machine_updates.proofs.LeaveLemmas.{some_none}
+use Rattle.cluster_laws.specs.cluster_core.Effects.{is_end, other_end}
+use Rattle.cluster_laws.specs.cluster_core.Settings.{Setting, IsSetting, is_near, nth_edge}
+use Rattle.cluster_laws.proofs.cluster_core.Nearness.{near_other}
+use Rattle.machine_core.proofs.machine_updates.LeaveLemmas.{some_none}
 use Rattle.snap_update.specs.Holding.{later_number}
 
 abbrev no_edge : DataEdge

@@ -5,14 +5,14 @@ use Rattle.std.proofs.lemmas.Bool.{ltb-true, ne_eqb}
 use Rattle.gl_base.specs.declared.numbers.Vertex.{Vertex}
 use Rattle.gl_base.specs.declared.scopes.Datum.{Datum}
 use Rattle.wire_msgs.specs.declared.messages.Done.{Done}
-use Rattle.cluster_core.specs.Effects.{begins, learns, newer_datum}
+use Rattle.cluster_laws.specs.cluster_core.Effects.{begins, learns, newer_datum}
 use Rattle.machine_numbers.specs.declared.keeping.Numbers.{Numbers}
 use Rattle.machine_numbers.specs.Steps.{HasLearned}
 use Rattle.machine_numbers.specs.Views.{LocalView, TasksView, datum_here, number_told, flag_there, is_named, is_own, place_at}
-use Rattle.machine_parts.specs.declared.cores.Core.{Core}
-use Rattle.machine_parts.specs.Parts.{Part, pending_here}
-use Rattle.machine_parts.specs.Settings.{SameSettings}
-use Rattle.machine_updates.specs.Committing.{HasNoLock}
+use Rattle.machine_core.specs.declared.machine_parts.cores.Core.{Core}
+use Rattle.machine_core.specs.machine_parts.Parts.{Part, pending_here}
+use Rattle.machine_core.specs.machine_parts.Settings.{SameSettings}
+use Rattle.machine_core.specs.machine_updates.Committing.{HasNoLock}
 use Rattle.snap_update.specs.Snaps.{IsSameButRoom, newly_begun, with_begun}
 use Rattle.snap_machines.specs.Hearing.{HasBegun}
 use Rattle.snap_machines.specs.Keeping.{SnapView, part_of, with_snaps}

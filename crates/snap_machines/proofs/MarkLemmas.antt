@@ -8,10 +8,10 @@ use Rattle.gl_base.specs.declared.scopes.ScopeId.{ScopeId}
 use Rattle.graph_core.specs.DataGraph.{size}
 use Rattle.graph_core.specs.Halves.{DataHalf}
 use Rattle.update_api.specs.declared.links.Link.{Link}
-use Rattle.cluster_core.specs.Effects.{mark_news, number_if, pends_for}
-use Rattle.cluster_core.specs.Ranges.{first_passing}
-use Rattle.cluster_core.specs.Settings.{IsSetting, is_near}
-use Rattle.cluster_core.proofs.Nearness.{near_within}
+use Rattle.cluster_laws.specs.cluster_core.Effects.{mark_news, number_if, pends_for}
+use Rattle.cluster_laws.specs.cluster_core.Ranges.{first_passing}
+use Rattle.cluster_laws.specs.cluster_core.Settings.{IsSetting, is_near}
+use Rattle.cluster_laws.proofs.cluster_core.Nearness.{near_within}
 use Rattle.local_graph.specs.declared.sides.Side.{Side}
 use Rattle.local_parts.specs.Parts.{halves_along}
 use Rattle.local_parts.proofs.FoundLemmas.{found_first}
@@ -19,10 +19,10 @@ use Rattle.local_parts.proofs.NearLemmas.{all_among, near_all}
 use Rattle.machine_numbers.specs.declared.keeping.Numbers.{Numbers}
 use Rattle.machine_numbers.specs.Views.{is_named}
 use Rattle.machine_numbers.specs.Settings.{IsRowOf}
-use Rattle.machine_parts.specs.declared.cores.Core.{Core}
-use Rattle.machine_parts.specs.Parts.{news_told}
-use Rattle.machine_parts.specs.Settings.{Setting, IsPartOf}
-use Rattle.machine_updates.proofs.ToldLemmas.{found_one}
+use Rattle.machine_core.specs.declared.machine_parts.cores.Core.{Core}
+use Rattle.machine_core.specs.machine_parts.Parts.{news_told}
+use Rattle.machine_core.specs.machine_parts.Settings.{Setting, IsPartOf}
+use Rattle.machine_core.proofs.machine_updates.ToldLemmas.{found_one}
 use Rattle.snap_update.specs.Holding.{AreEdgesToSave, last_of_edge, later_number}
 use Rattle.snap_machines.specs.Keeping.{Part, SnapView, part_of, with_snaps}
 use Rattle.snap_machines.specs.Inner.Marks.{edge_here, edges_left, ends_left, is_end_left, is_own, is_unmarked, links_at, mark_told, number_pended, sides_at}

@@ -13,29 +13,29 @@ use Rattle.scope_lists.specs.Scopes.{is_scope, set_for}
 use Rattle.scope_pipe.specs.Pipes.{HasFinished, flight_count}
 use Rattle.update_api.specs.declared.links.Link.{Link}
 use Rattle.local_graph.specs.declared.sides.Side.{Side}
-use Rattle.cluster_core.specs.Effects.{mark_news, tell}
-use Rattle.cluster_core.specs.Messages.{Message}
-use Rattle.cluster_core.specs.Messages as law
-use Rattle.cluster_core.specs.Scopes.{takes_part}
-use Rattle.cluster_core.specs.Settings.{IsSetting}
-use Rattle.cluster_core.proofs.Basics.{set_at-cases}
+use Rattle.cluster_laws.specs.cluster_core.Effects.{mark_news, tell}
+use Rattle.cluster_laws.specs.cluster_core.Messages.{Message}
+use Rattle.cluster_laws.specs.cluster_core.Messages as law
+use Rattle.cluster_laws.specs.cluster_core.Scopes.{takes_part}
+use Rattle.cluster_laws.specs.cluster_core.Settings.{IsSetting}
+use Rattle.cluster_laws.proofs.cluster_core.Basics.{set_at-cases}
 use Rattle.wire_msgs.specs.Views as told
 use Rattle.outboxes.specs.Outboxes.{OutboxesView}
 use Rattle.machine_numbers.specs.declared.keeping.Numbers.{Numbers}
 use Rattle.machine_numbers.specs.Views.{TasksView, flag_there, ghost_datum, edge_number_at}
 use Rattle.machine_numbers.specs.Settings.{IsRowOf}
-use Rattle.machine_parts.specs.declared.cores.Core.{Core}
-use Rattle.machine_parts.specs.declared.cores.Terms.{Terms}
-use Rattle.machine_parts.specs.Parts.{LocalView, PipeView, flight_at, place_at, is_owned, holder_at, queue_at, links_at, entered_at, task_here, messages_for, message_of, number_of as number_in, stand_at}
-use Rattle.machine_parts.specs.Order.{AreLocksInOrder, AreNumbersInOrder, HasComeRight, IsGraphInOrder, IsOrderly, KnowsPlaces, StandByPlace, nobody}
-use Rattle.machine_parts.specs.Settings.{IsPartOf, SameSettings, Setting}
-use Rattle.machine_updates.specs.declared.reserving.Prepared.{Prepared}
-use Rattle.machine_updates.specs.Reserving.{is_to_be_told}
-use Rattle.machine_updates.proofs.CommitLemmas.{placed}
-use Rattle.machine_updates.proofs.GraphLemmas.{SameGraph, place_kept, sides_kept, ghosts_kept, graph_kept, sides_here}
-use Rattle.machine_updates.proofs.LeaveLemmas.{IsWithout, none_or, come_kept, other_entered, was_entered, locks_left, flights_left}
-use Rattle.machine_updates.proofs.OrderLemmas.{local_kept}
-use Rattle.machine_updates.proofs.ToldLemmas.{parts_are, told_at, told_many}
+use Rattle.machine_core.specs.declared.machine_parts.cores.Core.{Core}
+use Rattle.machine_core.specs.declared.machine_parts.cores.Terms.{Terms}
+use Rattle.machine_core.specs.machine_parts.Parts.{LocalView, PipeView, flight_at, place_at, is_owned, holder_at, queue_at, links_at, entered_at, task_here, messages_for, message_of, number_of as number_in, stand_at}
+use Rattle.machine_core.specs.machine_parts.Order.{AreLocksInOrder, AreNumbersInOrder, HasComeRight, IsGraphInOrder, IsOrderly, KnowsPlaces, StandByPlace, nobody}
+use Rattle.machine_core.specs.machine_parts.Settings.{IsPartOf, SameSettings, Setting}
+use Rattle.machine_core.specs.declared.machine_updates.reserving.Prepared.{Prepared}
+use Rattle.machine_core.specs.machine_updates.Reserving.{is_to_be_told}
+use Rattle.machine_core.proofs.machine_updates.CommitLemmas.{placed}
+use Rattle.machine_core.proofs.machine_updates.GraphLemmas.{SameGraph, place_kept, sides_kept, ghosts_kept, graph_kept, sides_here}
+use Rattle.machine_core.proofs.machine_updates.LeaveLemmas.{IsWithout, none_or, come_kept, other_entered, was_entered, locks_left, flights_left}
+use Rattle.machine_core.proofs.machine_updates.OrderLemmas.{local_kept}
+use Rattle.machine_core.proofs.machine_updates.ToldLemmas.{parts_are, told_at, told_many}
 use Rattle.snap_update.specs.Holding.{IsSnapPartOf, Machine, makes_mark}
 use Rattle.snap_update.proofs.Saving.{marks_follow}
 use Rattle.snap_machines.specs.Keeping.{Part, SnapView, part_of, with_snaps}

@@ -9,13 +9,13 @@ use Rattle.gl_base.specs.declared.scopes.ScopeId.{ScopeId}
 use Rattle.graph_core.specs.DataGraph.{DataEdge}
 use Rattle.graph_core.specs.Halves.{DataHalf, halves_from}
 use Rattle.update_api.specs.declared.links.Link.{Link}
-use Rattle.cluster_core.specs.Effects.{saves_edge}
+use Rattle.cluster_laws.specs.cluster_core.Effects.{saves_edge}
 use Rattle.local_graph.specs.declared.sides.Side.{Side}
 use Rattle.local_parts.specs.Parts.{halves_along}
 use Rattle.machine_numbers.specs.declared.keeping.Numbers.{Numbers}
 use Rattle.machine_numbers.specs.Settings.{IsRowOf}
 use Rattle.machine_numbers.specs.Views.{LocalView, TasksView, is_flagged}
-use Rattle.machine_parts.specs.declared.cores.Core.{Core}
+use Rattle.machine_core.specs.declared.machine_parts.cores.Core.{Core}
 use Rattle.snap_update.specs.Holding.{AreEdgesToSave, last_of_edge, last_of_vertex, later_number}
 use Rattle.snap_update.specs.Snaps.{IsSameButRoom, IsSavedOnce, with_edge}
 use Rattle.snap_update.proofs.SavedOnce.{edge_once, vertex_once}

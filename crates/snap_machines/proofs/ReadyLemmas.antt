@@ -8,8 +8,8 @@ use Rattle.scope_lists.specs.Found.{by_scope}
 use Rattle.scope_lists.proofs.FoundLemmas.{found_place}
 use Rattle.scope_pipe.specs.declared.flights.Flight.{Flight}
 use Rattle.scope_pipe.specs.Pipes.{flight_scope}
-use Rattle.machine_parts.specs.declared.cores.Core.{Core}
-use Rattle.machine_parts.specs.Order.{IsOrderly}
+use Rattle.machine_core.specs.declared.machine_parts.cores.Core.{Core}
+use Rattle.machine_core.specs.machine_parts.Order.{IsOrderly}
 use Rattle.snap_machines.specs.Inner.Marks.{CanBeMarked}
 use Rattle.snap_machines.specs.Keeping.{part_of}
 use Rattle.snap_machines.specs.Marking.{MayMark}

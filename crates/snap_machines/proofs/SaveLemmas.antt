@@ -9,9 +9,9 @@ use Rattle.wire_msgs.specs.Views as told
 use Rattle.outboxes.specs.Outboxes.{OutboxesView}
 use Rattle.machine_numbers.specs.declared.keeping.Numbers.{Numbers}
 use Rattle.machine_numbers.specs.Views.{TasksView, flag_there, is_named}
-use Rattle.machine_updates.specs.declared.reserving.Prepared.{Prepared}
-use Rattle.machine_updates.specs.Committing.{posted}
-use Rattle.machine_updates.proofs.TellLemmas.{can_step}
+use Rattle.machine_core.specs.declared.machine_updates.reserving.Prepared.{Prepared}
+use Rattle.machine_core.specs.machine_updates.Committing.{posted}
+use Rattle.machine_core.proofs.machine_updates.TellLemmas.{can_step}
 use Rattle.snap_machines.specs.Keeping.{SnapView}
 use Rattle.snap_machines.specs.Inner.Marks.{CanTell, DoneView, after_told, edges_left, ends_left, is_end_left, is_unmarked, pending_here, place_at, with_edges, edge_here}
 use Rattle.snap_machines.proofs.PendLemmas.{IsPending, pending_all, pending_more}

@@ -6,17 +6,17 @@ use Rattle.std.proofs.lemmas.Bool.{lt-ltb, ltb-true, and_parts}
 use Rattle.std.proofs.lemmas.Option.{slice_get-map}
 use Rattle.gl_base.specs.declared.numbers.Vertex.{Vertex}
 use Rattle.graph_core.specs.DataGraph.{size}
-use Rattle.cluster_core.specs.Effects.{first_pending, first_unmarked, is_at, part_seeded, seed_if}
-use Rattle.cluster_core.specs.Parts.{Part}
-use Rattle.cluster_core.specs.Ranges.{all_passing, first_passing}
-use Rattle.cluster_core.specs.Scopes.{is_found}
+use Rattle.cluster_laws.specs.cluster_core.Effects.{first_pending, first_unmarked, is_at, part_seeded, seed_if}
+use Rattle.cluster_laws.specs.cluster_core.Parts.{Part}
+use Rattle.cluster_laws.specs.cluster_core.Ranges.{all_passing, first_passing}
+use Rattle.cluster_laws.specs.cluster_core.Scopes.{is_found}
 use Rattle.local_parts.proofs.FoundLemmas.{found_first}
 use Rattle.task_sched.specs.Tasks.{HasPending}
 use Rattle.machine_numbers.specs.Views.{TasksView, flag_there, is_flagged, is_own, place_at}
-use Rattle.machine_parts.specs.declared.cores.Core.{Core}
-use Rattle.machine_parts.specs.Order.{AreNumbersInOrder, IsOrderly, KnowsPlaces}
-use Rattle.machine_parts.specs.Parts.{datum_here, pending_here}
-use Rattle.machine_parts.specs.Settings.{IsPartOf, Setting}
+use Rattle.machine_core.specs.declared.machine_parts.cores.Core.{Core}
+use Rattle.machine_core.specs.machine_parts.Order.{AreNumbersInOrder, IsOrderly, KnowsPlaces}
+use Rattle.machine_core.specs.machine_parts.Parts.{datum_here, pending_here}
+use Rattle.machine_core.specs.machine_parts.Settings.{IsPartOf, Setting}
 use Rattle.snap_machines.specs.Keeping.{SnapView, part_of, with_snaps}
 use Rattle.snap_machines.specs.Seeding.{AreMarkedBelow, HasOtherPending, HasSeeded, IsFirstUnmarked}
 

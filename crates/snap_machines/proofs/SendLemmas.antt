@@ -5,11 +5,11 @@ use Rattle.std.proofs.lemmas.Bool.{and_parts, cases_eq, eq-eqb, eqb-true, ltb-tr
 use Rattle.std.proofs.lemmas.Option.{slice_get_cases}
 use Rattle.gl_base.specs.declared.numbers.Vertex.{Vertex}
 use Rattle.graph_core.specs.DataGraph.{size}
-use Rattle.cluster_core.specs.Ranges.{all_passing}
+use Rattle.cluster_laws.specs.cluster_core.Ranges.{all_passing}
 use Rattle.machine_numbers.specs.declared.keeping.Numbers.{Numbers}
 use Rattle.machine_numbers.specs.Views.{datum_here, is_own}
-use Rattle.machine_parts.specs.declared.cores.Core.{Core}
-use Rattle.machine_updates.proofs.LeaveLemmas.{none_or, some_none}
+use Rattle.machine_core.specs.declared.machine_parts.cores.Core.{Core}
+use Rattle.machine_core.proofs.machine_updates.LeaveLemmas.{none_or, some_none}
 use Rattle.snap_machines.specs.Keeping.{SnapView}
 use Rattle.snap_machines.specs.Seeding.{AreMarkedBelow, HasUnmarked, IsFirstUnmarked, IsPastLast}
 use Rattle.snap_machines.specs.Sending.{AreMarksUpTo, MayNotSendSection, MaySendSection}

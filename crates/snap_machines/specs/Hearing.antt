@@ -1,8 +1,8 @@
 -- What a machine hears of snapshots.
-pub use Rattle.cluster_core.specs.Effects.{begins}
+pub use Rattle.cluster_laws.specs.cluster_core.Effects.{begins}
 use Rattle.std.specs.Prelude.{◌≡◌, ◌≤◌, ℕ}
-use Rattle.machine_parts.specs.declared.cores.Core.{Core}
-use Rattle.machine_parts.specs.Settings.{Setting, IsPartOf}
+use Rattle.machine_core.specs.declared.machine_parts.cores.Core.{Core}
+use Rattle.machine_core.specs.machine_parts.Settings.{Setting, IsPartOf}
 use Rattle.snap_machines.specs.Keeping.{SnapView, part_of, with_snaps}
 
 -- snapshot k has begun at the machine, for each setting of which it is a part

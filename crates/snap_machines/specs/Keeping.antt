@@ -1,7 +1,7 @@
 -- A machine's part together with what it keeps for snapshots.
-pub use Rattle.cluster_core.specs.Messages.{Section}
-pub use Rattle.cluster_core.specs.Parts.{Part}
-pub use Rattle.machine_parts.specs.Parts.{part_of}
+pub use Rattle.cluster_laws.specs.cluster_core.Messages.{Section}
+pub use Rattle.cluster_laws.specs.cluster_core.Parts.{Part}
+pub use Rattle.machine_core.specs.machine_parts.Parts.{part_of}
 pub use Rattle.snap_update.specs.Snaps.{SnapView}
 use Rattle.snap_update.specs.Holding.{last_of_edge, last_of_vertex}
 

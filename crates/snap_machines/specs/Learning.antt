@@ -1,14 +1,14 @@
 -- Word of an update elsewhere, be it a snapshot update or not.
-pub use Rattle.cluster_core.specs.Effects.{applied}
+pub use Rattle.cluster_laws.specs.cluster_core.Effects.{applied}
 pub use Rattle.machine_numbers.specs.Views.{news_of}
 use Rattle.std.specs.Prelude.{◌≡◌, ◌≢◌, ℕ, ◌==◌, true, false, None, is_some}
 use Rattle.std.specs.List.{All, list_any}
 use Rattle.wire_msgs.specs.declared.messages.Done.{Done}
 use Rattle.machine_numbers.specs.Views.{HasEdge}
-use Rattle.machine_parts.specs.declared.cores.Core.{Core}
-use Rattle.machine_parts.specs.Order.{is_one_of}
-use Rattle.machine_parts.specs.Parts.{entered_at, holder_at, is_own, part_at}
-use Rattle.machine_parts.specs.Settings.{Setting, IsPartOf}
+use Rattle.machine_core.specs.declared.machine_parts.cores.Core.{Core}
+use Rattle.machine_core.specs.machine_parts.Order.{is_one_of}
+use Rattle.machine_core.specs.machine_parts.Parts.{entered_at, holder_at, is_own, part_at}
+use Rattle.machine_core.specs.machine_parts.Settings.{Setting, IsPartOf}
 use Rattle.snap_machines.specs.Keeping.{SnapView, part_of, with_snaps}
 
 -- The update is of a ghost, by a scope of another machine that is here no more and holds no lock but of its own vertices here;

@@ -1,15 +1,15 @@
 -- What a snapshot update asks of a machine, and what it leaves.
-pub use Rattle.cluster_core.specs.Actions.{MayMark}
-pub use Rattle.cluster_core.specs.Effects.{marked}
-pub use Rattle.cluster_core.specs.Settings.{IsSetting}
-pub use Rattle.machine_parts.specs.Rooms.{HasOnlyMadeRoom}
-pub use Rattle.machine_turns.specs.Turns.{HasEachRow}
+pub use Rattle.cluster_laws.specs.cluster_core.Actions.{MayMark}
+pub use Rattle.cluster_laws.specs.cluster_core.Effects.{marked}
+pub use Rattle.cluster_laws.specs.cluster_core.Settings.{IsSetting}
+pub use Rattle.machine_core.specs.machine_parts.Rooms.{HasOnlyMadeRoom}
+pub use Rattle.machine_core.specs.machine_turns.Turns.{HasEachRow}
 use Rattle.std.specs.Prelude.{◌≡◌, ◌+◌, ℕ, true, false, None, Some, if◌then◌else◌, slice_set}
 use Rattle.gl_base.specs.declared.numbers.Vertex.{Vertex}
 use Rattle.gl_base.specs.declared.scopes.ScopeId.{ScopeId}
-use Rattle.machine_parts.specs.declared.cores.Core.{Core}
-use Rattle.machine_parts.specs.Parts.{TasksView, flight_at, place_at}
-use Rattle.machine_parts.specs.Settings.{Setting, IsPartOf}
+use Rattle.machine_core.specs.declared.machine_parts.cores.Core.{Core}
+use Rattle.machine_core.specs.machine_parts.Parts.{TasksView, flight_at, place_at}
+use Rattle.machine_core.specs.machine_parts.Settings.{Setting, IsPartOf}
 use Rattle.snap_update.specs.Holding.{last_of_edge, last_of_vertex, saves_edge}
 use Rattle.snap_update.specs.Snaps.{IsSavedOnce}
 use Rattle.task_sched.specs.Tasks.{is_flagged}

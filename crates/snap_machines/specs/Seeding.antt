@@ -1,11 +1,11 @@
 -- Which own vertices have the mark of a snapshot.
 use Rattle.std.specs.Prelude.{◌≡◌, ℕ, ◌<◌, ◌≤◌, true, false, Some, slice_get}
 use Rattle.gl_base.specs.declared.numbers.Vertex.{Vertex}
-use Rattle.cluster_core.specs.Effects.{part_seeded}
+use Rattle.cluster_laws.specs.cluster_core.Effects.{part_seeded}
 use Rattle.machine_numbers.specs.declared.keeping.Numbers.{Numbers}
 use Rattle.machine_numbers.specs.Views.{datum_here, is_own}
-use Rattle.machine_parts.specs.declared.cores.Core.{Core}
-use Rattle.machine_parts.specs.Settings.{Setting, IsPartOf}
+use Rattle.machine_core.specs.declared.machine_parts.cores.Core.{Core}
+use Rattle.machine_core.specs.machine_parts.Settings.{Setting, IsPartOf}
 use Rattle.snap_machines.specs.Keeping.{SnapView, part_of, with_snaps}
 
 -- the own vertices before this place, ascending, have the mark of snapshot k

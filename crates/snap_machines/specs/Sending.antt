@@ -1,10 +1,10 @@
 -- When a machine sends what it saved for a snapshot.
-pub use Rattle.cluster_core.specs.Actions.{MaySend}
+pub use Rattle.cluster_laws.specs.cluster_core.Actions.{MaySend}
 use Rattle.std.specs.Prelude.{◌≡◌, ℕ, ◌≤◌, true}
 use Rattle.machine_numbers.specs.declared.keeping.Numbers.{Numbers}
 use Rattle.machine_numbers.specs.Views.{datum_here, is_own}
-use Rattle.machine_parts.specs.declared.cores.Core.{Core}
-use Rattle.machine_parts.specs.Settings.{Setting, IsPartOf}
+use Rattle.machine_core.specs.declared.machine_parts.cores.Core.{Core}
+use Rattle.machine_core.specs.machine_parts.Settings.{Setting, IsPartOf}
 use Rattle.snap_machines.specs.Keeping.{SnapView, part_of, with_snaps}
 
 -- no own vertex has the mark of a later snapshot than k

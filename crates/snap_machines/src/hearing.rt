@@ -1,14 +1,14 @@
 //! What a machine hears of snapshots.
 ghost use Rattle.std.specs.Prelude.{◌≡◌, nat_lt, if◌then◌else◌};
-ghost use Rattle.machine_parts.specs.Order.{IsOrderly, KnowsPlaces};
-ghost use Rattle.machine_parts.specs.Parts.{part_of};
-ghost use Rattle.machine_parts.specs.Settings.{SameSettings};
+ghost use Rattle.machine_core.specs.machine_parts.Order.{IsOrderly, KnowsPlaces};
+ghost use Rattle.machine_core.specs.machine_parts.Parts.{part_of};
+ghost use Rattle.machine_core.specs.machine_parts.Settings.{SameSettings};
 ghost use Rattle.snap_update.specs.Snaps.{HasKeptRoom, IsSameButRoom, outside_of, with_begun, with_committed};
 ghost use Rattle.snap_machines.specs.Hearing.{HasBegun, HasFewerOutside};
 ghost use Rattle.snap_machines.specs.Seeding.{AreMarkedBelow, HasOtherPending};
 
 use crate::seeding::seed;
-use machine_parts::Core;
+use machine_core::machine_parts::Core;
 use snap_update::SnapPart;
 
 /// A snapshot of this number has begun: where it is newer than those that the machine knows, it knows it, and has saved nothing for it

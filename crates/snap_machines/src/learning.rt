@@ -1,7 +1,7 @@
 //! Word of updates elsewhere, with what it tells of a snapshot.
 ghost use Rattle.std.specs.Prelude.{◌≡◌};
-ghost use Rattle.machine_parts.specs.Order.{IsOrderly, KnowsPlaces};
-ghost use Rattle.machine_parts.specs.Settings.{SameSettings};
+ghost use Rattle.machine_core.specs.machine_parts.Order.{IsOrderly, KnowsPlaces};
+ghost use Rattle.machine_core.specs.machine_parts.Settings.{SameSettings};
 ghost use Rattle.snap_update.specs.Snaps.{HasKeptRoom, IsSameButRoom, with_begun};
 ghost use Rattle.snap_machines.specs.Learning.{CanLearnNews, HasLearnedNews};
 ghost use Rattle.snap_machines.specs.Seeding.{AreMarkedBelow};
@@ -9,8 +9,8 @@ ghost use Rattle.snap_machines.specs.Sending.{AreMarksUpTo};
 
 use crate::hearing::begin;
 use crate::pending::pend_named;
-use machine_parts::Core;
-use machine_updates::receive_done;
+use machine_core::machine_parts::Core;
+use machine_core::machine_updates::receive_done;
 use snap_update::SnapPart;
 use std::alloc::Global;
 use wire_msgs::Done;

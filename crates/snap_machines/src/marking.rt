@@ -1,9 +1,9 @@
 //! Snapshot updates.
 ghost use Rattle.std.specs.Prelude.{◌≡◌, ℕ, ◌<◌, ◌≤◌, true, None, Some, length, IfOk, IfSome, OnOk, OnErr, IsErrOf};
 ghost use Rattle.machine_numbers.specs.Views.{is_flagged};
-ghost use Rattle.machine_parts.specs.Order.{IsOrderly, KnowsPlaces};
-ghost use Rattle.machine_parts.specs.Parts.{part_of};
-ghost use Rattle.machine_parts.specs.Settings.{SameSettings};
+ghost use Rattle.machine_core.specs.machine_parts.Order.{IsOrderly, KnowsPlaces};
+ghost use Rattle.machine_core.specs.machine_parts.Parts.{part_of};
+ghost use Rattle.machine_core.specs.machine_parts.Settings.{SameSettings};
 ghost use Rattle.snap_update.specs.Snaps.{IsSameButRoom};
 ghost use Rattle.snap_machines.specs.Marking.{HasEachRow, HasEndedPlan, HasMarked, HasOnlyMadeRoom, HasSavedMore, HasSavedOnce, MayMark};
 ghost use Rattle.snap_machines.specs.Seeding.{AreMarkedBelow};
@@ -14,10 +14,10 @@ use crate::marks::mark_number;
 use crate::saving::{save_marked, tell_marks};
 use crate::seeding::seed;
 use gl_base::{NoMemory, Refused, ScopeId, Vertex};
-use lock_release::release_all;
+use machine_core::lock_release::release_all;
 use machine_numbers::Numbers;
-use machine_parts::Core;
-use machine_updates::{Prepared, reserve_commit};
+use machine_core::machine_parts::Core;
+use machine_core::machine_updates::{Prepared, reserve_commit};
 use scope_pipe::Flight;
 use snap_update::SnapPart;
 use std::alloc::Global;

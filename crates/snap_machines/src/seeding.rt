@@ -2,14 +2,14 @@
 ghost use Rattle.std.specs.Prelude.{◌≡◌, ℕ, ◌<◌, ◌≤◌, true, false, None, Some, length, slice_get, IfSome};
 ghost use Rattle.gl_base.specs.declared.numbers.Vertex.{Vertex};
 ghost use Rattle.machine_numbers.specs.Views.{is_own};
-ghost use Rattle.machine_parts.specs.Order.{IsOrderly, KnowsPlaces};
-ghost use Rattle.machine_parts.specs.Settings.{SameSettings};
+ghost use Rattle.machine_core.specs.machine_parts.Order.{IsOrderly, KnowsPlaces};
+ghost use Rattle.machine_core.specs.machine_parts.Settings.{SameSettings};
 ghost use Rattle.snap_machines.specs.Seeding.{AreMarkedBelow, HasSeeded, IsFirstUnmarked, HasOtherPending};
 
 use crate::pending::pend_one;
 use gl_base::Vertex;
 use machine_numbers::Numbers;
-use machine_parts::Core;
+use machine_core::machine_parts::Core;
 
 /// Where no vertex is pending, the first own vertex that has no mark of this snapshot becomes pending; those before `seen` have it.
 /// It takes no memory, and looks once at each vertex that has its mark.

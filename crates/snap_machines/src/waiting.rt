@@ -1,13 +1,13 @@
 //! Which scopes wait for their snapshot update.
 ghost use Rattle.std.specs.Prelude.{◌≡◌, true, false, IfSome, IfNone};
 ghost use Rattle.gl_base.specs.declared.scopes.ScopeId.{ScopeId};
-ghost use Rattle.machine_parts.specs.Order.{IsOrderly};
-ghost use Rattle.machine_parts.specs.Parts.{part_of};
+ghost use Rattle.machine_core.specs.machine_parts.Order.{IsOrderly};
+ghost use Rattle.machine_core.specs.machine_parts.Parts.{part_of};
 ghost use Rattle.snap_machines.specs.Marking.{MayMark};
 
 use crate::marking::centre_to_mark;
 use gl_base::ScopeId;
-use machine_parts::Core;
+use machine_core::machine_parts::Core;
 
 /// A scope of this home that may make its snapshot update now; `None` exactly where none may. It looks at the ready scopes alone.
 pub fn next_mark(core: &Core) -> Option<ScopeId>

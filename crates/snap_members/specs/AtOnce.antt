@@ -2,9 +2,9 @@
 pub use Rattle.interior_scopes.specs.AtOnce.{MayUpdateAtOnce, own_vertices}
 pub use Rattle.snap_members.specs.Promises.{Admit, CanNotAdmit, Deed, Grant, Machine, MayBeDone, OfEach, Setting, Update, does}
 use Rattle.std.specs.Prelude.{List, [], map, true, ℕ, ◌++◌, ◌∷◌, ◌≡◌, ◌≢◌, ◌⊎◌}
-use Rattle.cluster_core.specs.Effects.{next_scope}
-use Rattle.cluster_core.specs.Settings.{Locking}
-use Rattle.cluster_model.specs.Working.{has_room}
+use Rattle.cluster_laws.specs.cluster_core.Effects.{next_scope}
+use Rattle.cluster_laws.specs.cluster_core.Settings.{Locking}
+use Rattle.cluster_laws.specs.cluster_model.Working.{has_room}
 
 -- machine a does these in turn, each of which may be done then
 abbrev pub AreDone : Setting → ℕ → List Deed → Machine → Machine → Type 0

@@ -1,12 +1,12 @@
 -- What a machine does by itself, as part of an event of the cluster's law.
-pub use Rattle.cluster_core.specs.Settings.{Setting}
-pub use Rattle.cluster_model.specs.Machines.{Machine}
+pub use Rattle.cluster_laws.specs.cluster_core.Settings.{Setting}
+pub use Rattle.cluster_laws.specs.cluster_model.Machines.{Machine}
 pub use Rattle.gl_base.specs.declared.scopes.ScopeId.{ScopeId}
 use Rattle.std.specs.Prelude.{None, Option, Some, ℕ, ◌≡◌}
 use Rattle.gl_base.specs.declared.entries.Entry.TheVariants.{Go}
-use Rattle.cluster_core.specs.Actions.{MayGrant, MayMark, MaySend, MayUpdate}
-use Rattle.cluster_model.specs.Events.{MayAdmitNow}
-use Rattle.cluster_model.specs.Working.{admits, grants, makes_mark, makes_update, prompt, sections}
+use Rattle.cluster_laws.specs.cluster_core.Actions.{MayGrant, MayMark, MaySend, MayUpdate}
+use Rattle.cluster_laws.specs.cluster_model.Events.{MayAdmitNow}
+use Rattle.cluster_laws.specs.cluster_model.Working.{admits, grants, makes_mark, makes_update, prompt, sections}
 
 pub data Deed : Type 0 where
   -- it admits a scope of its vertex, or grants the lock of one to the first that waits

@@ -1,9 +1,9 @@
 -- A cluster of the law to which events have led.
 use Rattle.std.specs.Prelude.{List, true, ⊤, ◌≡◌}
-use Rattle.cluster_core.specs.Settings.{Chromatic, Engine, IsSetting, Locking, Setting}
+use Rattle.cluster_laws.specs.cluster_core.Settings.{Chromatic, Engine, IsSetting, Locking, Setting}
 use Rattle.cluster_ending.specs.Ends.{IsFollowed}
 use Rattle.cluster_ending.specs.Snapshotting.{AreInformed, HasNoSteps}
-use Rattle.cluster_model.specs.Clusters.{Cluster}
+use Rattle.cluster_laws.specs.cluster_model.Clusters.{Cluster}
 use Rattle.cluster_records.specs.Recorded.{IsAccounted}
 use Rattle.cluster_whole.specs.Logged.{Logged}
 use Rattle.cluster_whole.specs.Whole.{AreColoured}

@@ -1,16 +1,16 @@
 -- What the calls of a machine that takes snapshots promise: for each machine of the law that it is. `stands` says that it is the machine
 -- of this number of a cluster with this setting, and has this.
 pub use Rattle.snap_members.specs.Deeds.{Admit, Deed, Grant, Machine, Mark, MayBeDone, ScopeId, Section, Setting, Update, does}
-pub use Rattle.cluster_core.specs.Actions.{HasFirst}
-pub use Rattle.cluster_model.specs.Events.{HasNext}
-pub use Rattle.cluster_model.specs.Working.{fails}
+pub use Rattle.cluster_laws.specs.cluster_core.Actions.{HasFirst}
+pub use Rattle.cluster_laws.specs.cluster_model.Events.{HasNext}
+pub use Rattle.cluster_laws.specs.cluster_model.Working.{fails}
 pub use Rattle.cluster_machines.specs.Told.{told_by}
 pub use Rattle.wire_msgs.specs.Views.{MessageView, message_view}
 use Rattle.std.specs.Prelude.{List, ℕ, ⊤, ◌<◌, ◌∷◌, ◌≡◌}
-use Rattle.cluster_core.specs.Messages as law
-use Rattle.cluster_model.specs.Calls.{Call, Report}
-use Rattle.cluster_model.specs.Clusters.{Cluster}
-use Rattle.cluster_model.specs.Working.{hands, hands_report, prompt, receives, takes_call}
+use Rattle.cluster_laws.specs.cluster_core.Messages as law
+use Rattle.cluster_laws.specs.cluster_model.Calls.{Call, Report}
+use Rattle.cluster_laws.specs.cluster_model.Clusters.{Cluster}
+use Rattle.cluster_laws.specs.cluster_model.Working.{hands, hands_report, prompt, receives, takes_call}
 use Rattle.coord_core.specs.Calls.{IsReport}
 use Rattle.coord_core.specs.Coordinators.{TellsCall}
 use Rattle.coord_core.specs.Saving.{IsApart}

@@ -5,26 +5,26 @@ use Rattle.gl_base.specs.declared.numbers.MachineNo.{MachineNo}
 use Rattle.gl_base.specs.declared.numbers.Vertex.{Vertex}
 use Rattle.gl_base.specs.declared.scopes.Datum.{Datum}
 use Rattle.gl_base.specs.declared.scopes.ScopeId.{ScopeId}
-use Rattle.cluster_core.specs.Parts.{Part}
-use Rattle.cluster_core.specs.Places.{ArePlaces, IsAtHome}
-use Rattle.cluster_core.specs.Receiving.{MayAsk, MayBecomeReady, MayLearn, MayReceive}
-use Rattle.cluster_core.specs.Scopes.{mode_at}
-use Rattle.cluster_core.specs.Settings.{Engine, is_in_scope}
-use Rattle.cluster_core.specs.Stages.{Asks, Ends, IsAsked, IsDone, IsReady, Returns, Stage, some_if, tokens_of}
-use Rattle.cluster_core.specs.Ways.{IsToldTo}
-use Rattle.cluster_core.specs.Worlds.{way}
-use Rattle.cluster_core.specs.Messages.{News}
-use Rattle.cluster_core.proofs.Taking.{taken, taken-here}
-use Rattle.cluster_places.proofs.Delivering.{done_here, told}
-use Rattle.cluster_places.proofs.Fronts.{front}
-use Rattle.cluster_places.proofs.Going.{asked_here, ready_here}
-use Rattle.cluster_places.proofs.Seen.{asked_stage, done_stage, ready_stage, some_centre}
-use Rattle.cluster_places.proofs.Standing.{shows_as, stage_as}
+use Rattle.cluster_laws.specs.cluster_core.Parts.{Part}
+use Rattle.cluster_laws.specs.cluster_core.Places.{ArePlaces, IsAtHome}
+use Rattle.cluster_laws.specs.cluster_core.Receiving.{MayAsk, MayBecomeReady, MayLearn, MayReceive}
+use Rattle.cluster_laws.specs.cluster_core.Scopes.{mode_at}
+use Rattle.cluster_laws.specs.cluster_core.Settings.{Engine, is_in_scope}
+use Rattle.cluster_laws.specs.cluster_core.Stages.{Asks, Ends, IsAsked, IsDone, IsReady, Returns, Stage, some_if, tokens_of}
+use Rattle.cluster_laws.specs.cluster_core.Ways.{IsToldTo}
+use Rattle.cluster_laws.specs.cluster_core.Worlds.{way}
+use Rattle.cluster_laws.specs.cluster_core.Messages.{News}
+use Rattle.cluster_laws.proofs.cluster_core.Taking.{taken, taken-here}
+use Rattle.cluster_laws.proofs.cluster_places.Delivering.{done_here, told}
+use Rattle.cluster_laws.proofs.cluster_places.Fronts.{front}
+use Rattle.cluster_laws.proofs.cluster_places.Going.{asked_here, ready_here}
+use Rattle.cluster_laws.proofs.cluster_places.Seen.{asked_stage, done_stage, ready_stage, some_centre}
+use Rattle.cluster_laws.proofs.cluster_places.Standing.{shows_as, stage_as}
 use Rattle.cluster_whole.specs.Views.{world_of}
 use Rattle.cluster_whole.specs.Whole.{AreKeptApart}
-use Rattle.machine_parts.specs.declared.cores.Core.{Core}
-use Rattle.machine_parts.specs.Parts.{number_of, part_of}
-use Rattle.machine_scopes.proofs.LawLemmas.{ask_goes_on, ask_is_new, home_within, word_comes}
+use Rattle.machine_core.specs.declared.machine_parts.cores.Core.{Core}
+use Rattle.machine_core.specs.machine_parts.Parts.{number_of, part_of}
+use Rattle.machine_core.proofs.machine_scopes.LawLemmas.{ask_goes_on, ask_is_new, home_within, word_comes}
 use Rattle.seen_parts.specs.Alike.{with_copies}
 use Rattle.snap_machines.specs.Keeping.{with_snaps}
 use Rattle.snap_receipts.specs.Coming.{AreMachinesFor, Ask, CanBecomeReady, Cluster, IsFrontFor, Done, IsNewAt, Message, Ready, Setting, SnapView, machine_numbers, no_word}

@@ -4,15 +4,15 @@ use Rattle.std.proofs.lemmas.Bool.{eq-eqb, lt-ltb}
 use Rattle.std.proofs.lemmas.List.Folds.{list_any_at}
 use Rattle.gl_base.specs.declared.numbers.Vertex.{Vertex}
 use Rattle.graph_core.specs.DataGraph.{size}
-use Rattle.cluster_core.specs.Receiving.{MayLearn}
-use Rattle.cluster_core.specs.Settings.{IsSetting}
-use Rattle.cluster_core.proofs.Nearness.{near_within}
+use Rattle.cluster_laws.specs.cluster_core.Receiving.{MayLearn}
+use Rattle.cluster_laws.specs.cluster_core.Settings.{IsSetting}
+use Rattle.cluster_laws.proofs.cluster_core.Nearness.{near_within}
 use Rattle.wire_msgs.specs.declared.messages.Done as wire
 use Rattle.machine_numbers.specs.Views.{is_named}
-use Rattle.machine_parts.specs.declared.cores.Core.{Core}
-use Rattle.machine_parts.specs.Parts.{is_own, part_of}
-use Rattle.machine_parts.specs.Settings.{IsPartOf}
-use Rattle.machine_updates.proofs.WordLemmas.{done_can_be_learned}
+use Rattle.machine_core.specs.declared.machine_parts.cores.Core.{Core}
+use Rattle.machine_core.specs.machine_parts.Parts.{is_own, part_of}
+use Rattle.machine_core.specs.machine_parts.Settings.{IsPartOf}
+use Rattle.machine_core.proofs.machine_updates.WordLemmas.{done_can_be_learned}
 use Rattle.snap_receipts.specs.Coming.{CanLearnNews, Cluster, IsFrontFor, Done, Setting, SnapView, news_of}
 use Rattle.snap_receipts.proofs.FrontLemmas.{IsWordHere, word_here}
 

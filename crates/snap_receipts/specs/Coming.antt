@@ -1,18 +1,18 @@
 -- What comes first on a link to a machine that takes snapshots.
-pub use Rattle.cluster_core.specs.Messages.{Ask, Done, Message, Ready}
-pub use Rattle.cluster_core.specs.Settings.{Setting}
+pub use Rattle.cluster_laws.specs.cluster_core.Messages.{Ask, Done, Message, Ready}
+pub use Rattle.cluster_laws.specs.cluster_core.Settings.{Setting}
 pub use Rattle.cluster_machines.specs.Told.{no_word}
-pub use Rattle.cluster_model.specs.Clusters.{Cluster}
-pub use Rattle.machine_parts.specs.Parts.{machine_numbers}
-pub use Rattle.machine_scopes.specs.Asking.{AreMachinesFor, CanBecomeReady, IsNewAt}
+pub use Rattle.cluster_laws.specs.cluster_model.Clusters.{Cluster}
+pub use Rattle.machine_core.specs.machine_parts.Parts.{machine_numbers}
+pub use Rattle.machine_core.specs.machine_scopes.Asking.{AreMachinesFor, CanBecomeReady, IsNewAt}
 pub use Rattle.snap_machines.specs.Keeping.{SnapView}
 pub use Rattle.snap_machines.specs.Learning.{CanLearnNews, news_of}
 use Rattle.std.specs.Prelude.{List, ℕ, ◌∷◌, ◌≡◌}
-use Rattle.cluster_core.specs.Settings.{IsSetting}
+use Rattle.cluster_laws.specs.cluster_core.Settings.{IsSetting}
 use Rattle.cluster_whole.specs.Whole.{IsWhole}
-use Rattle.machine_parts.specs.declared.cores.Core.{Core}
-use Rattle.machine_parts.specs.Order.{IsOrderly}
-use Rattle.machine_parts.specs.Settings.{IsPartOf}
+use Rattle.machine_core.specs.declared.machine_parts.cores.Core.{Core}
+use Rattle.machine_core.specs.machine_parts.Order.{IsOrderly}
+use Rattle.machine_core.specs.machine_parts.Settings.{IsPartOf}
 use Rattle.seen_parts.specs.Alike.{LooksAlike}
 use Rattle.snap_machines.specs.Keeping.{part_of, with_snaps}
 

@@ -4,7 +4,7 @@ ghost use Rattle.gl_base.specs.declared.numbers.MachineNo.{MachineNo};
 ghost use Rattle.gl_base.specs.declared.numbers.Vertex.{Vertex};
 ghost use Rattle.gl_base.specs.declared.scopes.ScopeId.{ScopeId};
 ghost use Rattle.wire_msgs.specs.declared.messages.Done.{Done};
-ghost use Rattle.machine_parts.specs.declared.cores.Core.{Core};
+ghost use Rattle.machine_core.specs.declared.machine_parts.cores.Core.{Core};
 ghost use Rattle.snap_receipts.specs.Coming.{AreMachinesFor, Ask, CanBecomeReady, CanLearnNews, Cluster, IsFrontFor, Done as DoneOf, IsNewAt, Ready, Setting, SnapView, machine_numbers, news_of, no_word};
 
 /// A scope that asks for its locks is new at the machine, and the machines still to come are of the cluster.

@@ -7,15 +7,15 @@ use Rattle.gl_base.specs.declared.numbers.Vertex.{Vertex}
 use Rattle.gl_base.specs.declared.scopes.Peer.TheVariants as peer
 use Rattle.gl_base.specs.declared.scopes.ScopeId.{ScopeId}
 use Rattle.update_api.specs.Updates.{Update}
-use Rattle.cluster_core.specs.Actions.{MayMark, MayUpdate}
-use Rattle.cluster_core.specs.Messages.{Ask, Ready}
-use Rattle.cluster_model.specs.Machines.{is_idle}
-use Rattle.machine_parts.specs.declared.cores.Core.{Core}
-use Rattle.machine_parts.specs.Order.{IsOrderly}
-use Rattle.machine_parts.specs.Parts.{flight_at, machine_numbers}
-use Rattle.machine_parts.specs.Settings.{SameSettings}
-use Rattle.machine_scopes.specs.Asking.{AreMachinesFor, CanBecomeReady, HasReceivedMessage, IsNewAt}
-use Rattle.machine_scopes.proofs.LawLemmas.{some_number}
+use Rattle.cluster_laws.specs.cluster_core.Actions.{MayMark, MayUpdate}
+use Rattle.cluster_laws.specs.cluster_core.Messages.{Ask, Ready}
+use Rattle.cluster_laws.specs.cluster_model.Machines.{is_idle}
+use Rattle.machine_core.specs.declared.machine_parts.cores.Core.{Core}
+use Rattle.machine_core.specs.machine_parts.Order.{IsOrderly}
+use Rattle.machine_core.specs.machine_parts.Parts.{flight_at, machine_numbers}
+use Rattle.machine_core.specs.machine_parts.Settings.{SameSettings}
+use Rattle.machine_core.specs.machine_scopes.Asking.{AreMachinesFor, CanBecomeReady, HasReceivedMessage, IsNewAt}
+use Rattle.machine_core.proofs.machine_scopes.LawLemmas.{some_number}
 use Rattle.outboxes.specs.Outboxes.{outbox_to, waiting_for, with_outbox, without_first}
 use Rattle.saving_machines.specs.Machines.{SnapMachineView}
 use Rattle.snap_machines.specs.Learning.{CanLearnNews}

@@ -10,20 +10,20 @@ use Rattle.gl_base.specs.declared.scopes.Mode.{Mode}
 use Rattle.gl_base.specs.declared.scopes.ScopeId.{ScopeId}
 use Rattle.seq_run.specs.States.{new_number}
 use Rattle.update_api.specs.Updates.{Update}
-use Rattle.cluster_core.specs.Actions.{MayAdmit}
-use Rattle.cluster_core.specs.Effects.{next_scope, renewed, updated}
-use Rattle.cluster_core.specs.Parts.{Part, Stand, lent}
-use Rattle.cluster_core.specs.Scopes.{is_scope}
-use Rattle.cluster_core.proofs.Basics.{scope_cases, set_at-kept, set_for-other}
-use Rattle.cluster_model.specs.Working.{asks}
+use Rattle.cluster_laws.specs.cluster_core.Actions.{MayAdmit}
+use Rattle.cluster_laws.specs.cluster_core.Effects.{next_scope, renewed, updated}
+use Rattle.cluster_laws.specs.cluster_core.Parts.{Part, Stand, lent}
+use Rattle.cluster_laws.specs.cluster_core.Scopes.{is_scope}
+use Rattle.cluster_laws.proofs.cluster_core.Basics.{scope_cases, set_at-kept, set_for-other}
+use Rattle.cluster_laws.specs.cluster_model.Working.{asks}
 use Rattle.interior_scopes.specs.AtOnce.{IsInterior, IsUnseen, MayUpdateAtOnce, at_once, entry_at_once}
-use Rattle.machine_at_once.specs.Picks.{CanUpdatePick, HasNoneAtOnce, HasRunAtOnce, HasUpdatedPick}
+use Rattle.machine_core.specs.machine_at_once.Picks.{CanUpdatePick, HasNoneAtOnce, HasRunAtOnce, HasUpdatedPick}
 use Rattle.machine_numbers.specs.Views.{LocalView, TasksView, datum_here}
-use Rattle.machine_parts.specs.declared.cores.Core.{Core}
-use Rattle.machine_parts.specs.Order.{IsOrderly, KnowsPlaces}
-use Rattle.machine_parts.specs.Parts.{flight_at}
-use Rattle.machine_parts.specs.Settings.{SameSettings}
-use Rattle.machine_scopes.proofs.LawLemmas.{some_number}
+use Rattle.machine_core.specs.declared.machine_parts.cores.Core.{Core}
+use Rattle.machine_core.specs.machine_parts.Order.{IsOrderly, KnowsPlaces}
+use Rattle.machine_core.specs.machine_parts.Parts.{flight_at}
+use Rattle.machine_core.specs.machine_parts.Settings.{SameSettings}
+use Rattle.machine_core.proofs.machine_scopes.LawLemmas.{some_number}
 use Rattle.saving_machines.specs.Machines.{SnapMachineView, outside_of}
 use Rattle.saving_machines.specs.Updates.{HasLoggedAtOnce}
 use Rattle.seen_parts.specs.Alike.{IsSetting}

@@ -3,15 +3,15 @@ use Rattle.std.proofs.Common.{◌≡◌, ℕ, ◌+◌, ◌<◌, ◌≤◌, ◌^�
 use Rattle.std.specs.Prelude.{is_some, nat_lt}
 use Rattle.gl_base.specs.declared.scopes.Counted.{Counted}
 use Rattle.update_api.specs.Updates.{Update}
-use Rattle.cluster_core.specs.Effects.{begins, knows, nothing_saved}
-use Rattle.cluster_core.specs.Parts.{Part}
-use Rattle.cluster_core.specs.Settings.{Engine}
-use Rattle.cluster_model.specs.Calls.{Begin, Committed, Count, Step, Wave}
-use Rattle.cluster_model.specs.Machines.{is_idle}
-use Rattle.cluster_model.specs.Working.{asks, before_at, behind_at, commits, is_done, prompt, rest_of, takes_call}
+use Rattle.cluster_laws.specs.cluster_core.Effects.{begins, knows, nothing_saved}
+use Rattle.cluster_laws.specs.cluster_core.Parts.{Part}
+use Rattle.cluster_laws.specs.cluster_core.Settings.{Engine}
+use Rattle.cluster_laws.specs.cluster_model.Calls.{Begin, Committed, Count, Step, Wave}
+use Rattle.cluster_laws.specs.cluster_model.Machines.{is_idle}
+use Rattle.cluster_laws.specs.cluster_model.Working.{asks, before_at, behind_at, commits, is_done, prompt, rest_of, takes_call}
 use Rattle.cluster_moves.proofs.DueKept.{begins_kept}
-use Rattle.machine_parts.specs.declared.cores.Core.{Core}
-use Rattle.machine_parts.specs.Settings.{SameSettings}
+use Rattle.machine_core.specs.declared.machine_parts.cores.Core.{Core}
+use Rattle.machine_core.specs.machine_parts.Settings.{SameSettings}
 use Rattle.saving_machines.specs.Machines.{SnapMachineView}
 use Rattle.seen_parts.proofs.SeenLemmas.{begin_alike}
 use Rattle.snap_machines.specs.Hearing.{HasBegun, HasFewerOutside}

@@ -7,24 +7,24 @@ use Rattle.gl_base.specs.declared.scopes.Datum.{Datum}
 use Rattle.gl_base.specs.declared.scopes.ScopeId.{ScopeId}
 use Rattle.graph_core.specs.DataGraph.{DataEdge}
 use Rattle.update_api.specs.Updates.{Update}
-use Rattle.cluster_core.specs.Actions.{MayMark, MaySend}
-use Rattle.cluster_core.specs.Effects.{ends, first_pending, first_unmarked, is_at, is_left, mark_news, marked, marked_datum, other_end, part_seeded, pends_for, save, saves_edge, seed_if}
-use Rattle.cluster_core.specs.Parts.{Part}
-use Rattle.cluster_core.specs.Ranges.{set_at}
-use Rattle.cluster_core.specs.Settings.{IsSetting, is_near}
-use Rattle.cluster_core.proofs.Basics.{first_passing-some, set_at-cases, set_at-other, set_at-same}
-use Rattle.cluster_core.proofs.Nearness.{near_other}
+use Rattle.cluster_laws.specs.cluster_core.Actions.{MayMark, MaySend}
+use Rattle.cluster_laws.specs.cluster_core.Effects.{ends, first_pending, first_unmarked, is_at, is_left, mark_news, marked, marked_datum, other_end, part_seeded, pends_for, save, saves_edge, seed_if}
+use Rattle.cluster_laws.specs.cluster_core.Parts.{Part}
+use Rattle.cluster_laws.specs.cluster_core.Ranges.{set_at}
+use Rattle.cluster_laws.specs.cluster_core.Settings.{IsSetting, is_near}
+use Rattle.cluster_laws.proofs.cluster_core.Basics.{first_passing-some, set_at-cases, set_at-other, set_at-same}
+use Rattle.cluster_laws.proofs.cluster_core.Nearness.{near_other}
 use Rattle.cluster_ending.proofs.Growing.{marked_longer}
-use Rattle.cluster_model.specs.Calls.{Saved}
-use Rattle.cluster_model.specs.Working.{makes_mark, prompt, sections}
+use Rattle.cluster_laws.specs.cluster_model.Calls.{Saved}
+use Rattle.cluster_laws.specs.cluster_model.Working.{makes_mark, prompt, sections}
 use Rattle.machine_numbers.specs.Views.{LocalView}
-use Rattle.machine_parts.specs.declared.cores.Core.{Core}
-use Rattle.machine_parts.specs.Order.{IsOrderly}
-use Rattle.machine_parts.specs.Parts.{flight_at}
-use Rattle.machine_parts.specs.Settings.{SameSettings}
-use Rattle.machine_scopes.proofs.HeldLemmas.{own_in}
-use Rattle.machine_scopes.proofs.LawLemmas.{some_number}
-use Rattle.machine_updates.proofs.CommitLemmas.{placed}
+use Rattle.machine_core.specs.declared.machine_parts.cores.Core.{Core}
+use Rattle.machine_core.specs.machine_parts.Order.{IsOrderly}
+use Rattle.machine_core.specs.machine_parts.Parts.{flight_at}
+use Rattle.machine_core.specs.machine_parts.Settings.{SameSettings}
+use Rattle.machine_core.proofs.machine_scopes.HeldLemmas.{own_in}
+use Rattle.machine_core.proofs.machine_scopes.LawLemmas.{some_number}
+use Rattle.machine_core.proofs.machine_updates.CommitLemmas.{placed}
 use Rattle.saving_machines.specs.Machines.{SnapMachineView}
 use Rattle.seen_parts.proofs.GuardLemmas.{alike_turned, mark_may, send_may}
 use Rattle.seen_parts.proofs.MadeLemmas.{mark_alike}

@@ -5,18 +5,18 @@ use Rattle.std.proofs.lemmas.Bool.{lt-ltb}
 use Rattle.gl_base.specs.declared.numbers.MachineNo.{MachineNo}
 use Rattle.gl_base.specs.declared.scopes.Peer.TheVariants as peer
 use Rattle.update_api.specs.Updates.{Update}
-use Rattle.cluster_core.specs.Actions.{HasFirst}
-use Rattle.cluster_core.specs.Messages.{Message}
-use Rattle.cluster_core.specs.Parts.{Part}
-use Rattle.cluster_core.specs.Ranges.{set_at}
+use Rattle.cluster_laws.specs.cluster_core.Actions.{HasFirst}
+use Rattle.cluster_laws.specs.cluster_core.Messages.{Message}
+use Rattle.cluster_laws.specs.cluster_core.Parts.{Part}
+use Rattle.cluster_laws.specs.cluster_core.Ranges.{set_at}
 use Rattle.cluster_machines.specs.Told.{message_read, told_by}
-use Rattle.cluster_model.specs.Calls.{Report}
-use Rattle.cluster_model.specs.Events.{HasNext}
-use Rattle.cluster_model.specs.Working.{fails, hands}
-use Rattle.machine_parts.specs.declared.cores.Core.{Core}
+use Rattle.cluster_laws.specs.cluster_model.Calls.{Report}
+use Rattle.cluster_laws.specs.cluster_model.Events.{HasNext}
+use Rattle.cluster_laws.specs.cluster_model.Working.{fails, hands}
+use Rattle.machine_core.specs.declared.machine_parts.cores.Core.{Core}
 use Rattle.machine_core.proofs.SendLemmas.{first_taken, none_taken, waits_first}
-use Rattle.machine_parts.specs.Parts.{message_of}
-use Rattle.machine_parts.specs.Settings.{SameSettings}
+use Rattle.machine_core.specs.machine_parts.Parts.{message_of}
+use Rattle.machine_core.specs.machine_parts.Settings.{SameSettings}
 use Rattle.outboxes.specs.Outboxes.{OutboxView, OutboxesView, has_waiting, no_outbox, outbox_to, waiting_for, with_outbox, without_first}
 use Rattle.snap_members.specs.Promises.{IsReporting, OfEach, SendsItsFirst, StandsStill, TellsReport}
 use Rattle.wave_counts.specs.Counts.{one_more}

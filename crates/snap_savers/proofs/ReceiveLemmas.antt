@@ -8,24 +8,24 @@ use Rattle.gl_base.specs.declared.numbers.Vertex.{Vertex}
 use Rattle.gl_base.specs.declared.scopes.Datum.{Datum}
 use Rattle.gl_base.specs.declared.scopes.ScopeId.{ScopeId}
 use Rattle.update_api.specs.Updates.{Update}
-use Rattle.cluster_core.specs.Effects.{applied, begins, datum_after, learns, newer_datum, received}
-use Rattle.cluster_core.specs.Marks.{IsMarking, mark_of}
-use Rattle.cluster_core.specs.Messages.{Ask, Done, Message, News, Ready}
-use Rattle.cluster_core.specs.Parts.{Part}
+use Rattle.cluster_laws.specs.cluster_core.Effects.{applied, begins, datum_after, learns, newer_datum, received}
+use Rattle.cluster_laws.specs.cluster_core.Marks.{IsMarking, mark_of}
+use Rattle.cluster_laws.specs.cluster_core.Messages.{Ask, Done, Message, News, Ready}
+use Rattle.cluster_laws.specs.cluster_core.Parts.{Part}
 use Rattle.cluster_ending.proofs.Growing.{received_longer}
 use Rattle.cluster_machines.specs.Told.{told_by}
-use Rattle.cluster_model.specs.Clusters.{Cluster}
-use Rattle.cluster_model.specs.Working.{prompt, receives, snapshot_in}
+use Rattle.cluster_laws.specs.cluster_model.Clusters.{Cluster}
+use Rattle.cluster_laws.specs.cluster_model.Working.{prompt, receives, snapshot_in}
 use Rattle.cluster_moves.proofs.DueKept.{received_kept}
 use Rattle.cluster_whole.specs.Views.{world_of}
 use Rattle.cluster_whole.specs.Whole.{IsWhole}
 use Rattle.machine_numbers.specs.Views.{LocalView}
-use Rattle.machine_parts.specs.declared.cores.Core.{Core}
-use Rattle.machine_parts.specs.Order.{IsOrderly}
-use Rattle.machine_parts.specs.Parts.{is_own, machine_numbers}
-use Rattle.machine_parts.specs.Settings.{SameSettings}
-use Rattle.machine_scopes.specs.Asking.{AreMachinesFor, CanBecomeReady, HasReceivedMessage, IsNewAt}
-use Rattle.machine_scopes.proofs.HeldLemmas.{own_from_setting}
+use Rattle.machine_core.specs.declared.machine_parts.cores.Core.{Core}
+use Rattle.machine_core.specs.machine_parts.Order.{IsOrderly}
+use Rattle.machine_core.specs.machine_parts.Parts.{is_own, machine_numbers}
+use Rattle.machine_core.specs.machine_parts.Settings.{SameSettings}
+use Rattle.machine_core.specs.machine_scopes.Asking.{AreMachinesFor, CanBecomeReady, HasReceivedMessage, IsNewAt}
+use Rattle.machine_core.proofs.machine_scopes.HeldLemmas.{own_from_setting}
 use Rattle.saving_machines.specs.Machines.{SnapMachineView}
 use Rattle.seen_parts.proofs.SeenLemmas.{own_seen, receive_alike, seen_of}
 use Rattle.snap_machines.proofs.ApartLemmas.{on_apart}

@@ -5,26 +5,26 @@ use Rattle.std.proofs.lemmas.List.{get_or-set_other, get_or-set_same}
 use Rattle.gl_base.specs.declared.numbers.Vertex.{Vertex}
 use Rattle.gl_base.specs.declared.scopes.ScopeId.{ScopeId}
 use Rattle.update_api.specs.Updates.{Update}
-use Rattle.cluster_core.specs.Actions.{IsItsTurn, MayAdmit, MayGrant}
-use Rattle.cluster_core.specs.Effects.{admitted, granted, in_flight, next_scope}
-use Rattle.cluster_core.specs.Parts.{Part}
-use Rattle.cluster_core.specs.Scopes.{is_scope, set_for}
-use Rattle.cluster_core.specs.Settings.{Chromatic, Engine, Locking}
-use Rattle.cluster_core.proofs.Basics.{scope_cases, set_for-other, set_for-same}
+use Rattle.cluster_laws.specs.cluster_core.Actions.{IsItsTurn, MayAdmit, MayGrant}
+use Rattle.cluster_laws.specs.cluster_core.Effects.{admitted, granted, in_flight, next_scope}
+use Rattle.cluster_laws.specs.cluster_core.Parts.{Part}
+use Rattle.cluster_laws.specs.cluster_core.Scopes.{is_scope, set_for}
+use Rattle.cluster_laws.specs.cluster_core.Settings.{Chromatic, Engine, Locking}
+use Rattle.cluster_laws.proofs.cluster_core.Basics.{scope_cases, set_for-other, set_for-same}
 use Rattle.cluster_ending.proofs.Growing.{admitted_longer, granted_longer}
-use Rattle.cluster_model.specs.Events.{MayAdmitNow}
-use Rattle.cluster_model.specs.Working.{admits, grants, has_room}
+use Rattle.cluster_laws.specs.cluster_model.Events.{MayAdmitNow}
+use Rattle.cluster_laws.specs.cluster_model.Working.{admits, grants, has_room}
 use Rattle.cluster_moves.proofs.DueKept.{IsKept, admitted_kept, first_granted_kept}
 use Rattle.machine_numbers.specs.Views.{AreTasksOf, TasksView}
 use Rattle.machine_numbers.specs.declared.keeping.Numbers.{Numbers}
 use Rattle.machine_numbers.proofs.WakeLemmas.{own_inside}
-use Rattle.machine_parts.specs.declared.cores.Core.{Core}
-use Rattle.machine_parts.specs.Order.{IsOrderly, KnowsPlaces}
-use Rattle.machine_parts.specs.Parts.{number_of}
-use Rattle.machine_parts.specs.Settings.{SameSettings}
-use Rattle.machine_scopes.specs.Admitting.{CanAdmitPick, HasAdmittedPick, HaveSamePlans, KeepsPlans, MayAdmitNone, with_pick}
-use Rattle.machine_scopes.specs.Granting.{HasGrantedLock, MayGrantLock, MayNotGrantLock}
-use Rattle.machine_scopes.proofs.HeldLemmas.{own_from_setting}
+use Rattle.machine_core.specs.declared.machine_parts.cores.Core.{Core}
+use Rattle.machine_core.specs.machine_parts.Order.{IsOrderly, KnowsPlaces}
+use Rattle.machine_core.specs.machine_parts.Parts.{number_of}
+use Rattle.machine_core.specs.machine_parts.Settings.{SameSettings}
+use Rattle.machine_core.specs.machine_scopes.Admitting.{CanAdmitPick, HasAdmittedPick, HaveSamePlans, KeepsPlans, MayAdmitNone, with_pick}
+use Rattle.machine_core.specs.machine_scopes.Granting.{HasGrantedLock, MayGrantLock, MayNotGrantLock}
+use Rattle.machine_core.proofs.machine_scopes.HeldLemmas.{own_from_setting}
 use Rattle.saving_machines.specs.Machines.{SnapMachineView, outside_of}
 use Rattle.seen_parts.proofs.GuardLemmas.{admit_may, alike_turned, grant_may}
 use Rattle.seen_parts.proofs.SeenLemmas.{admit_alike, grant_alike}

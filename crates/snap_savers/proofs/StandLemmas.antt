@@ -3,14 +3,14 @@ use Rattle.std.proofs.Common.{◌≡◌, ℕ, ◌+◌, ◌<◌, ◌≤◌, ◌&&
 use Rattle.std.specs.Prelude.{is_some, nat_lt}
 use Rattle.gl_base.specs.declared.numbers.MachineNo.{MachineNo}
 use Rattle.update_api.specs.Updates.{Update}
-use Rattle.cluster_core.specs.Messages.{Section}
-use Rattle.cluster_model.specs.Machines.{outside}
-use Rattle.cluster_model.specs.Working.{answers_if, has_room, is_done, prompt}
+use Rattle.cluster_laws.specs.cluster_core.Messages.{Section}
+use Rattle.cluster_laws.specs.cluster_model.Machines.{outside}
+use Rattle.cluster_laws.specs.cluster_model.Working.{answers_if, has_room, is_done, prompt}
 use Rattle.cluster_moves.proofs.DueKept.{IsKept}
 use Rattle.machine_numbers.specs.declared.keeping.Numbers.{Numbers}
 use Rattle.machine_numbers.specs.Views.{TasksView}
-use Rattle.machine_parts.specs.declared.cores.Core.{Core}
-use Rattle.machine_parts.specs.Settings.{SameSettings, window_of}
+use Rattle.machine_core.specs.declared.machine_parts.cores.Core.{Core}
+use Rattle.machine_core.specs.machine_parts.Settings.{SameSettings, window_of}
 use Rattle.saving_machines.specs.Machines.{SnapMachineView}
 use Rattle.snap_update.specs.Snaps.{IsSameButRoom, outside_of}
 use Rattle.snap_members.specs.Going.{IsSnapSetting}

@@ -7,16 +7,16 @@ use Rattle.gl_base.specs.declared.entries.Entry.{Entry}
 use Rattle.gl_base.specs.declared.scopes.Mode.{Mode}
 use Rattle.gl_base.specs.declared.scopes.ScopeId.{ScopeId}
 use Rattle.graph_core.specs.DataGraph.{size}
-use Rattle.cluster_core.specs.Actions.{MayGrant, MayUpdate}
-use Rattle.cluster_core.specs.Effects.{admitted, granted, updated}
-use Rattle.cluster_core.specs.Messages.{Message}
-use Rattle.cluster_core.specs.Parts.{Part}
-use Rattle.cluster_core.specs.Ranges.{all_passing, first_passing}
-use Rattle.cluster_core.specs.Scopes.{set_for}
-use Rattle.cluster_core.specs.Settings.{IsSetting, Locking, Setting, is_in_scope}
-use Rattle.cluster_core.proofs.Basics.{set_at-same, set_for-same}
-use Rattle.cluster_model.specs.Machines.{Machine, gained}
-use Rattle.cluster_model.specs.Working.{asks, prompt, works_on}
+use Rattle.cluster_laws.specs.cluster_core.Actions.{MayGrant, MayUpdate}
+use Rattle.cluster_laws.specs.cluster_core.Effects.{admitted, granted, updated}
+use Rattle.cluster_laws.specs.cluster_core.Messages.{Message}
+use Rattle.cluster_laws.specs.cluster_core.Parts.{Part}
+use Rattle.cluster_laws.specs.cluster_core.Ranges.{all_passing, first_passing}
+use Rattle.cluster_laws.specs.cluster_core.Scopes.{set_for}
+use Rattle.cluster_laws.specs.cluster_core.Settings.{IsSetting, Locking, Setting, is_in_scope}
+use Rattle.cluster_laws.proofs.cluster_core.Basics.{set_at-same, set_for-same}
+use Rattle.cluster_laws.specs.cluster_model.Machines.{Machine, gained}
+use Rattle.cluster_laws.specs.cluster_model.Working.{asks, prompt, works_on}
 use Rattle.cluster_whole.proofs.Flows.{total_from-none}
 use Rattle.interior_scopes.specs.AtOnce.{MayUpdateAtOnce, at_once, entry_at_once}
 use Rattle.interior_scopes.proofs.Walking.{admitted_walks, claim_for, granted_walks, held_below, held_past, is_its, its, not_yet, updated_walks, walks}

@@ -10,26 +10,26 @@ use Rattle.gl_base.specs.declared.scopes.Datum.{Datum}
 use Rattle.gl_base.specs.declared.scopes.ScopeId.{ScopeId}
 use Rattle.seq_run.specs.States.{new_number}
 use Rattle.update_api.specs.Updates.{Update}
-use Rattle.cluster_core.specs.Actions.{MayUpdate}
-use Rattle.cluster_core.specs.Effects.{renewed, updated}
-use Rattle.cluster_core.specs.Parts.{Part, lent}
-use Rattle.cluster_core.specs.Scopes.{is_scope, set_for}
-use Rattle.cluster_core.proofs.Basics.{same_scope, scope_cases, set_at-kept, set_for-other, set_for-same}
+use Rattle.cluster_laws.specs.cluster_core.Actions.{MayUpdate}
+use Rattle.cluster_laws.specs.cluster_core.Effects.{renewed, updated}
+use Rattle.cluster_laws.specs.cluster_core.Parts.{Part, lent}
+use Rattle.cluster_laws.specs.cluster_core.Scopes.{is_scope, set_for}
+use Rattle.cluster_laws.proofs.cluster_core.Basics.{same_scope, scope_cases, set_at-kept, set_for-other, set_for-same}
 use Rattle.cluster_ending.proofs.Growing.{updated_longer}
-use Rattle.cluster_model.specs.Calls.{Report, Want}
-use Rattle.cluster_model.specs.Machines.{outside}
-use Rattle.cluster_model.specs.Working.{asks, asks_if, asks_more, half_window, makes_update, prompt, works_on}
+use Rattle.cluster_laws.specs.cluster_model.Calls.{Report, Want}
+use Rattle.cluster_laws.specs.cluster_model.Machines.{outside}
+use Rattle.cluster_laws.specs.cluster_model.Working.{asks, asks_if, asks_more, half_window, makes_update, prompt, works_on}
 use Rattle.machine_numbers.specs.Steps.{HasRun}
 use Rattle.machine_numbers.specs.Views.{LocalView, TasksView, datum_here}
 use Rattle.machine_numbers.specs.declared.keeping.Numbers.{Numbers}
-use Rattle.machine_parts.specs.declared.cores.Core.{Core}
-use Rattle.machine_parts.specs.Order.{IsOrderly}
-use Rattle.machine_parts.specs.Parts.{flight_at}
-use Rattle.machine_parts.specs.Settings.{SameSettings}
-use Rattle.machine_scopes.proofs.HeldLemmas.{own_in}
-use Rattle.machine_scopes.proofs.LawLemmas.{some_number}
-use Rattle.machine_turns.specs.Turns.{HasMadeUpdate, HasRunOf}
-use Rattle.machine_updates.proofs.CommitLemmas.{placed}
+use Rattle.machine_core.specs.declared.machine_parts.cores.Core.{Core}
+use Rattle.machine_core.specs.machine_parts.Order.{IsOrderly}
+use Rattle.machine_core.specs.machine_parts.Parts.{flight_at}
+use Rattle.machine_core.specs.machine_parts.Settings.{SameSettings}
+use Rattle.machine_core.proofs.machine_scopes.HeldLemmas.{own_in}
+use Rattle.machine_core.proofs.machine_scopes.LawLemmas.{some_number}
+use Rattle.machine_core.specs.machine_turns.Turns.{HasMadeUpdate, HasRunOf}
+use Rattle.machine_core.proofs.machine_updates.CommitLemmas.{placed}
 use Rattle.saving_machines.specs.Machines.{SnapMachineView}
 use Rattle.saving_machines.specs.Updates.{HasLogged}
 use Rattle.seen_parts.proofs.GuardLemmas.{alike_turned, update_may}

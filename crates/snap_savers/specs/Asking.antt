@@ -1,6 +1,6 @@
 -- What is asked of the coordinator, and what it is answered.
 use Rattle.std.specs.Prelude.{Bool, None, Option, Some, length, ℕ, ◌+◌, ◌/◌, ◌≡◌}
-use Rattle.cluster_model.specs.Machines.{is_idle}
+use Rattle.cluster_laws.specs.cluster_model.Machines.{is_idle}
 use Rattle.snap_update.specs.Snaps.{asked_behind, with_asking}
 use Rattle.wire_msgs.specs.Views as wire
 use Rattle.snap_savers.specs.Reports.{ReportsView, with_report}

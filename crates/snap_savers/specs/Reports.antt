@@ -1,6 +1,6 @@
 -- What waits to be sent to the coordinator.
 use Rattle.std.specs.Prelude.{Bool, List, [], length, nat_lt, pred, ⊤, ℕ, ◌+◌, ◌++◌, ◌∷◌}
-use Rattle.cluster_model.specs.Calls.{Report}
+use Rattle.cluster_laws.specs.cluster_model.Calls.{Report}
 use Rattle.snap_members.specs.Promises.{MessageView, TellsReport}
 
 -- the messages, the first first, and for how many more there is room

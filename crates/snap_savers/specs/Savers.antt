@@ -1,11 +1,11 @@
 -- A machine as a cluster that takes snapshots knows it, and the machines of the law that it is.
-pub use Rattle.cluster_core.specs.Effects.{is_end}
-pub use Rattle.cluster_core.specs.Parts.{Part}
-pub use Rattle.cluster_core.specs.Settings.{nth_edge}
+pub use Rattle.cluster_laws.specs.cluster_core.Effects.{is_end}
+pub use Rattle.cluster_laws.specs.cluster_core.Parts.{Part}
+pub use Rattle.cluster_laws.specs.cluster_core.Settings.{nth_edge}
 pub use Rattle.graph_core.specs.DataGraph.{size}
 pub use Rattle.machine_numbers.specs.Views.{flag_there, place_at}
-pub use Rattle.machine_parts.specs.Parts.{part_of}
-pub use Rattle.machine_parts.specs.Settings.{IsPartOf}
+pub use Rattle.machine_core.specs.machine_parts.Parts.{part_of}
+pub use Rattle.machine_core.specs.machine_parts.Settings.{IsPartOf}
 pub use Rattle.saving_machines.specs.Machines.{SnapMachineView, SnapView}
 pub use Rattle.seen_parts.specs.Alike.{LooksAlike}
 pub use Rattle.snap_machines.specs.Keeping.{with_snaps}

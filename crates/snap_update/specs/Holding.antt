@@ -1,16 +1,16 @@
 -- What a machine keeps for snapshots, as a cluster's machine has it.
-pub use Rattle.cluster_core.specs.Effects.{saves_edge}
-pub use Rattle.cluster_core.specs.Messages.{Message}
-pub use Rattle.cluster_core.specs.Parts.{Part}
-pub use Rattle.cluster_core.specs.Settings.{Setting}
-pub use Rattle.cluster_model.specs.Calls.{Begin, Call, Committed, Report, Step, Wave}
-pub use Rattle.cluster_model.specs.Machines.{Machine, outside}
-pub use Rattle.cluster_model.specs.Working.{admits, asks, commits, fails, goes_back, grants, half_window, hands, hands_report, makes_mark, prompt, receives, sections, snapshot_in, takes_call, works_on}
+pub use Rattle.cluster_laws.specs.cluster_core.Effects.{saves_edge}
+pub use Rattle.cluster_laws.specs.cluster_core.Messages.{Message}
+pub use Rattle.cluster_laws.specs.cluster_core.Parts.{Part}
+pub use Rattle.cluster_laws.specs.cluster_core.Settings.{Setting}
+pub use Rattle.cluster_laws.specs.cluster_model.Calls.{Begin, Call, Committed, Report, Step, Wave}
+pub use Rattle.cluster_laws.specs.cluster_model.Machines.{Machine, outside}
+pub use Rattle.cluster_laws.specs.cluster_model.Working.{admits, asks, commits, fails, goes_back, grants, half_window, hands, hands_report, makes_mark, prompt, receives, sections, snapshot_in, takes_call, works_on}
 use Rattle.std.specs.Prelude.{◌≡◌, ℕ, ◌==◌, Option, Some, None, List, [], ◌∷◌, ◌++◌, if◌then◌else◌}
 use Rattle.gl_base.specs.declared.numbers.EdgeNo.{EdgeNo}
 use Rattle.gl_base.specs.declared.numbers.Vertex.{Vertex}
-use Rattle.cluster_core.specs.Messages.{Section}
-use Rattle.cluster_model.specs.Calls.{Count, Saved, Want}
+use Rattle.cluster_laws.specs.cluster_core.Messages.{Section}
+use Rattle.cluster_laws.specs.cluster_model.Calls.{Count, Saved, Want}
 use Rattle.snap_update.specs.Snaps.{SectionView, SnapView, asked_behind, with_asking, with_edge}
 
 -- ---- lists of saved numbers as functions

@@ -5,8 +5,8 @@ use Rattle.std.proofs.lemmas.Bool.{and_parts, or_cases}
 use Rattle.gl_base.specs.declared.entries.Entry.{Entry}
 use Rattle.gl_base.specs.declared.entries.Entry.TheVariants.{Go, Restart}
 use Rattle.attempts.specs.EngineCalls.{IsOrderInTurn}
-use Rattle.cluster_cuts.specs.Goings.{IsByOwner}
-use Rattle.cluster_runs.specs.Attempts.{Shared}
+use Rattle.cluster_laws.specs.cluster_cuts.Goings.{IsByOwner}
+use Rattle.cluster_laws.specs.cluster_runs.Attempts.{Shared}
 use Rattle.graph_core.specs.DataGraph.{DataGraph, IsDataGraph, size}
 use Rattle.recovery.specs.GoodStores.{AreReplayed, IsGoodStore, IsReplayed, stored_orders}
 use Rattle.recovery.specs.Journals.{body_entries, with_entries}

@@ -1,6 +1,6 @@
 //! Laws of placements and of owners. Each is the contract of a function that does nothing.
 ghost use Rattle.std.specs.Prelude.{List, ℕ, ◌<◌, ◌≡◌, ◌≤◌};
-ghost use Rattle.cluster_runs.specs.Attempts.{Shared};
+ghost use Rattle.cluster_laws.specs.cluster_runs.Attempts.{Shared};
 ghost use Rattle.graph_core.specs.DataGraph.{DataGraph, IsDataGraph, size};
 ghost use Rattle.job_runs.specs.Plays.{IsPlacement};
 ghost use Rattle.recovery.specs.GoodStores.{IsGoodStore};

@@ -5,14 +5,14 @@ use Rattle.gl_base.specs.declared.numbers.MachineNo.{MachineNo}
 use Rattle.gl_base.specs.declared.refusals.Refused.{Refused}
 use Rattle.gl_base.specs.declared.scopes.Claim.{Claim}
 use Rattle.gl_base.specs.declared.scopes.ScopeId.{ScopeId}
-use Rattle.cluster_core.specs.Actions.{MayAdmit, MayUpdate}
-use Rattle.cluster_core.specs.Parts.{Part}
-use Rattle.cluster_core.specs.Settings.{Chromatic, Locking}
+use Rattle.cluster_laws.specs.cluster_core.Actions.{MayAdmit, MayUpdate}
+use Rattle.cluster_laws.specs.cluster_core.Parts.{Part}
+use Rattle.cluster_laws.specs.cluster_core.Settings.{Chromatic, Locking}
 use Rattle.update_api.specs.Updates.{Update}
-use Rattle.machine_parts.specs.Settings.{window_of}
+use Rattle.machine_core.specs.machine_parts.Settings.{window_of}
 use Rattle.task_sched.specs.Tasks.{is_below, is_open}
 use Rattle.cluster_machines.specs.Promises.{AdmitsNone, AdmitsSome, GrantsNone, GrantsNot, IsAdmission, IsSameMachine, MakesAdmission, MakesUpdate, TakesNoLocks, UpdatesIt}
-use Rattle.color_parts.specs.declared.cores.ColorCore.{ColorCore}
+use Rattle.machine_core.specs.declared.color_parts.cores.ColorCore.{ColorCore}
 use Rattle.step_machines.specs.Machines.{CanAdmitOne, ColorMachineView, HasAdmittedOne, HasUpdatedInStep, IsColorMachineOf, IsPartInSteps, IsSameColorMachine, MayAdmitNoOne, Setting, next_scope, part_in_steps}
 
 open_where : (st : Setting) (m : ColorCore) → IsPartInSteps st m → st.stored ≡ false → is_open m.numbers.tasks ≡ true

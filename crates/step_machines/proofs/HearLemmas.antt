@@ -3,21 +3,21 @@ use Rattle.std.proofs.Common.{◌≡◌, ◌≢◌, ℕ, ◌==◌, true, get_or,
 use Rattle.std.proofs.lemmas.Bool.{eq-eqb, false_from_ne_true}
 use Rattle.std.proofs.lemmas.List.Folds.{list_any_at}
 use Rattle.gl_base.specs.declared.numbers.Vertex.{Vertex}
-use Rattle.cluster_core.specs.Messages as law
-use Rattle.cluster_core.specs.Parts.{Part}
-use Rattle.cluster_core.specs.Effects.{received}
-use Rattle.cluster_core.specs.Settings.{Chromatic, Engine}
-use Rattle.cluster_core.proofs.Nearness.{near_within}
+use Rattle.cluster_laws.specs.cluster_core.Messages as law
+use Rattle.cluster_laws.specs.cluster_core.Parts.{Part}
+use Rattle.cluster_laws.specs.cluster_core.Effects.{received}
+use Rattle.cluster_laws.specs.cluster_core.Settings.{Chromatic, Engine}
+use Rattle.cluster_laws.proofs.cluster_core.Nearness.{near_within}
 use Rattle.update_api.specs.Updates.{Update}
 use Rattle.wire_msgs.specs.declared.messages.Done.{Done}
 use Rattle.wire_msgs.specs.declared.messages.Message as sent
 use Rattle.wire_msgs.specs.declared.messages.Message.TheVariants as wire
 use Rattle.machine_numbers.specs.Views.{is_named, news_of}
-use Rattle.machine_scopes.proofs.HeldLemmas.{own_from_setting, own_in}
-use Rattle.machine_updates.proofs.WordLemmas.{edge_known, ghost_known, named_none, told_some}
+use Rattle.machine_core.proofs.machine_scopes.HeldLemmas.{own_from_setting, own_in}
+use Rattle.machine_core.proofs.machine_updates.WordLemmas.{edge_known, ghost_known, named_none, told_some}
 use Rattle.cluster_machines.specs.Promises.{CanReceive, IsExpectedBy, IsStepWord, MakesReceipt, MayHear, MayReceiveBy, told_by}
-use Rattle.color_parts.specs.declared.cores.ColorCore.{ColorCore}
-use Rattle.color_parts.specs.Parts.{is_own}
+use Rattle.machine_core.specs.declared.color_parts.cores.ColorCore.{ColorCore}
+use Rattle.machine_core.specs.color_parts.Parts.{is_own}
 use Rattle.step_machines.specs.Machines.{CanHear, ColorMachineView, HasHeardDone, IsPartInSteps, IsSetting, Setting, part_in_steps}
 use Rattle.step_machines.proofs.CallLemmas.{belongs_to, holds}
 

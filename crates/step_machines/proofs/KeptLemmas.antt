@@ -5,9 +5,9 @@ use Rattle.gl_base.specs.declared.numbers.MachineNo.{MachineNo}
 use Rattle.gl_base.specs.declared.refusals.Refused.{Refused}
 use Rattle.gl_base.specs.declared.scopes.ScopeId.{ScopeId}
 use Rattle.wire_msgs.specs.declared.messages.Done.{Done}
-use Rattle.machine_turns.specs.Turns.{HasEachRow}
-use Rattle.color_parts.specs.declared.cores.ColorCore.{ColorCore}
-use Rattle.color_parts.specs.Parts.{next_of_step}
+use Rattle.machine_core.specs.machine_turns.Turns.{HasEachRow}
+use Rattle.machine_core.specs.declared.color_parts.cores.ColorCore.{ColorCore}
+use Rattle.machine_core.specs.color_parts.Parts.{next_of_step}
 use Rattle.step_machines.specs.Machines.{CanHear, ColorMachineView, IsColorMachine, IsInStepOrder, IsSameColorMachine, StaysInSettings, next_scope, part_in_steps}
 
 -- the graph here is the same

@@ -5,10 +5,10 @@ use Rattle.std.proofs.lemmas.Bool.{lt-ltb}
 use Rattle.std.proofs.lemmas.Option.{slice_get_read}
 use Rattle.gl_base.specs.declared.numbers.Vertex.{Vertex}
 use Rattle.machine_numbers.specs.Views.{flag_there, is_flagged, task_here}
-use Rattle.machine_scopes.proofs.PickLemmas.{flag_inside}
-use Rattle.color_parts.specs.declared.cores.ColorCore.{ColorCore}
-use Rattle.color_parts.specs.Order.{IsInStepOrder}
-use Rattle.color_parts.specs.Parts.{is_own, place_at}
+use Rattle.machine_core.proofs.machine_scopes.PickLemmas.{flag_inside}
+use Rattle.machine_core.specs.declared.color_parts.cores.ColorCore.{ColorCore}
+use Rattle.machine_core.specs.color_parts.Order.{IsInStepOrder}
+use Rattle.machine_core.specs.color_parts.Parts.{is_own, place_at}
 use Rattle.graph_core.specs.DataGraph.{size}
 use Rattle.update_api.specs.Updates.{Update}
 use Rattle.cluster_machines.specs.Promises.{SaysWhether, is_owner_of, is_owner_with}

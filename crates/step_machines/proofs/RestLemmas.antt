@@ -5,14 +5,14 @@ use Rattle.std.proofs.lemmas.Bool.{lt-ltb}
 use Rattle.gl_base.specs.declared.numbers.Vertex.{Vertex}
 use Rattle.gl_base.specs.declared.scopes.ScopeId.{ScopeId}
 use Rattle.machine_numbers.specs.Views.{flag_there, is_flagged, task_here}
-use Rattle.machine_rest.proofs.IdleLemmas.{idle_from, not_idle}
-use Rattle.machine_scopes.proofs.HeldLemmas.{own_in}
-use Rattle.machine_scopes.proofs.PickLemmas.{flag_inside}
+use Rattle.machine_core.proofs.machine_rest.IdleLemmas.{idle_from, not_idle}
+use Rattle.machine_core.proofs.machine_scopes.HeldLemmas.{own_in}
+use Rattle.machine_core.proofs.machine_scopes.PickLemmas.{flag_inside}
 use Rattle.color_tasks.proofs.SlotLemmas.{begun_from}
 use Rattle.color_machine.proofs.CloseLemmas.{no_pending}
 use Rattle.color_machine.proofs.PlaceLemmas.{vertex_at}
-use Rattle.color_parts.specs.declared.cores.ColorCore.{ColorCore}
-use Rattle.color_parts.specs.Parts.{centre_in_step, is_own, place_at}
+use Rattle.machine_core.specs.declared.color_parts.cores.ColorCore.{ColorCore}
+use Rattle.machine_core.specs.color_parts.Parts.{centre_in_step, is_own, place_at}
 use Rattle.step_machines.specs.Machines.{IsInStepOrder, IsPartInSteps, Setting, part_in_steps}
 use Rattle.step_machines.specs.Resting.{is_idle}
 

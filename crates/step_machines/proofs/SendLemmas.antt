@@ -5,9 +5,9 @@ use Rattle.gl_base.specs.declared.scopes.Peer.TheVariants.{Machine}
 use Rattle.outboxes.specs.Outboxes.{OutboxesView, outbox_to, waiting_for, with_outbox, without_first}
 use Rattle.wire_msgs.specs.Views.{message_view}
 use Rattle.wire_msgs.specs.declared.messages.Message.{Message}
-use Rattle.machine_parts.specs.Order.{IsGraphInOrder}
+use Rattle.machine_core.specs.machine_parts.Order.{IsGraphInOrder}
 use Rattle.machine_core.proofs.SendLemmas.{boxes_same, first_taken, none_taken}
-use Rattle.color_parts.specs.declared.cores.ColorCore.{ColorCore}
+use Rattle.machine_core.specs.declared.color_parts.cores.ColorCore.{ColorCore}
 use Rattle.step_machines.specs.Machines.{IsColorMachine, StaysInSettings, part_in_steps}
 use Rattle.step_machines.specs.Messages.{HasSentFirst, message_told}
 use Rattle.step_machines.proofs.KeptLemmas.{with_program}

@@ -3,10 +3,10 @@ use Rattle.std.proofs.Common.{◌≡◌, ℕ, false, true, true≢false, None, S
 use Rattle.std.specs.Prelude.{Bool, Result, Ok, Err, IsTrue, OnOk, ◌↔◌}
 use Rattle.gl_base.specs.declared.refusals.Refused.{Refused}
 use Rattle.gl_base.specs.declared.scopes.ScopeId.{ScopeId}
-use Rattle.cluster_core.specs.Actions.{MayAdmit, MayUpdate}
+use Rattle.cluster_laws.specs.cluster_core.Actions.{MayAdmit, MayUpdate}
 use Rattle.update_api.specs.Updates.{Update}
 use Rattle.cluster_machines.specs.Steps.{EndsNoShare, EndsShare, HasNothingLeft, IsStepOver, IsShareDone}
-use Rattle.color_parts.specs.declared.cores.ColorCore.{ColorCore}
+use Rattle.machine_core.specs.declared.color_parts.cores.ColorCore.{ColorCore}
 use Rattle.step_machines.specs.Machines.{ColorMachineView, GoesOnHere, HasDoneItsShare, IsColorMachineOf, Setting, part_in_steps}
 use Rattle.step_machines.proofs.CallLemmas.{admits_none, belongs_to, holds}
 

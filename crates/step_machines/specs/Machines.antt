@@ -1,12 +1,12 @@
 -- A machine that goes by colours and its program, as contracts see them.
-pub use Rattle.cluster_core.specs.Effects.{next_scope}
+pub use Rattle.cluster_laws.specs.cluster_core.Effects.{next_scope}
 pub use Rattle.color_machine.specs.Admitting.{CanAdmitOne, HasAdmittedOne, IsInStepOrder, IsPartInSteps, MayAdmitNoOne, Setting, StaysInSettings, part_in_steps}
 pub use Rattle.color_machine.specs.Closing.{GoesOnHere, HasDoneItsShare, MayUpdate, closes}
 pub use Rattle.color_machine.specs.Hearing.{CanHear, HasHeardDone}
 pub use Rattle.color_machine.specs.Stepping.{steps_to}
 pub use Rattle.color_machine.specs.Updating.{HasEachRow, HasUpdatedInStep, IsSetting}
 use Rattle.std.specs.Prelude.{◌≡◌, ℕ}
-use Rattle.color_parts.specs.declared.cores.ColorCore.{ColorCore}
+use Rattle.machine_core.specs.declared.color_parts.cores.ColorCore.{ColorCore}
 use Rattle.update_api.specs.Updates.{Update}
 
 -- its parts, and its program

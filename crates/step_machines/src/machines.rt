@@ -3,9 +3,9 @@ ghost use Rattle.std.specs.Prelude.{◌≡◌, ℕ, true, false, None, IfOk, IfS
 ghost use Rattle.gl_base.specs.declared.scopes.ScopeId.{ScopeId};
 ghost use Rattle.step_machines.specs.Machines.{CanAdmitOne, CanHear, GoesOnHere, HasAdmittedOne, HasDoneItsShare, HasEachRow, HasHeardDone, HasUpdatedInStep, IsColorMachine, IsInStepOrder, IsSameColorMachine, MayAdmitNoOne, MayUpdate, closes, next_scope, part_in_steps, steps_to};
 
-use color_parts::ColorCore;
+use machine_core::color_parts::ColorCore;
 use gl_base::{NoMemory, Refused, ScopeId};
-use machine_updates::Spares;
+use machine_core::machine_updates::Spares;
 use std::alloc::Global;
 use std::marker::Model;
 use update_api::Program;

@@ -4,7 +4,7 @@ ghost use Rattle.step_machines.specs.Machines.{IsInStepOrder, IsPartInSteps, Set
 ghost use Rattle.step_machines.specs.Resting.{is_idle, total};
 
 use crate::machines::ColorMachine;
-use color_parts::ColorCore;
+use machine_core::color_parts::ColorCore;
 use update_api::Program;
 
 impl<P: Program> ColorMachine<P> {

@@ -7,20 +7,20 @@ use Rattle.gl_base.specs.declared.entries.Entry.TheVariants.{Go}
 use Rattle.gl_base.specs.declared.scopes.Claim.{Claim}
 use Rattle.gl_base.specs.declared.scopes.ScopeId.{ScopeId}
 use Rattle.graph_core.specs.DataGraph.{size}
-use Rattle.cluster_core.specs.Actions.{HasFirst, MayGrant, MayUpdate, delivers, sends, updates}
-use Rattle.cluster_core.specs.Actions as law
-use Rattle.cluster_core.specs.Effects.{admitted, admitted_by, news_for, received, steps_to, updated}
-use Rattle.cluster_core.specs.Messages.{Ask, Done, Ready}
-use Rattle.cluster_core.specs.Parts.{Part}
-use Rattle.cluster_core.specs.Ranges.{set_at}
-use Rattle.cluster_core.specs.Scopes.{takes_part}
-use Rattle.cluster_core.specs.Settings.{Engine}
-use Rattle.cluster_core.proofs.Basics.{set_at-cases, set_at-holds, set_at-kept}
-use Rattle.cluster_core.proofs.Taking.{same_way, sent-way, taken, taken-here, taken-there}
-use Rattle.cluster_numbers.proofs.Keeping.{updates_is}
-use Rattle.cluster_places.proofs.PlacesKept.{start_in_step}
-use Rattle.cluster_places.proofs.StepsKept.{action_stays}
-use Rattle.cluster_places.specs.Steps.{IsOfColour}
+use Rattle.cluster_laws.specs.cluster_core.Actions.{HasFirst, MayGrant, MayUpdate, delivers, sends, updates}
+use Rattle.cluster_laws.specs.cluster_core.Actions as law
+use Rattle.cluster_laws.specs.cluster_core.Effects.{admitted, admitted_by, news_for, received, steps_to, updated}
+use Rattle.cluster_laws.specs.cluster_core.Messages.{Ask, Done, Ready}
+use Rattle.cluster_laws.specs.cluster_core.Parts.{Part}
+use Rattle.cluster_laws.specs.cluster_core.Ranges.{set_at}
+use Rattle.cluster_laws.specs.cluster_core.Scopes.{takes_part}
+use Rattle.cluster_laws.specs.cluster_core.Settings.{Engine}
+use Rattle.cluster_laws.proofs.cluster_core.Basics.{set_at-cases, set_at-holds, set_at-kept}
+use Rattle.cluster_laws.proofs.cluster_core.Taking.{same_way, sent-way, taken, taken-here, taken-there}
+use Rattle.cluster_laws.proofs.cluster_numbers.Keeping.{updates_is}
+use Rattle.cluster_laws.proofs.cluster_places.PlacesKept.{start_in_step}
+use Rattle.cluster_laws.proofs.cluster_places.StepsKept.{action_stays}
+use Rattle.cluster_laws.specs.cluster_places.Steps.{IsOfColour}
 use Rattle.step_worlds.specs.Going.{Action, Chromatic, GoesInStep, IsExpectedBy, IsInStep, IsStart, IsStepMessage, IsAtStandstill, IsToldTo, IsApartFromSnapshots, MayHappen, MayReceiveBy, Message, Setting, World, after, steps_at, way}
 
 nothing_first : (claim : Claim) (behind : List Claim) → [] ≡ claim ∷ behind → ⊥

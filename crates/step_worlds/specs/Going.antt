@@ -1,21 +1,21 @@
 -- A cluster whose vertices run by colours, between events.
-pub use Rattle.cluster_core.specs.Actions.{Action, MayHappen, after}
-pub use Rattle.cluster_core.specs.Messages.{Message}
-pub use Rattle.cluster_core.specs.Places.{IsExclusive}
-pub use Rattle.cluster_core.specs.Runs.{IsStart}
-pub use Rattle.cluster_core.specs.Settings.{Chromatic, Setting}
-pub use Rattle.cluster_core.specs.Ways.{IsToldTo}
-pub use Rattle.cluster_core.specs.Worlds.{World, way}
+pub use Rattle.cluster_laws.specs.cluster_core.Actions.{Action, MayHappen, after}
+pub use Rattle.cluster_laws.specs.cluster_core.Messages.{Message}
+pub use Rattle.cluster_laws.specs.cluster_core.Places.{IsExclusive}
+pub use Rattle.cluster_laws.specs.cluster_core.Runs.{IsStart}
+pub use Rattle.cluster_laws.specs.cluster_core.Settings.{Chromatic, Setting}
+pub use Rattle.cluster_laws.specs.cluster_core.Ways.{IsToldTo}
+pub use Rattle.cluster_laws.specs.cluster_core.Worlds.{World, way}
 pub use Rattle.cluster_machines.specs.Promises.{IsExpectedBy, MayReceiveBy}
-pub use Rattle.cluster_places.specs.Steps.{AreApart, IsInStep}
+pub use Rattle.cluster_laws.specs.cluster_places.Steps.{AreApart, IsInStep}
 use Rattle.std.specs.Prelude.{None, [], false, true, ℕ, ⊤, ◌<◌, ◌≡◌}
 use Rattle.std.specs.List.{AllByRecursion}
 use Rattle.gl_base.specs.declared.scopes.ScopeId.{ScopeId}
-use Rattle.cluster_core.specs.Actions.{Admit, Begin, Collect, Deliver, Grant, Hear, Mark, Record, Send, SendSection, Update}
-use Rattle.cluster_core.specs.Effects.{steps_to}
-use Rattle.cluster_core.specs.Messages.{Ask, Done, Ready}
-use Rattle.cluster_core.specs.Scopes.{takes_part}
-use Rattle.cluster_core.specs.Worlds.{with_part}
+use Rattle.cluster_laws.specs.cluster_core.Actions.{Admit, Begin, Collect, Deliver, Grant, Hear, Mark, Record, Send, SendSection, Update}
+use Rattle.cluster_laws.specs.cluster_core.Effects.{steps_to}
+use Rattle.cluster_laws.specs.cluster_core.Messages.{Ask, Done, Ready}
+use Rattle.cluster_laws.specs.cluster_core.Scopes.{takes_part}
+use Rattle.cluster_laws.specs.cluster_core.Worlds.{with_part}
 use Rattle.graph_core.specs.DataGraph.{size}
 
 -- word of an update, and not of a snapshot, of a vertex of the graph in whose scope machine q takes part

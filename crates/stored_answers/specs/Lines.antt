@@ -2,7 +2,7 @@
 use Rattle.std.specs.List.{range_with_len}
 use Rattle.std.specs.Prelude.{List, [], length, map, suc, ℕ, ⊤, ◌∷◌, ◌≡◌}
 use Rattle.gl_base.specs.declared.entries.Entry.{Entry}
-use Rattle.cluster_runs.specs.Attempts.{Shared}
+use Rattle.cluster_laws.specs.cluster_runs.Attempts.{Shared}
 use Rattle.graph_core.specs.DataGraph.{size}
 use Rattle.seq_run.specs.Orders.{replay}
 use Rattle.stored_answers.specs.declared.runs.SnapLine.{SnapLine}

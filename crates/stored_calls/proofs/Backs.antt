@@ -3,9 +3,9 @@ use Rattle.std.proofs.Common.{◌≡◌, ℕ, ◌++◌, Bool, true, false, List,
 use Rattle.std.specs.Prelude.{Err, IfOk, IfSome, None, Ok, Option, Result, Some}
 use Rattle.gl_base.specs.declared.entries.Entry.{Entry}
 use Rattle.gl_base.specs.declared.numbers.MachineNo.{MachineNo}
-use Rattle.call_backs.proofs.Keepings.{known_on}
-use Rattle.call_backs.specs.Failing.{HaveFailedSince, InEachCourse}
-use Rattle.call_backs.specs.Returning.{HasReachedSome, IsWhyNotBack}
+use Rattle.stored_calls.proofs.call_backs.Keepings.{known_on}
+use Rattle.stored_calls.specs.call_backs.Failing.{HaveFailedSince, InEachCourse}
+use Rattle.stored_calls.specs.call_backs.Returning.{HasReachedSome, IsWhyNotBack}
 use Rattle.call_courses.proofs.Calling.{low_machine}
 use Rattle.call_returns.specs.declared.restarts.Restarts.{Restarts}
 use Rattle.call_rounds.specs.declared.pauses.Pause.TheVariants as pause

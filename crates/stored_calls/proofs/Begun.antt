@@ -8,7 +8,7 @@ use Rattle.std.specs.Prelude.{Bool}
 use Rattle.gl_outside.specs.Disk.{DiskState, clock, state_at}
 use Rattle.gl_base.specs.declared.entries.Entry.{Entry}
 use Rattle.gl_base.specs.declared.jobs.FailureAt.{FailureAt}
-use Rattle.call_starts.specs.declared.starting.Started.{Started}
+use Rattle.stored_calls.specs.declared.call_starts.starting.Started.{Started}
 use Rattle.recovery.specs.GoodStores.{IsGoodStore}
 use Rattle.snap_journal.specs.Formats.{stored_in}
 use Rattle.snap_journal.specs.Journals.{AllStandFor}

@@ -10,10 +10,10 @@ use Rattle.attempts.specs.Accounted.{AreRestarts}
 use Rattle.attempts.specs.Entries.{is_restart}
 use Rattle.attempts.specs.EngineCalls.{EngineCall, done_of, fired_of, struck_in}
 use Rattle.call_courses.specs.Courses.{CallOpening, Cluster, CourseView, Machine, Setting}
-use Rattle.cluster_model.specs.Clusters.{BaseView}
-use Rattle.cluster_model.specs.Events.{Event, failures_in}
-use Rattle.cluster_model.specs.Totals.{total_from}
-use Rattle.cluster_runs.specs.Recorded.{shared_of}
+use Rattle.cluster_laws.specs.cluster_model.Clusters.{BaseView}
+use Rattle.cluster_laws.specs.cluster_model.Events.{Event, failures_in}
+use Rattle.cluster_laws.specs.cluster_model.Totals.{total_from}
+use Rattle.cluster_laws.specs.cluster_runs.Recorded.{shared_of}
 use Rattle.recovery.specs.Journals.{body_entries, order_behind, records_size, stored_in, with_entries}
 use Rattle.snap_journal.proofs.CountLemmas.{entries_by_length, with_long}
 use Rattle.store_format.specs.Bodies.{body_size}

@@ -7,10 +7,10 @@ use Rattle.gl_base.specs.declared.jobs.FailureAt.{FailureAt}
 use Rattle.attempts.specs.Stores.{snapshots_of}
 use Rattle.call_answers.specs.Answers.{IsRunWithFailures, KeepsToWindow, RunLists, Shared}
 use Rattle.call_answers.specs.Courses.{ListsOfCourse}
-use Rattle.call_ends.specs.Ends.{CallEndsSo, IsEndedRun}
-use Rattle.call_ends.specs.Gathered.{GathersFrom, IsGathered, gathered_lists}
-use Rattle.call_ends.specs.declared.gathering.CallLists.{CallLists}
-use Rattle.cluster_model.specs.Events as law
+use Rattle.stored_calls.specs.call_ends.Ends.{CallEndsSo, IsEndedRun}
+use Rattle.stored_calls.specs.call_ends.Gathered.{GathersFrom, IsGathered, gathered_lists}
+use Rattle.stored_calls.specs.declared.call_ends.gathering.CallLists.{CallLists}
+use Rattle.cluster_laws.specs.cluster_model.Events as law
 use Rattle.graph_core.specs.DataGraph.{DataGraph}
 use Rattle.stored_answers.specs.Ends.{RunEndsSo}
 use Rattle.stored_answers.specs.declared.runs.StoredEnd.{StoredEnd}

@@ -2,13 +2,13 @@
 use Rattle.std.proofs.Common.{◌≡◌, ℕ, ◌+◌, ◌∙◌, List, [], ◌∷◌, ◌++◌, length, length-append, refl, sym, ap, subst, ⊎_elim, append_assoc, le_refl, arith}
 use Rattle.std.proofs.lemmas.List.{append-nil, get_or_past}
 use Rattle.gl_outside.specs.Disk.{DiskState, clock, images_since, state_at}
-use Rattle.call_appends.proofs.Images.{leaves_more}
+use Rattle.stored_calls.proofs.call_appends.Images.{leaves_more}
 use Rattle.snap_journal.specs.Formats.{stored_in}
 use Rattle.std.specs.Prelude.{false, suc}
 use Rattle.gl_base.specs.declared.entries.Entry.{Entry}
 use Rattle.gl_base.specs.declared.jobs.FailureAt.{FailureAt}
-use Rattle.call_appends.specs.Appends.{HasOneMore, IsGoodImage}
-use Rattle.cluster_runs.specs.Attempts.{Shared}
+use Rattle.stored_calls.specs.call_appends.Appends.{HasOneMore, IsGoodImage}
+use Rattle.cluster_laws.specs.cluster_runs.Attempts.{Shared}
 use Rattle.recovery.proofs.Goodness.{orders_more}
 use Rattle.recovery.specs.GoodStores.{IsGoodStore}
 use Rattle.snap_journal.specs.Formats.{StandsFor, body_entries, order_behind, with_entries}

@@ -1,7 +1,7 @@
 -- One line more.
 use Rattle.std.proofs.Common.{◌≡◌, ℕ, ◌+◌, List, [], ◌∷◌, ◌++◌, length, suc, subst, arith}
 use Rattle.gl_base.specs.declared.entries.Entry.{Entry}
-use Rattle.cluster_runs.specs.Attempts.{Shared}
+use Rattle.cluster_laws.specs.cluster_runs.Attempts.{Shared}
 use Rattle.stored_answers.specs.Lines.{AreSnapLines, IsLineOf}
 use Rattle.stored_answers.specs.declared.runs.SnapLine.{SnapLine}
 

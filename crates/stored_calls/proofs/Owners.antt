@@ -1,6 +1,6 @@
 -- A run with a store, by whatever owners the placement gives.
 use Rattle.std.proofs.Common.{◌≡◌, ◌<◌, ℕ, ◌++◌, Bool, List, length, refl, subst, subst₂, sym, true}
-use Rattle.cluster_core.specs.Settings.{Locking}
+use Rattle.cluster_laws.specs.cluster_core.Settings.{Locking}
 use Rattle.gl_base.specs.declared.jobs.FailureAt.{FailureAt}
 use Rattle.graph_core.specs.DataGraph.{DataGraph, IsDataGraph, size}
 use Rattle.machine_places.proofs.OwnerLemmas.{owner_low}

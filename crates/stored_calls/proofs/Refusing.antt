@@ -2,12 +2,12 @@
 use Rattle.std.proofs.Common.{◌≡◌, ◌∙◌, ℕ, Bool, ◌+◌, ◌*◌, ◌≤◌, ◌^◌, List, ◌++◌, Err, Result, ap, length, refl, subst, sym, arith}
 use Rattle.std.specs.Prelude.{false, true}
 use Rattle.gl_base.specs.declared.jobs.FailureAt.{FailureAt}
-use Rattle.call_appends.specs.declared.faults.AppendFault.{AppendFault}
-use Rattle.call_appends.specs.declared.faults.AppendFault.TheVariants as append
-use Rattle.call_backs.specs.Failing.{HaveFailedSince, InEachCourse}
-use Rattle.call_backs.specs.Returning.{IsWhyNotBack}
-use Rattle.call_starts.specs.Starting.{IsWhyNotStarted, restart_room}
-use Rattle.cluster_model.specs.Events.{failures_in}
+use Rattle.stored_calls.specs.declared.call_appends.faults.AppendFault.{AppendFault}
+use Rattle.stored_calls.specs.declared.call_appends.faults.AppendFault.TheVariants as append
+use Rattle.stored_calls.specs.call_backs.Failing.{HaveFailedSince, InEachCourse}
+use Rattle.stored_calls.specs.call_backs.Returning.{IsWhyNotBack}
+use Rattle.stored_calls.specs.call_starts.Starting.{IsWhyNotStarted, restart_room}
+use Rattle.cluster_laws.specs.cluster_model.Events.{failures_in}
 use Rattle.recovery.specs.Journals.{records_size, stored_in}
 use Rattle.snap_journal.specs.declared.faults.JournalFault.{JournalFault}
 use Rattle.snap_journal.specs.declared.faults.JournalFault.TheVariants as fault

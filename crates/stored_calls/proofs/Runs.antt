@@ -6,7 +6,7 @@ use Rattle.gl_base.specs.declared.numbers.Vertex.{Vertex}
 use Rattle.attempts.specs.EngineCalls.{made_of}
 use Rattle.call_budgets.proofs.Stretches.{made_fewer}
 use Rattle.call_courses.proofs.Calling.{makes_call}
-use Rattle.cluster_model.specs.Working.{half_window}
+use Rattle.cluster_laws.specs.cluster_model.Working.{half_window}
 use Rattle.recovery.specs.Journals.{records_size}
 use Rattle.stored_calls.proofs.Sizes.{never_needs}
 use Rattle.graph_core.specs.DataGraph.{DataGraph, IsDataGraph, size}

@@ -3,10 +3,10 @@ use Rattle.std.proofs.Common.{◌≡◌, ℕ, ◌+◌, ◌++◌, ◌∙◌, true
 use Rattle.std.specs.Prelude.{IfOk, IfSome, Result}
 use Rattle.gl_base.specs.declared.entries.Entry.{Entry}
 use Rattle.gl_base.specs.declared.jobs.FailureAt.{FailureAt}
-use Rattle.call_appends.specs.Appends.{HasOneMore, IsGoodImage, IsNewestLine, IsWhyNotAppended, NeedsMore, SnapLine}
-use Rattle.call_appends.specs.declared.faults.AppendFault.{AppendFault}
-use Rattle.call_appends.specs.declared.faults.AppendFault.TheVariants as append
-use Rattle.call_backs.proofs.Failings.{stayed}
+use Rattle.stored_calls.specs.call_appends.Appends.{HasOneMore, IsGoodImage, IsNewestLine, IsWhyNotAppended, NeedsMore, SnapLine}
+use Rattle.stored_calls.specs.declared.call_appends.faults.AppendFault.{AppendFault}
+use Rattle.stored_calls.specs.declared.call_appends.faults.AppendFault.TheVariants as append
+use Rattle.stored_calls.proofs.call_backs.Failings.{stayed}
 use Rattle.call_courses.specs.Events.{StaysThere}
 use Rattle.call_returns.specs.declared.restarts.Restarts.{Restarts}
 use Rattle.recovery.specs.GoodStores.{IsGoodStore}

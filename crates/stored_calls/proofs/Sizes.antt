@@ -12,8 +12,8 @@ use Rattle.call_budgets.proofs.Outside.{outside_few}
 use Rattle.call_budgets.proofs.Stretches.{order_few}
 use Rattle.call_courses.specs.Calls.{MakesCall}
 use Rattle.call_courses.specs.Courses.{CallOpening, CourseView, Machine, Setting, first_cluster, first_setting}
-use Rattle.cluster_model.specs.Working.{half_window}
-use Rattle.cluster_runs.specs.Recorded.{shared_of}
+use Rattle.cluster_laws.specs.cluster_model.Working.{half_window}
+use Rattle.cluster_laws.specs.cluster_runs.Recorded.{shared_of}
 use Rattle.graph_core.specs.DataGraph.{size}
 use Rattle.recovery.proofs.Goodness.{last_behind}
 use Rattle.recovery.specs.GoodStores.{orders_behind}

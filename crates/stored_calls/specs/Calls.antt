@@ -1,10 +1,10 @@
 -- Where a call with a store is as it goes on, and as it ends.
-pub use Rattle.call_appends.specs.Appends.{NeedsMore}
+pub use Rattle.stored_calls.specs.call_appends.Appends.{NeedsMore}
 pub use Rattle.call_courses.specs.Courses.{CallOpening, CourseView, IsCourseNow, Setting}
-pub use Rattle.call_ends.specs.Gathered.{IsTaskIn}
+pub use Rattle.stored_calls.specs.call_ends.Gathered.{IsTaskIn}
 pub use Rattle.call_returns.specs.Missing.{Begins}
 pub use Rattle.call_rounds.specs.Pauses.{NoneReached, PausesSo}
-pub use Rattle.cluster_runs.specs.Recorded.{shared_of}
+pub use Rattle.cluster_laws.specs.cluster_runs.Recorded.{shared_of}
 pub use Rattle.placed_savers.specs.Beginning.{ArePlacesOf, IsRunAt, IsSaverOf, SaverView}
 pub use Rattle.recovery.specs.Recovered.{IsHeaderOf}
 pub use Rattle.snap_journal.specs.Disks.{DiskPast, IsImage, LeavesOnly}
@@ -13,8 +13,8 @@ pub use Rattle.stored_answers.specs.Images.{HoldsGood, orders_behind, stored_ord
 pub use Rattle.stored_answers.specs.Lines.{AreSnapLines}
 pub use Rattle.stored_courses.specs.Stores.{Cluster, Header, IsKnownCourse}
 use Rattle.std.specs.Prelude.{Err, IsErrOf, List, Ok, Option, Result, Some, false, length, suc, true, ⊤, ℕ, ◌+◌, ◌++◌, ◌<◌, ◌^◌, ◌≡◌, ◌≤◌}
-use Rattle.call_appends.specs.declared.faults.AppendFault.{AppendFault}
-use Rattle.call_appends.specs.declared.faults.AppendFault.TheVariants as append
+use Rattle.stored_calls.specs.declared.call_appends.faults.AppendFault.{AppendFault}
+use Rattle.stored_calls.specs.declared.call_appends.faults.AppendFault.TheVariants as append
 use Rattle.call_rounds.specs.declared.pauses.Pause.TheVariants as pause
 use Rattle.graph_core.specs.DataGraph.{DataGraph}
 use Rattle.recovery.specs.Journals.{records_size}

@@ -1,6 +1,6 @@
 -- How a run with a store begins, and what it is as it ends.
-pub use Rattle.call_ends.specs.Ends.{IsEndedRun}
-pub use Rattle.call_starts.specs.Starting.{ArePlacedFor, run_shared}
+pub use Rattle.stored_calls.specs.call_ends.Ends.{IsEndedRun}
+pub use Rattle.stored_calls.specs.call_starts.Starting.{ArePlacedFor, run_shared}
 pub use Rattle.cluster_plays.specs.Plans.{IsInRange}
 pub use Rattle.job_runs.specs.Plays.{IsPlacement}
 pub use Rattle.order_text.specs.Orders.{IsEntryOf}

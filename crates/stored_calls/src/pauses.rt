@@ -7,8 +7,8 @@ ghost use Rattle.stored_calls.specs.Calls.{Begins, CallOpening, CanCallGoOn, Dis
 ghost use Rattle.call_rounds.specs.declared.pauses.Pause.TheVariants as pause;
 
 use crate::calls::StoredCall;
-use call_appends::{AppendFault, append_due};
-use call_backs::go_back;
+use crate::call_appends::{AppendFault, append_due};
+use crate::call_backs::go_back;
 use gl_outside::Disk;
 use graph_core::Graph;
 use snap_journal::{Journal, JournalFault};

@@ -14,8 +14,8 @@ ghost use Rattle.update_api.specs.Updates.{Update};
 
 use crate::calls::StoredCall;
 use crate::steps::play_to_end;
-use call_ends::{CallLists, GatherFault, calls_end_so, gather_call};
-use call_starts::{Started, start_call};
+use crate::call_ends::{CallLists, GatherFault, calls_end_so, gather_call};
+use crate::call_starts::{Started, start_call};
 use gl_base::FailureAt;
 use gl_outside::Disk;
 use graph_core::Graph;

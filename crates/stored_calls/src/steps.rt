@@ -4,7 +4,7 @@ ghost use Rattle.stored_calls.specs.Calls.{CallOpening, CanCallGoOn, EndsBy, End
 
 use crate::calls::StoredCall;
 use crate::pauses::{go_back_from, save_due};
-use call_ends::task_left;
+use crate::call_ends::task_left;
 use call_rounds::{Pause, drive};
 use gl_base::NoMemory;
 use gl_outside::Disk;

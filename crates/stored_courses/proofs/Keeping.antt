@@ -6,12 +6,12 @@ use Rattle.gl_base.specs.declared.snapshots.Record.{Record}
 use Rattle.call_courses.specs.Events.{HappensInCall}
 use Rattle.call_courses.proofs.Calling.{due_first}
 use Rattle.call_courses.proofs.Passing.{pass_fronts, pass_lost, pass_records, record_fronts, record_lost, record_records, recover_fronts, recover_lost, recover_records}
-use Rattle.cluster_core.specs.Recovering.{going_on}
-use Rattle.cluster_model.specs.Clusters.{BaseView}
-use Rattle.cluster_model.specs.Events as law
-use Rattle.cluster_model.specs.Leading.{RecordIsDue, Snapshot}
+use Rattle.cluster_laws.specs.cluster_core.Recovering.{going_on}
+use Rattle.cluster_laws.specs.cluster_model.Clusters.{BaseView}
+use Rattle.cluster_laws.specs.cluster_model.Events as law
+use Rattle.cluster_laws.specs.cluster_model.Leading.{RecordIsDue, Snapshot}
 use Rattle.cluster_records.specs.Recorded.{snapshot_due}
-use Rattle.cluster_runs.specs.Recorded.{shared_of}
+use Rattle.cluster_laws.specs.cluster_runs.Recorded.{shared_of}
 use Rattle.recovery.specs.Journals.{NumbersFit, RecordFits, body_bytes}
 use Rattle.snap_clusters.specs.Clusters.{IsSavingClusterOf}
 use Rattle.snap_clusters.specs.declared.events.Event.TheVariants as event

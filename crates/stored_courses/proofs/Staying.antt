@@ -1,9 +1,9 @@
 -- What events leave as it is that acknowledge nothing and begin no attempt.
 use Rattle.std.proofs.Common.{◌≡◌, ◌∙◌, ℕ, List, None, Option, Some, [], ◌∷◌, ◌++◌, refl, subst, sym}
 use Rattle.call_courses.specs.Courses.{ArePassing, Cluster, IsPassing, Setting}
-use Rattle.cluster_core.specs.Messages.{Message}
-use Rattle.cluster_model.specs.Calls.{Call, Count, Report, Saved, Want}
-use Rattle.cluster_model.specs.Events as law
+use Rattle.cluster_laws.specs.cluster_core.Messages.{Message}
+use Rattle.cluster_laws.specs.cluster_model.Calls.{Call, Count, Report, Saved, Want}
+use Rattle.cluster_laws.specs.cluster_model.Events as law
 use Rattle.cluster_whole.specs.Whole.{setting_behind}
 use Rattle.gl_base.specs.declared.scopes.ScopeId.{ScopeId}
 

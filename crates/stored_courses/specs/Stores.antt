@@ -5,7 +5,7 @@ pub use Rattle.store_format.specs.declared.header.Header.{Header}
 use Rattle.std.specs.Prelude.{List, filter, length, ℕ, ◌*◌, ◌+◌, ◌≡◌}
 use Rattle.gl_base.specs.declared.entries.Entry.{Entry}
 use Rattle.attempts.specs.Entries.{is_restart}
-use Rattle.cluster_model.specs.Events as law
+use Rattle.cluster_laws.specs.cluster_model.Events as law
 use Rattle.graph_core.specs.DataGraph.{size}
 use Rattle.recovery.specs.Journals.{records_size}
 use Rattle.whole_calls.specs.Lost.{AreLostIn}

@@ -5,7 +5,7 @@ ghost use Rattle.gl_base.specs.declared.snapshots.Record.{Record};
 ghost use Rattle.call_courses.specs.Courses.{BaseView, Engine, GoesBackWith, HasGoneBack, StoreView, newest_setting};
 ghost use Rattle.call_courses.specs.Events.{HappensInCall};
 ghost use Rattle.cluster_records.specs.Recorded.{snapshot_due};
-ghost use Rattle.cluster_runs.specs.Recorded.{shared_of};
+ghost use Rattle.cluster_laws.specs.cluster_runs.Recorded.{shared_of};
 ghost use Rattle.recovery.specs.Journals.{NumbersFit, RecordFits, body_bytes};
 ghost use Rattle.snap_clusters.specs.declared.events.Event.TheVariants as event;
 ghost use Rattle.snap_clusters.specs.declared.events.Lead.TheVariants as lead;

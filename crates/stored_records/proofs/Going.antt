@@ -16,16 +16,16 @@ use Rattle.attempts.specs.Entries.{is_restart, is_update}
 use Rattle.attempts.specs.Stores.{AreGoodOrders, last_order, snapshots_of}
 use Rattle.attempts.proofs.Standing.{all_back}
 use Rattle.attempts.proofs.Storing.{images_good, last_in_turn, pending_good}
-use Rattle.cluster_core.specs.Recovering.{going_on}
-use Rattle.cluster_core.specs.Settings.{Setting}
-use Rattle.cluster_model.specs.Clusters.{BaseView, Cluster}
-use Rattle.cluster_model.specs.ByTicket.{restarts}
-use Rattle.cluster_model.specs.Events.{Event, GoesBackTo, entries_below, failures_in, recovers}
-use Rattle.cluster_model.specs.Leading.{RecordIsDue, Snapshot}
+use Rattle.cluster_laws.specs.cluster_core.Recovering.{going_on}
+use Rattle.cluster_laws.specs.cluster_core.Settings.{Setting}
+use Rattle.cluster_laws.specs.cluster_model.Clusters.{BaseView, Cluster}
+use Rattle.cluster_laws.specs.cluster_model.ByTicket.{restarts}
+use Rattle.cluster_laws.specs.cluster_model.Events.{Event, GoesBackTo, entries_below, failures_in, recovers}
+use Rattle.cluster_laws.specs.cluster_model.Leading.{RecordIsDue, Snapshot}
 use Rattle.cluster_records.specs.Recorded.{HaveSameNumbers, snapshot_due}
 use Rattle.cluster_whole.specs.Whole.{setting_behind}
-use Rattle.cluster_runs.specs.Attempts.{Shared}
-use Rattle.cluster_runs.specs.Recorded.{shared_of}
+use Rattle.cluster_laws.specs.cluster_runs.Attempts.{Shared}
+use Rattle.cluster_laws.specs.cluster_runs.Recorded.{shared_of}
 use Rattle.merged_logs.proofs.SameLemmas.{HaveSame, same_from}
 use Rattle.recovery.specs.GoodStores.{stored_orders}
 use Rattle.recovery.specs.Journals.{IsBeforeOrAfter, NumbersFit, RecordFits, body_bytes, order_behind, stored_in}

@@ -6,10 +6,10 @@ use Rattle.gl_base.specs.declared.numbers.EdgeNo.{EdgeNo}
 use Rattle.gl_base.specs.declared.numbers.Vertex.{Vertex}
 use Rattle.gl_base.specs.declared.snapshots.Record.{Record}
 use Rattle.gl_base.specs.declared.snapshots.SavedPart.{SavedPart}
-use Rattle.cluster_core.specs.Settings.{Setting}
-use Rattle.cluster_model.specs.Events.{snapshot_numbers}
-use Rattle.cluster_model.specs.Leading.{Snapshot}
-use Rattle.cluster_model.specs.Working.{or_zero}
+use Rattle.cluster_laws.specs.cluster_core.Settings.{Setting}
+use Rattle.cluster_laws.specs.cluster_model.Events.{snapshot_numbers}
+use Rattle.cluster_laws.specs.cluster_model.Leading.{Snapshot}
+use Rattle.cluster_laws.specs.cluster_model.Working.{or_zero}
 use Rattle.graph_core.specs.DataGraph.{size}
 use Rattle.snap_update.specs.Holding.{last_of_edge, last_of_vertex, later_number}
 use Rattle.store_format.specs.ReadBack.{edge_pair, part_edges, part_vertices, record_edges, record_vertices, vertex_pair}

@@ -6,7 +6,7 @@ use Rattle.std.proofs.lemmas.Bool.{cases_Bool, cases_lt, le-ltb, lt-ltb}
 use Rattle.std.proofs.lemmas.List.Sums.{sum_by-append, sum_by-cons}
 use Rattle.gl_base.specs.declared.entries.Entry.{Entry}
 use Rattle.gl_base.specs.declared.entries.Entry.TheVariants.{Go, Restart}
-use Rattle.cluster_model.specs.ByTicket.{StandByTicket}
+use Rattle.cluster_laws.specs.cluster_model.ByTicket.{StandByTicket}
 use Rattle.merged_logs.proofs.SameLemmas.{HaveSame, same_entry, same_is, same_itself}
 use Rattle.store_format.proofs.OrderLemmas.{Ascending, with_ascends}
 use Rattle.store_format.specs.StoredOrders.{entry_rank, put_in_order, with_entries}

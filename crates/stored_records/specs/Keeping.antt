@@ -11,10 +11,10 @@ use Rattle.gl_base.specs.declared.jobs.FailureAt.{FailureAt}
 use Rattle.gl_base.specs.declared.snapshots.Record.{Record}
 use Rattle.gl_base.specs.declared.snapshots.SavedPart.{SavedPart}
 use Rattle.attempts.specs.Entries.{is_restart}
-use Rattle.cluster_core.specs.Settings.{Setting}
-use Rattle.cluster_model.specs.Events.{entries_below}
-use Rattle.cluster_model.specs.Leading.{Snapshot}
-use Rattle.cluster_runs.specs.Recorded.{shared_of}
+use Rattle.cluster_laws.specs.cluster_core.Settings.{Setting}
+use Rattle.cluster_laws.specs.cluster_model.Events.{entries_below}
+use Rattle.cluster_laws.specs.cluster_model.Leading.{Snapshot}
+use Rattle.cluster_laws.specs.cluster_runs.Recorded.{shared_of}
 use Rattle.store_format.specs.declared.header.Header.{Header}
 
 -- Behind the snapshots with which the store began stand those that were acknowledged since, one for one: their orders are told by what their

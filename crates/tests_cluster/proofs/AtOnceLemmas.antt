@@ -2,10 +2,10 @@
 use Rattle.std.proofs.Common.{◌≡◌, ℕ, refl, ap, ◌∙◌, inr, lit<}
 use Rattle.gl_base.specs.declared.entries.Entry.{Entry}
 use Rattle.gl_base.specs.declared.entries.Entry.TheVariants.{Go}
-use Rattle.cluster_core.specs.Effects.{granted, updated}
-use Rattle.cluster_core.specs.Parts.{Part}
-use Rattle.cluster_core.specs.Ranges.{all_passing, first_passing}
-use Rattle.cluster_core.specs.Settings.{Setting}
+use Rattle.cluster_laws.specs.cluster_core.Effects.{granted, updated}
+use Rattle.cluster_laws.specs.cluster_core.Parts.{Part}
+use Rattle.cluster_laws.specs.cluster_core.Ranges.{all_passing, first_passing}
+use Rattle.cluster_laws.specs.cluster_core.Settings.{Setting}
 use Rattle.cluster_machines.specs.Promises.{IsUpdateAtOnce, MayUpdateAtOnce, at_once}
 use Rattle.interior_scopes.proofs.Walking.{admitted_walks, granted_walks, updated_walks}
 use Rattle.tests_cluster.specs.Lone.{lone_scope, lone_setting, over_part, untouched_part}

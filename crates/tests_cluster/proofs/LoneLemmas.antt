@@ -6,10 +6,10 @@ use Rattle.gl_base.specs.declared.entries.Entry.TheVariants.{Go, Restart}
 use Rattle.gl_base.specs.declared.scopes.Claim.{Claim}
 use Rattle.gl_base.specs.declared.scopes.Mode.TheVariants.{Writer}
 use Rattle.gl_base.specs.declared.scopes.ScopeId.{ScopeId}
-use Rattle.cluster_core.specs.Actions.{HasFirst, MayAdmit, MayGrant, MayUpdate}
-use Rattle.cluster_core.specs.Messages.{Message}
-use Rattle.cluster_core.specs.Ranges.{first_passing, all_passing}
-use Rattle.cluster_core.specs.Settings.{Setting}
+use Rattle.cluster_laws.specs.cluster_core.Actions.{HasFirst, MayAdmit, MayGrant, MayUpdate}
+use Rattle.cluster_laws.specs.cluster_core.Messages.{Message}
+use Rattle.cluster_laws.specs.cluster_core.Ranges.{first_passing, all_passing}
+use Rattle.cluster_laws.specs.cluster_core.Settings.{Setting}
 use Rattle.cluster_machines.specs.Promises.{IsAdmission, IsGrant, IsUpdate, is_owner_of}
 use Rattle.tests_cluster.specs.Lone.{asked_part, untouched_part, lone_part, lone_scope, lone_setting, over_part, ready_part}
 use Rattle.tests_cluster.specs.declared.lone.Progress.{Progress}

@@ -3,7 +3,7 @@ use Rattle.std.proofs.Common.{◌≡◌, ℕ, zero, suc, ◌≤◌, List, [], �
 use Rattle.std.proofs.lemmas.Bool.{eq-eqb}
 use Rattle.std.specs.List.{All}
 use Rattle.gl_base.specs.declared.limits.TheConstants.{MAX_ID}
-use Rattle.cluster_core.specs.Settings.{IsSetting, Setting}
+use Rattle.cluster_laws.specs.cluster_core.Settings.{IsSetting, Setting}
 use Rattle.cluster_step.specs.Starts.{IsStartPart, StartIn}
 use Rattle.tests_cluster.specs.Lone.{untouched_part, lone_part, lone_setting}
 use Rattle.tests_cluster.specs.declared.lone.Lone.{Lone}

@@ -3,9 +3,9 @@ use Rattle.std.specs.Prelude.{List, None, [], false, slice_index_or, true, ◌==
 use Rattle.gl_base.specs.declared.entries.Entry.{Entry}
 use Rattle.gl_base.specs.declared.entries.Entry.TheVariants.{Restart}
 use Rattle.gl_base.specs.declared.scopes.ScopeId.{ScopeId}
-use Rattle.cluster_core.specs.Effects.{admitted, granted, nothing_saved, updated}
-use Rattle.cluster_core.specs.Parts.{Part}
-use Rattle.cluster_core.specs.Settings.{Locking, Setting}
+use Rattle.cluster_laws.specs.cluster_core.Effects.{admitted, granted, nothing_saved, updated}
+use Rattle.cluster_laws.specs.cluster_core.Parts.{Part}
+use Rattle.cluster_laws.specs.cluster_core.Settings.{Locking, Setting}
 use Rattle.update_api.specs.Updates.{Update}
 use Rattle.update_api.specs.declared.woken.Woken.TheVariants.{Nobody}
 use Rattle.tests_cluster.specs.declared.lone.Progress.{Progress}

@@ -2,12 +2,12 @@
 use Rattle.std.proofs.Common.{◌≡◌, ◌≢◌, ℕ, zero, suc, ◌+◌, ◌-◌, ◌<◌, ◌≤◌, ◌^◌, Bool, true, false, if◌then◌else◌, ◌&&◌, ◌||◌, is_some, Option, None, Some, List, [], ◌∷◌, ◌++◌, length, append-nil, refl, sym, ◌∙◌, ap, subst, ⊎_elim, arith}
 use Rattle.std.specs.Prelude.{nat_lt}
 use Rattle.std.proofs.lemmas.Bool.{cases_Bool, cases_eq, lt-ltb, ltb-true}
-use Rattle.cluster_core.specs.Ranges.{set_at}
-use Rattle.cluster_core.proofs.Basics.{set_at-other, set_at-same}
-use Rattle.cluster_model.specs.Calls.{Count}
-use Rattle.cluster_model.specs.Machines.{count_of}
-use Rattle.cluster_model.specs.Totals.{total, total_from}
-use Rattle.cluster_model.specs.Working.{or_zero}
+use Rattle.cluster_laws.specs.cluster_core.Ranges.{set_at}
+use Rattle.cluster_laws.proofs.cluster_core.Basics.{set_at-other, set_at-same}
+use Rattle.cluster_laws.specs.cluster_model.Calls.{Count}
+use Rattle.cluster_laws.specs.cluster_model.Machines.{count_of}
+use Rattle.cluster_laws.specs.cluster_model.Totals.{total, total_from}
+use Rattle.cluster_laws.specs.cluster_model.Working.{or_zero}
 use Rattle.gl_base.specs.declared.scopes.Counted.{Counted}
 use Rattle.wave_counts.specs.Counts.{MayTellCounts, CountsView, HasAnsweredWave, HasPutOut, IsCountOf, IsOpenCount, Machine, Message, Setting, answer_reports, answer_to, gained, is_done, is_idle, one_more, prompt, waiting_in}
 use Rattle.wave_counts.specs.declared.answers.WaveAnswer.{WaveAnswer}

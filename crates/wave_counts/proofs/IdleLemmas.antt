@@ -4,9 +4,9 @@ use Rattle.std.proofs.Math.Logic.{⊎_elim}
 use Rattle.std.proofs.lemmas.Bool.{and_parts, cases_Bool, eq-eqb, eqb-true}
 use Rattle.gl_base.specs.declared.scopes.Claim.{Claim}
 use Rattle.graph_core.specs.DataGraph.{size}
-use Rattle.cluster_core.specs.Ranges.{first_passing}
-use Rattle.cluster_core.proofs.Basics.{first_passing-none, first_passing-some}
-use Rattle.cluster_model.specs.Machines.{is_idle, waits}
+use Rattle.cluster_laws.specs.cluster_core.Ranges.{first_passing}
+use Rattle.cluster_laws.proofs.cluster_core.Basics.{first_passing-none, first_passing-some}
+use Rattle.cluster_laws.specs.cluster_model.Machines.{is_idle, waits}
 use Rattle.wave_counts.specs.Counts.{Part, Setting}
 use Rattle.wave_counts.specs.Idle.{AreFlagsOf, AreTasksAndScopesOf, HasNothingToDo, PipeView, TasksView, is_flagged}
 

@@ -1,13 +1,13 @@
 -- What a machine counts, and its answer to a wave.
-pub use Rattle.cluster_core.specs.Messages.{Message}
-pub use Rattle.cluster_core.specs.Parts.{Part}
-pub use Rattle.cluster_core.specs.Settings.{Setting}
-pub use Rattle.cluster_model.specs.Calls.{Wave, Report}
-pub use Rattle.cluster_model.specs.Machines.{Machine, gained, is_idle}
-pub use Rattle.cluster_model.specs.Working.{goes_back, hands, is_done, prompt, takes_call}
+pub use Rattle.cluster_laws.specs.cluster_core.Messages.{Message}
+pub use Rattle.cluster_laws.specs.cluster_core.Parts.{Part}
+pub use Rattle.cluster_laws.specs.cluster_core.Settings.{Setting}
+pub use Rattle.cluster_laws.specs.cluster_model.Calls.{Wave, Report}
+pub use Rattle.cluster_laws.specs.cluster_model.Machines.{Machine, gained, is_idle}
+pub use Rattle.cluster_laws.specs.cluster_model.Working.{goes_back, hands, is_done, prompt, takes_call}
 use Rattle.std.specs.Prelude.{◌≡◌, ℕ, ◌+◌, ◌^◌, ◌<◌, ◌≤◌, Bool, Option, Some, None, List, [], ◌∷◌, if◌then◌else◌, length, nat_lt}
-use Rattle.cluster_model.specs.Calls.{Count}
-use Rattle.cluster_model.specs.Totals.{total}
+use Rattle.cluster_laws.specs.cluster_model.Calls.{Count}
+use Rattle.cluster_laws.specs.cluster_model.Totals.{total}
 use Rattle.wave_counts.specs.declared.answers.WaveAnswer.{WaveAnswer}
 
 -- how many messages to machines have left its outboxes, how many of machines it received, and the wave that it has to answer still

@@ -12,13 +12,13 @@ use Rattle.attempts.specs.Stores.{ResumesFrom, attempted_snapshots, last_order, 
 use Rattle.cluster_attempts.specs.CallsSoFar.{attempt_of, count_to, counts_of}
 use Rattle.cluster_attempts.proofs.Counted.{count_rises, cut_is, last_count}
 use Rattle.cluster_attempts.proofs.Making.{count_none, valid_here}
-use Rattle.cluster_core.specs.Cuts.{cut_of}
-use Rattle.cluster_core.specs.Settings.{IsSetting, Setting}
-use Rattle.cluster_cuts.specs.Goings.{AreUpdatesFrom}
-use Rattle.cluster_model.specs.Clusters.{Cluster}
-use Rattle.cluster_model.specs.Events.{entries_below, snapshot_numbers}
-use Rattle.cluster_model.specs.Leading.{RecordIsDue, Snapshot}
-use Rattle.cluster_runs.specs.Attempts.{Attempt, Beginning}
+use Rattle.cluster_laws.specs.cluster_core.Cuts.{cut_of}
+use Rattle.cluster_laws.specs.cluster_core.Settings.{IsSetting, Setting}
+use Rattle.cluster_laws.specs.cluster_cuts.Goings.{AreUpdatesFrom}
+use Rattle.cluster_laws.specs.cluster_model.Clusters.{Cluster}
+use Rattle.cluster_laws.specs.cluster_model.Events.{entries_below, snapshot_numbers}
+use Rattle.cluster_laws.specs.cluster_model.Leading.{RecordIsDue, Snapshot}
+use Rattle.cluster_laws.specs.cluster_runs.Attempts.{Attempt, Beginning}
 use Rattle.cluster_whole.specs.Logged.{Logged, all_entries, entries_to, is_up_to}
 use Rattle.cluster_whole.specs.Whole.{IsWhole}
 use Rattle.cluster_records.specs.Bases.{IsBased}

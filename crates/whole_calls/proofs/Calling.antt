@@ -18,21 +18,21 @@ use Rattle.attempts.proofs.Storing.{full_is}
 use Rattle.cluster_attempts.specs.CallsSoFar.{counts_of}
 use Rattle.cluster_attempts.specs.Failures.{done_before, done_now}
 use Rattle.cluster_attempts.proofs.Making.{held_is, struck_same}
-use Rattle.cluster_core.specs.Recovering.{going_on}
-use Rattle.cluster_core.specs.Settings.{Setting}
-use Rattle.cluster_core.specs.Ways.{vertex_woken}
-use Rattle.cluster_core.specs.Worlds.{way}
+use Rattle.cluster_laws.specs.cluster_core.Recovering.{going_on}
+use Rattle.cluster_laws.specs.cluster_core.Settings.{Setting}
+use Rattle.cluster_laws.specs.cluster_core.Ways.{vertex_woken}
+use Rattle.cluster_laws.specs.cluster_core.Worlds.{way}
 use Rattle.cluster_ending.specs.Watched.{HasNoTaskLeft}
 use Rattle.cluster_ending.proofs.Courses.{start_followed}
 use Rattle.cluster_ending.proofs.Finding.{no_task_left}
 use Rattle.cluster_ending.proofs.Leaving.{none_woken}
-use Rattle.cluster_model.specs.Clusters.{BaseView, Cluster}
-use Rattle.cluster_model.specs.ByTicket.{restarts}
-use Rattle.cluster_model.specs.Events.{Event, GoesBackTo, PutBegin, Record, after_event, failures_in, recovers, setting_after}
-use Rattle.cluster_model.specs.Leading.{HasSeenTheEnd, HasStoreRoom, HoldsAll, RecordIsDue, Snapshot, SnapshotIsDue, entries_in, updates_told}
-use Rattle.cluster_model.specs.Working.{half_window}
-use Rattle.cluster_runs.specs.Attempts.{Attempt, Beginning}
-use Rattle.cluster_runs.specs.Recorded.{shared_of}
+use Rattle.cluster_laws.specs.cluster_model.Clusters.{BaseView, Cluster}
+use Rattle.cluster_laws.specs.cluster_model.ByTicket.{restarts}
+use Rattle.cluster_laws.specs.cluster_model.Events.{Event, GoesBackTo, PutBegin, Record, after_event, failures_in, recovers, setting_after}
+use Rattle.cluster_laws.specs.cluster_model.Leading.{HasSeenTheEnd, HasStoreRoom, HoldsAll, RecordIsDue, Snapshot, SnapshotIsDue, entries_in, updates_told}
+use Rattle.cluster_laws.specs.cluster_model.Working.{half_window}
+use Rattle.cluster_laws.specs.cluster_runs.Attempts.{Attempt, Beginning}
+use Rattle.cluster_laws.specs.cluster_runs.Recorded.{shared_of}
 use Rattle.cluster_whole.specs.Logged.{Logged, all_entries, entries_to}
 use Rattle.cluster_whole.specs.Views.{world_of}
 use Rattle.cluster_whole.specs.Whole.{setting_behind}

@@ -13,20 +13,20 @@ use Rattle.attempts.proofs.Prefixes.{last_order_append}
 use Rattle.attempts.proofs.Storing.{begins_push, goes_back}
 use Rattle.cluster_attempts.specs.CallsSoFar.{count_to, counts_of}
 use Rattle.cluster_attempts.proofs.Joining.{made_now}
-use Rattle.cluster_core.specs.Messages.{Message}
-use Rattle.cluster_core.specs.Settings.{Setting}
+use Rattle.cluster_laws.specs.cluster_core.Messages.{Message}
+use Rattle.cluster_laws.specs.cluster_core.Settings.{Setting}
 use Rattle.cluster_ending.specs.Watched.{HasNoTaskLeft, IsWatched, Watch}
 use Rattle.cluster_ending.specs.Ends.{IsNoBegin}
 use Rattle.cluster_ending.proofs.Courses.{event_kept, numbers_after, setting_same, watch_kept}
 use Rattle.cluster_ending.proofs.Finding.{no_task_left}
 use Rattle.cluster_ending.proofs.Leaving.{done_moved}
-use Rattle.cluster_model.specs.Calls.{Call, Count, Report, Saved, Want}
-use Rattle.cluster_model.specs.Clusters.{BaseView, Cluster}
-use Rattle.cluster_model.specs.Events.{Event, Admit, DeliverCall, DeliverReport, Deliver, Fail, GoesBackTo, Grant, IsCourse, Mark, MayDo, PutBegin, PutStep, PutWave, Record, Recover, Section, Send, SendCall, SendReport, Stop, Update, after_event, delivers_call, delivers_message, delivers_report, failures_in, makes, recovers, saves, sends_call, sends_message, sends_report, setting_after}
-use Rattle.cluster_model.specs.Leading.{HasSeenTheEnd, HoldsAll, Snapshot}
-use Rattle.cluster_model.specs.Working.{half_window}
-use Rattle.cluster_runs.specs.Attempts.{Attempt, Beginning, Shared}
-use Rattle.cluster_runs.specs.Recorded.{shared_of}
+use Rattle.cluster_laws.specs.cluster_model.Calls.{Call, Count, Report, Saved, Want}
+use Rattle.cluster_laws.specs.cluster_model.Clusters.{BaseView, Cluster}
+use Rattle.cluster_laws.specs.cluster_model.Events.{Event, Admit, DeliverCall, DeliverReport, Deliver, Fail, GoesBackTo, Grant, IsCourse, Mark, MayDo, PutBegin, PutStep, PutWave, Record, Recover, Section, Send, SendCall, SendReport, Stop, Update, after_event, delivers_call, delivers_message, delivers_report, failures_in, makes, recovers, saves, sends_call, sends_message, sends_report, setting_after}
+use Rattle.cluster_laws.specs.cluster_model.Leading.{HasSeenTheEnd, HoldsAll, Snapshot}
+use Rattle.cluster_laws.specs.cluster_model.Working.{half_window}
+use Rattle.cluster_laws.specs.cluster_runs.Attempts.{Attempt, Beginning, Shared}
+use Rattle.cluster_laws.specs.cluster_runs.Recorded.{shared_of}
 use Rattle.cluster_whole.specs.Logged.{Logged, all_entries, entries_to}
 use Rattle.cluster_whole.specs.Views.{world_of}
 use Rattle.cluster_whole.specs.Whole.{IsNoRecovery, setting_behind}

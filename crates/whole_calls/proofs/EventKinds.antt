@@ -1,7 +1,7 @@
 -- An event makes an update, or is a recovery, or neither.
 use Rattle.gl_base.specs.declared.scopes.ScopeId.{ScopeId}
-use Rattle.cluster_model.specs.Clusters.{BaseView}
-use Rattle.cluster_model.specs.Events.{Event, Admit, DeliverCall, DeliverReport, Deliver, Fail, Grant, Mark, PutBegin, PutStep, PutWave, Record, Recover, Section, Send, SendCall, SendReport, Stop, Update}
+use Rattle.cluster_laws.specs.cluster_model.Clusters.{BaseView}
+use Rattle.cluster_laws.specs.cluster_model.Events.{Event, Admit, DeliverCall, DeliverReport, Deliver, Fail, Grant, Mark, PutBegin, PutStep, PutWave, Record, Recover, Section, Send, SendCall, SendReport, Stop, Update}
 use Rattle.cluster_whole.specs.Whole.{IsNoRecovery}
 use Rattle.cluster_records.proofs.Entering.{IsNoUpdate}
 

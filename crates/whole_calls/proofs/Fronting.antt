@@ -14,13 +14,13 @@ use Rattle.attempts.proofs.Accounting.{filter_none}
 use Rattle.attempts.proofs.Cutting.{all_cut}
 use Rattle.attempts.proofs.Failing.{no_restart}
 use Rattle.attempts.proofs.Storing.{call_stores}
-use Rattle.cluster_core.specs.Cuts.{cut_of}
-use Rattle.cluster_core.specs.Settings.{Setting}
-use Rattle.cluster_cuts.specs.Goings.{AreUpdatesFrom}
-use Rattle.cluster_model.specs.Events.{entries_below}
-use Rattle.cluster_model.specs.Leading.{Snapshot}
+use Rattle.cluster_laws.specs.cluster_core.Cuts.{cut_of}
+use Rattle.cluster_laws.specs.cluster_core.Settings.{Setting}
+use Rattle.cluster_laws.specs.cluster_cuts.Goings.{AreUpdatesFrom}
+use Rattle.cluster_laws.specs.cluster_model.Events.{entries_below}
+use Rattle.cluster_laws.specs.cluster_model.Leading.{Snapshot}
 use Rattle.cluster_records.proofs.Merging.{one_order}
-use Rattle.cluster_runs.specs.Attempts.{Attempt, Beginning, Shared}
+use Rattle.cluster_laws.specs.cluster_runs.Attempts.{Attempt, Beginning, Shared}
 use Rattle.merged_logs.proofs.SameLemmas.{permutation_from, same_from}
 use Rattle.whole_calls.specs.Saved.{AreNextOrders, AreSnapshotsOf, IsNextOrder}
 

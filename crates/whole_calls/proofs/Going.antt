@@ -13,12 +13,12 @@ use Rattle.cluster_attempts.specs.CallsSoFar.{IsCallSoFar, attempt_of}
 use Rattle.cluster_attempts.specs.Failures.{FailAsOrdered, StopsAtCount, done_before, done_now}
 use Rattle.cluster_attempts.proofs.Joining.{done_kept, quiet_so, recover_so, update_so}
 use Rattle.cluster_attempts.proofs.Making.{logs_are}
-use Rattle.cluster_core.specs.Replays.{entries_of, is_of}
-use Rattle.cluster_core.specs.Settings.{IsSetting, Setting}
-use Rattle.cluster_model.specs.Clusters.{BaseView, Cluster}
-use Rattle.cluster_model.specs.Events.{Event, Fail, GoesBackTo, MayDo, Recover, Update, after_event, recovers, setting_after}
-use Rattle.cluster_runs.specs.Attempts.{Attempt, Beginning, is_reached}
-use Rattle.cluster_runs.specs.Recorded.{shared_of}
+use Rattle.cluster_laws.specs.cluster_core.Replays.{entries_of, is_of}
+use Rattle.cluster_laws.specs.cluster_core.Settings.{IsSetting, Setting}
+use Rattle.cluster_laws.specs.cluster_model.Clusters.{BaseView, Cluster}
+use Rattle.cluster_laws.specs.cluster_model.Events.{Event, Fail, GoesBackTo, MayDo, Recover, Update, after_event, recovers, setting_after}
+use Rattle.cluster_laws.specs.cluster_runs.Attempts.{Attempt, Beginning, is_reached}
+use Rattle.cluster_laws.specs.cluster_runs.Recorded.{shared_of}
 use Rattle.cluster_whole.specs.Logged.{Logged, all_entries}
 use Rattle.cluster_whole.specs.Whole.{IsNoRecovery, IsWhole}
 use Rattle.cluster_whole.proofs.Flows.{total_from-same}

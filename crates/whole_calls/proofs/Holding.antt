@@ -6,15 +6,15 @@ use Rattle.std.proofs.lemmas.List.Elements.{All-get_or}
 use Rattle.std.proofs.lemmas.List.Sorted.{length_permutation}
 use Rattle.gl_base.specs.declared.entries.Entry.{Entry}
 use Rattle.gl_base.specs.declared.scopes.Counted.{Counted}
-use Rattle.cluster_core.specs.Replays.{entries_of}
-use Rattle.cluster_core.specs.Settings.{IsSetting, Setting}
+use Rattle.cluster_laws.specs.cluster_core.Replays.{entries_of}
+use Rattle.cluster_laws.specs.cluster_core.Settings.{IsSetting, Setting}
 use Rattle.cluster_ending.specs.Watched.{IsWatched, Watch}
 use Rattle.cluster_ending.proofs.Finding as finding
-use Rattle.cluster_model.specs.Clusters.{Cluster}
-use Rattle.cluster_model.specs.Events.{entries_in_all}
-use Rattle.cluster_model.specs.Leading.{HasSeenTheEnd, HoldsAll, entries_in, updates_told}
-use Rattle.cluster_model.specs.Totals.{total}
-use Rattle.cluster_model.specs.TwoWaves.{IsIdleAnswer}
+use Rattle.cluster_laws.specs.cluster_model.Clusters.{Cluster}
+use Rattle.cluster_laws.specs.cluster_model.Events.{entries_in_all}
+use Rattle.cluster_laws.specs.cluster_model.Leading.{HasSeenTheEnd, HoldsAll, entries_in, updates_told}
+use Rattle.cluster_laws.specs.cluster_model.Totals.{total}
+use Rattle.cluster_laws.specs.cluster_model.TwoWaves.{IsIdleAnswer}
 use Rattle.cluster_whole.specs.Logged.{Logged, all_entries, entries_to}
 use Rattle.cluster_whole.specs.Whole.{IsWhole}
 use Rattle.cluster_whole.proofs.Flows.{total_from-same}

@@ -17,17 +17,17 @@ use Rattle.attempts.proofs.Cutting.{all_cut, all_left, cut_and_left}
 use Rattle.attempts.proofs.Failing.{no_restart}
 use Rattle.cluster_attempts.specs.CallsSoFar.{attempt_of}
 use Rattle.cluster_attempts.proofs.Making.{held_is}
-use Rattle.cluster_core.specs.Replays.{ticket_of}
-use Rattle.cluster_core.specs.Settings.{IsSetting, Setting}
-use Rattle.cluster_cuts.specs.Goings.{AreUpdatesFrom}
-use Rattle.cluster_model.specs.ByTicket.{StandByTicket, restarts}
-use Rattle.cluster_model.specs.Clusters.{BaseView, Cluster}
-use Rattle.cluster_model.specs.Events.{GoesBackTo, failures_in}
+use Rattle.cluster_laws.specs.cluster_core.Replays.{ticket_of}
+use Rattle.cluster_laws.specs.cluster_core.Settings.{IsSetting, Setting}
+use Rattle.cluster_laws.specs.cluster_cuts.Goings.{AreUpdatesFrom}
+use Rattle.cluster_laws.specs.cluster_model.ByTicket.{StandByTicket, restarts}
+use Rattle.cluster_laws.specs.cluster_model.Clusters.{BaseView, Cluster}
+use Rattle.cluster_laws.specs.cluster_model.Events.{GoesBackTo, failures_in}
 use Rattle.cluster_records.specs.Bases.{IsBased}
 use Rattle.cluster_records.specs.Recorded.{IsAccounted}
 use Rattle.cluster_records.proofs.Based.{base_order}
 use Rattle.cluster_records.proofs.Numbering.{all_own}
-use Rattle.cluster_runs.specs.Attempts.{Attempt, Beginning}
+use Rattle.cluster_laws.specs.cluster_runs.Attempts.{Attempt, Beginning}
 use Rattle.cluster_whole.specs.Logged.{Logged, all_entries}
 use Rattle.cluster_whole.specs.Whole.{IsWhole}
 use Rattle.merged_logs.specs.Merges.{IsMerge}

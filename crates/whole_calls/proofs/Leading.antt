@@ -14,14 +14,14 @@ use Rattle.cluster_attempts.specs.CallsSoFar.{attempt_of}
 use Rattle.cluster_attempts.specs.Failures.{done_before, done_now}
 use Rattle.cluster_attempts.proofs.Joining.{begins_so, made_now}
 use Rattle.cluster_attempts.proofs.Making.{done_is, logs_are}
-use Rattle.cluster_core.specs.Recovering.{going_on}
-use Rattle.cluster_core.specs.Replays.{IsTask}
-use Rattle.cluster_core.specs.Settings.{IsSetting, Setting}
-use Rattle.cluster_model.specs.ByTicket.{StandByTicket}
-use Rattle.cluster_model.specs.Clusters.{BaseView, Cluster}
-use Rattle.cluster_model.specs.Events.{Event, Admit, DeliverCall, DeliverReport, Deliver, Fail, Grant, Mark, PutBegin, PutStep, PutWave, Record, Recover, Section, Send, SendCall, SendReport, Stop, Update, recovers, setting_after}
-use Rattle.cluster_runs.specs.Attempts.{Attempt, Beginning, Shared, done_with}
-use Rattle.cluster_runs.specs.Recorded.{shared_of}
+use Rattle.cluster_laws.specs.cluster_core.Recovering.{going_on}
+use Rattle.cluster_laws.specs.cluster_core.Replays.{IsTask}
+use Rattle.cluster_laws.specs.cluster_core.Settings.{IsSetting, Setting}
+use Rattle.cluster_laws.specs.cluster_model.ByTicket.{StandByTicket}
+use Rattle.cluster_laws.specs.cluster_model.Clusters.{BaseView, Cluster}
+use Rattle.cluster_laws.specs.cluster_model.Events.{Event, Admit, DeliverCall, DeliverReport, Deliver, Fail, Grant, Mark, PutBegin, PutStep, PutWave, Record, Recover, Section, Send, SendCall, SendReport, Stop, Update, recovers, setting_after}
+use Rattle.cluster_laws.specs.cluster_runs.Attempts.{Attempt, Beginning, Shared, done_with}
+use Rattle.cluster_laws.specs.cluster_runs.Recorded.{shared_of}
 use Rattle.cluster_whole.specs.Logged.{Logged, all_entries}
 use Rattle.cluster_whole.specs.Views.{world_of}
 use Rattle.cluster_whole.specs.Whole.{AreColoured, setting_behind}

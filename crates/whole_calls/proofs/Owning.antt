@@ -5,23 +5,23 @@ use Rattle.gl_base.specs.declared.entries.Entry.{Entry}
 use Rattle.gl_base.specs.declared.entries.Entry.TheVariants.{Go, Restart}
 use Rattle.graph_core.proofs.HalvesLaws.{each-append}
 use Rattle.attempts.specs.Entries.{is_update}
-use Rattle.cluster_core.specs.Effects.{nothing_saved}
-use Rattle.cluster_core.specs.Messages.{Ask, Done, Message, Ready, Section}
-use Rattle.cluster_core.specs.Settings.{IsSetting, Setting}
-use Rattle.cluster_core.specs.Worlds.{World}
-use Rattle.cluster_core.proofs.Basics.{set_at-cases}
-use Rattle.cluster_core.specs.Cuts.{cut_of}
-use Rattle.cluster_core.specs.Replays.{replay_of}
-use Rattle.cluster_cuts.proofs.CutsKept.{recorded, recorded_cut}
-use Rattle.cluster_cuts.proofs.MarkEvents.{all_known, section_come}
-use Rattle.cluster_model.specs.Calls.{Begin, Call, Committed, Report, Step, Wave}
-use Rattle.cluster_model.specs.Clusters.{BaseView, Cluster, with_machine}
-use Rattle.cluster_model.specs.Events as law
-use Rattle.cluster_model.specs.Events.{Event, MayDo, after_event, delivers_call, delivers_message, makes, recovers, saves, sends_call, sends_message, sends_report, delivers_report, entries_below, snapshot_numbers}
-use Rattle.cluster_model.specs.Leading.{RecordIsDue, come_or}
-use Rattle.cluster_model.specs.Machines.{Machine}
-use Rattle.cluster_model.specs.Working.{admits, fails, grants, hands, hands_report, makes_mark, makes_update, prompt, receives, sections, takes_call}
-use Rattle.cluster_numbers.proofs.Quiet.{admitted-quiet, goes_on-quiet, granted-quiet}
+use Rattle.cluster_laws.specs.cluster_core.Effects.{nothing_saved}
+use Rattle.cluster_laws.specs.cluster_core.Messages.{Ask, Done, Message, Ready, Section}
+use Rattle.cluster_laws.specs.cluster_core.Settings.{IsSetting, Setting}
+use Rattle.cluster_laws.specs.cluster_core.Worlds.{World}
+use Rattle.cluster_laws.proofs.cluster_core.Basics.{set_at-cases}
+use Rattle.cluster_laws.specs.cluster_core.Cuts.{cut_of}
+use Rattle.cluster_laws.specs.cluster_core.Replays.{replay_of}
+use Rattle.cluster_laws.proofs.cluster_cuts.CutsKept.{recorded, recorded_cut}
+use Rattle.cluster_laws.proofs.cluster_cuts.MarkEvents.{all_known, section_come}
+use Rattle.cluster_laws.specs.cluster_model.Calls.{Begin, Call, Committed, Report, Step, Wave}
+use Rattle.cluster_laws.specs.cluster_model.Clusters.{BaseView, Cluster, with_machine}
+use Rattle.cluster_laws.specs.cluster_model.Events as law
+use Rattle.cluster_laws.specs.cluster_model.Events.{Event, MayDo, after_event, delivers_call, delivers_message, makes, recovers, saves, sends_call, sends_message, sends_report, delivers_report, entries_below, snapshot_numbers}
+use Rattle.cluster_laws.specs.cluster_model.Leading.{RecordIsDue, come_or}
+use Rattle.cluster_laws.specs.cluster_model.Machines.{Machine}
+use Rattle.cluster_laws.specs.cluster_model.Working.{admits, fails, grants, hands, hands_report, makes_mark, makes_update, prompt, receives, sections, takes_call}
+use Rattle.cluster_laws.proofs.cluster_numbers.Quiet.{admitted-quiet, goes_on-quiet, granted-quiet}
 use Rattle.cluster_records.specs.Listed.{entries_at, is_first_in}
 use Rattle.cluster_records.specs.Recorded.{IsAccounted, IsOwnUpdate, snapshot_due}
 use Rattle.cluster_records.proofs.Numbering.{passing_own}

@@ -4,8 +4,8 @@ use Rattle.std.specs.List.{AllByRecursion}
 use Rattle.std.proofs.lemmas.Bool.{and_from, and_left, and_parts, and_right, cases_Bool, cases_eq, cases_lt, cond-false, cond-true, eq-eqb, eqb-true, false_from_ne_true, le-ltb, leb-true, ne_eqb}
 use Rattle.std.proofs.lemmas.List.Sums.{length-filter}
 use Rattle.gl_base.specs.declared.jobs.FailureAt.{FailureAt}
-use Rattle.cluster_model.specs.Totals.{total}
-use Rattle.cluster_runs.specs.Attempts.{is_reached}
+use Rattle.cluster_laws.specs.cluster_model.Totals.{total}
+use Rattle.cluster_laws.specs.cluster_runs.Attempts.{is_reached}
 use Rattle.cluster_whole.proofs.Flows.{total_from-more, total_from-none, total_from-same}
 use Rattle.whole_calls.specs.Following.{AreDifferent, reaches}
 

@@ -12,15 +12,15 @@ use Rattle.attempts.proofs.Cutting.{cut_and_left}
 use Rattle.attempts.proofs.Prefixes.{last_order_map}
 use Rattle.cluster_attempts.specs.CallsSoFar.{attempt_of}
 use Rattle.cluster_attempts.proofs.Making.{held_is}
-use Rattle.cluster_core.specs.Cuts.{cut_of}
-use Rattle.cluster_core.specs.Settings.{IsSetting, Setting}
-use Rattle.cluster_cuts.specs.Goings.{AreUpdatesFrom}
-use Rattle.cluster_model.specs.ByTicket.{restarts}
-use Rattle.cluster_model.specs.Clusters.{Cluster}
-use Rattle.cluster_model.specs.Events.{entries_below}
-use Rattle.cluster_model.specs.Leading.{HasStoreRoom, RecordIsDue, Snapshot, come_or, record_length}
-use Rattle.cluster_model.specs.Totals.{total}
-use Rattle.cluster_runs.specs.Attempts.{Attempt, Beginning}
+use Rattle.cluster_laws.specs.cluster_core.Cuts.{cut_of}
+use Rattle.cluster_laws.specs.cluster_core.Settings.{IsSetting, Setting}
+use Rattle.cluster_laws.specs.cluster_cuts.Goings.{AreUpdatesFrom}
+use Rattle.cluster_laws.specs.cluster_model.ByTicket.{restarts}
+use Rattle.cluster_laws.specs.cluster_model.Clusters.{Cluster}
+use Rattle.cluster_laws.specs.cluster_model.Events.{entries_below}
+use Rattle.cluster_laws.specs.cluster_model.Leading.{HasStoreRoom, RecordIsDue, Snapshot, come_or, record_length}
+use Rattle.cluster_laws.specs.cluster_model.Totals.{total}
+use Rattle.cluster_laws.specs.cluster_runs.Attempts.{Attempt, Beginning}
 use Rattle.cluster_whole.specs.Logged.{Logged, all_entries, entries_to}
 use Rattle.cluster_whole.specs.Whole.{IsWhole}
 use Rattle.cluster_records.specs.Recorded.{IsAccounted, snapshot_due}

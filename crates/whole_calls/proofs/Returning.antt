@@ -12,18 +12,18 @@ use Rattle.attempts.proofs.Prefixes.{last_order_append}
 use Rattle.attempts.proofs.Storing.{recovery_is}
 use Rattle.cluster_attempts.proofs.Joining.{made_now}
 use Rattle.cluster_attempts.proofs.Making.{held_is, struck_same}
-use Rattle.cluster_core.specs.Settings.{Setting}
-use Rattle.cluster_model.specs.ByTicket.{restarts}
-use Rattle.cluster_model.specs.Clusters.{BaseView, Cluster}
-use Rattle.cluster_model.specs.Events.{GoesBackTo, entries_in_all, failures_in, newest_of}
-use Rattle.cluster_model.specs.Leading.{Snapshot}
+use Rattle.cluster_laws.specs.cluster_core.Settings.{Setting}
+use Rattle.cluster_laws.specs.cluster_model.ByTicket.{restarts}
+use Rattle.cluster_laws.specs.cluster_model.Clusters.{BaseView, Cluster}
+use Rattle.cluster_laws.specs.cluster_model.Events.{GoesBackTo, entries_in_all, failures_in, newest_of}
+use Rattle.cluster_laws.specs.cluster_model.Leading.{Snapshot}
 use Rattle.cluster_records.proofs.Based.{next_base}
 use Rattle.cluster_records.proofs.Gathering.{all_gathered}
 use Rattle.cluster_records.proofs.Merging.{stand_behind}
 use Rattle.cluster_records.proofs.Recording.{all_new}
 use Rattle.cluster_records.specs.Recorded.{HaveSameNumbers}
-use Rattle.cluster_runs.specs.Attempts.{Attempt, Beginning}
-use Rattle.cluster_runs.specs.Recorded.{shared_of}
+use Rattle.cluster_laws.specs.cluster_runs.Attempts.{Attempt, Beginning}
+use Rattle.cluster_laws.specs.cluster_runs.Recorded.{shared_of}
 use Rattle.cluster_whole.specs.Logged.{Logged, entries_to, is_up_to}
 use Rattle.seq_run.specs.Orders.{replay}
 use Rattle.whole_calls.specs.Following.{has_reached}

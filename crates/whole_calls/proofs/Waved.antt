@@ -6,23 +6,23 @@ use Rattle.gl_base.specs.declared.jobs.FailureAt.{FailureAt}
 use Rattle.gl_base.specs.declared.scopes.Counted.{Counted}
 use Rattle.gl_base.specs.declared.scopes.ScopeId.{ScopeId}
 use Rattle.cluster_attempts.specs.Failures.{done_before}
-use Rattle.cluster_core.specs.Messages.{Message}
-use Rattle.cluster_core.specs.Settings.{Setting}
-use Rattle.cluster_core.proofs.Basics.{set_at-other}
+use Rattle.cluster_laws.specs.cluster_core.Messages.{Message}
+use Rattle.cluster_laws.specs.cluster_core.Settings.{Setting}
+use Rattle.cluster_laws.proofs.cluster_core.Basics.{set_at-other}
 use Rattle.cluster_ending.specs.Watched.{HasAnswered, IsNotAbove, IsWatched, Watch, last_counts, shown_by, shown_in, waves_in}
 use Rattle.cluster_ending.proofs.Coming.{last_same}
 use Rattle.cluster_ending.proofs.Deeds.{low_again}
 use Rattle.cluster_ending.proofs.Finding.{done, last_is}
 use Rattle.cluster_ending.proofs.Words.{waves-append}
-use Rattle.cluster_model.specs.Calls.{Begin, Call, Committed, Count, Report, Saved, Step, Want, Wave}
-use Rattle.cluster_model.specs.Clusters.{BaseView, Cluster, call_way}
-use Rattle.cluster_model.specs.Counting.{Counting}
-use Rattle.cluster_model.specs.Events.{Event, Admit, DeliverCall, DeliverReport, Deliver, Fail, Grant, Mark, MayDo, PutBegin, PutStep, PutWave, Record, Recover, Section, Send, SendCall, SendReport, Stop, Update, after_event, delivers_call, delivers_message, delivers_report, makes, recovers, saves, sends_call, sends_message, sends_report}
-use Rattle.cluster_model.specs.Leading.{HasSeenTheEnd}
-use Rattle.cluster_model.specs.Machines.{Machine, count_of}
-use Rattle.cluster_model.specs.Rounds.{with_step}
-use Rattle.cluster_model.specs.TwoWaves.{IsIdleAnswer}
-use Rattle.cluster_runs.specs.Attempts.{Attempt, Beginning}
+use Rattle.cluster_laws.specs.cluster_model.Calls.{Begin, Call, Committed, Count, Report, Saved, Step, Want, Wave}
+use Rattle.cluster_laws.specs.cluster_model.Clusters.{BaseView, Cluster, call_way}
+use Rattle.cluster_laws.specs.cluster_model.Counting.{Counting}
+use Rattle.cluster_laws.specs.cluster_model.Events.{Event, Admit, DeliverCall, DeliverReport, Deliver, Fail, Grant, Mark, MayDo, PutBegin, PutStep, PutWave, Record, Recover, Section, Send, SendCall, SendReport, Stop, Update, after_event, delivers_call, delivers_message, delivers_report, makes, recovers, saves, sends_call, sends_message, sends_report}
+use Rattle.cluster_laws.specs.cluster_model.Leading.{HasSeenTheEnd}
+use Rattle.cluster_laws.specs.cluster_model.Machines.{Machine, count_of}
+use Rattle.cluster_laws.specs.cluster_model.Rounds.{with_step}
+use Rattle.cluster_laws.specs.cluster_model.TwoWaves.{IsIdleAnswer}
+use Rattle.cluster_laws.specs.cluster_runs.Attempts.{Attempt, Beginning}
 use Rattle.cluster_whole.specs.Logged.{Logged}
 use Rattle.cluster_whole.specs.Steps.{Holds, IsCalled, Tells, Told, Turn, calls_of, is_told}
 use Rattle.cluster_whole.specs.Whole.{IsNoRecovery}

@@ -11,12 +11,12 @@ use Rattle.attempts.proofs.Counting.{made_by-append}
 use Rattle.attempts.proofs.Cutting.{cut_and_left}
 use Rattle.cluster_attempts.specs.CallsSoFar.{attempt_of}
 use Rattle.cluster_attempts.proofs.Making.{held_is}
-use Rattle.cluster_core.specs.Replays.{is_of}
-use Rattle.cluster_core.specs.Settings.{IsSetting, Setting}
-use Rattle.cluster_cuts.specs.Goings.{AreUpdatesFrom}
-use Rattle.cluster_model.specs.Clusters.{Cluster}
-use Rattle.cluster_model.specs.Machines.{outside}
-use Rattle.cluster_runs.specs.Attempts.{Attempt, Beginning, made_by}
+use Rattle.cluster_laws.specs.cluster_core.Replays.{is_of}
+use Rattle.cluster_laws.specs.cluster_core.Settings.{IsSetting, Setting}
+use Rattle.cluster_laws.specs.cluster_cuts.Goings.{AreUpdatesFrom}
+use Rattle.cluster_laws.specs.cluster_model.Clusters.{Cluster}
+use Rattle.cluster_laws.specs.cluster_model.Machines.{outside}
+use Rattle.cluster_laws.specs.cluster_runs.Attempts.{Attempt, Beginning, made_by}
 use Rattle.cluster_whole.specs.Logged.{Logged, all_entries, entries_to, is_up_to}
 use Rattle.cluster_whole.specs.Whole.{IsWhole}
 use Rattle.cluster_records.specs.Recorded.{IsAccounted}

@@ -5,15 +5,15 @@ use Rattle.gl_base.specs.declared.entries.Entry.TheVariants.{Go}
 use Rattle.gl_base.specs.declared.scopes.Counted.{Counted}
 use Rattle.gl_base.specs.declared.scopes.Mode.{Mode}
 use Rattle.gl_base.specs.declared.scopes.ScopeId.{ScopeId}
-use Rattle.cluster_core.specs.Ranges.{all_passing, first_passing}
-use Rattle.cluster_core.specs.Scopes.{is_scope, set_for}
-use Rattle.cluster_core.specs.Settings.{Chromatic, Locking}
+use Rattle.cluster_laws.specs.cluster_core.Ranges.{all_passing, first_passing}
+use Rattle.cluster_laws.specs.cluster_core.Scopes.{is_scope, set_for}
+use Rattle.cluster_laws.specs.cluster_core.Settings.{Chromatic, Locking}
 use Rattle.cluster_ending.specs.FourWaves.{first_base, fresh_cluster, idle_answer, lone_events, started_from}
 use Rattle.cluster_ending.proofs.WorkedWaves.{lone_setting}
-use Rattle.cluster_model.specs.Events.{IsCourse, entries_in_all}
-use Rattle.cluster_model.specs.Leading.{Coordinator, HasSeenTheEnd, HoldsAll, Snapshot, SnapshotIsDue, entries_in, updates_told}
-use Rattle.cluster_model.specs.Totals.{total_from}
-use Rattle.cluster_model.specs.TwoWaves.{IsIdleAnswer, ShowTheEnd}
+use Rattle.cluster_laws.specs.cluster_model.Events.{IsCourse, entries_in_all}
+use Rattle.cluster_laws.specs.cluster_model.Leading.{Coordinator, HasSeenTheEnd, HoldsAll, Snapshot, SnapshotIsDue, entries_in, updates_told}
+use Rattle.cluster_laws.specs.cluster_model.Totals.{total_from}
+use Rattle.cluster_laws.specs.cluster_model.TwoWaves.{IsIdleAnswer, ShowTheEnd}
 use Rattle.cluster_records.specs.Few.{unasked_in}
 use Rattle.cluster_whole.specs.Windows.{scope_at}
 use Rattle.seq_run.proofs.EachOf.{all_is}

@@ -5,13 +5,13 @@ use Rattle.gl_base.specs.declared.jobs.FailureAt.{FailureAt}
 use Rattle.gl_base.specs.Lists.{Ascends}
 use Rattle.gl_base.specs.declared.limits.TheConstants.{MAX_ID}
 use Rattle.graph_core.specs.DataGraph.{DataEdge, IsDataGraph, IsEdge, size}
-use Rattle.cluster_core.specs.Ranges.{first_passing}
-use Rattle.cluster_core.specs.Settings.{IsSetting, Setting}
-use Rattle.cluster_model.specs.Clusters.{Cluster}
-use Rattle.cluster_model.specs.Events.{DeliverCall, Event, Fail, GoesBackTo, IsCourse, Recover, after_event, setting_after}
-use Rattle.cluster_model.specs.Machines.{completed}
-use Rattle.cluster_model.specs.Totals.{total_from}
-use Rattle.cluster_places.specs.Steps.{AreApart}
+use Rattle.cluster_laws.specs.cluster_core.Ranges.{first_passing}
+use Rattle.cluster_laws.specs.cluster_core.Settings.{IsSetting, Setting}
+use Rattle.cluster_laws.specs.cluster_model.Clusters.{Cluster}
+use Rattle.cluster_laws.specs.cluster_model.Events.{DeliverCall, Event, Fail, GoesBackTo, IsCourse, Recover, after_event, setting_after}
+use Rattle.cluster_laws.specs.cluster_model.Machines.{completed}
+use Rattle.cluster_laws.specs.cluster_model.Totals.{total_from}
+use Rattle.cluster_laws.specs.cluster_places.Steps.{AreApart}
 use Rattle.cluster_records.specs.LineOfFour.{after_events}
 use Rattle.cluster_records.specs.LonePair.{lone_pair, pair_alone, pair_at_first, pair_base, pair_cluster, pair_entry, pair_saved, pair_saves, pair_updated, pair_updates}
 use Rattle.cluster_records.proofs.PairSaved.{again_may, saves_may, updates_may}

@@ -5,12 +5,12 @@ use Rattle.gl_base.specs.declared.entries.Entry.{Entry}
 use Rattle.gl_base.specs.declared.jobs.FailureAt.{FailureAt}
 use Rattle.attempts.specs.EngineCalls.{EngineCall, IsEngineCall, call_order, done_of, fired_of, first_ticket, last_beginning, lost_of, made_of}
 use Rattle.attempts.specs.Stores.{IsWithinWindow, last_order, snapshots_of}
-use Rattle.cluster_core.specs.Replays.{IsTask, entries_of}
-use Rattle.cluster_core.specs.Settings.{Setting}
-use Rattle.cluster_model.specs.Clusters.{Cluster}
-use Rattle.cluster_model.specs.Machines.{completed}
-use Rattle.cluster_runs.specs.Attempts.{made_by}
-use Rattle.cluster_runs.specs.Recorded.{shared_of}
+use Rattle.cluster_laws.specs.cluster_core.Replays.{IsTask, entries_of}
+use Rattle.cluster_laws.specs.cluster_core.Settings.{Setting}
+use Rattle.cluster_laws.specs.cluster_model.Clusters.{Cluster}
+use Rattle.cluster_laws.specs.cluster_model.Machines.{completed}
+use Rattle.cluster_laws.specs.cluster_runs.Attempts.{made_by}
+use Rattle.cluster_laws.specs.cluster_runs.Recorded.{shared_of}
 use Rattle.cluster_whole.specs.Views.{world_of}
 use Rattle.graph_core.specs.DataGraph.{size}
 use Rattle.merged_logs.specs.Merges.{IsByMachineBelow}

@@ -1,9 +1,9 @@
 -- One vertex on one machine with a store: its one update is too little for the machine to ask for a snapshot, so one is taken for the end.
 use Rattle.std.specs.Prelude.{List, [], true, ◌∷◌}
-use Rattle.cluster_core.specs.Settings.{Setting}
+use Rattle.cluster_laws.specs.cluster_core.Settings.{Setting}
 use Rattle.cluster_ending.specs.FourWaves.{led_through, lone_events, on_one_machine, started_from}
-use Rattle.cluster_model.specs.Clusters.{Cluster}
-use Rattle.cluster_model.specs.Events.{Admit, Event, Grant, Mark, PutBegin, Record, Section, SendCall, DeliverCall, SendReport, DeliverReport}
+use Rattle.cluster_laws.specs.cluster_model.Clusters.{Cluster}
+use Rattle.cluster_laws.specs.cluster_model.Events.{Admit, Event, Grant, Mark, PutBegin, Record, Section, SendCall, DeliverCall, SendReport, DeliverReport}
 use Rattle.cluster_whole.specs.Windows.{scope_at}
 
 -- with a window of 4

@@ -5,11 +5,11 @@ use Rattle.std.specs.List.Sorted.{IsPermutation}
 use Rattle.std.specs.Prelude.{Bool, List, [], false, map, not, ℕ, ◌++◌, ◌==◌, ◌∷◌, ◌≡◌}
 use Rattle.gl_base.specs.declared.entries.Entry.{Entry}
 use Rattle.gl_base.specs.declared.entries.Entry.TheVariants.{Go, Restart}
-use Rattle.cluster_core.specs.Replays.{ticket_of}
-use Rattle.cluster_core.specs.Settings.{Setting}
-use Rattle.cluster_model.specs.ByTicket.{restarts}
-use Rattle.cluster_model.specs.Clusters.{BaseView, Cluster}
-use Rattle.cluster_model.specs.Events.{Event, Recover, after_event, failures_in, setting_after}
+use Rattle.cluster_laws.specs.cluster_core.Replays.{ticket_of}
+use Rattle.cluster_laws.specs.cluster_core.Settings.{Setting}
+use Rattle.cluster_laws.specs.cluster_model.ByTicket.{restarts}
+use Rattle.cluster_laws.specs.cluster_model.Clusters.{BaseView, Cluster}
+use Rattle.cluster_laws.specs.cluster_model.Events.{Event, Recover, after_event, failures_in, setting_after}
 use Rattle.cluster_whole.specs.Whole.{IsNoRecovery}
 
 -- the log of each of so many machines

@@ -4,13 +4,13 @@ use Rattle.gl_base.specs.declared.entries.Entry.{Entry}
 use Rattle.gl_base.specs.declared.entries.Entry.TheVariants.{Restart}
 use Rattle.gl_base.specs.declared.jobs.FailureAt.{FailureAt}
 use Rattle.attempts.specs.EngineCalls.{IsOrderInTurn, ticket_above}
-use Rattle.cluster_core.specs.Recovering.{going_on}
-use Rattle.cluster_core.specs.Settings.{IsSetting, Setting}
-use Rattle.cluster_model.specs.Clusters.{BaseView, Cluster}
-use Rattle.cluster_model.specs.Events.{Event, IsCourse, recovers}
-use Rattle.cluster_model.specs.Machines.{completed}
+use Rattle.cluster_laws.specs.cluster_core.Recovering.{going_on}
+use Rattle.cluster_laws.specs.cluster_core.Settings.{IsSetting, Setting}
+use Rattle.cluster_laws.specs.cluster_model.Clusters.{BaseView, Cluster}
+use Rattle.cluster_laws.specs.cluster_model.Events.{Event, IsCourse, recovers}
+use Rattle.cluster_laws.specs.cluster_model.Machines.{completed}
 use Rattle.cluster_records.specs.Recorded.{HaveSameNumbers}
-use Rattle.cluster_runs.specs.Recorded.{shared_of}
+use Rattle.cluster_laws.specs.cluster_runs.Recorded.{shared_of}
 use Rattle.cluster_whole.specs.Whole.{AreColoured}
 use Rattle.seq_run.specs.Orders.{replay}
 use Rattle.whole_calls.specs.Following.{AreJobFailures, FollowJob}

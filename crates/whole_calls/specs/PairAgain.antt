@@ -4,8 +4,8 @@ use Rattle.std.specs.Prelude.{List, [], ◌++◌, ◌∷◌}
 use Rattle.gl_base.specs.declared.entries.Entry.TheVariants.{Restart}
 use Rattle.gl_base.specs.declared.jobs.FailureAt.{FailureAt}
 use Rattle.attempts.specs.OneFailure.{fails_at_two}
-use Rattle.cluster_model.specs.Clusters.{BaseView, Cluster}
-use Rattle.cluster_model.specs.Events.{Admit, Event, Fail, Recover, Update, newest_of, recovers}
+use Rattle.cluster_laws.specs.cluster_model.Clusters.{BaseView, Cluster}
+use Rattle.cluster_laws.specs.cluster_model.Events.{Admit, Event, Fail, Recover, Update, newest_of, recovers}
 use Rattle.cluster_records.specs.LineOfFour.{after_events}
 use Rattle.cluster_records.specs.LonePair.{pair_alone, pair_entry, pair_saved, pair_saves, pair_scope, pair_updates}
 

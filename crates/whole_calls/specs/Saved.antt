@@ -7,12 +7,12 @@ use Rattle.attempts.specs.Beginnings.{last_of, nothing, snapshot_order}
 use Rattle.attempts.specs.EngineCalls.{EngineCall, last_beginning}
 use Rattle.attempts.specs.Entries.{is_restart, is_update}
 use Rattle.attempts.specs.Stores.{last_order, snapshots_of}
-use Rattle.cluster_core.specs.Cuts.{cut_of}
-use Rattle.cluster_core.specs.Settings.{Setting}
-use Rattle.cluster_model.specs.ByTicket.{StandByTicket}
-use Rattle.cluster_model.specs.Clusters.{Cluster}
-use Rattle.cluster_model.specs.Events.{Event, Record, after_event, entries_below, setting_after, snapshot_numbers}
-use Rattle.cluster_model.specs.Leading.{Coordinator, Snapshot}
+use Rattle.cluster_laws.specs.cluster_core.Cuts.{cut_of}
+use Rattle.cluster_laws.specs.cluster_core.Settings.{Setting}
+use Rattle.cluster_laws.specs.cluster_model.ByTicket.{StandByTicket}
+use Rattle.cluster_laws.specs.cluster_model.Clusters.{Cluster}
+use Rattle.cluster_laws.specs.cluster_model.Events.{Event, Record, after_event, entries_below, setting_after, snapshot_numbers}
+use Rattle.cluster_laws.specs.cluster_model.Leading.{Coordinator, Snapshot}
 use Rattle.cluster_records.specs.Recorded.{HaveSameNumbers, snapshot_due}
 use Rattle.graph_core.specs.DataGraph.{size}
 use Rattle.seq_run.specs.Orders.{IsValidFrom, all_tasks, replay}

@@ -3,11 +3,11 @@ use Rattle.std.specs.Prelude.{[], false, length, sum_by, true, ℕ, ◌*◌, ◌
 use Rattle.attempts.specs.Beginnings.{unheld_updates}
 use Rattle.attempts.specs.EngineCalls.{EngineCall, call_order, made_of}
 use Rattle.attempts.specs.Stores.{last_order, snapshots_of}
-use Rattle.cluster_core.specs.Settings.{Setting}
-use Rattle.cluster_model.specs.Clusters.{Cluster}
-use Rattle.cluster_model.specs.Leading.{Coordinator, HasSeenTheEnd, HasStoreRoom, RecordIsDue, SnapshotIsDue, updates_told}
-use Rattle.cluster_model.specs.Working.{half_window}
-use Rattle.cluster_runs.specs.Attempts.{Attempt, made_by}
+use Rattle.cluster_laws.specs.cluster_core.Settings.{Setting}
+use Rattle.cluster_laws.specs.cluster_model.Clusters.{Cluster}
+use Rattle.cluster_laws.specs.cluster_model.Leading.{Coordinator, HasSeenTheEnd, HasStoreRoom, RecordIsDue, SnapshotIsDue, updates_told}
+use Rattle.cluster_laws.specs.cluster_model.Working.{half_window}
+use Rattle.cluster_laws.specs.cluster_runs.Attempts.{Attempt, made_by}
 use Rattle.graph_core.specs.DataGraph.{size}
 use Rattle.seq_run.specs.Orders.{tasks_after}
 use Rattle.whole_calls.specs.Saved.{MayFollow}

@@ -2,8 +2,8 @@
 ghost use Rattle.std.specs.Prelude.{[], false, length, true, ◌++◌, ◌∷◌, ◌≡◌};
 ghost use Rattle.gl_base.specs.declared.entries.Entry.TheVariants.{Go};
 ghost use Rattle.cluster_ending.specs.FourWaves.{first_base, fresh_cluster, lone_events, started_from};
-ghost use Rattle.cluster_model.specs.Events.{DeliverCall, entries_in_all};
-ghost use Rattle.cluster_model.specs.Machines.{completed};
+ghost use Rattle.cluster_laws.specs.cluster_model.Events.{DeliverCall, entries_in_all};
+ghost use Rattle.cluster_laws.specs.cluster_model.Machines.{completed};
 ghost use Rattle.cluster_records.specs.Few.{unasked_in};
 ghost use Rattle.cluster_records.specs.LonePair.{pair_alone, pair_at_first, pair_base, pair_cluster};
 ghost use Rattle.whole_calls.specs.EndSaved.{one_saved, one_saves, one_with_store};

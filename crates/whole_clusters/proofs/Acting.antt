@@ -4,12 +4,12 @@ use Rattle.std.specs.Prelude.{nat_le, not}
 use Rattle.std.proofs.lemmas.Bool.{cases_eq}
 use Rattle.gl_base.specs.declared.entries.Entry.{Entry}
 use Rattle.gl_base.specs.declared.scopes.ScopeId.{ScopeId}
-use Rattle.cluster_core.specs.Messages.{Message}
-use Rattle.cluster_core.specs.Ranges.{set_at}
-use Rattle.cluster_core.proofs.Basics.{set_at-holds, set_at-other, set_at-same}
-use Rattle.cluster_model.specs.Calls.{Call, Report, Want}
-use Rattle.cluster_model.specs.Machines.{Machine, gained, outside}
-use Rattle.cluster_model.specs.Working.{admits, answers_if, asks_more, grants, half_window, hands, is_done, makes_update, prompt, receives, works_on}
+use Rattle.cluster_laws.specs.cluster_core.Messages.{Message}
+use Rattle.cluster_laws.specs.cluster_core.Ranges.{set_at}
+use Rattle.cluster_laws.proofs.cluster_core.Basics.{set_at-holds, set_at-other, set_at-same}
+use Rattle.cluster_laws.specs.cluster_model.Calls.{Call, Report, Want}
+use Rattle.cluster_laws.specs.cluster_model.Machines.{Machine, gained, outside}
+use Rattle.cluster_laws.specs.cluster_model.Working.{admits, answers_if, asks_more, grants, half_window, hands, is_done, makes_update, prompt, receives, works_on}
 use Rattle.cluster_ending.proofs.Growing.{admitted_longer, granted_longer, received_longer, updated_longer}
 use Rattle.wave_counts.specs.Counts.{HasPutOut, IsCountOf, one_more}
 use Rattle.wave_counts.proofs.CountLemmas.{counts_put_out, counts_received, counts_sent}

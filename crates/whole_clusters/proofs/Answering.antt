@@ -4,13 +4,13 @@ use Rattle.std.specs.Prelude.{Err, OnErr, OnOk, Ok, Result}
 use Rattle.gl_base.specs.declared.numbers.MachineNo.{MachineNo}
 use Rattle.gl_base.specs.declared.refusals.Refused.{Refused}
 use Rattle.gl_base.specs.declared.refusals.Refused.TheVariants.{NoMemory, NotNow}
-use Rattle.cluster_core.specs.Settings.{Setting}
-use Rattle.cluster_core.specs.Worlds.{World}
-use Rattle.cluster_model.specs.Clusters.{Cluster}
-use Rattle.cluster_model.specs.Counting.{MayBeCounted}
-use Rattle.cluster_model.specs.Events.{MayDo, MayOccur, after_event}
-use Rattle.cluster_model.specs.Events as law
-use Rattle.cluster_model.specs.Machines.{is_idle}
+use Rattle.cluster_laws.specs.cluster_core.Settings.{Setting}
+use Rattle.cluster_laws.specs.cluster_core.Worlds.{World}
+use Rattle.cluster_laws.specs.cluster_model.Clusters.{Cluster}
+use Rattle.cluster_laws.specs.cluster_model.Counting.{MayBeCounted}
+use Rattle.cluster_laws.specs.cluster_model.Events.{MayDo, MayOccur, after_event}
+use Rattle.cluster_laws.specs.cluster_model.Events as law
+use Rattle.cluster_laws.specs.cluster_model.Machines.{is_idle}
 use Rattle.cluster_step.specs.Events.{CanMakeEvent, CanNotMakeEvent, HoldTheSame, IsWholeGuard, MakesEvent, NamesMachinesOf}
 use Rattle.cluster_step.specs.Starts.{WasFresh}
 use Rattle.cluster_step.specs.Worlds.{part_of_machine}

@@ -3,12 +3,12 @@ use Rattle.std.proofs.Common.{◌≡◌, ℕ, suc, ◌==◌, Bool, true, false, 
 use Rattle.gl_base.specs.declared.entries.Entry.{Entry}
 use Rattle.gl_base.specs.declared.scopes.Claim.{Claim}
 use Rattle.gl_base.specs.declared.scopes.ScopeId.{ScopeId}
-use Rattle.cluster_core.specs.Actions.{IsItsTurn, MayAdmit, MayGrant, MayUpdate}
-use Rattle.cluster_core.specs.Effects.{admitted, admitted_by, asks_for, first_granted, goes_away, goes_on, granted, in_flight, moves_on, next_scope, posts, received, sets_out, takes_lock, updated}
-use Rattle.cluster_core.specs.Messages.{Ask, Done, Message, Ready}
-use Rattle.cluster_core.specs.Parts.{Part, Stand}
-use Rattle.cluster_core.specs.Scopes.{machines_from, own_from, set_for}
-use Rattle.cluster_core.specs.Settings.{Chromatic, Engine, Locking, Setting}
+use Rattle.cluster_laws.specs.cluster_core.Actions.{IsItsTurn, MayAdmit, MayGrant, MayUpdate}
+use Rattle.cluster_laws.specs.cluster_core.Effects.{admitted, admitted_by, asks_for, first_granted, goes_away, goes_on, granted, in_flight, moves_on, next_scope, posts, received, sets_out, takes_lock, updated}
+use Rattle.cluster_laws.specs.cluster_core.Messages.{Ask, Done, Message, Ready}
+use Rattle.cluster_laws.specs.cluster_core.Parts.{Part, Stand}
+use Rattle.cluster_laws.specs.cluster_core.Scopes.{machines_from, own_from, set_for}
+use Rattle.cluster_laws.specs.cluster_core.Settings.{Chromatic, Engine, Locking, Setting}
 use Rattle.whole_clusters.specs.Wholes.{IsSameButClosed}
 
 module _ (x : Bool) where

@@ -5,9 +5,9 @@ use Rattle.std.proofs.lemmas.List.{length-set}
 use Rattle.gl_base.specs.declared.numbers.MachineNo.{MachineNo}
 use Rattle.gl_base.specs.declared.refusals.Refused.{Refused}
 use Rattle.gl_base.specs.declared.refusals.Refused.TheVariants.{NoMemory, NotNow}
-use Rattle.cluster_core.specs.Settings.{Setting}
-use Rattle.cluster_model.specs.Counting.{MayBeCounted}
-use Rattle.cluster_model.specs.Machines.{is_idle}
+use Rattle.cluster_laws.specs.cluster_core.Settings.{Setting}
+use Rattle.cluster_laws.specs.cluster_model.Counting.{MayBeCounted}
+use Rattle.cluster_laws.specs.cluster_model.Machines.{is_idle}
 use Rattle.cluster_step.specs.Events.{NamesMachinesOf}
 use Rattle.cluster_step.specs.declared.events.Event.{Event}
 use Rattle.coord_core.specs.Calls.{HasHandedOver, HasTakenReport}

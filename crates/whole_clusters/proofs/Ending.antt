@@ -2,11 +2,11 @@
 use Rattle.std.proofs.Common.{◌≡◌, ℕ, ◌<◌, ◌≤◌, ◌++◌, true, false, List, sym, ◌∙◌, ap, subst, ⊎_elim, le_antisymm, le_trans}
 use Rattle.std.proofs.lemmas.Bool.{both_ways, false_from_ne_true}
 use Rattle.gl_base.specs.declared.entries.Entry.{Entry}
-use Rattle.cluster_core.specs.Settings.{IsSetting, Setting}
-use Rattle.cluster_core.specs.Ways.{vertex_woken}
-use Rattle.cluster_core.specs.Worlds.{World, way}
-use Rattle.cluster_model.specs.Clusters.{Cluster}
-use Rattle.cluster_model.specs.Leading.{HasSeenTheEnd}
+use Rattle.cluster_laws.specs.cluster_core.Settings.{IsSetting, Setting}
+use Rattle.cluster_laws.specs.cluster_core.Ways.{vertex_woken}
+use Rattle.cluster_laws.specs.cluster_core.Worlds.{World, way}
+use Rattle.cluster_laws.specs.cluster_model.Clusters.{Cluster}
+use Rattle.cluster_laws.specs.cluster_model.Leading.{HasSeenTheEnd}
 use Rattle.cluster_whole.specs.Views.{world_of}
 use Rattle.cluster_ending.specs.Ends.{HasEnded}
 use Rattle.cluster_ending.proofs.Finding.{at_rest, no_task_left, rest_ends}

@@ -1,17 +1,17 @@
 -- What the coordinator does, and what goes between it and the machines, is an event of the law.
 use Rattle.std.proofs.Common.{◌≡◌, ◌≢◌, ℕ, pred, ◌+◌, ◌<◌, Bool, true, false, Option, None, Some, List, [], ◌∷◌, ◌++◌, length, refl, sym, ◌∙◌, ap, subst}
 use Rattle.std.specs.List.{AllByRecursion}
-use Rattle.cluster_core.specs.Ranges.{set_at}
-use Rattle.cluster_core.specs.Settings.{Engine, IsSetting, Locking, Setting}
-use Rattle.cluster_core.proofs.Basics.{set_at-holds, set_at-kept, set_at-other, set_at-same}
-use Rattle.cluster_model.specs.Calls.{Begin, Call, Committed, Count, Report, Step, Wave}
-use Rattle.cluster_model.specs.Clusters.{Cluster, with_calls, with_coordinator, with_machine, with_reports}
-use Rattle.cluster_model.specs.Counting.{Counting, MayBeCounted}
-use Rattle.cluster_model.specs.Events.{HasNext, MayDo, MayOccur, after_event, delivers_call, delivers_report, sends_call, sends_report}
-use Rattle.cluster_model.specs.Events as law
-use Rattle.cluster_model.specs.Leading.{hands_call, takes_report}
-use Rattle.cluster_model.specs.Machines.{Machine, is_idle}
-use Rattle.cluster_model.specs.Working.{hands_report, is_done, prompt, takes_call}
+use Rattle.cluster_laws.specs.cluster_core.Ranges.{set_at}
+use Rattle.cluster_laws.specs.cluster_core.Settings.{Engine, IsSetting, Locking, Setting}
+use Rattle.cluster_laws.proofs.cluster_core.Basics.{set_at-holds, set_at-kept, set_at-other, set_at-same}
+use Rattle.cluster_laws.specs.cluster_model.Calls.{Begin, Call, Committed, Count, Report, Step, Wave}
+use Rattle.cluster_laws.specs.cluster_model.Clusters.{Cluster, with_calls, with_coordinator, with_machine, with_reports}
+use Rattle.cluster_laws.specs.cluster_model.Counting.{Counting, MayBeCounted}
+use Rattle.cluster_laws.specs.cluster_model.Events.{HasNext, MayDo, MayOccur, after_event, delivers_call, delivers_report, sends_call, sends_report}
+use Rattle.cluster_laws.specs.cluster_model.Events as law
+use Rattle.cluster_laws.specs.cluster_model.Leading.{hands_call, takes_report}
+use Rattle.cluster_laws.specs.cluster_model.Machines.{Machine, is_idle}
+use Rattle.cluster_laws.specs.cluster_model.Working.{hands_report, is_done, prompt, takes_call}
 use Rattle.cluster_whole.specs.Whole.{IsNoRecovery}
 use Rattle.cluster_whole.specs.Steps.{Holds, IsCalled, Tells, Told as Has, Turn, calls_of, counts_in, reports_of}
 use Rattle.cluster_ending.specs.Ends.{IsFollowed}

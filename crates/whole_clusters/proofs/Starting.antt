@@ -6,20 +6,20 @@ use Rattle.std.specs.List.{All}
 use Rattle.std.proofs.lemmas.List.{get_or-replicate, get_or_past, length-replicate}
 use Rattle.std.proofs.lemmas.List.Elements.{All-get_or}
 use Rattle.gl_base.specs.declared.scopes.Counted.{Counted}
-use Rattle.cluster_core.specs.Messages.{Message}
-use Rattle.cluster_core.specs.Runs.{IsStart}
-use Rattle.cluster_core.specs.Settings.{Engine, IsSetting, Locking, Setting}
-use Rattle.cluster_core.specs.Snapshots.{IsUnmarked}
-use Rattle.cluster_core.specs.Stages.{Idle}
-use Rattle.cluster_core.specs.Worlds.{World, way}
-use Rattle.cluster_places.proofs.PlacesKept.{start_placed}
-use Rattle.cluster_cuts.proofs.Beginning.{first_kept}
-use Rattle.cluster_model.specs.Clusters.{Cluster}
-use Rattle.cluster_model.specs.Counting.{first_counting}
-use Rattle.cluster_model.specs.Leading.{first_coordinator}
-use Rattle.cluster_model.specs.Machines.{Machine}
-use Rattle.cluster_model.specs.Totals.{total}
-use Rattle.cluster_model.specs.TwoWaves.{IsIdleAnswer, TwoWaves, all_answered, no_counts, no_waves, turned}
+use Rattle.cluster_laws.specs.cluster_core.Messages.{Message}
+use Rattle.cluster_laws.specs.cluster_core.Runs.{IsStart}
+use Rattle.cluster_laws.specs.cluster_core.Settings.{Engine, IsSetting, Locking, Setting}
+use Rattle.cluster_laws.specs.cluster_core.Snapshots.{IsUnmarked}
+use Rattle.cluster_laws.specs.cluster_core.Stages.{Idle}
+use Rattle.cluster_laws.specs.cluster_core.Worlds.{World, way}
+use Rattle.cluster_laws.proofs.cluster_places.PlacesKept.{start_placed}
+use Rattle.cluster_laws.proofs.cluster_cuts.Beginning.{first_kept}
+use Rattle.cluster_laws.specs.cluster_model.Clusters.{Cluster}
+use Rattle.cluster_laws.specs.cluster_model.Counting.{first_counting}
+use Rattle.cluster_laws.specs.cluster_model.Leading.{first_coordinator}
+use Rattle.cluster_laws.specs.cluster_model.Machines.{Machine}
+use Rattle.cluster_laws.specs.cluster_model.Totals.{total}
+use Rattle.cluster_laws.specs.cluster_model.TwoWaves.{IsIdleAnswer, TwoWaves, all_answered, no_counts, no_waves, turned}
 use Rattle.cluster_whole.specs.Steps.{Told, under_way}
 use Rattle.cluster_whole.specs.Whole.{AreKeptApart, IsWhole}
 use Rattle.cluster_whole.specs.Windows.{StaysWithin, one_where, plan_where, scope_at, sum_below}

@@ -4,19 +4,19 @@ use Rattle.std.specs.Prelude.{nat_lt, not}
 use Rattle.gl_base.specs.declared.entries.Entry.{Entry}
 use Rattle.gl_base.specs.declared.entries.Entry.TheVariants.{Go}
 use Rattle.gl_base.specs.declared.scopes.ScopeId.{ScopeId}
-use Rattle.cluster_core.specs.Actions.{Action, HasFirst, MayAdmit, MayGrant, MayHappen, MayUpdate, after, delivers, draws, sends, updates}
-use Rattle.cluster_core.specs.Actions as core
-use Rattle.cluster_core.specs.Effects.{admitted, granted, received, updated}
-use Rattle.cluster_core.specs.Messages.{Message}
-use Rattle.cluster_core.specs.Ranges.{set_at}
-use Rattle.cluster_core.specs.Settings.{IsSetting, Locking, Setting}
-use Rattle.cluster_core.specs.Worlds.{World, with_link, with_part}
-use Rattle.cluster_core.proofs.Basics.{set_at-other, set_at-same}
-use Rattle.cluster_model.specs.Clusters.{Cluster, with_machine, with_messages}
-use Rattle.cluster_model.specs.Events.{IsAwake, MayAdmitNow, MayDo, MayOccur, after_event, delivers_message, draws_ticket, makes, sends_message}
-use Rattle.cluster_model.specs.Events as law
-use Rattle.cluster_model.specs.Machines.{Machine, outside}
-use Rattle.cluster_model.specs.Working.{admits, grants, hands, has_room, makes_update, prompt, receives}
+use Rattle.cluster_laws.specs.cluster_core.Actions.{Action, HasFirst, MayAdmit, MayGrant, MayHappen, MayUpdate, after, delivers, draws, sends, updates}
+use Rattle.cluster_laws.specs.cluster_core.Actions as core
+use Rattle.cluster_laws.specs.cluster_core.Effects.{admitted, granted, received, updated}
+use Rattle.cluster_laws.specs.cluster_core.Messages.{Message}
+use Rattle.cluster_laws.specs.cluster_core.Ranges.{set_at}
+use Rattle.cluster_laws.specs.cluster_core.Settings.{IsSetting, Locking, Setting}
+use Rattle.cluster_laws.specs.cluster_core.Worlds.{World, with_link, with_part}
+use Rattle.cluster_laws.proofs.cluster_core.Basics.{set_at-other, set_at-same}
+use Rattle.cluster_laws.specs.cluster_model.Clusters.{Cluster, with_machine, with_messages}
+use Rattle.cluster_laws.specs.cluster_model.Events.{IsAwake, MayAdmitNow, MayDo, MayOccur, after_event, delivers_message, draws_ticket, makes, sends_message}
+use Rattle.cluster_laws.specs.cluster_model.Events as law
+use Rattle.cluster_laws.specs.cluster_model.Machines.{Machine, outside}
+use Rattle.cluster_laws.specs.cluster_model.Working.{admits, grants, hands, has_room, makes_update, prompt, receives}
 use Rattle.cluster_ending.specs.Ends.{IsFollowed}
 use Rattle.cluster_ending.proofs.Courses.{event_kept}
 use Rattle.cluster_whole.specs.Whole.{IsNoRecovery}

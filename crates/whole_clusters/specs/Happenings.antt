@@ -1,12 +1,12 @@
 -- What may happen in a cluster with its coordinator, as events of the cluster's law.
-pub use Rattle.cluster_core.specs.Actions.{Action}
-pub use Rattle.cluster_model.specs.Events.{MayOccur, after_event}
+pub use Rattle.cluster_laws.specs.cluster_core.Actions.{Action}
+pub use Rattle.cluster_laws.specs.cluster_model.Events.{MayOccur, after_event}
 pub use Rattle.cluster_step.specs.Events.{HoldTheSame, IsActionOf, MakesEvent, NamesMachinesOf}
 pub use Rattle.cluster_step.specs.Starts.{WasFresh}
 use Rattle.std.specs.Prelude.{List, ℕ, ⊤, ◌<◌, ◌≡◌}
 use Rattle.gl_base.specs.declared.entries.Entry.{Entry}
-use Rattle.cluster_core.specs.Actions as core
-use Rattle.cluster_model.specs.Events as law
+use Rattle.cluster_laws.specs.cluster_core.Actions as core
+use Rattle.cluster_laws.specs.cluster_model.Events as law
 use Rattle.whole_clusters.specs.Wholes.{Cluster, ClusterView, IsClusterOf, OfEachCluster, Part, Setting, StartIn, WholeView, World}
 use Rattle.whole_clusters.specs.declared.happenings.Happening.{Happening}
 use Rattle.whole_clusters.specs.declared.happenings.Happening.TheVariants.{Among, DeliverCall, DeliverReport, SendCall, SendReport, Stop, Wave}

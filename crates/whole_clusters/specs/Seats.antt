@@ -1,10 +1,10 @@
 -- What is kept beside a machine for waves, and the machine of the law that has it.
-pub use Rattle.cluster_core.specs.Settings.{Setting}
-pub use Rattle.cluster_model.specs.Calls.{Call, Report, Wave}
-pub use Rattle.cluster_model.specs.Machines.{Machine}
+pub use Rattle.cluster_laws.specs.cluster_core.Settings.{Setting}
+pub use Rattle.cluster_laws.specs.cluster_model.Calls.{Call, Report, Wave}
+pub use Rattle.cluster_laws.specs.cluster_model.Machines.{Machine}
 pub use Rattle.wave_counts.specs.Counts.{CountsView, IsCountOf, answer_reports, none_counted}
 use Rattle.std.specs.Prelude.{Bool, List, None, Option, Some, [], false, slice_index_or, ℕ, ⊤, ◌∷◌, ◌≡◌}
-use Rattle.cluster_model.specs.Calls.{Begin, Committed, Step}
+use Rattle.cluster_laws.specs.cluster_model.Calls.{Begin, Committed, Step}
 use Rattle.whole_clusters.specs.declared.seats.Seat.{Seat}
 
 -- nothing was counted, and nothing is on its way

@@ -1,7 +1,7 @@
 -- A cluster with its coordinator, and the cluster of the law that it stands for.
-pub use Rattle.cluster_core.specs.Replays.{tasks_of}
-pub use Rattle.cluster_core.specs.Worlds.{World, way}
-pub use Rattle.cluster_model.specs.Clusters.{Cluster}
+pub use Rattle.cluster_laws.specs.cluster_core.Replays.{tasks_of}
+pub use Rattle.cluster_laws.specs.cluster_core.Worlds.{World, way}
+pub use Rattle.cluster_laws.specs.cluster_model.Clusters.{Cluster}
 pub use Rattle.cluster_step.specs.Clusters.{ClusterView, InEachSetting, OfTheOrder, part_now, world_now}
 pub use Rattle.cluster_step.specs.Starts.{IsOrderSince, IsStart, Part, StartIn, size}
 pub use Rattle.coord_core.specs.Coordinators.{CoordinatorView, IsCoordinatorOf}
@@ -10,7 +10,7 @@ use Rattle.std.specs.List.{AllByRecursion}
 use Rattle.std.specs.Prelude.{Bool, List, None, [], false, ℕ, ◌<◌, ◌≡◌}
 use Rattle.gl_base.specs.declared.entries.Entry.{Entry}
 use Rattle.gl_base.specs.declared.scopes.ScopeId.{ScopeId}
-use Rattle.cluster_core.specs.Settings.{Locking}
+use Rattle.cluster_laws.specs.cluster_core.Settings.{Locking}
 use Rattle.cluster_ending.specs.Ends.{IsFollowed}
 use Rattle.cluster_step.specs.Links.{told_on}
 use Rattle.whole_clusters.specs.declared.seats.Seat.{Seat}

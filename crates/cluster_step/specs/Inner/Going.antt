@@ -2,14 +2,14 @@
 use Rattle.std.specs.List.{AllByRecursion}
 use Rattle.std.specs.Prelude.{[], false, length, ℕ, ⊤, ◌+◌, ◌<◌, ◌^◌, ◌≡◌}
 use Rattle.gl_base.specs.declared.scopes.ScopeId.{ScopeId}
-use Rattle.cluster_core.specs.Messages.{Ask, Done, Message, Ready}
-use Rattle.cluster_core.specs.Places.{ArePlaces}
-use Rattle.cluster_core.specs.Settings.{Chromatic, Engine, Locking}
-use Rattle.cluster_core.specs.Snapshots.{IsConsistent}
-use Rattle.cluster_core.specs.Stages.{Stage}
-use Rattle.cluster_core.specs.Worlds.{way}
-use Rattle.cluster_cuts.specs.Goings.{GoesOn}
-use Rattle.cluster_places.specs.Steps.{AreApart}
+use Rattle.cluster_laws.specs.cluster_core.Messages.{Ask, Done, Message, Ready}
+use Rattle.cluster_laws.specs.cluster_core.Places.{ArePlaces}
+use Rattle.cluster_laws.specs.cluster_core.Settings.{Chromatic, Engine, Locking}
+use Rattle.cluster_laws.specs.cluster_core.Snapshots.{IsConsistent}
+use Rattle.cluster_laws.specs.cluster_core.Stages.{Stage}
+use Rattle.cluster_laws.specs.cluster_core.Worlds.{way}
+use Rattle.cluster_laws.specs.cluster_cuts.Goings.{GoesOn}
+use Rattle.cluster_laws.specs.cluster_places.Steps.{AreApart}
 use Rattle.cluster_step.specs.Inner.Steps.{AreMachinesOf}
 use Rattle.cluster_step.specs.Worlds.{Part, Setting, World, earlier_at, world_of_parts}
 use Rattle.cluster_step.specs.Inner.Writing.{HaveLinks}

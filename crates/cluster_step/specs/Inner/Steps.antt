@@ -1,8 +1,8 @@
 -- What the calls of a cluster's parts ask and leave.
 pub use Rattle.cluster_step.specs.Inner.Writing.{HaveLinks}
 use Rattle.std.specs.Prelude.{List, Some, length, slice_get, ℕ, ◌+◌, ◌∷◌, ◌≡◌}
-use Rattle.cluster_core.specs.Messages.{Message}
-use Rattle.cluster_core.specs.Settings.{IsSetting}
+use Rattle.cluster_laws.specs.cluster_core.Messages.{Message}
+use Rattle.cluster_laws.specs.cluster_core.Settings.{IsSetting}
 use Rattle.cluster_machines.specs.Promises.{IsExpectedIn, MayReceiveIn}
 use Rattle.cluster_step.specs.Worlds.{Part, Setting, earlier_at, world_of_parts}
 use Rattle.cluster_step.specs.declared.parts.Parts.{Parts}

@@ -1,10 +1,10 @@
 -- The vertex that is admitted next in a step.
-pub use Rattle.color_parts.specs.Order.{is_free}
-pub use Rattle.color_parts.specs.Parts.{HasColour, is_in_line}
+pub use Rattle.machine_core.specs.color_parts.Order.{is_free}
+pub use Rattle.machine_core.specs.color_parts.Parts.{HasColour, is_in_line}
 pub use Rattle.color_tasks.specs.Scopes.{HasFlownOff}
 use Rattle.std.specs.Prelude.{◌≡◌, ℕ, ◌+◌, ◌==◌, ◌&&◌, true, false, not, Some, slice_get, slice_set}
 use Rattle.gl_base.specs.declared.numbers.Vertex.{Vertex}
-use Rattle.color_parts.specs.declared.cores.ColorCore.{ColorCore}
+use Rattle.machine_core.specs.declared.color_parts.cores.ColorCore.{ColorCore}
 use Rattle.color_machine.specs.Admitting.{is_open}
 
 -- The step goes on here, the window has room, and at this place stands a task of the step's colour that is not admitted.

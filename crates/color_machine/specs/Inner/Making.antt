@@ -1,11 +1,11 @@
 -- An update that is made of a machine's numbers, and told to the other machines of its scope.
-pub use Rattle.machine_at_once.specs.Inner.Making.{HasSameNumbers, KeepsGraph}
+pub use Rattle.machine_core.specs.machine_at_once.Inner.Making.{HasSameNumbers, KeepsGraph}
 pub use Rattle.machine_numbers.specs.Steps.{HasRun, HasUpdated, IsSideHere}
-pub use Rattle.machine_parts.specs.Rooms.{HaveSameMessages}
-pub use Rattle.machine_turns.specs.Turns.{IsRowIn}
-pub use Rattle.machine_updates.specs.Reserving.{CanTell, is_to_be_told}
-pub use Rattle.machine_updates.specs.Committing.{after_told, done_told}
-pub use Rattle.machine_updates.specs.Telling.{HasWord}
+pub use Rattle.machine_core.specs.machine_parts.Rooms.{HaveSameMessages}
+pub use Rattle.machine_core.specs.machine_turns.Turns.{IsRowIn}
+pub use Rattle.machine_core.specs.machine_updates.Reserving.{CanTell, is_to_be_told}
+pub use Rattle.machine_core.specs.machine_updates.Committing.{after_told, done_told}
+pub use Rattle.machine_core.specs.machine_updates.Telling.{HasWord}
 use Rattle.std.specs.Prelude.{◌≡◌, ℕ, ◌<◌, ◌≤◌, ◌==◌, ◌&&◌, true, false, not, Some, List, length, vec_len, vec_capacity}
 use Rattle.std.specs.List.{All, list_any}
 use Rattle.gl_base.specs.declared.entries.Entry.{Entry}
@@ -13,13 +13,13 @@ use Rattle.gl_base.specs.declared.numbers.Vertex.{Vertex}
 use Rattle.gl_base.specs.declared.scopes.ScopeId.{ScopeId}
 use Rattle.local_graph.specs.declared.works.Outcome.{Outcome}
 use Rattle.update_api.specs.Updates.{Update}
-use Rattle.cluster_core.specs.Effects.{news_for, tell}
+use Rattle.cluster_laws.specs.cluster_core.Effects.{news_for, tell}
 use Rattle.machine_numbers.specs.declared.keeping.Numbers.{Numbers}
 use Rattle.machine_numbers.specs.Settings.{IsOutcomeOf, with_numbers}
 use Rattle.machine_numbers.specs.Views.{AreTasksOf, task_here}
-use Rattle.machine_parts.specs.Order.{IsGraphInOrder}
-use Rattle.machine_updates.specs.declared.reserving.Prepared.{Prepared}
-use Rattle.color_parts.specs.Parts.{OutboxesView, Part, place_at, is_own, sides_at, parts_at, datum_here, admitted_here, pending_here, messages_for}
+use Rattle.machine_core.specs.machine_parts.Order.{IsGraphInOrder}
+use Rattle.machine_core.specs.declared.machine_updates.reserving.Prepared.{Prepared}
+use Rattle.machine_core.specs.color_parts.Parts.{OutboxesView, Part, place_at, is_own, sides_at, parts_at, datum_here, admitted_here, pending_here, messages_for}
 use Rattle.color_machine.specs.Admitting.{Setting}
 use Rattle.color_machine.specs.Updating.{IsLocalOf, IsSetting}
 

@@ -1,10 +1,10 @@
 -- How a machine that goes by colours and takes part in snapshots is kept.
 use Rattle.std.specs.Prelude.{◌≡◌, ◌⊎◌, ℕ, ◌<◌, Bool, true, false, None, Some, List, [], length}
 use Rattle.gl_base.specs.declared.scopes.ScopeId.{ScopeId}
-use Rattle.color_parts.specs.Enlisting.{is_free_such}
-use Rattle.color_parts.specs.declared.enlisting.Which.{Which}
-use Rattle.color_parts.specs.declared.enlisting.Which.TheVariants.{Pending, Tasks}
-use Rattle.color_parts.specs.Parts.{LinesView, TasksView, is_in_line}
+use Rattle.machine_core.specs.color_parts.Enlisting.{is_free_such}
+use Rattle.machine_core.specs.declared.color_parts.enlisting.Which.{Which}
+use Rattle.machine_core.specs.declared.color_parts.enlisting.Which.TheVariants.{Pending, Tasks}
+use Rattle.machine_core.specs.color_parts.Parts.{LinesView, TasksView, is_in_line}
 use Rattle.update_api.specs.Updates.{Update}
 use Rattle.color_snaps.specs.Machines.{ColorSnapView, IsColorSnapOf, Part, Setting, SnapMachineView, part_of}
 

@@ -1,8 +1,8 @@
 -- The vertex that is admitted next in a step.
-pub use Rattle.machine_scopes.specs.Admitting.{CanTake}
+pub use Rattle.machine_core.specs.machine_scopes.Admitting.{CanTake}
 use Rattle.std.specs.Prelude.{◌≡◌, ℕ, ◌<◌, true, false, Some, length, slice_get}
-use Rattle.color_parts.specs.Enlisting.{is_free_such}
-use Rattle.color_parts.specs.declared.enlisting.Which.TheVariants.{Pending, Tasks}
+use Rattle.machine_core.specs.color_parts.Enlisting.{is_free_such}
+use Rattle.machine_core.specs.declared.color_parts.enlisting.Which.TheVariants.{Pending, Tasks}
 use Rattle.task_sched.specs.Tasks.{is_open}
 use Rattle.task_sched.specs.declared.task_sets.Pick.{Pick}
 use Rattle.color_snaps.specs.Machines.{ColorSnapView}

@@ -1,7 +1,7 @@
 -- What the coordinator sees by itself.
 use Rattle.std.specs.Prelude.{[], false, length, sum_by, true, ℕ, ⊤, ◌≡◌, ◌⊎◌}
-use Rattle.cluster_model.specs.Leading.{updates_told}
-use Rattle.cluster_model.specs.TwoWaves.{ShowTheEnd}
+use Rattle.cluster_laws.specs.cluster_model.Leading.{updates_told}
+use Rattle.cluster_laws.specs.cluster_model.TwoWaves.{ShowTheEnd}
 use Rattle.coord_core.specs.Coordinators.{Counting, CoordinatorView, SavingView, first_counting, waiting_at}
 use Rattle.coord_core.specs.Steps.{HasColours, first_steps}
 use Rattle.coord_core.specs.declared.steps.Engine.{Engine}

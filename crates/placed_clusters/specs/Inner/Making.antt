@@ -3,8 +3,8 @@ use Rattle.std.specs.Prelude.{◌≡◌, ◌==◌, ℕ, [], length}
 use Rattle.std.specs.List.{list_any}
 use Rattle.gl_base.specs.declared.scopes.Peer.{Peer}
 use Rattle.gl_base.specs.declared.numbers.MachineNo.{MachineNo}
-use Rattle.machine_parts.specs.Order.{StandByPlace}
-use Rattle.machine_parts.specs.Parts.{LocalView, is_owned, waiting_for}
+use Rattle.machine_core.specs.machine_parts.Order.{StandByPlace}
+use Rattle.machine_core.specs.machine_parts.Parts.{LocalView, is_owned, waiting_for}
 use Rattle.scope_pipe.specs.Pipes.{IsEmpty}
 use Rattle.vertex_locks.specs.Tables.{IsUnclaimed}
 use Rattle.placed_clusters.specs.declared.cores.NewTerms.{NewTerms}

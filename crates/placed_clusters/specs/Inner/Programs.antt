@@ -1,8 +1,8 @@
 -- Machines that run a program.
-pub use Rattle.machine_turns.specs.Turns.{HasEachRow}
+pub use Rattle.machine_core.specs.machine_turns.Turns.{HasEachRow}
 use Rattle.std.specs.Prelude.{◌≡◌, ℕ, Some, List, length, slice_get}
-use Rattle.cluster_core.specs.Settings.{Locking}
-use Rattle.machine_parts.specs.declared.cores.Core.{Core}
+use Rattle.cluster_laws.specs.cluster_core.Settings.{Locking}
+use Rattle.machine_core.specs.declared.machine_parts.cores.Core.{Core}
 use Rattle.program_machines.specs.Machines.{ProgramMachineView}
 use Rattle.update_api.specs.Updates.{Update}
 use Rattle.placed_clusters.specs.Beginning.{AreNewIn, IsSetting, Setting}

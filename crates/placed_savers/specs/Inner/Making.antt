@@ -1,14 +1,14 @@
 -- What the machines of an attempt are made with.
-pub use Rattle.cluster_model.specs.Clusters.{Cluster}
-pub use Rattle.cluster_model.specs.Machines.{Machine}
-pub use Rattle.cluster_model.specs.Working.{goes_back}
+pub use Rattle.cluster_laws.specs.cluster_model.Clusters.{Cluster}
+pub use Rattle.cluster_laws.specs.cluster_model.Machines.{Machine}
+pub use Rattle.cluster_laws.specs.cluster_model.Working.{goes_back}
 pub use Rattle.placed_clusters.specs.Beginning.{GoesBy}
 pub use Rattle.placed_graphs.specs.Beginnings.{BeginsWith}
 pub use Rattle.placed_graphs.specs.Placed.{AreUnsetParts, IsUnsetPart, LocalView}
 pub use Rattle.update_api.specs.Updates.{Update}
 pub use Rattle.placed_savers.specs.Beginning.{HaveAdmitted, IsOwnedBy, IsSaverOf, SaverView, Setting}
 use Rattle.std.specs.Prelude.{List, Some, length, slice_index_or, true, ℕ, ◌<◌, ◌≡◌}
-use Rattle.cluster_core.specs.Settings.{IsSetting, Locking}
+use Rattle.cluster_laws.specs.cluster_core.Settings.{IsSetting, Locking}
 use Rattle.gl_base.specs.declared.snapshots.Base.{Base}
 use Rattle.graph_core.specs.DataGraph.{DataGraph}
 use Rattle.placed_clusters.specs.declared.cores.NewTerms.{NewTerms}

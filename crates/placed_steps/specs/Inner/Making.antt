@@ -2,9 +2,9 @@
 use Rattle.std.specs.Prelude.{◌≡◌, ◌<◌, ℕ, true, Some, List, [], length, nat_lt}
 use Rattle.gl_base.specs.declared.scopes.Peer.{Peer}
 use Rattle.machine_numbers.specs.declared.keeping.Numbers.{Numbers}
-use Rattle.machine_parts.specs.Order.{StandByPlace}
-use Rattle.machine_parts.specs.Parts.{LocalView, place_at, waiting_for}
-use Rattle.color_parts.specs.declared.cores.ColorCore.{ColorCore}
+use Rattle.machine_core.specs.machine_parts.Order.{StandByPlace}
+use Rattle.machine_core.specs.machine_parts.Parts.{LocalView, place_at, waiting_for}
+use Rattle.machine_core.specs.declared.color_parts.cores.ColorCore.{ColorCore}
 use Rattle.placed_steps.specs.declared.cores.OwnLines.{OwnLines}
 use Rattle.placed_steps.specs.Inner.Lines.{colours_by_place, is_in_line}
 

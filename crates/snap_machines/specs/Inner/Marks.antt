@@ -1,11 +1,11 @@
 -- What a snapshot update saves and tells, along the edges at its vertex.
-pub use Rattle.cluster_core.specs.Effects.{ends, mark_news, marked_datum, pends_for, save}
-pub use Rattle.cluster_core.specs.Ranges.{set_at}
-pub use Rattle.machine_parts.specs.Parts.{admitted_here, datum_here, edge_here, flight_at, is_own, is_ready, links_at, part_at, pending_here, place_at, sides_at}
+pub use Rattle.cluster_laws.specs.cluster_core.Effects.{ends, mark_news, marked_datum, pends_for, save}
+pub use Rattle.cluster_laws.specs.cluster_core.Ranges.{set_at}
+pub use Rattle.machine_core.specs.machine_parts.Parts.{admitted_here, datum_here, edge_here, flight_at, is_own, is_ready, links_at, part_at, pending_here, place_at, sides_at}
 pub use Rattle.machine_numbers.specs.Views.{AreTasksOf}
-pub use Rattle.machine_turns.specs.Turns.{IsRowIn}
-pub use Rattle.machine_updates.specs.Committing.{after_told}
-pub use Rattle.machine_updates.specs.Reserving.{CanTell, IsReserved}
+pub use Rattle.machine_core.specs.machine_turns.Turns.{IsRowIn}
+pub use Rattle.machine_core.specs.machine_updates.Committing.{after_told}
+pub use Rattle.machine_core.specs.machine_updates.Reserving.{CanTell, IsReserved}
 pub use Rattle.snap_update.specs.Holding.{with_edges}
 pub use Rattle.snap_update.specs.Snaps.{with_vertex}
 pub use Rattle.wire_msgs.specs.Views.{DoneView, done_view}
@@ -21,8 +21,8 @@ use Rattle.task_sched.specs.Tasks.{TasksView}
 use Rattle.machine_numbers.specs.declared.keeping.Numbers.{Numbers}
 use Rattle.machine_numbers.specs.Steps.{IsSideHere}
 use Rattle.machine_numbers.specs.Views.{is_named}
-use Rattle.machine_parts.specs.declared.cores.Core.{Core}
-use Rattle.machine_parts.specs.Settings.{Setting, IsPartOf}
+use Rattle.machine_core.specs.declared.machine_parts.cores.Core.{Core}
+use Rattle.machine_core.specs.machine_parts.Settings.{Setting, IsPartOf}
 use Rattle.snap_machines.specs.Keeping.{Part, SnapView, part_of, with_snaps}
 pub use Rattle.snap_machines.specs.Marking.{HasUnplanned}
 use Rattle.snap_machines.specs.Marking.{IsSetting}

@@ -1,6 +1,6 @@
 -- An order that goes on from a beginning.
 use Rattle.attempts.proofs.Beginning.{longer_numbers, longer_tasks, longer_valid}
-use Rattle.cluster_core.specs.Cuts.{cut_of}
+use Rattle.cluster_laws.specs.cluster_core.Cuts.{cut_of}
 use Rattle.attempts.proofs.laws.attempts_go_on.Goals as goal
 
 pub returns-clause-valid : goal.returns-clause-valid

@@ -1,6 +1,6 @@
 -- One flag more is counted.
 use Rattle.std.proofs.Common.{◌≡◌, ◌+◌, ◌≤◌, ◌<◌, ℕ, arith, length, ap, ◌∙◌}
-use Rattle.cluster_model.specs.Totals.{total}
+use Rattle.cluster_laws.specs.cluster_model.Totals.{total}
 use Rattle.call_returns.proofs.Counting.{failures_counted, low_one, none_counted, one_at, one_counted}
 use Rattle.call_returns.proofs.failing.count_failed.Goals as goal
 

@@ -1,5 +1,5 @@
 use Rattle.std.proofs.Common.{◌≡◌, ◌≤◌}
-use Rattle.cluster_model.specs.Totals.{total}
+use Rattle.cluster_laws.specs.cluster_model.Totals.{total}
 use Rattle.call_returns.proofs.Counting.{one_at}
 use Rattle.call_returns.proofs.failing.count_failed.Given as goal
 

@@ -2,7 +2,7 @@
 use Rattle.std.proofs.Common.{◌++◌, ◌∙◌, IsPermutation, List, ap, rules, subst}
 use Rattle.std.proofs.lemmas.List.Sorted.{IsNonDecreasingBy-from_sort_by_key, IsPermutation-append_right, IsPermutation-trans}
 use Rattle.gl_base.specs.declared.entries.Entry.{Entry}
-use Rattle.cluster_model.specs.Events.{entries_below}
+use Rattle.cluster_laws.specs.cluster_model.Events.{entries_below}
 use Rattle.call_returns.specs.Missing.{entry_rank}
 use Rattle.call_returns.proofs.records.record_behind.Goals as goal
 

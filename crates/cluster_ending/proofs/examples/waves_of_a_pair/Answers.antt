@@ -1,6 +1,6 @@
 -- Each wave, computed.
 use Rattle.std.proofs.Common.{refl, subst, sym}
-use Rattle.cluster_model.specs.TwoWaves.{ShowTheEnd}
+use Rattle.cluster_laws.specs.cluster_model.TwoWaves.{ShowTheEnd}
 use Rattle.cluster_ending.specs.FourWaves.{early_answers, late_answers}
 use Rattle.cluster_ending.proofs.WorkedWaves.{first_not, first_waves, fourth_over, fourth_waves, late_shows, second_waves, third_waves, uneven}
 use Rattle.cluster_ending.proofs.examples.waves_of_a_pair.Goals as goal

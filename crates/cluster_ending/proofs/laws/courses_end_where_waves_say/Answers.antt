@@ -1,6 +1,6 @@
 -- Event after event from a start.
 use Rattle.std.proofs.Common.{le_antisymm, le_trans, ◌≤◌, ℕ, subst, sym}
-use Rattle.cluster_core.specs.Recovering.{going_on}
+use Rattle.cluster_laws.specs.cluster_core.Recovering.{going_on}
 use Rattle.cluster_whole.specs.Whole.{setting_behind}
 use Rattle.cluster_ending.proofs.Courses.{start_followed}
 use Rattle.cluster_ending.proofs.Finding.{at_rest, left_finished, no_task_left, rest_ends}

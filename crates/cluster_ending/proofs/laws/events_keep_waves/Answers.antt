@@ -1,5 +1,5 @@
 -- Event by event.
-use Rattle.cluster_core.specs.Recovering.{going_on}
+use Rattle.cluster_laws.specs.cluster_core.Recovering.{going_on}
 use Rattle.std.proofs.Common.{refl}
 use Rattle.cluster_ending.proofs.Courses.{courses_followed, event_kept}
 use Rattle.cluster_ending.proofs.Putting.{recovered_watched}

@@ -1,6 +1,6 @@
 -- An update needs a task, and so does a message that wakes.
 use Rattle.cluster_whole.specs.Views.{world_of}
-use Rattle.cluster_model.specs.Events.{after_event}
+use Rattle.cluster_laws.specs.cluster_model.Events.{after_event}
 use Rattle.cluster_whole.proofs.Joining.{event_leads}
 use Rattle.cluster_whole.proofs.Wholeness.{is_exclusive}
 use Rattle.cluster_ending.proofs.Leaving.{done_moved}

@@ -1,6 +1,6 @@
 -- What is kept from action to action is enough for one more.
-use Rattle.cluster_core.specs.Stages.{Idle}
-use Rattle.cluster_places.proofs.PlacesKept.{start_placed}
+use Rattle.cluster_laws.specs.cluster_core.Stages.{Idle}
+use Rattle.cluster_laws.proofs.cluster_places.PlacesKept.{start_placed}
 use Rattle.cluster_moves.proofs.CountedKept.{start_counted}
 use Rattle.cluster_moves.proofs.NeverStuck.{start_due, run_works}
 use Rattle.cluster_moves.proofs.laws.never_stuck.Goals as goal

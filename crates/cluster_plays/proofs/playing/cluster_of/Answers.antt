@@ -1,5 +1,5 @@
-use Rattle.cluster_core.specs.Settings.{Locking}
-use Rattle.machine_parts.specs.Parts.{part_of}
+use Rattle.cluster_laws.specs.cluster_core.Settings.{Locking}
+use Rattle.machine_core.specs.machine_parts.Parts.{part_of}
 use Rattle.placed_clusters.specs.Running.{IsMachineOf, placed_owner}
 use Rattle.cluster_plays.proofs.BeginLemmas.{run_placed}
 use Rattle.cluster_plays.proofs.StartLemmas.{atoms_placed, first_setting, starts_placed}

@@ -1,6 +1,6 @@
 -- The cluster still began so as its run ended.
 use Rattle.std.proofs.Common.{sym, subst}
-use Rattle.machine_parts.specs.Parts.{part_of}
+use Rattle.machine_core.specs.machine_parts.Parts.{part_of}
 use Rattle.placed_clusters.specs.Running.{IsMachineOf}
 use Rattle.cluster_plays.specs.Beginnings.{StartsPlaced}
 use Rattle.cluster_plays.proofs.playing.run_program.Goals as goal

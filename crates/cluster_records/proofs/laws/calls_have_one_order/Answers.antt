@@ -1,6 +1,6 @@
 -- From the same numbers on the same updates are as valid.
 use Rattle.std.proofs.Common.{◌≡◌, ◌↔◌, subst, Bool, true}
-use Rattle.cluster_core.specs.Replays.{IsTask}
+use Rattle.cluster_laws.specs.cluster_core.Replays.{IsTask}
 use Rattle.cluster_whole.specs.Views.{world_of}
 use Rattle.cluster_records.proofs.Based.{call_numbers, call_stands, call_tasks, call_valid, snapshot_replayed, snapshot_valid}
 use Rattle.cluster_records.proofs.laws.calls_have_one_order.Goals as goal

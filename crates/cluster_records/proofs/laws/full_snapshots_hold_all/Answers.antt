@@ -2,9 +2,9 @@
 use Rattle.std.proofs.Common.{◌≡◌, ◌∙◌, sym, ap, subst, length, List, IsPermutation}
 use Rattle.std.proofs.lemmas.List.Sorted.{length_permutation}
 use Rattle.gl_base.specs.declared.entries.Entry.{Entry}
-use Rattle.cluster_core.specs.Replays.{entries_of}
-use Rattle.cluster_model.specs.Events.{entries_in_all}
-use Rattle.cluster_model.specs.Totals.{total}
+use Rattle.cluster_laws.specs.cluster_core.Replays.{entries_of}
+use Rattle.cluster_laws.specs.cluster_model.Events.{entries_in_all}
+use Rattle.cluster_laws.specs.cluster_model.Totals.{total}
 use Rattle.cluster_whole.specs.Logged.{entries_to}
 use Rattle.cluster_records.proofs.Fronts.{all_held, all_long, logs_long}
 use Rattle.cluster_records.proofs.Gathering.{all_gathered}

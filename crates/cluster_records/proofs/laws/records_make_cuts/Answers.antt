@@ -1,8 +1,8 @@
 -- Snapshot by snapshot.
 use Rattle.std.proofs.Common.{sym, subst, lt_of_le_of_lt, List, IsPermutation}
 use Rattle.gl_base.specs.declared.entries.Entry.{Entry}
-use Rattle.cluster_model.specs.Events.{entries_in_all}
-use Rattle.cluster_model.specs.Leading.{acknowledges}
+use Rattle.cluster_laws.specs.cluster_model.Events.{entries_in_all}
+use Rattle.cluster_laws.specs.cluster_model.Leading.{acknowledges}
 use Rattle.cluster_records.proofs.Fronts.{later_begins}
 use Rattle.cluster_records.proofs.Gathering.{all_gathered}
 use Rattle.cluster_records.proofs.Recording.{all_new, due_good, next_number, one_recorded}

@@ -1,7 +1,7 @@
 -- The updates of a snapshot are in no other one.
-use Rattle.cluster_model.specs.Working.{half_window}
-use Rattle.cluster_core.specs.Recovering.{going_on}
-use Rattle.cluster_model.specs.Events.{recovers}
+use Rattle.cluster_laws.specs.cluster_model.Working.{half_window}
+use Rattle.cluster_laws.specs.cluster_core.Recovering.{going_on}
+use Rattle.cluster_laws.specs.cluster_model.Events.{recovers}
 use Rattle.cluster_records.specs.Few.{snapshots_in_all, unasked_in}
 use Rattle.cluster_records.proofs.Fewness.{attempts_few, by_half}
 use Rattle.cluster_records.proofs.laws.snapshots_are_few.Goals as goal

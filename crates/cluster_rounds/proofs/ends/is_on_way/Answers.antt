@@ -1,6 +1,6 @@
 -- Nothing is on the link, and nothing waits behind it.
 use Rattle.std.proofs.Common.{List, ◌++◌, ap₂}
-use Rattle.cluster_core.specs.Messages.{Message}
+use Rattle.cluster_laws.specs.cluster_core.Messages.{Message}
 use Rattle.cluster_step.specs.Clusters.{part_now}
 use Rattle.cluster_step.specs.Links.{told_on}
 use Rattle.cluster_rounds.proofs.EndLemmas.{no_first}

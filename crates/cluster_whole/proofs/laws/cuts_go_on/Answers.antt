@@ -1,5 +1,5 @@
 -- Event after event the order and the cut go on.
-use Rattle.cluster_cuts.proofs.CutsGoOn.{cuts_grow}
+use Rattle.cluster_laws.proofs.cluster_cuts.CutsGoOn.{cuts_grow}
 use Rattle.cluster_whole.specs.Views.{world_of}
 use Rattle.cluster_whole.proofs.Wholeness.{goes_on}
 use Rattle.cluster_whole.proofs.laws.cuts_go_on.Goals as goal

@@ -1,5 +1,5 @@
 -- With locks each scope is in its place; with colours each machine is where the newest step and wave have it.
-use Rattle.cluster_places.proofs.Fronts.{front}
+use Rattle.cluster_laws.proofs.cluster_places.Fronts.{front}
 use Rattle.cluster_whole.specs.Views.{world_of}
 use Rattle.cluster_whole.proofs.Colours.{in_places, in_turn}
 use Rattle.cluster_whole.proofs.Hearing.{none_held, step_is_newest, was_free}

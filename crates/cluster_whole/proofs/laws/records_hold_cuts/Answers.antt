@@ -1,6 +1,6 @@
 -- A record that is due may be made of the core.
 use Rattle.std.proofs.Common.{lt_of_le_of_lt}
-use Rattle.cluster_cuts.proofs.CutsKept.{recorded, recorded_cut}
+use Rattle.cluster_laws.proofs.cluster_cuts.CutsKept.{recorded, recorded_cut}
 use Rattle.cluster_whole.specs.Views.{world_of}
 use Rattle.cluster_whole.proofs.Wholeness.{may_record}
 use Rattle.cluster_whole.proofs.laws.records_hold_cuts.Goals as goal

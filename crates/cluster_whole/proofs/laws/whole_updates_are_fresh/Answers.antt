@@ -1,5 +1,5 @@
 -- No news of a neighbour are on the way.
-use Rattle.cluster_numbers.proofs.Keeping.{update_fresh}
+use Rattle.cluster_laws.proofs.cluster_numbers.Keeping.{update_fresh}
 use Rattle.cluster_whole.specs.Views.{world_of}
 use Rattle.cluster_whole.proofs.Wholeness.{is_exclusive}
 use Rattle.cluster_whole.proofs.laws.whole_updates_are_fresh.Goals as goal

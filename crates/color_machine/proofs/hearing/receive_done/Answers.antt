@@ -1,8 +1,8 @@
 -- What was learned is the cluster's effect, and whom it wakes stands in line.
 use Rattle.std.proofs.Common.{◌∙◌, List, length, subst, sym}
 use Rattle.gl_base.specs.declared.numbers.Vertex.{Vertex}
-use Rattle.color_parts.specs.Enlisting.{HasEnlisted}
-use Rattle.color_parts.specs.declared.enlisting.Which.TheVariants.{Tasks}
+use Rattle.machine_core.specs.color_parts.Enlisting.{HasEnlisted}
+use Rattle.machine_core.specs.declared.color_parts.enlisting.Which.TheVariants.{Tasks}
 use Rattle.color_machine.proofs.HearLemmas.{order_heard, settings_heard, received_heard}
 use Rattle.color_machine.proofs.hearing.receive_done.Goals as goal
 

@@ -5,9 +5,9 @@ use Rattle.gl_base.specs.declared.entries.Entry.TheVariants.{Go}
 use Rattle.local_graph.specs.declared.works.Work.{Work}
 use Rattle.machine_numbers.specs.declared.keeping.Numbers.{Numbers}
 use Rattle.machine_numbers.specs.Steps.{HasUpdated}
-use Rattle.machine_turns.proofs.MadeLemmas.{made_of_work}
-use Rattle.machine_at_once.proofs.Numbers.{at_err, back_links, back_numbers, back_own, edges_lent, room_alone, row_lent, row_there, same_numbers}
-use Rattle.color_parts.specs.Parts.{is_own, links_at, sides_at}
+use Rattle.machine_core.proofs.machine_turns.MadeLemmas.{made_of_work}
+use Rattle.machine_core.proofs.machine_at_once.Numbers.{at_err, back_links, back_numbers, back_own, edges_lent, room_alone, row_lent, row_there, same_numbers}
+use Rattle.machine_core.specs.color_parts.Parts.{is_own, links_at, sides_at}
 use Rattle.color_machine.specs.Inner.Making.{IsRowIn}
 use Rattle.color_machine.proofs.MakeLemmas.{can_keep, made_and_told}
 use Rattle.color_machine.proofs.making.make.Goals as goal

@@ -1,5 +1,5 @@
 -- The step begins.
-use Rattle.color_parts.specs.Parts.{centre_in_step}
+use Rattle.machine_core.specs.color_parts.Parts.{centre_in_step}
 use Rattle.color_machine.proofs.StepLemmas.{no_centre, step_order, step_settings, step_begun}
 use Rattle.color_machine.proofs.stepping.step.Goals as goal
 

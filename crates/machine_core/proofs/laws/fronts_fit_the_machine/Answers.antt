@@ -1,5 +1,5 @@
 use Rattle.std.proofs.Common.{refl}
-use Rattle.cluster_core.specs.Messages.{Done}
+use Rattle.cluster_laws.specs.cluster_core.Messages.{Done}
 use Rattle.machine_core.proofs.FrontLemmas.{ask_fits, told_holds, word_fits}
 use Rattle.machine_core.proofs.laws.fronts_fit_the_machine.Goals as goal
 

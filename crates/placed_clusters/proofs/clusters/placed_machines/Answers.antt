@@ -1,5 +1,5 @@
 use Rattle.std.proofs.Common.{◌≡◌, ◌∙◌, length, false}
-use Rattle.cluster_core.specs.Settings.{Locking}
+use Rattle.cluster_laws.specs.cluster_core.Settings.{Locking}
 use Rattle.placed_graphs.proofs.PartLemmas.{both_ok}
 use Rattle.placed_clusters.specs.Inner.Programs.{HaveProgram}
 use Rattle.placed_clusters.specs.Running.{AreStartIn, Setting, placed_owner}

@@ -2,7 +2,7 @@ use Rattle.std.proofs.Common.{◌≡◌, ◌+◌, ◌++◌, [], ◌∷◌, ◌�
 use Rattle.std.proofs.lemmas.Iterator.Adapters.{YieldsList-from_vec}
 use Rattle.std.proofs.lemmas.Iterator.Consumers.{YieldsList-end, YieldsList-turn}
 use Rattle.std.proofs.lemmas.List.{length-append}
-use Rattle.machine_parts.specs.declared.cores.Core.{Core}
+use Rattle.machine_core.specs.declared.machine_parts.cores.Core.{Core}
 use Rattle.placed_clusters.specs.Inner.Programs.{HasEachRow}
 use Rattle.placed_clusters.proofs.ProgramLemmas.{HaveSoFar, have_more}
 use Rattle.placed_clusters.proofs.programs.with_program.Goals as goal

@@ -4,7 +4,7 @@ use Rattle.std.specs.Prelude.{Err, IfOk, Ok, Result}
 use Rattle.machine_places.proofs.PlaceLemmas.{first_places}
 use Rattle.placed_graphs.proofs.BeginLemmas.{owned_few}
 use Rattle.placed_steps.specs.Beginning.{ColorMachineView, IsNewInSteps, Setting}
-use Rattle.color_parts.specs.declared.cores.ColorCore.{ColorCore}
+use Rattle.machine_core.specs.declared.color_parts.cores.ColorCore.{ColorCore}
 use Rattle.placed_steps.proofs.StartLemmas.{low_colours, new_here, order_here, rows_here}
 use Rattle.placed_steps.proofs.machines.new_color_machine.Goals as goal
 

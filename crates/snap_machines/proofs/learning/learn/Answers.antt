@@ -3,7 +3,7 @@ use Rattle.std.proofs.Common.{◌≡◌, ◌||◌, false, List, Vec, Global, ref
 use Rattle.gl_base.specs.declared.numbers.Vertex.{Vertex}
 use Rattle.wire_msgs.specs.declared.messages.Done.{Done}
 use Rattle.machine_numbers.specs.Views.{flag_there, is_named, is_own, place_at}
-use Rattle.machine_parts.specs.declared.cores.Core.{Core}
+use Rattle.machine_core.specs.declared.machine_parts.cores.Core.{Core}
 use Rattle.snap_machines.specs.Sending.{AreMarksUpTo}
 use Rattle.snap_machines.proofs.LearnLemmas.{heard_part, known_grows, learned_is, most_grows, most_heard}
 use Rattle.snap_machines.proofs.SeedLemmas.{orderly_pended, with_tasks}

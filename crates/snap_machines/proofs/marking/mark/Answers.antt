@@ -1,7 +1,7 @@
 -- Room is made, the snapshot update is made, and then the first unmarked vertex becomes pending where none is.
 use Rattle.std.proofs.Common.{◌≡◌, ℕ, ap, ◌∙◌, sym, subst}
-use Rattle.machine_parts.specs.declared.cores.Core.{Core}
-use Rattle.machine_parts.specs.Parts.{LocalView}
+use Rattle.machine_core.specs.declared.machine_parts.cores.Core.{Core}
+use Rattle.machine_core.specs.machine_parts.Parts.{LocalView}
 use Rattle.snap_machines.specs.Keeping.{SnapView}
 use Rattle.snap_machines.specs.Seeding.{AreMarkedBelow, HasSeeded}
 use Rattle.snap_machines.specs.Sending.{AreMarksUpTo}

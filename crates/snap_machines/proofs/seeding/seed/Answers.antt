@@ -1,6 +1,6 @@
 -- A vertex was pending, or the first unmarked one becomes so, or there is none.
 use Rattle.std.proofs.Common.{ap, refl}
-use Rattle.machine_parts.specs.declared.cores.Core.{Core}
+use Rattle.machine_core.specs.declared.machine_parts.cores.Core.{Core}
 use Rattle.snap_machines.specs.Seeding.{HasOtherPending}
 use Rattle.snap_machines.proofs.SeedLemmas.{none_pended, one_pended, pending_already, with_tasks}
 use Rattle.snap_machines.proofs.seeding.seed.Goals as goal

@@ -1,4 +1,4 @@
-use Rattle.cluster_places.proofs.StepsKept.{step_excludes}
+use Rattle.cluster_laws.proofs.cluster_places.StepsKept.{step_excludes}
 use Rattle.step_worlds.proofs.GoingLemmas.{goes_on}
 use Rattle.step_worlds.proofs.laws.events_keep_worlds_in_steps.Goals as goal
 

@@ -1,6 +1,6 @@
 -- The lists are those of the run.
 use Rattle.std.proofs.Common.{All, inr, refl, rules, subst, sym, ◌++◌}
-use Rattle.call_ends.specs.Gathered.{gathered_lists}
+use Rattle.stored_calls.specs.call_ends.Gathered.{gathered_lists}
 use Rattle.stored_answers.specs.declared.runs.StoredRun.{StoredRun}
 use Rattle.stored_calls.proofs.Ended.{gathers, run_so}
 use Rattle.stored_calls.specs.Runs.{IsEntryOf, IsRunSo}

@@ -1,6 +1,6 @@
 -- What waits is counted with what has left.
 use Rattle.std.proofs.Common.{refl, suc, ◌+◌}
-use Rattle.cluster_model.specs.Totals.{total}
+use Rattle.cluster_laws.specs.cluster_model.Totals.{total}
 use Rattle.wave_counts.specs.Counts.{gained, hands}
 use Rattle.wave_counts.proofs.CountLemmas.{counts_put_out, counts_received, counts_sent, nothing_counted, total_from-nothing}
 use Rattle.wave_counts.proofs.laws.counts_follow_events.Goals as goal

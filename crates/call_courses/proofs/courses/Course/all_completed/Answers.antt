@@ -1,7 +1,7 @@
 -- Each machine's count is added.
 use Rattle.std.proofs.Common.{◌≡◌, ℕ, suc, ◌+◌, ◌<◌, ◌++◌, [], ◌∷◌, ◌∙◌, add-one, ap, arith, length, length-append, subst, sym}
 use Rattle.std.specs.Prelude.{slice_index_or}
-use Rattle.cluster_model.specs.Machines.{completed}
+use Rattle.cluster_laws.specs.cluster_model.Machines.{completed}
 use Rattle.call_courses.specs.Courses.{InEachCourse}
 use Rattle.call_courses.proofs.Calling.{grown}
 use Rattle.call_courses.proofs.courses.Course.all_completed.Given as given

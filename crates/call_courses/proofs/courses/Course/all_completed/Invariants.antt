@@ -1,6 +1,6 @@
 use Rattle.std.proofs.Common.{◌≡◌, ℕ, ◌<◌, length}
 use Rattle.std.specs.Prelude.{slice_index_or}
-use Rattle.cluster_model.specs.Machines.{completed}
+use Rattle.cluster_laws.specs.cluster_model.Machines.{completed}
 use Rattle.call_courses.specs.Courses.{InEachCourse}
 use Rattle.call_courses.proofs.courses.Course.all_completed.Given as goal
 

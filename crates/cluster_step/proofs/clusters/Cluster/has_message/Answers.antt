@@ -1,7 +1,7 @@
 -- There is a link from each machine to each one.
 use Rattle.std.proofs.Common.{subst}
 use Rattle.std.specs.Prelude.{IsTrue, ◌↔◌}
-use Rattle.cluster_core.specs.Actions.{HasFirst}
+use Rattle.cluster_laws.specs.cluster_core.Actions.{HasFirst}
 use Rattle.cluster_step.specs.Links.{told_on}
 use Rattle.cluster_step.proofs.ReadLemmas.{links_seen}
 use Rattle.cluster_step.proofs.clusters.Cluster.has_message.Goals as goal

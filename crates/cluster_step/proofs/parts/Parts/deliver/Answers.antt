@@ -1,6 +1,6 @@
 -- The first message of the link is received, or put back.
 use Rattle.std.proofs.Common.{refl, subst}
-use Rattle.cluster_core.specs.Parts.{Part}
+use Rattle.cluster_laws.specs.cluster_core.Parts.{Part}
 use Rattle.cluster_machines.specs.Promises.{IsExpectedIn, MayReceiveIn}
 use Rattle.cluster_machines.specs.Told.{told_by}
 use Rattle.cluster_step.proofs.CallLemmas.{cluster_both, deliver_can, deliver_made, here, here_belongs, same_both}

@@ -1,8 +1,8 @@
 -- What is on its way is on the link, or waits.
 use Rattle.std.proofs.Common.{sym, subst}
 use Rattle.std.specs.Prelude.{IsTrue, ◌↔◌}
-use Rattle.cluster_core.specs.Actions.{HasFirst}
-use Rattle.cluster_core.specs.Parts.{Part}
+use Rattle.cluster_laws.specs.cluster_core.Actions.{HasFirst}
+use Rattle.cluster_laws.specs.cluster_core.Parts.{Part}
 use Rattle.cluster_step.specs.Links.{told_on}
 use Rattle.cluster_step.specs.Worlds.{part_of_machine}
 use Rattle.cluster_step.proofs.CallLemmas.{here}

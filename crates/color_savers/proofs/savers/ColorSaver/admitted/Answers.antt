@@ -1,6 +1,6 @@
 -- The serial.
 use Rattle.std.proofs.Common.{sym, ap, ◌∙◌}
-use Rattle.cluster_core.specs.Parts.{Part}
+use Rattle.cluster_laws.specs.cluster_core.Parts.{Part}
 use Rattle.color_savers.proofs.savers.ColorSaver.admitted.Goals as goal
 
 pub returns : goal.returns

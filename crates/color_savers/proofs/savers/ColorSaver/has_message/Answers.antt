@@ -1,7 +1,7 @@
 -- Whether a message waits.
 use Rattle.std.proofs.Common.{ap, ◌∙◌}
 use Rattle.gl_base.specs.declared.scopes.Peer.TheVariants.{Machine}
-use Rattle.machine_parts.specs.declared.cores.Core.{Core}
+use Rattle.machine_core.specs.declared.machine_parts.cores.Core.{Core}
 use Rattle.outboxes.specs.Outboxes.{has_waiting, outbox_to}
 use Rattle.color_savers.proofs.ReadLemmas.{message_waits}
 use Rattle.color_savers.proofs.savers.ColorSaver.has_message.Goals as goal

@@ -1,7 +1,7 @@
 -- The answer to a wave.
 use Rattle.std.proofs.Common.{length, sym, ap, ◌∙◌, subst}
-use Rattle.cluster_core.specs.Parts.{Part}
-use Rattle.cluster_model.specs.Machines.{is_idle}
+use Rattle.cluster_laws.specs.cluster_core.Parts.{Part}
+use Rattle.cluster_laws.specs.cluster_model.Machines.{is_idle}
 use Rattle.snap_savers.proofs.AnswerLemmas.{room_made}
 use Rattle.color_savers.specs.Prompting.{HasPrompted}
 use Rattle.color_savers.proofs.AnswerLemmas.{left_by, not_closed}

@@ -1,7 +1,7 @@
 -- The admission is the law's, and who is admitted leaves the lines.
 use Rattle.std.proofs.Common.{ap, sym, subst}
 use Rattle.machine_numbers.specs.declared.keeping.Numbers.{Numbers}
-use Rattle.machine_parts.specs.declared.cores.Core.{Core}
+use Rattle.machine_core.specs.declared.machine_parts.cores.Core.{Core}
 use Rattle.color_snaps.specs.Machines.{ColorSnapView}
 use Rattle.color_snaps.specs.Inner.Keeping.{seen_in_steps}
 use Rattle.color_snaps.specs.Inner.Picking.{IsDueInStep, IsNoneDueInStep}

@@ -1,6 +1,6 @@
 -- The snapshot has begun as the law says, and who is seeded stands in line.
 use Rattle.std.proofs.Common.{ap, refl, subst}
-use Rattle.machine_parts.specs.declared.cores.Core.{Core}
+use Rattle.machine_core.specs.declared.machine_parts.cores.Core.{Core}
 use Rattle.color_snaps.specs.Machines.{Part, with_locking}
 use Rattle.color_snaps.specs.Inner.Keeping.{HasFirstInLine, seen_in_steps}
 use Rattle.color_snaps.proofs.BeginLemmas.{begun_in_line, begun_without_locks}

@@ -1,6 +1,6 @@
 -- The first in the line of the step's colour is due, and nobody is where nobody stands there.
 use Rattle.std.proofs.Common.{refl, sym, ap, ◌∙◌}
-use Rattle.machine_parts.specs.declared.cores.Core.{Core}
+use Rattle.machine_core.specs.declared.machine_parts.cores.Core.{Core}
 use Rattle.task_sched.specs.Tasks.{is_open}
 use Rattle.color_snaps.specs.Inner.Keeping.{seen_in_steps}
 use Rattle.color_snaps.proofs.AdmitLemmas.{first_pending, first_task, none_without_room}

@@ -1,7 +1,7 @@
 -- The share is done where nothing is in flight and nobody is due.
 use Rattle.std.proofs.Common.{ap, arith, subst, sym, ◌≡◌, ◌<◌, ◌∙◌, ℕ}
 use Rattle.std.specs.Prelude.{IfNone, IfSome}
-use Rattle.machine_parts.specs.declared.cores.Core.{Core}
+use Rattle.machine_core.specs.declared.machine_parts.cores.Core.{Core}
 use Rattle.scope_pipe.specs.Pipes.{flight_count}
 use Rattle.color_snaps.specs.Machines.{ColorSnapView}
 use Rattle.color_snaps.specs.Inner.Keeping.{seen_in_steps}

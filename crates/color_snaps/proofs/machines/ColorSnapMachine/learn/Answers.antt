@@ -2,10 +2,10 @@
 use Rattle.std.proofs.Common.{ap, length, sym, subst, ◌∙◌, List}
 use Rattle.gl_base.specs.declared.numbers.Vertex.{Vertex}
 use Rattle.machine_numbers.specs.Views.{LocalView}
-use Rattle.machine_parts.specs.declared.cores.Core.{Core}
+use Rattle.machine_core.specs.declared.machine_parts.cores.Core.{Core}
 use Rattle.snap_machines.specs.Seeding.{HasOtherPending}
-use Rattle.color_parts.specs.Enlisting.{HasEnlisted}
-use Rattle.color_parts.specs.declared.enlisting.Which.TheVariants.{All}
+use Rattle.machine_core.specs.color_parts.Enlisting.{HasEnlisted}
+use Rattle.machine_core.specs.declared.color_parts.enlisting.Which.TheVariants.{All}
 use Rattle.color_snaps.specs.Machines.{ColorSnapView, IsInSameStep, with_locking}
 use Rattle.color_snaps.specs.Snapshots.{HasBegunInStep}
 use Rattle.color_snaps.specs.Inner.Keeping.{seen_in_steps}

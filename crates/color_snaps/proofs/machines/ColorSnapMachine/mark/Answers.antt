@@ -1,11 +1,11 @@
 -- The snapshot update is the law's, and who becomes pending by it stands in line.
 use Rattle.std.proofs.Common.{ap, length, refl, sym, subst, ◌≡◌, ◌⊎◌, ◌<◌, true, Some, ℕ}
 use Rattle.machine_numbers.specs.Views.{LocalView}
-use Rattle.machine_parts.specs.declared.cores.Core.{Core}
-use Rattle.machine_parts.specs.Parts.{flight_at, place_at, sides_at}
-use Rattle.color_parts.specs.Enlisting.{HasEnlisted, ends_of, is_free_such}
-use Rattle.color_parts.specs.Parts.{is_in_line}
-use Rattle.color_parts.specs.declared.enlisting.Which.TheVariants.{Pending, Tasks}
+use Rattle.machine_core.specs.declared.machine_parts.cores.Core.{Core}
+use Rattle.machine_core.specs.machine_parts.Parts.{flight_at, place_at, sides_at}
+use Rattle.machine_core.specs.color_parts.Enlisting.{HasEnlisted, ends_of, is_free_such}
+use Rattle.machine_core.specs.color_parts.Parts.{is_in_line}
+use Rattle.machine_core.specs.declared.color_parts.enlisting.Which.TheVariants.{Pending, Tasks}
 use Rattle.color_snaps.specs.Machines.{with_locking}
 use Rattle.color_snaps.specs.Inner.Keeping.{AreBothInLine, HasFirstInLine, IsWithoutLocks, seen_in_steps}
 use Rattle.color_snaps.proofs.KeepLemmas.{kept_on, same_step}

@@ -1,10 +1,10 @@
 -- The update is the law's, and whom it wakes stands in line.
 use Rattle.std.proofs.Common.{ap, length, refl, sym, subst, ◌≡◌, Some, ℕ}
 use Rattle.machine_numbers.specs.Views.{LocalView, TasksView}
-use Rattle.machine_parts.specs.declared.cores.Core.{Core}
-use Rattle.machine_parts.specs.Parts.{flight_at, place_at, sides_at}
-use Rattle.color_parts.specs.Enlisting.{HasEnlisted, ends_of}
-use Rattle.color_parts.specs.declared.enlisting.Which.TheVariants.{Tasks}
+use Rattle.machine_core.specs.declared.machine_parts.cores.Core.{Core}
+use Rattle.machine_core.specs.machine_parts.Parts.{flight_at, place_at, sides_at}
+use Rattle.machine_core.specs.color_parts.Enlisting.{HasEnlisted, ends_of}
+use Rattle.machine_core.specs.declared.color_parts.enlisting.Which.TheVariants.{Tasks}
 use Rattle.color_snaps.specs.Machines.{with_locking}
 use Rattle.color_snaps.specs.Inner.Keeping.{AreBothInLine, IsWithoutLocks, seen_in_steps}
 use Rattle.color_snaps.proofs.KeepLemmas.{kept_on, same_step}

@@ -1,6 +1,6 @@
 -- Nothing was counted, and nothing waits.
 use Rattle.std.proofs.Common.{◌∙◌, ap, false, length, subst, sym}
-use Rattle.cluster_model.specs.TwoWaves.{TwoWaves}
+use Rattle.cluster_laws.specs.cluster_model.TwoWaves.{TwoWaves}
 use Rattle.coord_core.specs.Coordinators.{Counting}
 use Rattle.coord_core.specs.Inner.Kept.{AreStepsKept, IsSavingKept}
 use Rattle.coord_core.specs.Saving.{SavingView}

@@ -1,5 +1,5 @@
 use Rattle.gl_base.specs.declared.scopes.Peer.TheVariants.{Machine}
-use Rattle.machine_parts.specs.Parts.{waiting_for}
+use Rattle.machine_core.specs.machine_parts.Parts.{waiting_for}
 use Rattle.machine_core.proofs.SendLemmas.{waits_first}
 use Rattle.machine_core.proofs.machines.Machine.waits.Goals as goal
 

@@ -1,6 +1,6 @@
 -- The lock that the machine names may be granted wherever it belongs.
 use Rattle.std.proofs.Common.{sym, refl, ap, subst}
-use Rattle.machine_parts.specs.declared.cores.Core.{Core}
+use Rattle.machine_core.specs.declared.machine_parts.cores.Core.{Core}
 use Rattle.program_machines.specs.Machines.{HasEachRow, IsPartOf, part_of}
 use Rattle.program_machines.proofs.CallLemmas.{grants_none, grants_some, same_machine}
 use Rattle.program_machines.proofs.members.ProgramMachineClusterMachine.next_grant.Goals as goal

@@ -1,6 +1,6 @@
 -- What was taken is told alike, and nothing but the outbox has changed.
 use Rattle.std.proofs.Common.{sym, refl, ap, subst}
-use Rattle.machine_parts.specs.declared.cores.Core.{Core}
+use Rattle.machine_core.specs.declared.machine_parts.cores.Core.{Core}
 use Rattle.program_machines.specs.Machines.{HasEachRow, part_of}
 use Rattle.program_machines.proofs.CallLemmas.{same_machine}
 use Rattle.program_machines.proofs.ReceiveLemmas.{none_same, sending_where}

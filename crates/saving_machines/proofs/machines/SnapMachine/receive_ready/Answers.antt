@@ -1,5 +1,5 @@
 use Rattle.std.proofs.Common.{ap}
-use Rattle.machine_parts.specs.declared.cores.Core.{Core}
+use Rattle.machine_core.specs.declared.machine_parts.cores.Core.{Core}
 use Rattle.saving_machines.proofs.StayLemmas.{places_same, stays}
 use Rattle.saving_machines.proofs.machines.SnapMachine.receive_ready.Goals as goal
 

@@ -1,6 +1,6 @@
 -- The update is made, and then kept by its vertex's mark.
 use Rattle.std.proofs.Common.{ℕ, ◌+◌, ◌^◌, ◌<◌, ap, ◌∙◌, sym, subst}
-use Rattle.machine_parts.specs.declared.cores.Core.{Core}
+use Rattle.machine_core.specs.declared.machine_parts.cores.Core.{Core}
 use Rattle.saving_machines.specs.Machines.{SnapView, outside_of}
 use Rattle.saving_machines.proofs.StayLemmas.{few_outside, logged_stays, run_outside, stays_updated}
 use Rattle.saving_machines.proofs.machines.SnapMachine.update.Goals as goal

@@ -1,7 +1,7 @@
 -- The update is made at once, and then kept by its vertex's mark.
 use Rattle.std.proofs.Common.{ℕ, ◌+◌, ap, ◌∙◌, sym}
 use Rattle.machine_numbers.specs.Views.{TasksView}
-use Rattle.machine_parts.specs.declared.cores.Core.{Core}
+use Rattle.machine_core.specs.declared.machine_parts.cores.Core.{Core}
 use Rattle.saving_machines.proofs.StayLemmas.{logged_stays, stays_updated}
 use Rattle.saving_machines.proofs.machines.SnapMachine.update_at_once.Goals as goal
 

@@ -1,7 +1,7 @@
 -- The call on the link is that of the law.
 use Rattle.std.proofs.Common.{◌<◌, length, subst, sym}
 use Rattle.std.specs.Prelude.{IsTrue, ◌↔◌}
-use Rattle.cluster_model.specs.Events.{HasNext}
+use Rattle.cluster_laws.specs.cluster_model.Events.{HasNext}
 use Rattle.snap_clusters.specs.Clusters.{InEachCluster}
 use Rattle.snap_clusters.proofs.Next.{on_call}
 use Rattle.snap_clusters.proofs.clusters.SnapCluster.has_call.Goals as goal

@@ -1,6 +1,6 @@
 -- The cluster begins as the law's.
-use Rattle.cluster_core.specs.Recovering.{going_on}
-use Rattle.cluster_model.specs.Events.{recovers}
+use Rattle.cluster_laws.specs.cluster_core.Recovering.{going_on}
+use Rattle.cluster_laws.specs.cluster_model.Events.{recovers}
 use Rattle.snap_clusters.proofs.Cutting.{began_setting}
 use Rattle.snap_clusters.proofs.clusters.SnapCluster.new.Goals as goal
 

@@ -1,7 +1,7 @@
 -- The cluster goes on as the law's.
 use Rattle.std.proofs.Common.{◌<◌, ◌∙◌, ap, length, subst, sym}
-use Rattle.cluster_core.specs.Recovering.{going_on}
-use Rattle.cluster_model.specs.Events.{recovers}
+use Rattle.cluster_laws.specs.cluster_core.Recovering.{going_on}
+use Rattle.cluster_laws.specs.cluster_model.Events.{recovers}
 use Rattle.coord_core.specs.Stores.{store_view}
 use Rattle.snap_clusters.specs.Clusters.{StartsSaving}
 use Rattle.snap_clusters.proofs.Cutting.{began_setting}

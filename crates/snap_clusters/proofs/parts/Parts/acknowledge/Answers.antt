@@ -1,8 +1,8 @@
 -- The snapshot is acknowledged as in the law.
 use Rattle.std.proofs.Common.{ap, refl}
 use Rattle.std.specs.Prelude.{Err, Ok}
-use Rattle.cluster_model.specs.Events as law
-use Rattle.cluster_model.specs.Leading.{acknowledges}
+use Rattle.cluster_laws.specs.cluster_model.Events as law
+use Rattle.cluster_laws.specs.cluster_model.Leading.{acknowledges}
 use Rattle.snap_clusters.specs.declared.events.Event.TheVariants as event
 use Rattle.snap_clusters.specs.declared.events.Lead.TheVariants as lead
 use Rattle.snap_clusters.proofs.Leading.{led_answers, led_refused}

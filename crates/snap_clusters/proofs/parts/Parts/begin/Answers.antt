@@ -1,7 +1,7 @@
 -- What the coordinator does is the event of the cluster.
 use Rattle.std.proofs.Common.{refl}
-use Rattle.cluster_model.specs.Events as law
-use Rattle.cluster_model.specs.Leading.{begins_snapshot}
+use Rattle.cluster_laws.specs.cluster_model.Events as law
+use Rattle.cluster_laws.specs.cluster_model.Leading.{begins_snapshot}
 use Rattle.snap_clusters.specs.declared.events.Event.TheVariants as event
 use Rattle.snap_clusters.specs.declared.events.Lead.TheVariants as lead
 use Rattle.snap_clusters.proofs.Leading.{led_answers}

@@ -1,6 +1,6 @@
 -- The machine's admission, for each machine of the law.
 use Rattle.std.proofs.Common.{◌≡◌, ℕ, false, length, subst}
-use Rattle.machine_parts.specs.declared.cores.Core.{Core}
+use Rattle.machine_core.specs.declared.machine_parts.cores.Core.{Core}
 use Rattle.task_sched.specs.Tasks.{is_flagged}
 use Rattle.snap_savers.proofs.AnswerLemmas.{other_err}
 use Rattle.snap_savers.proofs.ScopeLemmas.{admission_back_now, admitted_now, can_admit, can_not_admit}

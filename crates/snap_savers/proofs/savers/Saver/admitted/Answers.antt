@@ -1,8 +1,8 @@
 -- The serial.
 use Rattle.std.proofs.Common.{sym, ap, ◌∙◌}
 use Rattle.gl_base.specs.declared.scopes.ScopeId.{ScopeId}
-use Rattle.cluster_core.specs.Parts.{Part}
-use Rattle.machine_parts.specs.declared.cores.Core.{Core}
+use Rattle.cluster_laws.specs.cluster_core.Parts.{Part}
+use Rattle.machine_core.specs.declared.machine_parts.cores.Core.{Core}
 use Rattle.snap_savers.proofs.savers.Saver.admitted.Goals as goal
 
 pub returns : goal.returns

@@ -1,6 +1,6 @@
 -- The counts are told.
 use Rattle.std.proofs.Common.{length, ap, ◌∙◌}
-use Rattle.machine_parts.specs.declared.cores.Core.{Core}
+use Rattle.machine_core.specs.declared.machine_parts.cores.Core.{Core}
 use Rattle.snap_savers.proofs.AnswerLemmas.{wave_answered, wave_unanswered}
 use Rattle.snap_savers.proofs.savers.Saver.answer.Goals as goal
 

@@ -1,7 +1,7 @@
 -- The snapshot update, for each machine of the law.
 use Rattle.std.proofs.Common.{ap, refl}
 use Rattle.local_graph.specs.Locals.{LocalView, place_at}
-use Rattle.machine_parts.specs.declared.cores.Core.{Core}
+use Rattle.machine_core.specs.declared.machine_parts.cores.Core.{Core}
 use Rattle.snap_savers.proofs.AnswerLemmas.{mark_home, on_err, on_ok}
 use Rattle.snap_savers.proofs.StandLemmas.{roomier_stands}
 use Rattle.snap_savers.proofs.MarkLemmas.{can_mark, can_not_mark, marked_one}

@@ -1,7 +1,7 @@
 -- The log.
 use Rattle.std.proofs.Common.{sym, ap, ◌∙◌}
-use Rattle.cluster_core.specs.Parts.{Part}
-use Rattle.machine_parts.specs.declared.cores.Core.{Core}
+use Rattle.cluster_laws.specs.cluster_core.Parts.{Part}
+use Rattle.machine_core.specs.declared.machine_parts.cores.Core.{Core}
 use Rattle.snap_savers.proofs.savers.Saver.updates.Goals as goal
 
 pub returns : goal.returns

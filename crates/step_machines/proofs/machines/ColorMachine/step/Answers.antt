@@ -1,6 +1,6 @@
 -- Nothing of the graph here has changed.
 use Rattle.std.proofs.Common.{ap}
-use Rattle.color_parts.specs.declared.cores.ColorCore.{ColorCore}
+use Rattle.machine_core.specs.declared.color_parts.cores.ColorCore.{ColorCore}
 use Rattle.step_machines.proofs.KeptLemmas.{kept_with, none_before, same_with}
 use Rattle.step_machines.proofs.machines.ColorMachine.step.Goals as goal
 

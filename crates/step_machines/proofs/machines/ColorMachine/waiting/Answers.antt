@@ -1,6 +1,6 @@
 -- The machines are those of the setting.
 use Rattle.std.proofs.Common.{◌∙◌}
-use Rattle.machine_rest.proofs.CountLemmas.{boxes_waiting}
+use Rattle.machine_core.proofs.machine_rest.CountLemmas.{boxes_waiting}
 use Rattle.step_machines.proofs.machines.ColorMachine.waiting.Goals as goal
 
 pub returns : goal.returns

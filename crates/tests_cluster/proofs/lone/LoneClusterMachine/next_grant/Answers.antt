@@ -1,7 +1,7 @@
 -- The vertex's own scope waits for its lock, and no other.
 use Rattle.std.proofs.Common.{sym, subst, get_or}
 use Rattle.gl_base.specs.declared.entries.Entry.TheVariants.{Restart}
-use Rattle.cluster_core.specs.Actions.{MayGrant}
+use Rattle.cluster_laws.specs.cluster_core.Actions.{MayGrant}
 use Rattle.tests_cluster.specs.Lone.{lone_part}
 use Rattle.tests_cluster.proofs.LoneLemmas.{asked_may_grant, fresh_grants_none, over_grants_none, ready_grants_none}
 use Rattle.tests_cluster.proofs.lone.LoneClusterMachine.next_grant.Goals as goal

@@ -1,7 +1,7 @@
 -- Its scope is ready, or none is.
 use Rattle.std.proofs.Common.{sym, subst, get_or}
 use Rattle.gl_base.specs.declared.entries.Entry.TheVariants.{Restart}
-use Rattle.cluster_core.specs.Actions.{MayUpdate}
+use Rattle.cluster_laws.specs.cluster_core.Actions.{MayUpdate}
 use Rattle.tests_cluster.specs.Lone.{lone_part, lone_scope}
 use Rattle.tests_cluster.proofs.LoneLemmas.{asked_updates_none, fresh_updates_none, over_updates_none, ready_may_update}
 use Rattle.tests_cluster.proofs.lone.LoneClusterMachine.next_ready.Goals as goal

@@ -3,7 +3,7 @@ use Rattle.std.proofs.Common.{sym, subst, refl}
 use Rattle.gl_base.specs.declared.entries.Entry.TheVariants.{Go}
 use Rattle.gl_base.specs.declared.entries.Entry.{Entry}
 use Rattle.gl_base.specs.declared.scopes.ScopeId.{ScopeId}
-use Rattle.cluster_core.specs.Actions.{MayUpdate}
+use Rattle.cluster_laws.specs.cluster_core.Actions.{MayUpdate}
 use Rattle.cluster_machines.specs.Promises.{IsUpdate}
 use Rattle.tests_cluster.specs.Lone.{lone_part, lone_scope, over_part}
 use Rattle.tests_cluster.proofs.LoneLemmas.{asked_updates_none, ready_updates, scope_is}

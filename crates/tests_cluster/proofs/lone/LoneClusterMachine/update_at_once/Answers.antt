@@ -1,7 +1,7 @@
 -- The update at once is the law's, and only a task is updated.
 use Rattle.std.proofs.Common.{sym, subst, get_or, inl}
 use Rattle.gl_base.specs.declared.entries.Entry.TheVariants.{Go, Restart}
-use Rattle.cluster_core.specs.Actions.{MayAdmit}
+use Rattle.cluster_laws.specs.cluster_core.Actions.{MayAdmit}
 use Rattle.cluster_machines.specs.Promises.{IsUpdateAtOnce}
 use Rattle.tests_cluster.specs.Lone.{lone_part, over_part}
 use Rattle.tests_cluster.proofs.AtOnceLemmas.{fresh_updates}

@@ -1,7 +1,0 @@
-use Rattle.std.proofs.Common.{◌≡◌}
-use Rattle.whole_calls.specs.Lost.{all_logged, machine_logs}
-use Rattle.call_backs.specs.Failing.{InEachCourse}
-use Rattle.call_backs.proofs.losing.all_logs.Given as goal
-
-abbrev pub invariant-loop-m : goal.invariant-loop-m
-invariant-loop-m g l = InEachCourse g.M.SavingMachine.stands l.course (λ st o events c. l.all.items ≡ all_logged (machine_logs l.m c))

@@ -1,6 +1,0 @@
--- Action by action.
-use Rattle.cluster_cuts.proofs.CutsKept.{one_step}
-use Rattle.cluster_cuts.proofs.laws.actions_keep_consistence.Goals as goal
-
-pub returns : goal.returns
-returns c = λ st w kept action is apart may. one_step st is w kept apart action may

@@ -1,6 +1,0 @@
--- No count falls.
-use Rattle.cluster_cuts.proofs.CutsGoOn.{cuts_grow}
-use Rattle.cluster_cuts.proofs.laws.cuts_go_on.Goals as goal
-
-pub returns : goal.returns
-returns c = λ st old kept new gone begun v within. cuts_grow st old new kept gone begun v within

@@ -1,6 +1,0 @@
--- Two vertices of one colour are no neighbours.
-use Rattle.cluster_places.proofs.StepsKept.{step_excludes}
-use Rattle.cluster_places.proofs.laws.steps_exclude.Goals as goal
-
-pub returns : goal.returns
-returns c = λ st colour step w apart in_step. step_excludes st colour step apart w in_step

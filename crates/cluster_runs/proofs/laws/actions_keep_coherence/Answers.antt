@@ -1,6 +1,0 @@
--- Places exclude, and of them copies and numbers need no more.
-use Rattle.cluster_runs.proofs.Coherence.{coherent_next}
-use Rattle.cluster_runs.proofs.laws.actions_keep_coherence.Goals as goal
-
-pub returns : goal.returns
-returns c = λ st w action is locks coherent may. coherent_next st is locks w coherent action may

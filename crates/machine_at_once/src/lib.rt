@@ -1,8 +1,0 @@
-//! The update of a vertex whose scope lies on one machine, made at once: no lock is taken and no message is sent.
-#![tactic(auto)]
-
-mod finding;
-mod making;
-mod updating;
-
-pub use updating::{refusal, update_at_once};

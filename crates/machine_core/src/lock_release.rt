@@ -1,0 +1,5 @@
+//! The locks of a scope, released at once.
+
+mod releasing;
+
+pub use releasing::release_all;

@@ -1,8 +1,0 @@
-//! The parts of one machine of a cluster, and what they stand for in the cluster's law.
-#![tactic(auto)]
-
-mod cores;
-mod spare;
-
-pub use cores::{Core, Terms};
-pub use spare::SpareParts;

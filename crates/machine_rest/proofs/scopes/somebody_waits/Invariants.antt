@@ -1,7 +1,0 @@
-use Rattle.std.proofs.Common.{◌≡◌, false, take}
-use Rattle.std.specs.List.{list_any}
-use Rattle.machine_rest.specs.Inner.Looking.{is_at_lock}
-use Rattle.machine_rest.proofs.scopes.somebody_waits.Given as goal
-
-abbrev pub invariant-loop-one : goal.invariant-loop-one
-invariant-loop-one l = list_any (is_at_lock l.locks) (take l.one-index l.entered) ≡ false

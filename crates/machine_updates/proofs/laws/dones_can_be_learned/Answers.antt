@@ -1,5 +1,0 @@
-use Rattle.machine_updates.proofs.WordLemmas.{done_can_be_learned}
-use Rattle.machine_updates.proofs.laws.dones_can_be_learned.Goals as goal
-
-pub returns : goal.returns
-returns c st p m done setting part order may home stand others close pends number = done_can_be_learned st p m done setting part order may home stand others close pends number

@@ -1,6 +1,0 @@
--- Their edges are others, and their ends.
-use Rattle.machine_updates.proofs.ApartLemmas.{strangers_apart}
-use Rattle.machine_updates.proofs.laws.works_of_strangers_are_apart.Goals as goal
-
-pub returns : goal.returns
-returns c = strangers_apart

@@ -1,6 +1,0 @@
-//! Scopes of a machine that takes no locks: each is ready as soon as it is admitted.
-#![tactic(auto)]
-
-mod admitting;
-
-pub use admitting::admit_in_step;

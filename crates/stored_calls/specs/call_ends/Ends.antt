@@ -1,0 +1,38 @@
+-- How a call ends, told by its lists.
+pub use Rattle.call_answers.specs.Answers.{IsRunWithFailures, KeepsToWindow}
+pub use Rattle.call_courses.specs.Calls.{HasEndedCall, MakesCall}
+pub use Rattle.call_rounds.specs.Pauses.{NoneReached, PausesSo}
+pub use Rattle.cluster_laws.specs.cluster_runs.Recorded.{shared_of}
+pub use Rattle.recovery.specs.GoodStores.{orders_behind}
+pub use Rattle.recovery.specs.Journals.{records_size, stored_order}
+pub use Rattle.stored_answers.specs.Ends.{RunEndsSo}
+pub use Rattle.stored_courses.specs.Stores.{Header, IsKnownCourse}
+pub use Rattle.whole_calls.specs.Telling.{NeedsMoreStore}
+use Rattle.std.specs.Prelude.{List, length, sum_by, ℕ, ◌+◌, ◌++◌, ◌≡◌, ◌≤◌}
+use Rattle.attempts.specs.EngineCalls.{EngineCall}
+use Rattle.attempts.specs.Stores.{snapshots_of}
+use Rattle.stored_calls.specs.call_ends.Gathered.{CallOpening, Cluster, CourseView, Event, IsTaskIn, Machine, RunLists, Setting}
+use Rattle.call_rounds.specs.declared.pauses.Pause.TheVariants as pause
+use Rattle.gl_base.specs.declared.entries.Entry.{Entry}
+use Rattle.gl_base.specs.declared.numbers.Vertex.{Vertex}
+use Rattle.stored_answers.specs.declared.runs.StoredEnd.{StoredEnd}
+use Rattle.stored_answers.specs.declared.runs.StoredEnd.TheVariants as end
+
+-- the run of this call ends so
+abbrev pub CallEndsSo : {M : Type 0} → CourseView M → Setting → CallOpening → EngineCall → RunLists → StoredEnd → Type 0
+CallEndsSo v st o call lists how = RunEndsSo (shared_of st v.failures) st.machines st.window o.first.left o.kept (snapshots_of call) call.last.struck lists how
+
+-- The course makes this call, whose lists are those of a run with failures that keeps to the window and makes no more updates than there were
+-- tickets. A store with these snapshots has its snapshots behind those with which it began; and as the course pauses the run ends.
+pub record IsEndedRun {M : Type 0} (stands : Setting → ℕ → Machine → M → Type 0) (v : CourseView M) (start bodies : List (List ℕ)) (st : Setting) (o : CallOpening) (events : List Event) (c : Cluster) (lists : RunLists) : Type 0 where
+  pub call : EngineCall
+  pub makes : MakesCall st v.failures o events c call
+  pub added : List (List ℕ)
+  pub stored : bodies ≡ start ++ added
+  pub snapshots : orders_behind (stored_order start) added ≡ snapshots_of call
+  pub is : IsRunWithFailures (shared_of st v.failures) st.machines o.kept o.resumed call.last.struck lists
+  pub keeps : KeepsToWindow st.window o.kept (snapshots_of call) lists
+  pub few : sum_by (λ count. count) lists.done ≤ o.first.left
+  pub finished : PausesSo stands v pause.Ended → CallEndsSo v st o call lists end.Finished
+  pub spent : PausesSo stands v pause.Spent → (left : Vertex) → IsTaskIn st c left.0 → CallEndsSo v st o call lists (end.Spent left)
+  pub full : NoneReached stands v → NeedsMoreStore st c.coordinator call → CallEndsSo v st o call lists (end.Full (length bodies) (65 + records_size bodies))

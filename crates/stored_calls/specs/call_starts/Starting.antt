@@ -1,0 +1,61 @@
+-- How a call starts from what the journal of a store has.
+pub use Rattle.call_courses.specs.Courses.{CallOpening, CourseView, IsCourseNow, OpensCall, Setting, first_cluster}
+pub use Rattle.call_returns.specs.Missing.{Begins}
+pub use Rattle.cluster_plays.specs.Plans.{IsInRange}
+pub use Rattle.gl_base.specs.declared.snapshots.Base.{Base}
+pub use Rattle.job_runs.specs.Plays.{IsPlacement}
+pub use Rattle.placed_savers.specs.Beginning.{ArePlacesOf, IsBaseFor, IsRunAt, IsSaverOf, SaverView, placed_owner}
+pub use Rattle.recovery.specs.GoodStores.{IsGoodStore}
+pub use Rattle.recovery.specs.Recovered.{IsHeaderOf}
+pub use Rattle.stored_calls.specs.saver_courses.Beginning.{opening_from, shared_of}
+pub use Rattle.snap_journal.specs.Journals.{JournalState, snapshots_in}
+pub use Rattle.stored_courses.specs.Stores.{IsKnownCourse}
+pub use Rattle.whole_calls.specs.Following.{AreJobFailures}
+use Rattle.std.specs.Prelude.{Bool, List, [], false, if◌then◌else◌, length, true, ℕ, ◌+◌, ◌≡◌, ◌≤◌}
+use Rattle.stored_calls.specs.declared.call_starts.starting.Started.{Started}
+use Rattle.cluster_laws.specs.cluster_runs.Attempts.{Shared}
+use Rattle.gl_base.specs.declared.jobs.FailureAt.{FailureAt}
+use Rattle.graph_core.specs.DataGraph.{DataGraph}
+use Rattle.placed_savers.specs.declared.savers.Places.{Places}
+use Rattle.recovery.specs.Journals.{records_size}
+use Rattle.snap_journal.specs.Disks.{DiskPast, Rose}
+use Rattle.snap_journal.specs.declared.faults.JournalFault.{JournalFault}
+use Rattle.snap_journal.specs.declared.faults.JournalFault.TheVariants.{BadStore, DiskFault, Failed, Full, NoMemory}
+use Rattle.store_format.specs.declared.header.Header.{Header}
+use Rattle.stored_answers.specs.declared.runs.StoredPlan.{StoredPlan}
+use Rattle.update_api.specs.Updates.{Update}
+
+-- how many bytes more a store needs where the call resumes: those of a restart
+abbrev pub restart_room : Bool → ℕ
+restart_room resumed = if resumed then 16 else 0
+
+-- The graph is placed as the plan says, and attempts run there as it says.
+pub record ArePlacedFor (g : DataGraph) (plan : StoredPlan) (places : Places) : Type 0 where
+  pub are : ArePlacesOf g plan.run.machines places
+  pub placement : IsPlacement g plan.run.atoms plan.run.machines (placed_owner places.of.items places.owner.items)
+  pub pipeline : places.run.pipeline ≡ plan.run.pipeline
+  pub window : places.run.window ≡ plan.window
+
+-- what the attempts of a call share that runs this program on this graph, placed so
+abbrev pub run_shared : DataGraph → Update → Places → List FailureAt → Shared
+run_shared g program places failures = record { graph = g; program = program; owner = placed_owner places.of.items places.owner.items; failures = failures }
+
+-- In this setting the call has opened from a store with these snapshots, resumed or not as this says, with so many tickets; and what is known of
+-- the store and of the course is so as it starts.
+pub record HasStarted {P : Type 0} (meaning : P → Update) (started : Started P) (header : Header) (bodies : List (List ℕ)) (resumed : Bool) (budget : ℕ) (st : Setting) : Type 0 where
+  pub opening : CallOpening
+  pub opens : OpensCall (IsSaverOf meaning) started.course.start started.course.failures st opening
+  pub resumed_is : opening.resumed ≡ resumed
+  pub tickets : opening.first.left ≡ budget
+  pub number : opening.base.number ≡ length bodies
+  pub known : IsKnownCourse (IsSaverOf meaning) started.course header bodies bodies [] started.restarts.stored.items started.restarts.front.items started.order.items st opening
+
+-- Why no call started. `before` and `now` are how often the disk had failed; and a restart has so many bytes, for which the store has no place
+-- where it is too long. Where a disk tells what it holds, its bytes are a store.
+abbrev pub IsWhyNotStarted : {D : Type 0} → (D → DiskPast) → Type 0 → ℕ → JournalState D → JournalState D → ℕ → ℕ → JournalFault → Type 0
+IsWhyNotStarted past told more old new before now DiskFault = (old.failed ≡ false) × (new.failed ≡ true) × Rose before now
+IsWhyNotStarted past told more old new before now (BadStore fault) = (¬ told) × (old.failed ≡ false) × (new.failed ≡ false)
+IsWhyNotStarted past told more old new before now (Full stored bytes) =
+    (old.failed ≡ false) × (new.failed ≡ false) × (stored ≡ old.count) × (told → bytes ≡ 65 + records_size (snapshots_in past old)) × (4294967296 ≤ bytes + more)
+IsWhyNotStarted past told more old new before now Failed = (old.failed ≡ true) × (new.failed ≡ true)
+IsWhyNotStarted past told more old new before now NoMemory = (old.failed ≡ false) × (new.failed ≡ false)

@@ -1,0 +1,44 @@
+//! Why a snapshot was not added.
+use gl_base::Refused;
+use snap_journal::JournalFault;
+use std::alloc::AllocError;
+use thiserror::Error;
+
+/// Why the snapshot that is due was not added to the store.
+#[derive(Clone, Copy, Debug, PartialEq, Eq, Error)]
+pub enum AppendFault {
+    /// The store takes no snapshot more, or not this one.
+    #[error("the store is full: {stored} snapshots, {length} bytes")]
+    Full { stored: u32, length: u64 },
+    /// A call on the disk failed.
+    #[error("the disk failed")]
+    DiskFault,
+    /// The record of the snapshot is not in the form of the store.
+    #[error("the snapshot is not in the form of the store")]
+    NotInForm,
+    /// There was not enough memory.
+    #[error("out of memory")]
+    NoMemory,
+}
+
+impl From<AllocError> for AppendFault {
+    ghost use Rattle.std.specs.Prelude.{◌≡◌};
+    ghost use Rattle.stored_calls.specs.declared.call_appends.faults.AppendFault.TheVariants.{NoMemory};
+
+    ghost from_gives = { λ _ fault. fault ≡ NoMemory };
+
+    fn from(_: AllocError) -> Self {
+        AppendFault::NoMemory
+    }
+}
+
+impl From<gl_base::NoMemory> for AppendFault {
+    ghost use Rattle.std.specs.Prelude.{◌≡◌};
+    ghost use Rattle.stored_calls.specs.declared.call_appends.faults.AppendFault.TheVariants.{NoMemory};
+
+    ghost from_gives = { λ _ fault. fault ≡ NoMemory };
+
+    fn from(_: gl_base::NoMemory) -> Self {
+        AppendFault::NoMemory
+    }
+}

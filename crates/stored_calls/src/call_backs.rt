@@ -1,0 +1,11 @@
+//! All machines of a call go back after failures: the next attempt begins from what the store has.
+
+mod failing;
+mod going;
+mod losing;
+mod next_attempts;
+mod reading;
+mod rooms;
+
+pub use failing::fail_reached;
+pub use going::go_back;

@@ -1,0 +1,12 @@
+//! The lists of a call, gathered from its machines at its end, and what they say of how it ended.
+
+mod fired;
+mod gathering;
+mod laws;
+mod logs;
+mod numbers;
+mod tasks;
+
+pub use gathering::{CallLists, GatherFault, gather_call};
+pub use laws::calls_end_so;
+pub use tasks::task_left;

@@ -1,0 +1,9 @@
+//! A call starts from what the journal of a store has: its machines, and its course.
+
+mod courses;
+mod openings;
+mod placing;
+mod starting;
+mod tickets;
+
+pub use starting::{Started, start_call};
