@@ -6,9 +6,9 @@ ghost use Rattle.stored_answers.specs.declared.runs.StoredEnd.TheVariants as end
 ghost use Rattle.stored_calls.specs.Calls.{Begins, CallOpening, CanCallGoOn, DiskPast, EndsBy, EndsCall, IsCallAt, IsCallEnded, IsNotRefused, IsSameCall, IsSaverOf, IsWhyStopped, KeepsCall, PausesSo, Setting, end_of, end_without};
 ghost use Rattle.call_rounds.specs.declared.pauses.Pause.TheVariants as pause;
 
-use crate::calls::StoredCall;
 use crate::call_appends::{AppendFault, append_due};
 use crate::call_backs::go_back;
+use crate::calls::StoredCall;
 use gl_outside::Disk;
 use graph_core::Graph;
 use snap_journal::{Journal, JournalFault};

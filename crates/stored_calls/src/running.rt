@@ -12,10 +12,10 @@ ghost use Rattle.stored_answers.specs.declared.runs.StoredEnd.TheVariants as end
 ghost use Rattle.stored_calls.specs.Runs.{AreJobFailures, ArePlacedFor, BoundsSteps, HasCallBegun, HasRoomForRun, IsEndAt, IsFinishedOrNoMemory, IsEntryOf, IsGoodStore, IsInRange, IsRunSo, IsPlacement, IsStoredRun, IsWhyNoRun, IsWhyNotBegun, KeepsByOwner, KeepsGood, owned_shared, refused_by, run_shared, stored_order};
 ghost use Rattle.update_api.specs.Updates.{Update};
 
-use crate::calls::StoredCall;
-use crate::steps::play_to_end;
 use crate::call_ends::{CallLists, GatherFault, calls_end_so, gather_call};
 use crate::call_starts::{Started, start_call};
+use crate::calls::StoredCall;
+use crate::steps::play_to_end;
 use gl_base::FailureAt;
 use gl_outside::Disk;
 use graph_core::Graph;

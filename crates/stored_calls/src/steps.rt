@@ -2,9 +2,9 @@
 ghost use Rattle.std.specs.Prelude.{List, None, ◌≡◌, ◌≤◌, ◌^◌, ℕ, IfErr, IfOk, IfSome, IsTrue};
 ghost use Rattle.stored_calls.specs.Calls.{CallOpening, CanCallGoOn, EndsBy, EndsCall, Header, IsKnownAt, IsNotRefused, IsRunAt, IsSameCall, IsSaverOf, IsWhyStopped, KeepsCall, PausesSo, Setting};
 
+use crate::call_ends::task_left;
 use crate::calls::StoredCall;
 use crate::pauses::{go_back_from, save_due};
-use crate::call_ends::task_left;
 use call_rounds::{Pause, drive};
 use gl_base::NoMemory;
 use gl_outside::Disk;
