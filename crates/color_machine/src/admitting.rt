@@ -3,8 +3,8 @@ ghost use Rattle.std.specs.Prelude.{◌≡◌, IfOk, IfSome, IfNone, OnOk, OnErr
 ghost use Rattle.color_machine.specs.Admitting.{IsInStepOrder, StaysInSettings, CanAdmitOne, MayAdmitNoOne, HasAdmittedOne, next_of_step};
 ghost use Rattle.color_machine.specs.Inner.Flying.{IsDueAt, HasFlown};
 
-use machine_core::color_parts::ColorCore;
 use gl_base::{NoMemory, Refused, ScopeId, Vertex};
+use machine_core::color_parts::ColorCore;
 
 /// Admits a scope of a task of the step's colour, where the step goes on here and the window has room. It is ready at once. There is no
 /// memory for it also where no serial is left.

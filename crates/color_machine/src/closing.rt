@@ -5,8 +5,8 @@ ghost use Rattle.color_machine.specs.Admitting.{IsInStepOrder, StaysInSettings, 
 ghost use Rattle.color_machine.specs.Closing.{HasDoneItsShare, GoesOnHere, closes, MayUpdate};
 
 use crate::admitting::due;
-use machine_core::color_parts::ColorCore;
 use gl_base::{Refused, ScopeId};
+use machine_core::color_parts::ColorCore;
 
 /// Nothing more is admitted in this step, where the machine's share of it is done: no scope is in flight, and none may be admitted. So it is
 /// also where the step is closed here already. It takes no memory.

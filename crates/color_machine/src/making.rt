@@ -7,8 +7,8 @@ ghost use Rattle.color_machine.specs.Inner.Making.{CanBeKeptAndTold, CanBeRun, H
 
 use gl_base::{Entry, NoMemory, ScopeId, Vertex};
 use local_graph::Outcome;
-use machine_numbers::{Numbers, Spent};
 use machine_core::machine_updates::{Prepared, Spares, prepare, reserve_log, tell_all};
+use machine_numbers::{Numbers, Spent};
 use outboxes::Outboxes;
 use std::alloc::Global;
 use update_api::Program;

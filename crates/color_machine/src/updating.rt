@@ -5,8 +5,8 @@ ghost use Rattle.color_machine.specs.Admitting.{IsInStepOrder, StaysInSettings, 
 ghost use Rattle.color_machine.specs.Updating.{HasEachRow, HasUpdatedInStep, MayUpdate};
 
 use crate::making::{Ticketed, make};
-use machine_core::color_parts::{ColorCore, Which, enlist_near};
 use gl_base::{NoMemory, Refused, ScopeId};
+use machine_core::color_parts::{ColorCore, Which, enlist_near};
 use machine_core::machine_updates::Spares;
 use std::alloc::Global;
 use update_api::Program;

@@ -8,9 +8,9 @@ ghost use Rattle.color_snaps.specs.Inner.Keeping.{HasFirstInLine};
 
 use crate::machines::ColorSnapMachine;
 use crate::updates::centre_of;
-use machine_core::color_parts::{Which, enlist, enlist_all, enlist_at, enlist_near};
 use color_tasks::ColorLines;
 use gl_base::{Refused, ScopeId};
+use machine_core::color_parts::{Which, enlist, enlist_all, enlist_at, enlist_near};
 use task_sched::TaskSet;
 use update_api::Program;
 use wire_msgs::{Done, Section};

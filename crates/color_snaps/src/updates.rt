@@ -7,8 +7,8 @@ ghost use Rattle.color_snaps.specs.Updating.{HasLogged, HasRunOf, HasUpdatedInCo
 ghost use Rattle.scope_pipe.specs.Pipes.{flight_at};
 
 use crate::machines::ColorSnapMachine;
-use machine_core::color_parts::{Which, enlist_near};
 use gl_base::{Refused, ScopeId, Vertex};
+use machine_core::color_parts::{Which, enlist_near};
 use machine_core::machine_parts::Core;
 use update_api::Program;
 

@@ -2,9 +2,9 @@
 ghost use Rattle.std.specs.Prelude.{◌≡◌, ℕ, ◌<◌, true, IfOk, IfErr, IfSome, IfNone, OnOk, OnErr, IsErrOf};
 ghost use Rattle.machine_core.specs.Machines.{IsMachine, IsOrderly, KnowsPlaces, SameSettings, HasOnlyMadeRoom, part_of, come, next_scope, machine_numbers, MayGrantLock, MayNotGrantLock, HasGrantedInTurn, HasGrantedLock, WaitsFirst, WantedNext, IsNewAt, AreMachinesFor, CanBecomeReady, HasReceivedMessage, Ask, Ready, CanAdmitPick, MayAdmitNone, HasAdmittedPick};
 
-use gl_base::{MachineNo, Refused, ScopeId, Vertex};
 use crate::machine_parts::Core;
 use crate::machine_scopes::Moved;
+use gl_base::{MachineNo, Refused, ScopeId, Vertex};
 use std::alloc::Global;
 use std::marker::Model;
 

@@ -4,9 +4,9 @@ ghost use Rattle.gl_base.specs.declared.scopes.ScopeId.{ScopeId};
 ghost use Rattle.machine_core.specs.Machines.{SameSettings, part_of};
 ghost use Rattle.machine_core.specs.Turns.{CanNotUpdatePick, CanUpdatePick, HasEachRow, HasNoneAtOnce, HasUpdatedPick, MayUpdate, HasMadeUpdate, IsAsBefore};
 
+use crate::machine_updates::Spares;
 use crate::machines::Machine;
 use gl_base::{Refused, ScopeId, Vertex};
-use crate::machine_updates::Spares;
 use std::alloc::Global;
 use update_api::Program;
 

@@ -5,11 +5,11 @@ ghost use Rattle.local_graph.specs.declared.works.Work.{Work};
 ghost use Rattle.machine_core.specs.Machines.{Setting, IsPartOf, SameSettings, HasOnlyMadeRoom, part_of};
 ghost use Rattle.machine_core.specs.Updates.{HasRoom, CanBeTaken, IsOut, IsApartFrom, HasItsRow, AreSomeOf, scopes_of_works, scopes_of_flights, NoneToTake, HasTakenAll, IsReserved, HasCommitted, HasUpdated, HasFinished, HasNoLock, done_told, after_told, entry_logged, machine_left, with_log_of, CanLearn, HasReceivedDone, links_at, sides_at, flight_at};
 
+use crate::machine_updates::{Prepared, Spares};
 use crate::machines::Machine;
 use gl_base::{NoMemory, Refused, ScopeId};
 use local_graph::{Batch, Outcome, Work};
 use machine_numbers::{Spare, Spent};
-use crate::machine_updates::{Prepared, Spares};
 use scope_pipe::Flight;
 use std::alloc::Global;
 use wire_msgs::Done;

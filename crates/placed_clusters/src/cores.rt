@@ -6,8 +6,8 @@ ghost use Rattle.placed_clusters.specs.Making.{IsMadeWith};
 
 use gl_base::{MachineNo, NoMemory, Vertex};
 use local_graph::LocalGraph;
-use machine_numbers::Numbers;
 use machine_core::machine_parts::{Core, SpareParts, Terms};
+use machine_numbers::Numbers;
 use machine_places::vertices_by_place;
 use outboxes::Outboxes;
 use scope_pipe::ScopePipe;

@@ -5,10 +5,10 @@ ghost use Rattle.machine_places.specs.Places.{HaveFirstPlaces};
 ghost use Rattle.placed_steps.specs.Inner.Making.{AreInLines, IsMadeInSteps};
 
 use crate::lines::full_lines;
-use machine_core::color_parts::ColorCore;
 use color_tasks::{ColorLines, StepScopes};
 use gl_base::{NoMemory, Vertex};
 use local_graph::LocalGraph;
+use machine_core::color_parts::ColorCore;
 use machine_numbers::Numbers;
 use machine_places::vertices_by_place;
 use outboxes::Outboxes;

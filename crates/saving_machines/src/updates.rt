@@ -9,8 +9,8 @@ ghost use Rattle.saving_machines.specs.Updates.{HasLogged, HasLoggedAtOnce};
 
 use crate::machines::SnapMachine;
 use gl_base::{Entry, Refused, ScopeId, Vertex};
-use machine_numbers::Numbers;
 use machine_core::machine_parts::Core;
+use machine_numbers::Numbers;
 use update_api::Program;
 
 impl<P: Program> SnapMachine<P> {

@@ -5,8 +5,8 @@ ghost use Rattle.snap_machines.specs.Inner.Marks.{CanTell, after_told, datum_her
 
 use gl_base::{Datum, MachineNo, Peer, Vertex};
 use local_graph::Side;
-use machine_numbers::Numbers;
 use machine_core::machine_updates::Prepared;
+use machine_numbers::Numbers;
 use outboxes::Outboxes;
 use scope_pipe::Flight;
 use snap_update::SnapPart;

@@ -8,8 +8,8 @@ ghost use Rattle.snap_machines.specs.Seeding.{AreMarkedBelow, HasSeeded, IsFirst
 
 use crate::pending::pend_one;
 use gl_base::Vertex;
-use machine_numbers::Numbers;
 use machine_core::machine_parts::Core;
+use machine_numbers::Numbers;
 
 /// Where no vertex is pending, the first own vertex that has no mark of this snapshot becomes pending; those before `seen` have it.
 /// It takes no memory, and looks once at each vertex that has its mark.

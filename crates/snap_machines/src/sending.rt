@@ -6,8 +6,8 @@ ghost use Rattle.snap_machines.specs.Sending.{AreMarksUpTo, MayNotSendSection, M
 
 use crate::seeding::{first_unmarked, own_at};
 use gl_base::{NoMemory, Refused};
-use machine_numbers::Numbers;
 use machine_core::machine_parts::Core;
+use machine_numbers::Numbers;
 use snap_update::SnapPart;
 use std::alloc::Global;
 use wire_msgs::Section;

@@ -3,8 +3,8 @@ ghost use Rattle.std.specs.Prelude.{◌≡◌, ℕ, true, false, None, IfOk, IfS
 ghost use Rattle.gl_base.specs.declared.scopes.ScopeId.{ScopeId};
 ghost use Rattle.step_machines.specs.Machines.{CanAdmitOne, CanHear, GoesOnHere, HasAdmittedOne, HasDoneItsShare, HasEachRow, HasHeardDone, HasUpdatedInStep, IsColorMachine, IsInStepOrder, IsSameColorMachine, MayAdmitNoOne, MayUpdate, closes, next_scope, part_in_steps, steps_to};
 
-use machine_core::color_parts::ColorCore;
 use gl_base::{NoMemory, Refused, ScopeId};
+use machine_core::color_parts::ColorCore;
 use machine_core::machine_updates::Spares;
 use std::alloc::Global;
 use std::marker::Model;

@@ -4,8 +4,8 @@ ghost use Rattle.std.specs.List.{All};
 ghost use Rattle.machine_core.specs.machine_at_once.Picks.{CanNotUpdatePick, HasNoneAtOnce, IsOrderly, KnowsPlaces, is_own};
 ghost use Rattle.machine_core.specs.machine_at_once.Inner.Finding.{AreFreeLocks, IsFoundPick, IsFreeScope, is_owned};
 
-use gl_base::Vertex;
 use crate::machine_parts::Core;
+use gl_base::Vertex;
 use vertex_locks::LockTable;
 
 /// The vertex that is to be updated, and its place in the machine's own order.

@@ -6,10 +6,10 @@ ghost use Rattle.machine_core.specs.machine_at_once.Inner.Finding.{WaitsAt};
 ghost use Rattle.machine_core.specs.machine_at_once.Inner.Making.{CanBeKept, CanBeMade, HasMadeHere, HasRunOne, HasSameNumbers, HasUpdated, sides_at};
 
 use crate::machine_at_once::finding::Found;
+use crate::machine_updates::{Spares, reserve_log};
 use gl_base::{Entry, NoMemory, ScopeId, Vertex};
 use local_graph::Outcome;
 use machine_numbers::{Numbers, Spent};
-use crate::machine_updates::{Spares, reserve_log};
 use std::alloc::Global;
 use update_api::Program;
 

@@ -4,9 +4,9 @@ ghost use Rattle.machine_core.specs.machine_at_once.Picks.{CanNotUpdatePick, Can
 
 use crate::machine_at_once::finding::find;
 use crate::machine_at_once::making::make;
-use gl_base::{NoMemory, Refused, Vertex};
 use crate::machine_parts::Core;
 use crate::machine_updates::Spares;
+use gl_base::{NoMemory, Refused, Vertex};
 use std::alloc::Global;
 use update_api::Program;
 

@@ -2,10 +2,10 @@
 ghost use Rattle.std.specs.Prelude.{◌≡◌, IfOk, OnErr, IsErrOf};
 ghost use Rattle.machine_core.specs.machine_scopes.Admitting.{IsOrderly, KnowsPlaces, SameSettings, CanAdmitPick, MayAdmitNone, HasAdmittedPick, KeepsPlans, next_id, part_of};
 
+use crate::machine_parts::Core;
 use crate::machine_scopes::picking::{put_back, take_pick};
 use crate::machine_scopes::starting::{prepare, set_out};
 use gl_base::{NoMemory, Refused, ScopeId};
-use crate::machine_parts::Core;
 use std::alloc::Global;
 
 /// Admits a scope of the vertex that the tasks pick, where fewer scopes are in flight than may be: it asks for its first lock here,

@@ -3,9 +3,9 @@ ghost use Rattle.std.specs.Prelude.{◌≡◌, ◌<◌, true, false, slice_get, 
 ghost use Rattle.machine_core.specs.machine_scopes.Asking.{IsOrderly, SameSettings, HasOnlyMadeRoom, IsNewAt, AreMachinesFor, HasReceivedMessage, Ask, come, part_of, part_at, machine_numbers, is_ready};
 ghost use Rattle.machine_core.specs.machine_scopes.Inner.Going.{HasNextRoom, mode_at, next_at};
 
+use crate::machine_parts::Core;
 use crate::machine_scopes::going::{go_on, reserve_next};
 use gl_base::{MachineNo, Mode, ScopeId, Vertex};
-use crate::machine_parts::Core;
 use scope_pipe::Next;
 use std::alloc::Global;
 

@@ -3,8 +3,8 @@ ghost use Rattle.std.specs.Prelude.{◌≡◌, ℕ, ◌≤◌, true, is_some, On
 ghost use Rattle.machine_core.specs.machine_scopes.Granting.{SameSettings, HasOnlyMadeRoom};
 ghost use Rattle.machine_core.specs.machine_scopes.Inner.Going.{IsOrderly, IsOrderlyBut, LeadsWithin, HasNextRoom, Wants, HasGoneOn, is_scope, entered_at, room_at};
 
-use gl_base::{Claim, MachineNo, Mode, NoMemory, Peer, ScopeId, Vertex};
 use crate::machine_parts::Core;
+use gl_base::{Claim, MachineNo, Mode, NoMemory, Peer, ScopeId, Vertex};
 use scope_pipe::{Left, Next};
 use wire_msgs::Message;
 

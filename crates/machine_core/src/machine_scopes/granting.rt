@@ -2,10 +2,10 @@
 ghost use Rattle.std.specs.Prelude.{◌≡◌, ℕ, true, IfOk, IfErr, IfSome, IfNone, OnErr, IsErrOf};
 ghost use Rattle.machine_core.specs.machine_scopes.Granting.{IsOrderly, SameSettings, HasOnlyMadeRoom, MayGrantLock, MayNotGrantLock, HasGrantedInTurn, HasGrantedLock, WaitsFirst, WantedNext, IsNext, WaitOnce, part_of, is_owned, holder_at, queue_at};
 
+use crate::machine_parts::Core;
 use crate::machine_scopes::going::{go_on, reserve_next};
 use crate::machine_scopes::taking::take_free;
 use gl_base::{Claim, Refused, ScopeId, Vertex};
-use crate::machine_parts::Core;
 use scope_pipe::Next;
 use vertex_locks::Turn;
 

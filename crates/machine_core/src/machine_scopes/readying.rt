@@ -2,8 +2,8 @@
 ghost use Rattle.std.specs.Prelude.{◌≡◌};
 ghost use Rattle.machine_core.specs.machine_scopes.Asking.{IsOrderly, SameSettings, CanBecomeReady, HasReceivedMessage, Ready};
 
-use gl_base::ScopeId;
 use crate::machine_parts::Core;
+use gl_base::ScopeId;
 
 /// Word has come that a scope of this home has all its locks: it is ready. It takes no memory.
 pub fn receive_ready(core: &mut Core, scope: ScopeId)

@@ -3,10 +3,10 @@ ghost use Rattle.std.specs.Prelude.{◌≡◌, ◌<◌, ◌∷◌, ℕ, true, fa
 ghost use Rattle.machine_core.specs.machine_scopes.Asking.{IsOrderly, SameSettings, HasOnlyMadeRoom, IsNewAt, is_ready};
 ghost use Rattle.machine_core.specs.machine_scopes.Inner.Setting.{IsGraphInOrder, CanSetOut, HasSetOut, is_own, is_owned, parts_at};
 
+use crate::machine_parts::Core;
 use crate::machine_scopes::asking::{come_here, wants_first};
 use crate::machine_scopes::going::reserve_next;
 use gl_base::{MachineNo, NoMemory, Peer, ScopeId, Vertex};
-use crate::machine_parts::Core;
 use scope_pipe::Next;
 use std::alloc::Global;
 use wire_msgs::Message;

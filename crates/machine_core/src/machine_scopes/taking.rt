@@ -4,9 +4,9 @@ ghost use Rattle.machine_core.specs.machine_scopes.Granting.{SameSettings};
 ghost use Rattle.machine_core.specs.machine_scopes.Inner.Going.{IsOrderlyBut, HasNextRoom, Wants, is_scope, entered_at};
 ghost use Rattle.machine_core.specs.machine_scopes.Inner.Taking.{HasTakenOn, wanted_then};
 
+use crate::machine_parts::Core;
 use crate::machine_scopes::going::reserve_next;
 use gl_base::{Claim, ScopeId};
-use crate::machine_parts::Core;
 use scope_pipe::Next;
 
 /// A scope that is moving on takes one lock after another that it wants here, where nobody claims it and there is room for what it

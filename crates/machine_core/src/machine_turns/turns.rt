@@ -4,11 +4,11 @@ ghost use Rattle.local_graph.specs.Works.{IsRow};
 ghost use Rattle.machine_core.specs.machine_turns.Turns.{IsOrderly, KnowsPlaces, SameSettings, HasEachRow, MayUpdate, HasMadeUpdate, HasRunOf, IsAsBefore, IsOut, Setting, IsPartOf, part_of, datum_here, is_own, links_at, sides_at};
 ghost use Rattle.machine_core.specs.machine_turns.Inner.Taking.{CanBeTaken, HasItsRow, IsReserved, HasCompleted, HasRunAt};
 
+use crate::machine_parts::Core;
 use crate::machine_turns::waiting::centre_to_update;
+use crate::machine_updates::{Prepared, Spares, commit, put_back, reserve_commit, take_work};
 use gl_base::{NoMemory, Refused, ScopeId};
 use local_graph::{Outcome, Work};
-use crate::machine_parts::Core;
-use crate::machine_updates::{Prepared, Spares, commit, put_back, reserve_commit, take_work};
 use scope_pipe::Flight;
 use std::alloc::Global;
 use update_api::Program;

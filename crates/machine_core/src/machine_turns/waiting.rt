@@ -4,9 +4,9 @@ ghost use Rattle.gl_base.specs.declared.scopes.ScopeId.{ScopeId};
 ghost use Rattle.machine_core.specs.machine_turns.Turns.{IsOrderly, HasEachRow, MayUpdate, part_of, is_ready, task_here, pending_here};
 ghost use Rattle.machine_core.specs.machine_turns.Inner.Taking.{CanBeTaken};
 
+use crate::machine_parts::Core;
 use gl_base::{ScopeId, Vertex};
 use machine_numbers::Numbers;
-use crate::machine_parts::Core;
 
 /// The vertex of a scope that may make its update now.
 pub fn centre_to_update(core: &Core, scope: ScopeId) -> Option<Vertex>

@@ -9,12 +9,12 @@ ghost use Rattle.machine_core.specs.machine_updates.Works.{IsOut, CanBeTaken};
 ghost use Rattle.machine_core.specs.machine_updates.Batches.{AreSomeOf, scopes_of_works, scopes_of_flights, NoneToTake, HasTakenAll};
 ghost use Rattle.machine_core.specs.machine_updates.Inner.Dues.{IsDue, is_due, is_free_to_take, scopes_of_dues};
 
+use crate::machine_parts::Core;
 use crate::machine_updates::spares::Spares;
 use crate::machine_updates::works::take_work;
 use gl_base::{NoMemory, Refused, ScopeId, Vertex};
 use local_graph::{Batch, Work};
 use machine_numbers::{Numbers, Spare};
-use crate::machine_parts::Core;
 use scope_pipe::Flight;
 use std::alloc::Global;
 

@@ -10,13 +10,13 @@ ghost use Rattle.machine_core.specs.machine_updates.Works.{IsOut, IsApartFrom, H
 ghost use Rattle.machine_core.specs.machine_updates.Reserving.{IsReserved};
 ghost use Rattle.machine_core.specs.machine_updates.Committing.{HasNoLock, HasCommitted, done_told, after_told, entry_logged, machine_left, with_log_of};
 
+use crate::lock_release::release_all;
+use crate::machine_parts::Core;
 use crate::machine_updates::reserving::Prepared;
 use crate::machine_updates::telling::tell_all;
 use gl_base::Entry;
 use local_graph::Outcome;
-use crate::lock_release::release_all;
 use machine_numbers::Spent;
-use crate::machine_parts::Core;
 
 /// Commits an update that was made: the other machines of the scope are told, its locks here are released, it is in flight no
 /// more, and its numbers are kept under this ticket. It takes no memory, and hands back the lists of the work's and the outcome's numbers.

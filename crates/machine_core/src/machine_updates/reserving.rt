@@ -10,9 +10,9 @@ ghost use Rattle.machine_core.specs.machine_parts.Settings.{SameSettings};
 ghost use Rattle.machine_core.specs.machine_parts.Rooms.{HasOnlyMadeRoom, HaveSameMessages};
 ghost use Rattle.machine_core.specs.machine_updates.Reserving.{CanTell, is_to_be_told, HasRoomToTell, IsReserved};
 
+use crate::machine_parts::Core;
 use gl_base::{Entry, MachineNo, NoMemory, Peer, ScopeId, Vertex};
 use machine_numbers::blank_done;
-use crate::machine_parts::Core;
 use outboxes::Outboxes;
 use std::alloc::Global;
 use wire_msgs::Done;

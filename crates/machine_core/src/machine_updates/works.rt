@@ -7,9 +7,9 @@ ghost use Rattle.machine_core.specs.machine_parts.Order.{IsOrderly, KnowsPlaces}
 ghost use Rattle.machine_core.specs.machine_parts.Settings.{Setting, IsPartOf, SameSettings};
 ghost use Rattle.machine_core.specs.machine_updates.Works.{IsOut, CanBeTaken, HasItsRow};
 
+use crate::machine_parts::Core;
 use local_graph::Work;
 use machine_numbers::Spare;
-use crate::machine_parts::Core;
 use scope_pipe::Flight;
 
 /// Takes out a scope that is ready for an ordinary update, with the numbers that the update may use. The lists of `spare` have

@@ -2,8 +2,8 @@
 ghost use Rattle.std.specs.Prelude.{◌≡◌, ◌↔◌, false, IfOk, IsOk, OnErr};
 ghost use Rattle.machine_core.specs.step_scopes.Admitting.{IsOrderly, KnowsPlaces, SameSettings, CanTake, HasPlaceInFlight, HasAdmittedInStep, IsAdmittedThere, next_id};
 
-use gl_base::{NoMemory, ScopeId, Vertex};
 use crate::machine_parts::Core;
+use gl_base::{NoMemory, ScopeId, Vertex};
 use task_sched::TaskSet;
 
 /// Admits a scope of the own vertex at this place, for its snapshot update or else for an update, where scopes take no locks: it is ready
