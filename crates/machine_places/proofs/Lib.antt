@@ -1,3 +1,4 @@
 pub mod OntoLemmas
 pub mod PlaceLemmas
 pub mod OwnerLemmas
+pub mod ColourLemmas

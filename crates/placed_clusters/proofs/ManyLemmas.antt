@@ -25,6 +25,7 @@ mine_at st parts k l are low at =
 pub can_start : (parts : List LocalView) (base : Base) (terms : NewTerms) (k : ℕ) (l : LocalView) → CanAllStart parts base terms → k < length parts → l ≡ get_or parts k l → CanStart l base terms
 can_start parts base terms k l can low at =
     record {
+      locks = can.locks;
       st = can.st;
       goes = can.goes;
       begins = can.begins;

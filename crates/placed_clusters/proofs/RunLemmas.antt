@@ -71,7 +71,6 @@ goes_by g program owner base run st n many is =
       machines = is.placed.machines;
       vertices = ap size is.placed.graph ∙ sym many;
       engine = is.engine;
-      locks = refl;
       pipeline = is.pipeline;
       window_is = ap (λ (b : Bool). if b then Some st.window else None) is.stored;
       base = is.begins.number;

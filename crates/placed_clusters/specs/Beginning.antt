@@ -11,14 +11,13 @@ use Rattle.machine_core.specs.declared.machine_parts.cores.Core.{Core}
 use Rattle.machine_core.specs.machine_parts.Settings.{window_of}
 use Rattle.placed_clusters.specs.declared.cores.NewTerms.{NewTerms}
 
--- The cluster has so many machines and vertices; scopes take locks, and so many of one machine may be in flight; snapshots are taken where
--- there is a window, and the run begins with this one.
+-- The cluster has so many machines and vertices; its engine is that of locks, and so many scopes of one machine may be in flight; snapshots
+-- are taken where there is a window, and the run begins with this one. Whether scopes take locks the terms alone say.
 pub record GoesBy (st : Setting) (window : Option ℕ) (terms : NewTerms) : Type 0 where
   pub is : IsSetting st
   pub machines : st.machines ≡ terms.machines
   pub vertices : size st.graph ≡ terms.vertices
   pub engine : st.engine ≡ Locking
-  pub locks : terms.terms.locks ≡ true
   pub pipeline : st.pipeline ≡ terms.terms.pipeline
   pub window_is : window_of st ≡ window
   pub base : st.base ≡ terms.terms.base
@@ -32,8 +31,9 @@ pub record IsNewIn (st : Setting) (a : ℕ) (m : Core) : Type 0 where
   pub rows : AreIn m.numbers.local
   pub start : IsStartPart st a (part_of m)
 
--- this is a part of the graph of some cluster with these terms that begins from the base
+-- this is a part of the graph of some cluster with these terms that begins from the base, and scopes take locks
 pub record CanStart (l : LocalView) (base : Base) (terms : NewTerms) : Type 0 where
+  pub locks : terms.terms.locks ≡ true
   pub st : Setting
   pub goes : GoesBy st None terms
   pub begins : BeginsWith st base
@@ -48,6 +48,7 @@ pub record AreNewIn (st : Setting) (machines : List Core) : Type 0 where
 
 -- these are the parts of the graph of such a cluster
 pub record CanAllStart (parts : List LocalView) (base : Base) (terms : NewTerms) : Type 0 where
+  pub locks : terms.terms.locks ≡ true
   pub st : Setting
   pub goes : GoesBy st None terms
   pub begins : BeginsWith st base

@@ -1,5 +1,5 @@
 //! Clusters of new machines.
-ghost use Rattle.std.specs.Prelude.{◌≡◌, ℕ, ◌+◌, ◌^◌, ◌<◌, ◌≤◌, [], None, false, length, All, IfOk};
+ghost use Rattle.std.specs.Prelude.{◌≡◌, ℕ, ◌+◌, ◌^◌, ◌<◌, ◌≤◌, [], None, true, false, length, All, IfOk};
 ghost use Rattle.cluster_laws.specs.cluster_core.Settings.{Locking};
 ghost use Rattle.graph_core.specs.DataGraph.{IsDataGraph, size};
 ghost use Rattle.update_api.specs.Updates.{Update};
@@ -101,6 +101,7 @@ pub fn bare_machines(
 /// What new machines of such a cluster go by.
 fn terms_of(graph: &Graph, base: &Base, run: Run) -> NewTerms
     ensures goes { (st : Setting) (program : Update) (owner : ℕ → ℕ) → IsRunOf graph.now program owner base.now run st → GoesBy st None result }
+    ensures locks { result.terms.locks ≡ true }
     ensures graph { IsDataGraph graph.now }
 {
     NewTerms {

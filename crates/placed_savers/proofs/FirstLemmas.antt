@@ -1,4 +1,4 @@
--- A new machine is the one of the law that has gone back to the numbers with which the run begins.
+-- A new machine has what the one of the law has that has gone back to the numbers with which the run begins.
 use Rattle.std.proofs.Common.{◌≡◌, ◌+◌, ◌≤◌, ◌==◌, ◌&&◌, ℕ, ◌∙◌, Bool, true, false, Option, Some, None, List, [], map, ap, sym, subst, refl, arith, true≢false}
 use Rattle.std.specs.Prelude.{is_some, nat_lt}
 use Rattle.gl_base.specs.declared.scopes.Peer.TheVariants.{Machine as ToMachine}
@@ -7,27 +7,25 @@ use Rattle.graph_core.specs.DataGraph.{size}
 use Rattle.cluster_laws.specs.cluster_core.Effects.{nothing_saved}
 use Rattle.cluster_laws.specs.cluster_core.Parts.{Part}
 use Rattle.cluster_laws.specs.cluster_core.Recovering.{begun_again}
-use Rattle.machine_numbers.specs.declared.keeping.Numbers.{Numbers}
 use Rattle.machine_numbers.specs.Views.{flag_there, is_flagged, place_at}
 use Rattle.machine_core.specs.declared.machine_parts.cores.Core.{Core}
 use Rattle.machine_core.specs.declared.machine_parts.cores.Terms.{Terms}
 use Rattle.machine_core.specs.machine_parts.Parts.{message_of, number_of, part_of, stand_at}
 use Rattle.placed_clusters.specs.Making.{IsMadeWith}
 use Rattle.placed_clusters.specs.declared.cores.NewTerms.{NewTerms}
-use Rattle.placed_clusters.proofs.NewLemmas.{begins_here, is_new, made_itself, orderly_here, part_is, places_here}
+use Rattle.placed_clusters.proofs.NewLemmas.{is_new, orderly_here, places_here}
 use Rattle.placed_clusters.proofs.RunLemmas.{each_row}
-use Rattle.placed_graphs.specs.Beginnings.{AreFirstNumbers, AreFreshTasks, BeginsAt, IsReadyPart}
-use Rattle.saving_machines.specs.Machines.{IsFreshMachine, SnapMachineView}
+use Rattle.placed_graphs.specs.Beginnings.{BeginsAt}
+use Rattle.saving_machines.specs.Machines.{IsFreshMachine}
 use Rattle.seen_parts.specs.Alike.{LooksAlike, with_copies}
 use Rattle.seen_parts.proofs.SeenLemmas.{alike_with}
 use Rattle.snap_machines.specs.Keeping.{with_snaps}
-use Rattle.snap_savers.specs.Savers.{IsSnapPartOf}
-use Rattle.snap_update.specs.Snaps.{SnapRoom, SnapView, nothing_since}
-use Rattle.snap_update.proofs.SavedOnce.{nothing_once}
+use Rattle.snap_savers.specs.Savers.{ArePlansOf, IsSavedRight, IsSnapPartOf}
+use Rattle.snap_update.specs.Snaps.{SnapRoom, nothing_since}
 use Rattle.cluster_laws.specs.cluster_model.Totals.{total}
-use Rattle.wave_counts.specs.Counts.{none_counted}
+use Rattle.wave_counts.specs.Counts.{IsCountOf, none_counted}
 use Rattle.wave_counts.proofs.CountLemmas.{total_from-nothing}
-use Rattle.placed_savers.specs.Inner.Making.{GoesBy, IsSaverOf, Machine, SaverView, SavesBy, Setting, Update, goes_back}
+use Rattle.placed_savers.specs.Inner.Making.{GoesBy, Machine, Setting, goes_back, with_locking}
 
 never : (flags : List Bool) → ((u : ℕ) → is_flagged flags u ≡ false) → (o : Option ℕ) → flag_there flags o ≡ false
 never flags clear None = refl
@@ -47,22 +45,19 @@ nothing_counted n none = omega (arith, none)
 
 -- ---- a machine with the numbers with which the run begins
 
-module _ (st : Setting) (window : ℕ) (terms : NewTerms) (m : Core) (goes : GoesBy st (Some window) terms) (begins : BeginsAt st m.numbers.local.me.0 (Some window) m.numbers) (made : IsMadeWith terms m.numbers m) where
+module _ (st : Setting) (window : ℕ) (terms : NewTerms) (m : Core) (goes : GoesBy (with_locking st) (Some window) terms) (begins : BeginsAt (with_locking st) m.numbers.local.me.0 (Some window) m.numbers) (made : IsMadeWith terms m.numbers m) where
   abbrev here : ℕ
   here = m.numbers.local.me.0
 
   base_is : m.terms.base ≡ st.base
   base_is = ap (λ (t : Terms). t.base) made.terms_are ∙ sym goes.base
 
-  kept_since : SnapRoom → SnapView
-  kept_since room = nothing_since m.terms.base room
-
   pub fresh_machine : IsFreshMachine m
   fresh_machine = record {
-    orderly = orderly_here st (Some window) terms here m.numbers m goes begins.numbers begins.part begins.fresh made;
-    places = places_here st (Some window) terms here m.numbers m goes begins.numbers begins.part begins.fresh made;
-    rows = each_row st m.numbers.local begins.part.local begins.part.rows;
-    most = λ v own. let mark = (is_new st (Some window) terms m goes begins made).marks v own in subst (λ (k : ℕ). k ≤ m.terms.base) (sym mark) (omega arith);
+    orderly = orderly_here (with_locking st) (Some window) terms here m.numbers m goes begins.numbers begins.part begins.fresh made;
+    places = places_here (with_locking st) (Some window) terms here m.numbers m goes begins.numbers begins.part begins.fresh made;
+    rows = each_row (with_locking st) m.numbers.local begins.part.local begins.part.rows;
+    most = λ v own. let mark = (is_new (with_locking st) (Some window) terms m goes begins made).marks v own in subst (λ (k : ℕ). k ≤ m.terms.base) (sym mark) (omega arith);
     outside = begins.fresh.outside;
   }
 
@@ -103,7 +98,7 @@ module _ (st : Setting) (window : ℕ) (terms : NewTerms) (m : Core) (goes : Goe
         out = λ q. out q i;
       }
 
-  looks_first : (room : SnapRoom) (old : Part) → old.serial ≡ terms.serial → LooksAlike st here (begun_again st st.start st.base here old) (with_snaps (nothing_since m.terms.base room) (part_of m))
+  pub looks_first : (room : SnapRoom) (old : Part) → old.serial ≡ terms.serial → LooksAlike st here (begun_again st st.start st.base here old) (with_snaps (nothing_since m.terms.base room) (part_of m))
   looks_first room old serial =
       alike_with st here (begun_again st st.start st.base here old).datum st.start.edge (begun_again st st.start st.base here old) (with_snaps (nothing_since m.terms.base room) (part_of m))
       (goes_back_with room old serial) (record {
@@ -111,21 +106,20 @@ module _ (st : Setting) (window : ℕ) (terms : NewTerms) (m : Core) (goes : Goe
         edges = λ e low. sym (begins.numbers.edges e low);
       })
 
-  module _ {P : Type 0} (meaning : P → Update) (program : P) (law : Machine) (saves : SavesBy st (meaning program) window terms) (serial : law.part.serial ≡ terms.serial) (room : SnapRoom) (reports : ℕ) where
-    -- such a machine with nothing counted and nothing told
-    abbrev pub first_saver : SaverView P
-    first_saver = record {
-      machine = record { core = m; kept = nothing_since m.terms.base room; program = program };
-      counts = none_counted;
-      window = window;
-      reports = record { messages = []; room = reports };
-    }
+  -- nothing that is pending was saved, since there is neither
+  pub saved_first : (room : SnapRoom) → IsSavedRight st here (with_snaps (nothing_since m.terms.base room) (part_of m))
+  saved_first room = record {
+    vertices = λ v number is. absurd (nothing number is);
+    edges = λ e number is. absurd (nothing number is);
+    pending = λ v low own is. absurd (true≢false (sym is ∙ never m.numbers.tasks.pending begins.fresh.pending (place_at m.numbers.local v)));
+  }
 
+  module _ (law : Machine) where
     abbrev back : Machine
     back = goes_back st st.start st.base here law
 
-    kept_is : IsSnapPartOf (nothing_since m.terms.base room) back
-    kept_is =
+    pub kept_first : (room : SnapRoom) → IsSnapPartOf (nothing_since m.terms.base room) back
+    kept_first room =
         let base : st.base ≡ m.terms.base = sym base_is in
         record {
           known = base;
@@ -138,74 +132,16 @@ module _ (st : Setting) (window : ℕ) (terms : NewTerms) (m : Core) (goes : Goe
           unsure = refl;
         }
 
-    pub stands_first : IsSaverOf meaning st here back first_saver
-    stands_first = record {
-      here = part_is st (Some window) terms m goes begins made;
-      number = refl;
-      program = saves.program_is;
-      window = sym saves.window_is;
-      part = looks_first room law.part serial;
-      kept = kept_is;
-      counts = record {
-        sent = λ fits. nothing_counted (total st.machines (λ q. 0)) (total_from-nothing 0 st.machines (λ q. 0) (λ q. refl));
-        received = λ fits. refl;
-        held = refl;
-      };
-      none_held = refl;
-      plans = record {
-        many = sym begins.fresh.plans;
-        planned = λ s v flies. absurd (nothing v flies);
-        others = λ s v flies. absurd (nothing v flies);
-      };
-      saved = record {
-        vertices = λ v number is. absurd (nothing number is);
-        edges = λ e number is. absurd (nothing number is);
-        pending = λ v low own is. absurd (true≢false (sym is ∙ never m.numbers.tasks.pending begins.fresh.pending (place_at m.numbers.local v)));
-      };
-      once = nothing_once m.terms.base room;
-      reports = tt;
+    pub counts_first : IsCountOf st none_counted back
+    counts_first = record {
+      sent = λ fits. nothing_counted (total st.machines (λ q. 0)) (total_from-nothing 0 st.machines (λ q. 0) (λ q. refl));
+      received = λ fits. refl;
+      held = refl;
     }
 
--- ---- as it is made
-
--- the machine with its program, what it counts and tells, as its constructors make it
-pub record IsFirstSaver {P : Type 0} (core : Core) (program : P) (window : ℕ) (x : SaverView P) : Type 0 where
-  pub core_is : x.machine.core ≡ core
-  pub kept_is : x.machine.kept ≡ nothing_since core.terms.base x.machine.kept.room
-  pub program_is : x.machine.program ≡ program
-  pub counts : x.counts ≡ none_counted
-  pub window_is : x.window ≡ window
-  pub reports : x.reports.messages ≡ []
-
-module _ (st : Setting) (window : ℕ) (terms : NewTerms) (a : ℕ) (n : Numbers) (core : Core) (goes : GoesBy st (Some window) terms) (first : AreFirstNumbers st a n) (ready : IsReadyPart st a n) (fresh : AreFreshTasks (Some window) n.tasks) (made : IsMadeWith terms n core) where
-  begins_in : BeginsAt st core.numbers.local.me.0 (Some window) core.numbers
-  begins_in = begins_here st (Some window) terms a n core goes first ready fresh made
-
-  pub fresh_first : IsFreshMachine core
-  fresh_first = fresh_machine st window terms core goes begins_in (made_itself terms n core made)
-
-  module _ {P : Type 0} (meaning : P → Update) (program : P) (law : Machine) (saves : SavesBy st (meaning program) window terms) (serial : law.part.serial ≡ terms.serial) where
-    pub saver_first : (x : SaverView P) → IsFirstSaver core program window x → IsSaverOf meaning st a (goes_back st st.start st.base a law) x
-    saver_first x is =
-        let stands = stands_first st window terms core goes begins_in (made_itself terms n core made) meaning program law saves serial x.machine.kept.room x.reports.room in
-        let same : first_saver st window terms core goes begins_in (made_itself terms n core made) meaning program law saves serial x.machine.kept.room x.reports.room ≡ x = λ i. record {
-          machine = record { core = sym is.core_is i; kept = sym is.kept_is i; program = sym is.program_is i };
-          counts = sym is.counts i;
-          window = sym is.window_is i;
-          reports = record { messages = sym is.reports i; room = x.reports.room };
-        } in
-        let number : core.numbers.local.me.0 ≡ a = ap (λ (k : Numbers). k.local.me.0) made.numbers_are ∙ ready.machine in
-        subst (λ (b : ℕ). IsSaverOf meaning st b (goes_back st st.start st.base b law) x) number
-        (subst (IsSaverOf meaning st core.numbers.local.me.0 (goes_back st st.start st.base core.numbers.local.me.0 law)) same stands)
-
--- what the constructors say of it
-pub made_saver : {P : Type 0} (core : Core) (program : P) (window : ℕ) (machine : SnapMachineView P) (x : SaverView P) → x.machine ≡ machine → machine.core ≡ core → machine.kept ≡ nothing_since core.terms.base machine.kept.room
-    → machine.program ≡ program → x.counts ≡ none_counted → x.window ≡ window → x.reports.messages ≡ [] → IsFirstSaver core program window x
-made_saver {P} core program window machine x is core_is kept_is program_is counts window_is reports = record {
-  core_is = ap (λ (v : SnapMachineView P). v.core) is ∙ core_is;
-  kept_is = subst (λ (v : SnapMachineView P). v.kept ≡ nothing_since core.terms.base v.kept.room) (sym is) kept_is;
-  program_is = ap (λ (v : SnapMachineView P). v.program) is ∙ program_is;
-  counts = counts;
-  window_is = window_is;
-  reports = reports;
-}
+    pub plans_first : ArePlansOf m.numbers back
+    plans_first = record {
+      many = sym begins.fresh.plans;
+      planned = λ s v flies. absurd (nothing v flies);
+      others = λ s v flies. absurd (nothing v flies);
+    }

@@ -3,6 +3,7 @@
 
 mod laws;
 mod machines;
+mod members;
 mod savers;
 
 pub use laws::attempts_can_begin;

@@ -1,9 +1,8 @@
 -- The parts of a new machine that goes by colours are in order, and begin as the run does.
-use Rattle.std.proofs.Common.{◌≡◌, ℕ, zero, suc, ◌<◌, ◌≤◌, ◌==◌, ◌∙◌, Bool, true, false, true≢false, if◌then◌else◌, Option, Some, None, is_some, List, [], ◌∷◌, length, map, option_map, get_or, ap, sym, subst, refl, arith}
-use Rattle.std.specs.Prelude.{All, nat_lt, slice_get, slice_index_or}
+use Rattle.std.proofs.Common.{◌≡◌, ℕ, ◌≤◌, ◌==◌, ◌∙◌, Bool, true, false, true≢false, if◌then◌else◌, Option, Some, None, is_some, List, length, map, ap, sym, subst, refl, arith}
+use Rattle.std.specs.Prelude.{nat_lt, slice_get, slice_index_or}
 use Rattle.std.proofs.lemmas.Bool.{and_from, eq-eqb, lt-ltb, ltb-true}
 use Rattle.std.proofs.lemmas.List.{length-map}
-use Rattle.std.proofs.lemmas.Option.{slice_get-get_or, slice_get-map, slice_get_within}
 use Rattle.gl_base.specs.declared.numbers.Vertex.{Vertex}
 use Rattle.gl_base.specs.declared.scopes.Datum.{Datum}
 use Rattle.gl_base.specs.declared.scopes.Peer.TheVariants.{Machine}
@@ -19,6 +18,7 @@ use Rattle.machine_numbers.proofs.PartLemmas.{sides_are}
 use Rattle.machine_core.specs.machine_parts.Order.{IsGraphInOrder, StandByPlace}
 use Rattle.machine_core.proofs.machine_scopes.HeldLemmas.{own_in}
 use Rattle.machine_core.proofs.machine_scopes.PickLemmas.{flag_inside, free_from, free_parts}
+use Rattle.machine_places.proofs.ColourLemmas.{as_many, colour_there, task_there}
 use Rattle.machine_core.specs.machine_turns.Turns.{HasEachRow}
 use Rattle.machine_core.proofs.machine_turns.TurnLemmas.{row_in}
 use Rattle.task_sched.specs.Tasks.{is_flagged, is_free}
@@ -27,19 +27,14 @@ use Rattle.placed_graphs.proofs.BeginLemmas.{ghost_listed}
 use Rattle.color_tasks.specs.Scopes.{ScopesView, centre_in_step}
 use Rattle.machine_core.specs.declared.color_parts.cores.ColorCore.{ColorCore}
 use Rattle.machine_core.specs.color_parts.Order.{IsInStepOrder, AreLinesInOrder}
-use Rattle.machine_core.specs.machine_parts.Parts.{LocalView, message_of}
+use Rattle.machine_core.specs.machine_parts.Parts.{message_of}
 use Rattle.machine_core.specs.color_parts.Parts.{flying_count, is_in_line, is_own, links_at, number_of, place_at}
 use Rattle.placed_steps.specs.Beginning.{GoesInSteps, IsNewInSteps, IsPartInSteps, IsStartPart, Setting, part_in_steps}
-use Rattle.placed_steps.specs.Inner.Making.{HaveColours, IsMadeInSteps}
+use Rattle.placed_steps.specs.Inner.Making.{IsMadeInSteps}
 
 never : (flags : List Bool) → ((u : ℕ) → is_flagged flags u ≡ false) → (o : Option ℕ) → flag_there flags o ≡ false
 never flags clear None = refl
 never flags clear (Some k) = clear k
-
-vertex_there : (vertices : List Vertex) (k : ℕ) → k < length vertices → (v : Vertex) × (slice_get vertices k ≡ Some v)
-vertex_there [] k low = absurd (omega (arith, low))
-vertex_there (v ∷ vertices) zero low = (v, refl)
-vertex_there (v ∷ vertices) (suc k) low = vertex_there vertices k (omega (arith, low))
 
 abbrev no_vertex : Option Vertex
 no_vertex = None
@@ -52,17 +47,6 @@ none_centre false false = refl
 
 no_flight : {X : Type 0} (e : X) (o : Option X) → o ≡ None → o ≡ Some e → ⊥
 no_flight e o none some = true≢false (sym (ap is_some some) ∙ ap is_some none)
-
--- each vertex has a colour
-pub low_colours : (st : Setting) (colours : List ℕ) (machines a : ℕ) (n : Numbers) → GoesInSteps st colours machines → IsReadyPart st a n → HaveColours n.local (length colours)
-low_colours st colours machines a n goes ready k v at low =
-    let many = ready.many in
-    let own : is_own n.local v ≡ true = ready.tasks_of.own v k at ∙ lt-ltb k (length n.tasks.task) (omega (arith, low, many)) in
-    subst (λ (m : ℕ). v < m) (sym goes.count) (own_in st n.local v ready.local own).0
-
-pub all_coloured : (l : LocalView) (vertices : List Vertex) (many : ℕ) → StandByPlace l (length l.owned) vertices → HaveColours l many → All (λ (v : Vertex). v.0 < many) vertices
-all_coloured l vertices many stand have k d low =
-    have k (get_or vertices k d).0 (stand.place k (get_or vertices k d) (slice_get-get_or vertices k d low)) (subst (λ (n : ℕ). k < n) stand.many low)
 
 module _ (st : Setting) (base : ℕ) (colours : List ℕ) (machines : ℕ) (m : ColorCore) (goes : GoesInSteps st colours machines) (begins : BeginsAt st m.numbers.local.me.0 None m.numbers) (same_base : base ≡ st.base)
     (made : IsMadeInSteps base colours machines m.numbers m) where
@@ -82,17 +66,7 @@ module _ (st : Setting) (base : ℕ) (colours : List ℕ) (machines : ℕ) (m : 
       begins.numbers.vertices v there.0 takes
 
   long : length m.by_place.items ≡ length m.numbers.tasks.task
-  long = made.by_place.many ∙ sym begins.part.many
-
-  -- the vertex at a place is a task
-  place_task : (k : ℕ) → k < length m.numbers.tasks.task → is_flagged m.numbers.tasks.task k ≡ true
-  place_task k low =
-      let many = long in
-      let one = vertex_there m.by_place.items k (omega (arith, low, many)) in
-      let v = one.0 in
-      let at : place_at m.numbers.local v.0 ≡ Some k = made.by_place.place k v one.1 in
-      let own : is_own m.numbers.local v.0 ≡ true = begins.part.tasks_of.own v.0 k at ∙ lt-ltb k (length m.numbers.tasks.task) low in
-      sym (ap (flag_there m.numbers.tasks.task) at) ∙ begins.numbers.tasks v.0 ∙ sym (begins.part.local.own v.0) ∙ own
+  long = as_many st None m.numbers begins m.by_place.items made.by_place
 
   lines_in_order : AreLinesInOrder m.numbers.tasks m.lines
   lines_in_order = record {
@@ -103,7 +77,7 @@ module _ (st : Setting) (base : ℕ) (colours : List ℕ) (machines : ℕ) (m : 
         (λ stands.
         let low = ltb-true u (length m.by_place.items) (sym (made.all u) ∙ stands) in
         let many = long in
-        free_from m.numbers.tasks.task m.numbers.tasks.admitted u (place_task u (omega (arith, low, many))) (begins.fresh.admitted u))
+        free_from m.numbers.tasks.task m.numbers.tasks.admitted u (task_there st None m.numbers begins m.by_place.items made.by_place u (omega (arith, low, many))) (begins.fresh.admitted u))
         (λ free.
         let low = flag_inside m.numbers.tasks.task u (free_parts m.numbers.tasks.task m.numbers.tasks.admitted u free).0 in
         let many = long in
@@ -137,12 +111,8 @@ module _ (st : Setting) (base : ℕ) (colours : List ℕ) (machines : ℕ) (m : 
 
   colour_here : (k : ℕ) (v : Vertex) → slice_get m.by_place.items k ≡ Some v → slice_get m.lines.colours k ≡ Some (goes.colour v.0)
   colour_here k v at =
-      let place = made.by_place.place k v at in
-      let low : k < length m.numbers.tasks.task = subst (λ (n : ℕ). k < n) long (slice_get_within m.by_place.items k v at) in
-      let own : is_own m.numbers.local v.0 ≡ true = begins.part.tasks_of.own v.0 k place ∙ lt-ltb k (length m.numbers.tasks.task) low in
-      let there = own_in st m.numbers.local v.0 begins.part.local own in
-      let colour_of : Vertex → ℕ = λ u. slice_index_or colours u.0 0 in
-      ap (λ (cs : List ℕ). slice_get cs k) made.colours_are ∙ slice_get-map colour_of m.by_place.items k ∙ ap (option_map colour_of) at ∙ ap Some (sym (goes.colours_are v.0 there.0))
+      ap (λ (cs : List ℕ). slice_get cs k) made.colours_are
+      ∙ colour_there st None m.numbers begins m.by_place.items made.by_place colours goes.colour goes.colours_are k v at
 
   pub part_is : IsPartInSteps st m
   part_is = record {

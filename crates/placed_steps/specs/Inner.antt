@@ -1,3 +1,2 @@
 -- What clauses of private functions cite. Who reads the public clauses need not read it.
-pub mod Lines
 pub mod Making

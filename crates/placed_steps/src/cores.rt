@@ -1,7 +1,8 @@
 //! The parts of a new machine that goes by colours.
 ghost use Rattle.std.specs.Prelude.{◌<◌, length, IfOk};
+ghost use Rattle.machine_places.specs.Colours.{HaveColours};
 ghost use Rattle.machine_places.specs.Places.{HaveFirstPlaces};
-ghost use Rattle.placed_steps.specs.Inner.Making.{AreInLines, HaveColours, IsMadeInSteps};
+ghost use Rattle.placed_steps.specs.Inner.Making.{AreInLines, IsMadeInSteps};
 
 use crate::lines::full_lines;
 use color_tasks::{ColorLines, StepScopes};

@@ -1,10 +1,12 @@
 //! Tasks in line by colour, as a run begins.
-ghost use Rattle.std.specs.Prelude.{◌≡◌, ℕ, ◌<◌, length, map, nat_lt, slice_index_or, IfOk};
+ghost use Rattle.std.specs.Prelude.{◌≡◌, ℕ, ◌<◌, length, nat_lt, IfOk};
 ghost use Rattle.std.specs.List.{All};
-ghost use Rattle.placed_steps.specs.Inner.Lines.{colours_by_place, is_in_line};
+ghost use Rattle.color_tasks.specs.Lines.{is_in_line};
+ghost use Rattle.machine_places.specs.Colours.{colours_by_place};
 
 use color_tasks::ColorLines;
 use gl_base::{NoMemory, Vertex};
+use machine_places::colours_of;
 use std::alloc::Global;
 
 /// Each of these vertices, by its place, in the line of its colour, where `colours` has that of each vertex of the graph.
@@ -20,16 +22,4 @@ pub fn full_lines(
 {
     let by_place = colours_of(alloc, vertices, colours)?;
     ColorLines::full(alloc, &by_place)
-}
-
-/// The colours of these vertices.
-fn colours_of(alloc: Global, vertices: &[Vertex], colours: &[u32]) -> Result<Vec<u32>, NoMemory>
-    requires { All (λ v. v.0 < length colours.now) vertices.now }
-    ensures { IfOk result (λ list. list.items ≡ colours_by_place colours.now vertices.now) }
-{
-    let mut list = Vec::with_capacity(alloc, vertices.len())?;
-    for v in vertices {
-        list.push_reserved(colours[v.0 as usize]);
-    }
-    Ok(list)
 }

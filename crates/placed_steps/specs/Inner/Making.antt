@@ -1,16 +1,13 @@
 -- What the parts of a new machine that goes by colours are made with.
-use Rattle.std.specs.Prelude.{◌≡◌, ◌<◌, ℕ, true, Some, List, [], length, nat_lt}
+use Rattle.std.specs.Prelude.{◌≡◌, ℕ, true, List, [], length, nat_lt}
 use Rattle.gl_base.specs.declared.scopes.Peer.{Peer}
 use Rattle.machine_numbers.specs.declared.keeping.Numbers.{Numbers}
 use Rattle.machine_core.specs.machine_parts.Order.{StandByPlace}
-use Rattle.machine_core.specs.machine_parts.Parts.{LocalView, place_at, waiting_for}
+use Rattle.machine_core.specs.machine_parts.Parts.{LocalView, waiting_for}
+use Rattle.machine_places.specs.Colours.{colours_by_place}
+use Rattle.color_tasks.specs.Lines.{is_in_line}
 use Rattle.machine_core.specs.declared.color_parts.cores.ColorCore.{ColorCore}
 use Rattle.placed_steps.specs.declared.cores.OwnLines.{OwnLines}
-use Rattle.placed_steps.specs.Inner.Lines.{colours_by_place, is_in_line}
-
--- each vertex at one of the first places, which are those of own vertices, is one of so many that have a colour
-abbrev pub HaveColours : LocalView → ℕ → Type 0
-HaveColours l many = (k v : ℕ) → place_at l v ≡ Some k → k < length l.owned → v < many
 
 -- the own vertices stand by their places, and each in the line of its colour
 pub record AreInLines (l : LocalView) (colours : List ℕ) (own : OwnLines) : Type 0 where

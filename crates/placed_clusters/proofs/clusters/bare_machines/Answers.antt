@@ -8,6 +8,7 @@ pub new_machines-requires : goal.new_machines-requires
 new_machines-requires c =
     let some = some_run c.args.graph.now update_of_components c.args.of.now c.args.owner.now c.args.base.now c.args.run c.terms_of-terms.ensures.graph c.requires.each c.requires.atoms c.requires.machines c.requires.base in
     record {
+      locks = c.terms_of-terms.ensures.locks;
       st = some.0;
       goes = c.terms_of-terms.ensures.goes some.0 update_of_components (placed_owner c.args.of.now c.args.owner.now) some.1;
       begins = some.1.begins;

@@ -30,7 +30,7 @@ new_saver-requires g c =
     let turn =
     YieldsList-turn (YieldsList-from_vec {s = c.into_iter-local-iterator.result} c.args.parts.items gives.0 (gives.1 ∙ c.args.parts.ok.0))
     c.loop-local.yielded c.loop-local.local-iterator c.loop-local.yielded_by c.next.result c.next.new.self c.in-Some.local c.in-Some.is c.next.ensures.steps in
-    can_save c.args.parts.items c.args.base.now c.args.terms c.with_serial-own.result c.args.window (length c.loop-local.yielded) _ c.in-Some.local c.requires.can turn.0 turn.1 c.with_serial-own.ensures
+    can_save c.args.parts.items (g.P.Program.meaning c.args.program) c.args.base.now c.args.terms c.with_serial-own.result c.args.places.now (length c.loop-local.yielded) _ c.in-Some.local c.requires.can turn.0 turn.1 c.with_serial-own.ensures
 
 pub loop-local-preserved : goal.loop-local-preserved
 loop-local-preserved g c =
@@ -46,8 +46,8 @@ loop-local-preserved g c =
     record {
       count = ap length pushed ∙ length-append c.loop-local.savers.items (x ∷ []) ∙ ap (λ (n : ℕ). n + 1) c.loop-local.invariant.count ∙ sym (length-append c.loop-local.yielded (c.in-Some.local ∷ []));
       stand =
-          subst (StandSoFar g.P.Program.meaning c.args.program c.args.parts.items c.args.base.now c.args.terms c.args.window c.args.serials.now) (sym pushed)
-          (stand_more g.P.Program.meaning c.args.program c.args.parts.items c.args.base.now c.args.terms c.args.window c.args.serials.now c.loop-local.savers.items (length c.loop-local.yielded) c.in-Some.local c.with_serial-own.result x
+          subst (StandSoFar g.P.Program.meaning c.args.program c.args.parts.items c.args.base.now c.args.terms c.args.places.now c.args.serials.now) (sym pushed)
+          (stand_more g.P.Program.meaning c.args.program c.args.parts.items c.args.base.now c.args.terms c.args.places.now c.args.serials.now c.loop-local.savers.items (length c.loop-local.yielded) c.in-Some.local c.with_serial-own.result x
           c.loop-local.invariant.count turn.0 turn.1 own c.in_ok-new_saver.ensures c.loop-local.invariant.stand);
     }
 
@@ -57,7 +57,7 @@ returns-clause-stand g c =
     let end =
     YieldsList-end (YieldsList-from_vec {s = c.into_iter-local-iterator.result} c.args.parts.items gives.0 (gives.1 ∙ c.args.parts.ok.0))
     c.loop-local.yielded c.loop-local.local-iterator c.loop-local.yielded_by c.next.result c.next.new.self c.in-None.is c.next.ensures.steps in
-    all_stand g.P.Program.meaning c.args.program c.args.parts.items c.args.base.now c.args.terms c.args.window c.args.serials.now c.loop-local.savers.items (c.loop-local.invariant.count ∙ end.1) c.loop-local.invariant.stand
+    all_stand g.P.Program.meaning c.args.program c.args.parts.items c.args.base.now c.args.terms c.args.places.now c.args.serials.now c.loop-local.savers.items (c.loop-local.invariant.count ∙ end.1) c.loop-local.invariant.stand
 
 pub returns-clause-many : goal.returns-clause-many
 returns-clause-many g c =

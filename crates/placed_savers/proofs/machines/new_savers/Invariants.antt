@@ -6,5 +6,5 @@ abbrev pub invariant-loop-local : goal.invariant-loop-local
 invariant-loop-local g l =
     record {
       count : length l.savers.items ≡ length l.yielded;
-      stand : StandSoFar g.P.Program.meaning l.program l.fn.parts.items l.base l.terms l.window l.serials l.savers.items;
+      stand : StandSoFar g.P.Program.meaning l.program l.fn.parts.items l.base l.terms l.places l.serials l.savers.items;
     }

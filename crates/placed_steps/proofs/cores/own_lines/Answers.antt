@@ -2,7 +2,7 @@
 use Rattle.std.proofs.Common.{◌<◌, length, subst, sym}
 use Rattle.std.specs.Prelude.{All, List}
 use Rattle.gl_base.specs.declared.numbers.Vertex.{Vertex}
-use Rattle.placed_steps.proofs.StartLemmas.{all_coloured}
+use Rattle.machine_places.proofs.ColourLemmas.{all_coloured}
 use Rattle.placed_steps.proofs.cores.own_lines.Goals as goal
 
 pub full_lines-requires-clause-below : goal.full_lines-requires-clause-below

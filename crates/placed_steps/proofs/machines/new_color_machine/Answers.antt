@@ -1,11 +1,13 @@
 -- The numbers are those of the part, and the parts are made of them.
 use Rattle.std.proofs.Common.{◌≡◌, ℕ, sym, subst, arith}
 use Rattle.std.specs.Prelude.{Err, IfOk, Ok, Result}
+use Rattle.machine_places.specs.Colours.{HaveColours}
+use Rattle.machine_places.proofs.ColourLemmas.{low_colours}
 use Rattle.machine_places.proofs.PlaceLemmas.{first_places}
 use Rattle.placed_graphs.proofs.BeginLemmas.{owned_few}
 use Rattle.placed_steps.specs.Beginning.{ColorMachineView, IsNewInSteps, Setting}
 use Rattle.machine_core.specs.declared.color_parts.cores.ColorCore.{ColorCore}
-use Rattle.placed_steps.proofs.StartLemmas.{low_colours, new_here, order_here, rows_here}
+use Rattle.placed_steps.proofs.StartLemmas.{new_here, order_here, rows_here}
 use Rattle.placed_steps.proofs.machines.new_color_machine.Goals as goal
 
 new_with : {P E : Type 0} (st : Setting) (a : ℕ) (r : Result (ColorMachineView P) E) (core : ColorCore) → IfOk r (λ m. m.core ≡ core) → IsNewInSteps st a core → IfOk r (λ m. IsNewInSteps st a m.core)
@@ -26,7 +28,8 @@ new_color_core-requires-clause-places g c = first_places c.requires.st c.args.lo
 
 pub new_color_core-requires-clause-below : goal.new_color_core-requires-clause-below
 new_color_core-requires-clause-below g c =
-    low_colours c.requires.st c.args.colours.now c.args.machines c.args.local.me.0 c.in_ok-numbers.numbers c.requires.goes (c.in_ok-numbers.ensures.part c.requires.st c.requires.unset)
+    subst (HaveColours c.in_ok-numbers.numbers.local) (sym c.requires.goes.count)
+    (low_colours c.requires.st c.args.local.me.0 c.in_ok-numbers.numbers (c.in_ok-numbers.ensures.part c.requires.st c.requires.unset))
 
 pub new_color_core-requires-clause-few : goal.new_color_core-requires-clause-few
 new_color_core-requires-clause-few g c =

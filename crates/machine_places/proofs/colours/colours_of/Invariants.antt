@@ -1,6 +1,6 @@
 use Rattle.std.proofs.Common.{◌≡◌, length, take, vec_capacity}
-use Rattle.placed_steps.specs.Inner.Lines.{colours_by_place}
-use Rattle.placed_steps.proofs.lines.colours_of.Given as goal
+use Rattle.machine_places.specs.Colours.{colours_by_place}
+use Rattle.machine_places.proofs.colours.colours_of.Given as goal
 
 abbrev pub invariant-loop-v : goal.invariant-loop-v
 invariant-loop-v l =
