@@ -1,5 +1,5 @@
 //! Runs by colours on a cluster.
-ghost use Rattle.std.specs.Prelude.{◌≡◌, ◌≤◌, length, slice_index_or, All, IfOk};
+ghost use Rattle.std.specs.Prelude.{◌≡◌, length, slice_index_or, IfOk};
 ghost use Rattle.graph_core.specs.Colourings.{IsProperColouring};
 ghost use Rattle.graph_core.specs.DataGraph.{size};
 ghost use Rattle.placed_steps.specs.Running.{IsColorMachineOf, part_in_steps};
@@ -9,7 +9,7 @@ ghost use Rattle.cluster_plays.specs.Plans.{CountsByMachine, IsInRange, RunsTo};
 use cluster_plays::{ended_run, first_of, placement_of};
 use cluster_rounds::drive_by_steps;
 use cluster_step::Cluster;
-use color_steps::greedy_colouring;
+use color_steps::{greatest_colour, greedy_colouring};
 use gl_base::NoMemory;
 use graph_core::Graph;
 use job_runs::{Run, RunPlan};
@@ -35,7 +35,7 @@ pub fn run_by_colours<R: Wait, P: Program>(
 {
     let colours = greedy_colouring(alloc, graph)?;
     let mut cluster = cluster_of(alloc, graph, program, &colours, plan)?;
-    let end = drive_by_steps(rt, &mut cluster, greatest(&colours))?;
+    let end = drive_by_steps(rt, &mut cluster, greatest_colour(&colours))?;
     ended_run(alloc, &cluster, end)
 }
 
@@ -73,11 +73,4 @@ fn cluster_of<P: Program>(
         colours,
         run,
     )
-}
-
-/// The greatest of some colours, and 0 where there is none.
-fn greatest(colours: &[u32]) -> u32
-    ensures { All (λ colour. colour ≤ result) colours.now }
-{
-    colours.iter().copied().max().unwrap_or(0)
 }

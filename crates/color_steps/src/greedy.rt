@@ -1,5 +1,5 @@
 //! The greedy colouring: vertices ascending, each gets the least colour that no neighbour before it has.
-ghost use Rattle.std.specs.Prelude.{◌≡◌, ◌≢◌, ℕ, ◌^◌, ◌<◌, ◌≤◌, length, slice_index_or, IfOk};
+ghost use Rattle.std.specs.Prelude.{◌≡◌, ◌≢◌, ℕ, ◌^◌, ◌<◌, ◌≤◌, length, slice_index_or, All, IfOk};
 ghost use Rattle.graph_core.specs.Colourings.{IsProperColouring};
 ghost use Rattle.graph_core.specs.DataGraph.{size};
 ghost use Rattle.color_steps.specs.Greedy.{IsGreedy};
@@ -25,6 +25,13 @@ pub fn greedy_colouring(alloc: Global, graph: &Graph) -> Result<Vec<u32>, NoMemo
         colours.push_reserved(first_without(&stamps, stamp));
     }
     Ok(colours)
+}
+
+/// The greatest of some colours, and 0 where there is none.
+pub fn greatest_colour(colours: &[u32]) -> u32
+    ensures { All (λ colour. colour ≤ result) colours.now }
+{
+    colours.iter().copied().max().unwrap_or(0)
 }
 
 /// Stamps the colour of each vertex that a half-edge leads to and that has one. No earlier turn had this stamp, so what it left

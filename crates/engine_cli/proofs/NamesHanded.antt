@@ -6,7 +6,7 @@ use Rattle.gl_outside.specs.Names.{AppendsNames}
 use Rattle.job_config.specs.Jobs.{JobSayings}
 use Rattle.whole_files.specs.FilesUsed.{HandsOver, OfRead}
 use Rattle.whole_files.proofs.NamesHanded.{AppendsNames-nil}
-use Rattle.job_files.specs.BuiltJobs.{job_for}
+use Rattle.job_files.specs.DoableJobs.{job_for}
 use Rattle.job_files.specs.JobTexts.{SaysJob}
 use Rattle.job_files.specs.declared.jobs.JobVerb.{JobVerb}
 use Rattle.engine_cli.specs.NamesWritten.{HandsWritten, names_for, order_names, written_for}

@@ -42,7 +42,7 @@ use Rattle.whole_files.specs.FilesUsed.{OfRead}
 use Rattle.whole_files.proofs.TextsRead.{OfRead-bytes}
 use Rattle.engine_cli.proofs.Bounds.{bound-of, one-more, since-one-more}
 use Rattle.job_files.proofs.SortedOnce.{sorted_once}
-use Rattle.job_files.specs.BuiltJobs.{job_for}
+use Rattle.job_files.specs.DoableJobs.{job_for}
 
 -- a text that lists identifiers has no fault
 lists_no_fault : (bytes : List ℕ) (ids : List ℕ) (fault : TextFault) → ListsIds bytes ids → vertices_of bytes ≡ Err fault → ⊥

@@ -2,6 +2,7 @@
 use Rattle.std.proofs.Common.{◌≡◌, ◌≤◌, ◌^◌, inl, inr, ℕ, ◌+◌, ◌*◌, Bool, false, List, length, Result, Ok, Err, refl, sym, ◌∙◌, subst, ⊎_elim}
 use Rattle.std.specs.Prelude.{All, IfErr, IfOk}
 use Rattle.gl_base.specs.declared.entries.Entry.{Entry}
+use Rattle.gl_base.specs.declared.jobs.EngineKind.{EngineKind}
 use Rattle.gl_base.specs.declared.jobs.FailureAt.{FailureAt}
 use Rattle.gl_base.specs.declared.numbers.Vertex.{Vertex}
 use Rattle.gl_outside.specs.Disk.{DiskPast}
@@ -72,10 +73,10 @@ EnoughBy g p bodies run plan failures header =
     (owner : ℕ → ℕ) → IsPlacement g plan.atoms plan.machines owner → IsGoodStore (owned_shared g p owner failures) header bodies →
     (bound : ℕ) → BoundsSteps g p bound → (1 + length failures) * bound ≤ plan.budget → (left : Vertex) → run.end ≡ end.Spent left → ⊥
 
-abbrev pub RoomyBy : DataGraph → Update → ℕ → ℕ → ℕ → List (List ℕ) → StoredRun → RunPlan → List FailureAt → Header → Type 0
-RoomyBy g p window count long bodies run plan failures header =
+abbrev pub RoomyBy : DataGraph → Update → ℕ → EngineKind → ℕ → ℕ → List (List ℕ) → StoredRun → RunPlan → List FailureAt → Header → Type 0
+RoomyBy g p window kind count long bodies run plan failures header =
     (owner : ℕ → ℕ) → IsPlacement g plan.atoms plan.machines owner → IsGoodStore (owned_shared g p owner failures) header bodies →
-    HasRoomForRun g (record { run = plan; window = window }) (length failures) count long → (stored bytes : ℕ) → run.end ≡ end.Full stored bytes → ⊥
+    HasRoomForRun g (record { run = plan; window = window; engine = kind }) (length failures) count long → (stored bytes : ℕ) → run.end ≡ end.Full stored bytes → ⊥
 
 abbrev pub KeepsBy : DataGraph → Update → List (List ℕ) → DiskPast → DiskPast → RunPlan → List FailureAt → Header → Type 0
 KeepsBy g p bodies old new plan failures header =
@@ -133,14 +134,14 @@ module _ (job : JobSayings) (g : DataGraph) (p : Update) (bodies : List (List �
       subst (F (plan_for job) job.failures) header_is (subst B failures_are (subst A plan_is f))
 
   pub run-from : (window : ℕ) (resumed : Bool) (count long : ℕ) (run : StoredRun) → long ≡ 65 + records_size bodies → GoesBy g p window resumed count bodies old new run plan failures header
-      → PlacedBy g plan failures header → EnoughBy g p bodies run plan failures header → RoomyBy g p window count long bodies run plan failures header → FullBy after new run.end
+      → PlacedBy g plan failures header → EnoughBy g p bodies run plan failures header → RoomyBy g p window job.fields.engine count long bodies run plan failures header → FullBy after new run.end
       → IsStoreRunFrom job g p window resumed count bodies old new run
   run-from window resumed count long run long_is goes placed enough roomy full = record {
     goes_on = of-job (GoesBy g p window resumed count bodies old new run) goes;
     placed = of-job (PlacedBy g) placed;
     enough = of-job (EnoughBy g p bodies run) enough;
-    roomy = of-job (RoomyBy g p window count (65 + records_size bodies) bodies run)
-        (subst (λ (l : ℕ). RoomyBy g p window count l bodies run plan failures header) long_is roomy);
+    roomy = of-job (RoomyBy g p window job.fields.engine count (65 + records_size bodies) bodies run)
+        (subst (λ (l : ℕ). RoomyBy g p window job.fields.engine count l bodies run plan failures header) long_is roomy);
     full = subst (λ (h : Header). FullBy h new run.end) (still ∙ header_is) full;
   }
 

@@ -66,7 +66,7 @@ plan_for job = record { atoms = job.fields.atoms; machines = job.fields.machines
 
 -- and with this window
 abbrev pub plan_with : JobSayings → ℕ → StoredPlan
-plan_with job window = record { run = plan_for job; window = window }
+plan_with job window = record { run = plan_for job; window = window; engine = job.fields.engine }
 
 -- the store with these snapshots has room for the job's run on this graph
 abbrev pub HasRoomForJob : JobSayings → DataGraph → List (List ℕ) → Type 0

@@ -6,7 +6,7 @@ use Rattle.job_config.specs.Fields.{JobFields}
 use Rattle.job_config.specs.Jobs.{JobSayings}
 use Rattle.whole_files.specs.AtomNames.{cut_names}
 use Rattle.whole_files.specs.FilesUsed.{HandsOver}
-use Rattle.job_files.specs.BuiltJobs.{job_for}
+use Rattle.job_files.specs.DoableJobs.{job_for}
 use Rattle.job_files.specs.JobTexts.{OfJob}
 use Rattle.job_files.specs.declared.jobs.JobVerb.{JobVerb}
 use Rattle.job_files.specs.declared.jobs.JobVerb.TheVariants.{Run, Resume, Cut, Init}

@@ -16,7 +16,7 @@ use Rattle.stored_answers.specs.declared.runs.StoredEnd.{StoredEnd}
 use Rattle.whole_files.specs.AtomNames.{index_name}
 use Rattle.whole_files.specs.Leaves.{KeepsOrGives}
 use Rattle.job_files.specs.Atoms.{HasAtoms, RefusesAtoms, atom_files, atoms_fault, given_bytes}
-use Rattle.job_files.specs.BuiltJobs.{job_for}
+use Rattle.job_files.specs.DoableJobs.{job_for}
 use Rattle.job_files.specs.JobTexts.{DescribeJobGraph, OfJob, OfSaid, OfTexts, RefusesTexts, RefusesJob}
 use Rattle.job_files.specs.declared.jobs.JobVerb.{JobVerb}
 use Rattle.engine_cli.specs.declared.status.Status.{Status}

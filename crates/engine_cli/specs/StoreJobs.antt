@@ -7,7 +7,7 @@ use Rattle.job_config.specs.Fields.{JobFields}
 use Rattle.job_config.specs.Jobs.{JobSayings}
 use Rattle.whole_files.specs.FilesUsed.{HandsOver}
 use Rattle.job_files.specs.Atoms.{OfGraph}
-use Rattle.job_files.specs.BuiltJobs.{job_for}
+use Rattle.job_files.specs.DoableJobs.{job_for}
 use Rattle.job_files.specs.JobTexts.{OfJob, OfTexts, RefusesJob, RefusesTexts}
 use Rattle.store_format.specs.declared.header.Header.{Header}
 use Rattle.job_stores.specs.JobHeaders.{header_for}

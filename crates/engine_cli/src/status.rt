@@ -16,8 +16,7 @@ pub enum Status {
     Done,
     /// The words are not those of a command.
     Usage(UsageFault),
-    /// The job is refused: its bytes are no job, it lacks a key that the verb needs, it asks for what is not built, or its
-    /// source is no vertex of the graph.
+    /// The job is refused: its bytes are no job, it lacks a key that the verb needs, or its source is no vertex of the graph.
     BadJob(JobFault),
     /// A graph text is refused.
     BadGraph(TextFault),

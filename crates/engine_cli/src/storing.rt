@@ -212,6 +212,7 @@ fn run_stored_by<R: Wait, D: Disk, P: Program>(
     let plan = StoredPlan {
         run: plan_of(job),
         window,
+        engine: job.engine,
     };
     // The readers tell how many snapshots and bytes the store has, before and behind the run.
     let _short = journal.length();

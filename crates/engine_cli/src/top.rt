@@ -35,9 +35,8 @@ use std::sync::Wait;
 /// where a machine fails that the job lets fail, all machines go back to the last one. `resume JOB` does the same as `run`, and goes on from the last
 /// snapshot that the store has.
 ///
-/// The words are refused first, then the job's file, what it says, a key that the verb needs, what it asks for that is not
-/// built, the vertex file, the edge file, a source that is no vertex, the index and the atoms, the store, and a run that left a task;
-/// then the order's file and `out` are written, and last one line to `note` for every status but `Done`. A fault of `note` is passed over. `gate` is not passed yet.
+/// The words are refused first, then the job's file, what it says, a key that the verb needs, the vertex file, the edge file, a source that
+/// is no vertex, the index and the atoms, the store, and a run that left a task; then the order's file and `out` are written, and last one line to `note` for every status but `Done`. A fault of `note` is passed over. `gate` is not passed yet.
 ///
 /// The lists tell of the run where one was made: at `Done`, `WriteFault`, `BudgetSpent`, `SnapshotsFull`, and at `DiskFault` where that came in the
 /// run. Else they are empty. A run on several machines goes on until its end is seen, and no clause says that it is.

@@ -19,7 +19,7 @@ use Rattle.whole_files.specs.FilesUsed.{OfText}
 use Rattle.whole_files.specs.FilesRead.{IsFront, ReadsFront}
 use Rattle.job_files.specs.Inner.Jobs.{TakesJob}
 use Rattle.whole_files.proofs.TextsRead.{OfRead-map}
-use Rattle.job_files.specs.BuiltJobs.{job_for, doable}
+use Rattle.job_files.specs.DoableJobs.{job_for, doable}
 use Rattle.job_files.specs.declared.jobs.JobVerb.{JobVerb}
 use Rattle.whole_files.specs.declared.reading.NotRead.TheVariants as file
 

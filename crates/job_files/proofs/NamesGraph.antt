@@ -11,7 +11,7 @@ use Rattle.whole_files.specs.FilesUsed.{HandsOver, OfRead}
 use Rattle.job_files.specs.NamesRead.{edges_after, edges_behind, graph_names, names_after, names_behind, names_of}
 use Rattle.job_files.specs.JobTexts.{SaysJob}
 use Rattle.whole_files.proofs.NamesHanded.{HandsOver-first, AppendsNames-trans, HandsOver-then}
-use Rattle.job_files.specs.BuiltJobs.{job_for}
+use Rattle.job_files.specs.DoableJobs.{job_for}
 use Rattle.job_files.specs.declared.jobs.JobVerb.{JobVerb}
 
 -- the vertex file was handed on, and then the edge file at most

@@ -14,7 +14,7 @@ use Rattle.job_files.specs.declared.jobs.JobVerb.{JobVerb}
 use Rattle.whole_files.specs.FilesUsed.{HandsOver}
 use Rattle.job_files.specs.NamesRead.{names_of}
 use Rattle.job_files.specs.Atoms.{HasAtoms, RefusesAtoms}
-use Rattle.job_files.specs.BuiltJobs.{doable}
+use Rattle.job_files.specs.DoableJobs.{doable}
 use Rattle.job_files.specs.JobTexts.{DescribeJobGraph, HasStart, OfJob, OfTexts, RefusesJob, RefusesTexts, SaysJob}
 
 -- a job that the verb can do, whose numbers are in their ranges, and of whose failures none is faulty

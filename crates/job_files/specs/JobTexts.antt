@@ -15,7 +15,7 @@ use Rattle.job_config.specs.Fields.{JobFields, needs_source}
 use Rattle.job_config.specs.Jobs.{JobSayings}
 use Rattle.whole_files.specs.FilesUsed.{OfText}
 use Rattle.job_files.specs.declared.jobs.JobVerb.{JobVerb}
-use Rattle.job_files.specs.BuiltJobs.{job_for}
+use Rattle.job_files.specs.DoableJobs.{job_for}
 
 -- edges have weights for paths alone
 abbrev pub is_weighted : Algorithm → Bool

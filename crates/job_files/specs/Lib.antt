@@ -1,4 +1,4 @@
-pub mod BuiltJobs
+pub mod DoableJobs
 pub mod JobTexts
 pub mod Atoms
 pub mod NamesRead

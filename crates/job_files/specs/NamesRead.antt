@@ -13,7 +13,7 @@ use Rattle.whole_files.specs.AtomNames.{atom_name, index_name}
 use Rattle.whole_files.specs.FilesUsed.{HandsOver}
 use Rattle.whole_files.specs.InTurn.{first_names}
 use Rattle.job_files.specs.Atoms.{OfGraph, given_bytes, index_form}
-use Rattle.job_files.specs.BuiltJobs.{job_for}
+use Rattle.job_files.specs.DoableJobs.{job_for}
 use Rattle.job_files.specs.JobTexts.{OfJob, OfTexts}
 
 -- the edge file, which is read where the vertex text has no fault

@@ -31,8 +31,7 @@ pub struct Input {
 /// Why a job or its graph was not read.
 #[derive(Debug, Drop)]
 pub enum NoInput {
-    /// The job is refused: its bytes are no job, it lacks a key that the verb needs, it asks for what is not built, or its
-    /// source is no vertex of the graph.
+    /// The job is refused: its bytes are no job, it lacks a key that the verb needs, or its source is no vertex of the graph.
     BadJob(JobFault),
     /// A graph text is refused.
     BadGraph(TextFault),
@@ -88,8 +87,8 @@ impl From<gl_base::NoMemory> for NoInput {
 }
 
 /// Reads the job in the file of this name and the graph that it names. The job's file is looked at first, then what it says
-/// and the key that the verb needs, then what it asks for that is not built, the vertex text, the edge text, and last
-/// whether the source that the algorithm needs is a vertex.
+/// and the key that the verb needs, then the vertex text, the edge text, and last whether the source that the algorithm
+/// needs is a vertex.
 pub fn read_input<F: Files>(
     alloc: Global,
     files: &mut F,

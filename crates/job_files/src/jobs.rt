@@ -3,11 +3,11 @@ ghost use Rattle.std.specs.Prelude.{◌≡◌, [], ◌∷◌, OnOk};
 ghost use Rattle.gl_outside.specs.Names.{AppendsNames};
 ghost use Rattle.job_config.specs.Views.{job_view};
 ghost use Rattle.whole_files.specs.FilesUsed.{ReadsFiles};
-ghost use Rattle.job_files.specs.BuiltJobs.{doable, not_built};
+ghost use Rattle.job_files.specs.DoableJobs.{doable};
 ghost use Rattle.job_files.specs.Inner.Causes.{no_job_of_bytes, no_job_of_file};
 ghost use Rattle.job_files.specs.Inner.Jobs.{TakesJob, said_unless};
 
-use gl_base::{EngineKind, Job, JobFault, Key, MAX_JOB_BYTES};
+use gl_base::{Job, JobFault, Key, MAX_JOB_BYTES};
 use gl_outside::Files;
 use job_config::{JobReading, read_job};
 use std::alloc::Global;
@@ -22,14 +22,14 @@ pub enum JobVerb {
     Resume,
     /// Cuts the job's graph into atoms. It needs the name for their files.
     Cut,
-    /// Makes the job's store. It needs the store's name, and can do each job that has one.
+    /// Makes the job's store. It needs the store's name.
     Init,
 }
 
 /// Why there is no job.
 #[derive(Debug, Drop)]
 pub enum NoJob {
-    /// The bytes are no job, it lacks a key that the verb needs, or it asks for what is not built.
+    /// The bytes are no job, or it lacks a key that the verb needs.
     Refused(JobFault),
     /// Its file could not be read.
     ReadFault,
@@ -59,8 +59,8 @@ impl From<JobReading> for NoJob {
     }
 }
 
-/// The job that the file of this name says. It is refused where its bytes are no job, where it lacks a key that the verb
-/// needs, and where it asks for what is not built.
+/// The job that the file of this name says. It is refused where its bytes are no job, and where it lacks a key that the verb
+/// needs.
 pub fn job_of<F: Files>(
     alloc: Global,
     files: &mut F,
@@ -79,7 +79,7 @@ pub fn job_of<F: Files>(
     }
 }
 
-/// Why the verb can't do the job: it lacks the key that the verb needs, or asks for what is not built.
+/// Why the verb can't do the job: it lacks the key that the verb needs.
 fn refused(job: &Job, verb: JobVerb) -> Option<JobFault>
     ensures { doable verb (job_view job.now) ≡ said_unless (job_view job.now) result }
 {
@@ -88,26 +88,6 @@ fn refused(job: &Job, verb: JobVerb) -> Option<JobFault>
         JobVerb::Resume | JobVerb::Init if job.store.is_none() => Some(JobFault::Missing(
             Key::Store,
         )),
-        JobVerb::Init => None,
-        _ => match not_built(job) {
-            None => None,
-            Some(key) => Some(JobFault::NotBuilt(key)),
-        },
-    }
-}
-
-/// The key of the job whose value asks for what is not built yet.
-fn not_built(job: &Job) -> Option<Key>
-    ensures { result ≡ not_built (job_view job.now) }
-{
-    match job.engine {
-        EngineKind::Locking => None,
-        EngineKind::Chromatic => {
-            if job.store.is_some() || !job.failures.is_empty() {
-                Some(Key::Engine)
-            } else {
-                None
-            }
-        }
+        _ => None,
     }
 }

@@ -1,5 +1,5 @@
 //! Runs of a program with a store.
-use gl_base::{Entry, Vertex};
+use gl_base::{EngineKind, Entry, Vertex};
 use job_runs::RunPlan;
 
 /// A snapshot that was acknowledged: its number, how many entries its order has, and what the numbers of its vertices come to.
@@ -25,12 +25,13 @@ pub enum StoredEnd {
     DiskFault,
 }
 
-/// How a program is run with a store: how the graph is placed and the program run on it, and how many updates of one machine may be
-/// outside the last snapshot that was acknowledged.
+/// How a program is run with a store: how the graph is placed and the program run on it, how many updates of one machine may be outside the
+/// last snapshot that was acknowledged, and how updates are kept apart.
 #[derive(Clone, Copy, Debug, PartialEq, Eq)]
 pub struct StoredPlan {
     pub run: RunPlan,
     pub window: u32,
+    pub engine: EngineKind,
 }
 
 /// A run with a store: the order to which it led, the updates that failures took away, how many updates each machine made, which of the

@@ -15,14 +15,14 @@ use Rattle.snap_journal.specs.declared.faults.JournalFault.TheVariants as fault
 use Rattle.stored_answers.specs.declared.runs.StoredEnd.{StoredEnd}
 use Rattle.stored_answers.specs.declared.runs.StoredEnd.TheVariants as end
 use Rattle.stored_calls.proofs.Going.{still_there}
-use Rattle.stored_calls.specs.Calls.{CallOpening, CourseView, DiskPast, Header, IsCallAt, IsCallEnded, IsKnownAt, IsKnownCourse, IsSaverOf, JournalState, PausesSo, SaverView, Setting, snapshots_in}
+use Rattle.stored_calls.specs.Calls.{CallOpening, CourseView, DiskPast, EngineSaver, Header, IsCallAt, IsCallEnded, IsEngineSaverOf, IsKnownAt, IsKnownCourse, JournalState, PausesSo, Setting, snapshots_in}
 use Rattle.stored_calls.specs.declared.calls.StoredCall.{StoredCall}
 use Rattle.update_api.specs.Updates.{Update}
 
-some_reached : {P : Type 0} (meaning : P → Update) (v : CourseView (SaverView P)) (header : Header) (start bodies : List (List ℕ)) (lost stored front order : List Entry) (st : Setting) (o : CallOpening)
-    (known : IsKnownCourse (IsSaverOf meaning) v header start bodies lost stored front order st o) (m : MachineNo) → PausesSo (IsSaverOf meaning) v (pause.Reached m) → HasReachedSome v st known.was.cluster
+some_reached : {P : Type 0} (meaning : P → Update) (v : CourseView (EngineSaver P)) (header : Header) (start bodies : List (List ℕ)) (lost stored front order : List Entry) (st : Setting) (o : CallOpening)
+    (known : IsKnownCourse (IsEngineSaverOf meaning) v header start bodies lost stored front order st o) (m : MachineNo) → PausesSo (IsEngineSaverOf meaning) v (pause.Reached m) → HasReachedSome v st known.was.cluster
 some_reached meaning v header start bodies lost stored front order st o known m reached =
-    (m.0, low_machine (IsSaverOf meaning) v st o known.was.events known.was.cluster known.was.now m.0 reached.0, reached.1 st o known.was.events known.was.cluster known.was.now)
+    (m.0, low_machine (IsEngineSaverOf meaning) v st o known.was.events known.was.cluster known.was.now m.0 reached.0, reached.1 st o known.was.events known.was.cluster known.was.now)
 
 module _ {D P : Type 0} (meaning : P → Update) (past : D → DiskPast) (call later : StoredCall P) (journal after : JournalState D) (start : List (List ℕ)) (first : DiskPast) (st : Setting) (o : CallOpening)
     (failures : later.course.failures ≡ call.course.failures) (header : after.header ≡ journal.header) (well : journal.failed ≡ false) (at : IsCallAt meaning past call journal start first st o) where
@@ -30,7 +30,7 @@ module _ {D P : Type 0} (meaning : P → Update) (past : D → DiskPast) (call l
   had = start ++ at.added
 
   -- all went back
-  pub gone_back : later.snapshots.items ≡ call.snapshots.items → past after.disk ≡ past journal.disk → (m : MachineNo) → PausesSo (IsSaverOf meaning) call.course (pause.Reached m) →
+  pub gone_back : later.snapshots.items ≡ call.snapshots.items → past after.disk ≡ past journal.disk → (m : MachineNo) → PausesSo (IsEngineSaverOf meaning) call.course (pause.Reached m) →
       ((known : IsKnownAt meaning call.course call journal.header start (snapshots_in past journal) st o) → HasReachedSome call.course st known.was.cluster → IsKnownAt meaning later.course later journal.header start (snapshots_in past journal) st o) →
       IsCallAt meaning past later after start first st o
   gone_back lines disk m reached back =
@@ -42,20 +42,20 @@ module _ {D P : Type 0} (meaning : P → Update) (past : D → DiskPast) (call l
       (subst (λ (h : Header). IsKnownAt meaning later.course later h start had st o) (sym header) (subst (λ (bodies : List (List ℕ)). IsKnownAt meaning later.course later journal.header start bodies st o) (at.stored well) now))
 
   -- machines may have failed, and the lists are as they were
-  pub known_later : InEachCourse (IsSaverOf meaning) call.course (HaveFailedSince (IsSaverOf meaning) later.course (λ a. ⊥)) → later.restarts ≡ call.restarts → later.lost.items ≡ call.lost.items → later.order.items ≡ call.order.items →
+  pub known_later : InEachCourse (IsEngineSaverOf meaning) call.course (HaveFailedSince (IsEngineSaverOf meaning) later.course (λ a. ⊥)) → later.restarts ≡ call.restarts → later.lost.items ≡ call.lost.items → later.order.items ≡ call.order.items →
       IsKnownAt meaning later.course later after.header start had st o
   known_later fails restarts lost order =
-      let known : IsKnownCourse (IsSaverOf meaning) later.course journal.header start had call.lost.items call.restarts.stored.items call.restarts.front.items call.order.items st o =
-      known_on (IsSaverOf meaning) call.course later.course failures journal.header start had call.lost.items call.restarts.stored.items call.restarts.front.items call.order.items st o (λ a. ⊥) at.known
+      let known : IsKnownCourse (IsEngineSaverOf meaning) later.course journal.header start had call.lost.items call.restarts.stored.items call.restarts.front.items call.order.items st o =
+      known_on (IsEngineSaverOf meaning) call.course later.course failures journal.header start had call.lost.items call.restarts.stored.items call.restarts.front.items call.order.items st o (λ a. ⊥) at.known
       (fails st o at.known.was.events at.known.was.cluster at.known.was.now) in
       let listed : IsKnownAt meaning later.course later journal.header start had st o =
-      subst (λ (es : List Entry). IsKnownCourse (IsSaverOf meaning) later.course journal.header start had es later.restarts.stored.items later.restarts.front.items later.order.items st o) (sym lost)
-      (subst (λ (r : Restarts). IsKnownCourse (IsSaverOf meaning) later.course journal.header start had call.lost.items r.stored.items r.front.items later.order.items st o) (sym restarts)
-      (subst (λ (es : List Entry). IsKnownCourse (IsSaverOf meaning) later.course journal.header start had call.lost.items call.restarts.stored.items call.restarts.front.items es st o) (sym order) known)) in
+      subst (λ (es : List Entry). IsKnownCourse (IsEngineSaverOf meaning) later.course journal.header start had es later.restarts.stored.items later.restarts.front.items later.order.items st o) (sym lost)
+      (subst (λ (r : Restarts). IsKnownCourse (IsEngineSaverOf meaning) later.course journal.header start had call.lost.items r.stored.items r.front.items later.order.items st o) (sym restarts)
+      (subst (λ (es : List Entry). IsKnownCourse (IsEngineSaverOf meaning) later.course journal.header start had call.lost.items call.restarts.stored.items call.restarts.front.items es st o) (sym order) known)) in
       subst (λ (h : Header). IsKnownAt meaning later.course later h start had st o) (sym header) listed
 
   -- they didn't go back
-  pub not_back : later.snapshots.items ≡ call.snapshots.items → past after.disk ≡ past journal.disk → InEachCourse (IsSaverOf meaning) call.course (HaveFailedSince (IsSaverOf meaning) later.course (λ a. ⊥)) → later.restarts ≡ call.restarts → later.lost.items ≡ call.lost.items →
+  pub not_back : later.snapshots.items ≡ call.snapshots.items → past after.disk ≡ past journal.disk → InEachCourse (IsEngineSaverOf meaning) call.course (HaveFailedSince (IsEngineSaverOf meaning) later.course (λ a. ⊥)) → later.restarts ≡ call.restarts → later.lost.items ≡ call.lost.items →
       later.order.items ≡ call.order.items → IsCallAt meaning past later after start first st o
   not_back lines disk fails restarts lost order = still_there meaning past call later journal after start first st o failures header well at lines disk (known_later fails restarts lost order)
 

@@ -14,7 +14,7 @@ use Rattle.snap_journal.specs.Formats.{stored_in}
 use Rattle.snap_journal.specs.Journals.{AllStandFor}
 use Rattle.stored_calls.proofs.Going.{all_begin}
 use Rattle.stored_answers.specs.declared.runs.SnapLine.{SnapLine}
-use Rattle.stored_calls.specs.Calls.{AreSnapLines, CallOpening, CourseView, DiskPast, Header, HoldsGood, IsImage, IsKnownAt, IsKnownCourse, IsSaverOf, JournalState, LeavesOnly, SaverView, Setting, shared_of, snapshots_in}
+use Rattle.stored_calls.specs.Calls.{AreSnapLines, CallOpening, CourseView, DiskPast, EngineSaver, Header, HoldsGood, IsEngineSaverOf, IsImage, IsKnownAt, IsKnownCourse, JournalState, LeavesOnly, Setting, shared_of, snapshots_in}
 use Rattle.stored_calls.specs.Runs.{HasCallBegun}
 use Rattle.stored_calls.specs.declared.calls.StoredCall.{StoredCall}
 use Rattle.update_api.specs.Updates.{Update}
@@ -42,10 +42,10 @@ module _ {D P : Type 0} (meaning : P → Update) (past : D → DiskPast) (call :
       subst (λ (h : Header). HoldsGood (shared_of st call.course.failures) h bodies image) (sym header)
       (subst (λ (fs : List FailureAt). HoldsGood (shared_of st fs) journal.header bodies image) (sym same) (all_begin (shared_of st failures) journal.header bodies (past journal.disk) good stands image is))
 
-  pub begun : IsKnownCourse (IsSaverOf meaning) call.course journal.header bodies bodies [] call.restarts.stored.items call.restarts.front.items call.order.items st o → HasCallBegun meaning past call journal after resumed budget st
+  pub begun : IsKnownCourse (IsEngineSaverOf meaning) call.course journal.header bodies bodies [] call.restarts.stored.items call.restarts.front.items call.order.items st o → HasCallBegun meaning past call journal after resumed budget st
   begun from =
       let known : IsKnownAt meaning call.course call journal.header bodies bodies st o =
-      subst (λ (ls : List Entry). IsKnownCourse (IsSaverOf meaning) call.course journal.header bodies bodies ls call.restarts.stored.items call.restarts.front.items call.order.items st o) (sym lost) from in
+      subst (λ (ls : List Entry). IsKnownCourse (IsEngineSaverOf meaning) call.course journal.header bodies bodies ls call.restarts.stored.items call.restarts.front.items call.order.items st o) (sym lost) from in
       record {
         opening = o;
         resumed_is = resumed_is;
@@ -64,9 +64,9 @@ module _ {D P : Type 0} (meaning : P → Update) (past : D → DiskPast) (call :
 
 -- what is known of the call that has started, by the parts that were taken over
 pub from_started : {P : Type 0} (meaning : P → Update) (started : Started P) (call : StoredCall P) (header : Header) (bodies : List (List ℕ)) (st : Setting) (o : CallOpening) → call.course ≡ started.course → call.restarts ≡ started.restarts → call.order ≡ started.order →
-    IsKnownCourse (IsSaverOf meaning) started.course header bodies bodies [] started.restarts.stored.items started.restarts.front.items started.order.items st o →
-    IsKnownCourse (IsSaverOf meaning) call.course header bodies bodies [] call.restarts.stored.items call.restarts.front.items call.order.items st o
+    IsKnownCourse (IsEngineSaverOf meaning) started.course header bodies bodies [] started.restarts.stored.items started.restarts.front.items started.order.items st o →
+    IsKnownCourse (IsEngineSaverOf meaning) call.course header bodies bodies [] call.restarts.stored.items call.restarts.front.items call.order.items st o
 from_started {P} meaning started call header bodies st o course restarts order known =
-    subst (λ (v : CourseView (SaverView P)). IsKnownCourse (IsSaverOf meaning) v header bodies bodies [] call.restarts.stored.items call.restarts.front.items call.order.items st o) (sym course)
-    (subst (λ (r : Restarts). IsKnownCourse (IsSaverOf meaning) started.course header bodies bodies [] r.stored.items r.front.items call.order.items st o) (sym restarts)
-    (subst (λ (es : Vec Entry Global). IsKnownCourse (IsSaverOf meaning) started.course header bodies bodies [] started.restarts.stored.items started.restarts.front.items es.items st o) (sym order) known))
+    subst (λ (v : CourseView (EngineSaver P)). IsKnownCourse (IsEngineSaverOf meaning) v header bodies bodies [] call.restarts.stored.items call.restarts.front.items call.order.items st o) (sym course)
+    (subst (λ (r : Restarts). IsKnownCourse (IsEngineSaverOf meaning) started.course header bodies bodies [] r.stored.items r.front.items call.order.items st o) (sym restarts)
+    (subst (λ (es : Vec Entry Global). IsKnownCourse (IsEngineSaverOf meaning) started.course header bodies bodies [] started.restarts.stored.items started.restarts.front.items es.items st o) (sym order) known))

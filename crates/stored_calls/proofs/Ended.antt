@@ -15,7 +15,7 @@ use Rattle.graph_core.specs.DataGraph.{DataGraph}
 use Rattle.stored_answers.specs.Ends.{RunEndsSo}
 use Rattle.stored_answers.specs.declared.runs.StoredEnd.{StoredEnd}
 use Rattle.stored_answers.specs.declared.runs.StoredEnd.TheVariants as end
-use Rattle.stored_calls.specs.Calls.{AreSnapLines, CallOpening, Cluster, Header, IsRunAt, IsSaverOf, PauseGives, Setting, orders_behind, shared_of, stored_order}
+use Rattle.stored_calls.specs.Calls.{AreSnapLines, CallOpening, Cluster, Header, IsEngineSaverOf, IsRunAt, PauseGives, Setting, orders_behind, shared_of, stored_order}
 use Rattle.stored_calls.specs.Runs.{IsEndAt, IsRunSo}
 use Rattle.stored_calls.specs.declared.calls.StoredCall.{StoredCall}
 use Rattle.update_api.specs.Updates.{Update}
@@ -32,11 +32,11 @@ module _ {P : Type 0} (meaning : P → Update) (g : DataGraph) (program : Update
   gathers = record { graph = runs.placed.graph; owners = runs.placed.owners; base = at.known.base; taken = at.known.was.taken }
 
   module _ (failures : List FailureAt) (same : call.course.failures ≡ failures) (running : call.course.now.stopped ≡ false) (lists : CallLists) (is : IsGathered call.course.failures st o events c lists)
-      (ended : ListsOfCourse st at.paused.failures o.base o.first events c (gathered_lists lists) → IsEndedRun (IsSaverOf meaning) at.paused start (start ++ added) st o events c (gathered_lists lists)) where
+      (ended : ListsOfCourse st at.paused.failures o.base o.first events c (gathered_lists lists) → IsEndedRun (IsEngineSaverOf meaning) at.paused start (start ++ added) st o events c (gathered_lists lists)) where
     abbrev found : RunLists
     found = gathered_lists lists
 
-    all : IsEndedRun (IsSaverOf meaning) at.paused start (start ++ added) st o events c found
+    all : IsEndedRun (IsEngineSaverOf meaning) at.paused start (start ++ added) st o events c found
     all = ended (subst (λ (fs : List FailureAt). ListsOfCourse st fs o.base o.first events c found) (sym at.failures) is.are)
 
     orders : snapshots_of all.call ≡ orders_behind (stored_order start) added

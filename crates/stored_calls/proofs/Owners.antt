@@ -1,11 +1,12 @@
 -- A run with a store, by whatever owners the placement gives.
 use Rattle.std.proofs.Common.{◌≡◌, ◌<◌, ℕ, ◌++◌, Bool, List, length, refl, subst, subst₂, sym, true}
-use Rattle.cluster_laws.specs.cluster_core.Settings.{Locking}
 use Rattle.gl_base.specs.declared.jobs.FailureAt.{FailureAt}
 use Rattle.graph_core.specs.DataGraph.{DataGraph, IsDataGraph, size}
 use Rattle.machine_places.proofs.OwnerLemmas.{owner_low}
+use Rattle.placed_savers.proofs.RunLemmas.{engine_of, runs_by}
 use Rattle.placed_savers.specs.Beginning.{placed_owner}
 use Rattle.placed_savers.specs.declared.savers.Places.{Places}
+use Rattle.stored_calls.proofs.saver_courses.EngineLemmas.{coloured_by}
 use Rattle.stored_answers.specs.declared.runs.StoredEnd.{StoredEnd}
 use Rattle.stored_answers.specs.declared.runs.StoredPlan.{StoredPlan}
 use Rattle.stored_answers.specs.declared.runs.StoredRun.{StoredRun}
@@ -20,31 +21,36 @@ pub record HasOwner (g : DataGraph) (program : Update) (places : Places) (owner 
   pub runs : IsRunAt g program places st
   pub shared_is : shared_of st failures ≡ owned_shared g program owner failures
 
+-- the places with these owners
+abbrev owned_setting : DataGraph → Update → Places → (ℕ → ℕ) → Setting
+owned_setting g program places owner =
+    record {
+      graph = g;
+      program = program;
+      owner = owner;
+      machines = places.run.machines;
+      pipeline = places.run.pipeline;
+      engine = engine_of places.run.engine places.colours.items;
+      stored = true;
+      window = places.run.window;
+      start = record { vertex = λ v. 0; edge = λ e. 0 };
+      base = 0;
+    }
+
 pub with_owner : (g : DataGraph) (program : Update) (plan : StoredPlan) (places : Places) (owner : ℕ → ℕ) (failures : List FailureAt) → IsDataGraph g → ArePlacedFor g plan places →
     ((v : ℕ) → v < size g → owner v ≡ placed_owner places.of.items places.owner.items v) → HasOwner g program places owner failures
 with_owner g program plan places owner failures graph are same = record {
-  st = record {
-    graph = g;
-    program = program;
-    owner = owner;
-    machines = places.run.machines;
-    pipeline = places.run.pipeline;
-    engine = Locking;
-    stored = true;
-    window = places.run.window;
-    start = record { vertex = λ v. 0; edge = λ e. 0 };
-    base = 0;
-  };
+  st = owned_setting g program places owner;
   runs = record {
     setting = record {
       is = record {
         graph = graph;
         owner = λ v low. subst (λ (k : ℕ). k < places.run.machines) (sym (same v low)) (owner_low g places.run.machines places.of.items places.owner.items are.are.each are.are.atoms are.are.owners v low);
       };
-      coloured = tt;
+      coloured = coloured_by g places.run.engine places.colours.items (owned_setting g program places owner) refl are.are.colours;
       stored = refl;
     };
-    locks = refl;
+    engine = runs_by places.run.engine places.colours.items (owned_setting g program places owner) refl;
     placed = record { graph = refl; machines = refl; owners = same };
     program_is = refl;
     pipeline = refl;

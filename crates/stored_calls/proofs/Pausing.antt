@@ -9,7 +9,7 @@ use Rattle.snap_journal.specs.declared.faults.JournalFault.{JournalFault}
 use Rattle.stored_answers.specs.declared.runs.StoredEnd.{StoredEnd}
 use Rattle.stored_answers.specs.declared.runs.StoredEnd.TheVariants as end
 use Rattle.stored_calls.proofs.Going.{still_there}
-use Rattle.stored_calls.specs.Calls.{CallOpening, DiskPast, EndsCall, Header, IsCallAt, IsKnownAt, IsRunAt, IsSameCall, IsSaverOf, IsTaskIn, JournalState, KeepsCall, PausesSo, Setting}
+use Rattle.stored_calls.specs.Calls.{CallOpening, DiskPast, EndsCall, Header, IsCallAt, IsEngineSaverOf, IsKnownAt, IsRunAt, IsSameCall, IsTaskIn, JournalState, KeepsCall, PausesSo, Setting}
 use Rattle.stored_calls.specs.declared.calls.StoredCall.{StoredCall}
 use Rattle.update_api.specs.Updates.{Update}
 
@@ -38,13 +38,13 @@ module _ {D P : Type 0} (meaning : P → Update) (past : D → DiskPast) (g : Da
   then_ends later after how ends start first st o runs at = ends start first st o (placed st runs) (on_at start first st o at)
 
   -- the call has ended
-  pub finished : PausesSo (IsSaverOf meaning) mid.course pause.Ended → EndsCall meaning past g program call journal mid journal end.Finished
+  pub finished : PausesSo (IsEngineSaverOf meaning) mid.course pause.Ended → EndsCall meaning past g program call journal mid journal end.Finished
   finished pauses start first st o runs at =
       let now = on_at start first st o at in
       record { at = now; paused = mid.course; known = now.known; failures = refl; now = now.known.was.now; gives = pauses }
 
   -- no ticket is left, and this vertex is a task
-  pub spent : (left : Vertex) → PausesSo (IsSaverOf meaning) mid.course pause.Spent → InEachCourse (IsSaverOf meaning) mid.course (λ st o events c. IsTaskIn st c left.0) →
+  pub spent : (left : Vertex) → PausesSo (IsEngineSaverOf meaning) mid.course pause.Spent → InEachCourse (IsEngineSaverOf meaning) mid.course (λ st o events c. IsTaskIn st c left.0) →
       EndsCall meaning past g program call journal mid journal (end.Spent left)
   spent left pauses task start first st o runs at =
       let now = on_at start first st o at in

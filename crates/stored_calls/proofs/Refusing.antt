@@ -14,7 +14,7 @@ use Rattle.snap_journal.specs.declared.faults.JournalFault.TheVariants as fault
 use Rattle.store_format.specs.declared.faults.StoreFault.{StoreFault}
 use Rattle.stored_calls.proofs.Backs.{known_later}
 use Rattle.stored_calls.proofs.Bounds.{never_far}
-use Rattle.stored_calls.specs.Calls.{CallOpening, DiskPast, Header, IsCallAt, IsKnownAt, IsSaverOf, JournalState, KeepsToBounds, Setting, end_of, end_without, snapshots_in}
+use Rattle.stored_calls.specs.Calls.{CallOpening, DiskPast, Header, IsCallAt, IsEngineSaverOf, IsKnownAt, JournalState, KeepsToBounds, Setting, end_of, end_without, snapshots_in}
 use Rattle.stored_calls.specs.Runs.{refused_by}
 use Rattle.stored_calls.specs.declared.calls.StoredCall.{StoredCall}
 use Rattle.update_api.specs.Updates.{Update}
@@ -31,7 +31,7 @@ not_bad told full old new before now fault.Failed size bad tells short is same =
 
 module _ {D P : Type 0} (meaning : P → Update) (past : D → DiskPast) (call later : StoredCall P) (journal after : JournalState D) (start : List (List ℕ)) (first : DiskPast) (st : Setting) (o : CallOpening)
     (failures : later.course.failures ≡ call.course.failures) (header : after.header ≡ journal.header) (well : journal.failed ≡ false) (at : IsCallAt meaning past call journal start first st o) (bounds : KeepsToBounds call journal st o)
-    (fails : InEachCourse (IsSaverOf meaning) call.course (HaveFailedSince (IsSaverOf meaning) later.course (λ a. ⊥))) (restarts : later.restarts ≡ call.restarts) (lost : later.lost.items ≡ call.lost.items) (order : later.order.items ≡ call.order.items)
+    (fails : InEachCourse (IsEngineSaverOf meaning) call.course (HaveFailedSince (IsEngineSaverOf meaning) later.course (λ a. ⊥))) (restarts : later.restarts ≡ call.restarts) (lost : later.lost.items ≡ call.lost.items) (order : later.order.items ≡ call.order.items)
     (size : ℕ) (size_is : size ≡ journal.length) (stored_size : size ≡ 65 + records_size (snapshots_in past journal)) where
   known : IsKnownAt meaning later.course later after.header start (start ++ at.added) st o
   known = known_later meaning past call later journal after start first st o failures header well at fails restarts lost order
@@ -41,14 +41,14 @@ module _ {D P : Type 0} (meaning : P → Update) (past : D → DiskPast) (call l
 
   far : 2 ^ 32 ≤ known.was.cluster.coordinator.store_end + 16 * failures_in st known.was.cluster → ⊥
   far =
-      never_far (IsSaverOf meaning) later.course after.header start (start ++ at.added) later.lost.items later.restarts.stored.items later.restarts.front.items later.order.items st o known (past journal.disk).now.seen bodies_are
+      never_far (IsEngineSaverOf meaning) later.course after.header start (start ++ at.added) later.lost.items later.restarts.stored.items later.restarts.front.items later.order.items st o known (past journal.disk).now.seen bodies_are
       (subst (λ (fs : List FailureAt). length fs ≤ 65536) (sym failures) bounds.failures) bounds.machines size
       (stored_size ∙ ap (λ (bs : List (List ℕ)). 65 + records_size bs) (at.stored well)) (subst (λ (n : ℕ). n ≤ 2 ^ 30) (sym size_is) bounds.bytes)
 
   pub never_back : (told : Type 0) (old new : Bool) (before now : ℕ) (why : JournalFault) (long : ℕ) (bad : StoreFault) → told →
-      IsWhyNotBack told (InEachCourse (IsSaverOf meaning) later.course (λ st o events c. 2 ^ 32 ≤ c.coordinator.store_end + 16 * failures_in st c)) old new before now why → end_without why long ≡ Err (fault.BadStore bad) → ⊥
+      IsWhyNotBack told (InEachCourse (IsEngineSaverOf meaning) later.course (λ st o events c. 2 ^ 32 ≤ c.coordinator.store_end + 16 * failures_in st c)) old new before now why → end_without why long ≡ Err (fault.BadStore bad) → ⊥
   never_back told old new before now why long bad tells is same =
-      not_bad told (InEachCourse (IsSaverOf meaning) later.course (λ st o events c. 2 ^ 32 ≤ c.coordinator.store_end + 16 * failures_in st c)) old new before now why long bad tells
+      not_bad told (InEachCourse (IsEngineSaverOf meaning) later.course (λ st o events c. 2 ^ 32 ≤ c.coordinator.store_end + 16 * failures_in st c)) old new before now why long bad tells
       (λ over. far (over st o known.was.events known.was.cluster known.was.now)) is same
 
 -- ---- where a snapshot is added

@@ -21,7 +21,7 @@ use Rattle.stored_answers.specs.declared.runs.StoredEnd.TheVariants as end
 use Rattle.stored_answers.specs.declared.runs.StoredPlan.{StoredPlan}
 use Rattle.stored_answers.specs.declared.runs.StoredRun.{StoredRun}
 use Rattle.stored_calls.proofs.Owners.{HasOwner, end_at, kept_good, run_named, with_owner}
-use Rattle.stored_calls.specs.Calls.{CallOpening, DiskPast, EndsBy, EndsCall, Header, IsCallAt, IsCallEnded, IsNotRefused, IsRunAt, IsSaverOf, IsWhyStopped, JournalState, KeepsCall, KeepsToBounds, Setting, orders_behind, shared_of, snapshots_in, stored_order}
+use Rattle.stored_calls.specs.Calls.{CallOpening, DiskPast, EndsBy, EndsCall, Header, IsCallAt, IsCallEnded, IsEngineSaverOf, IsNotRefused, IsRunAt, IsWhyStopped, JournalState, KeepsCall, KeepsToBounds, Setting, orders_behind, shared_of, snapshots_in, stored_order}
 use Rattle.stored_calls.specs.Runs.{ArePlacedFor, BoundsSteps, HasCallBegun, HasRoomForRun, half_of, IsEndAt, IsFinishedOrNoMemory, IsGoodStore, IsPlacement, IsRunSo, IsStoredRun, IsWhyNoRun, IsWhyNotBegun, KeepsByOwner, KeepsGood, Shared, owned_shared}
 use Rattle.stored_calls.specs.declared.calls.StoredCall.{StoredCall}
 use Rattle.update_api.specs.Updates.{Update}
@@ -84,7 +84,7 @@ module _ {D P : Type 0} (meaning : P → Update) (past : D → DiskPast) (g : Da
 
     spends_less : (bound : ℕ) → BoundsSteps g program bound → (1 + length failures) * bound ≤ plan.run.budget → (left : Vertex) → IsCallEnded meaning past later after bodies (past journal.disk) st o (end.Spent left) → ⊥
     spends_less bound steps enough left e =
-        let makes = makes_call (IsSaverOf meaning) e.paused st o e.known.was.events e.known.was.cluster e.known.was.now in
+        let makes = makes_call (IsEngineSaverOf meaning) e.paused st o e.known.was.events e.known.was.cluster e.known.was.now in
         let spent = e.gives.0.1 st o e.known.was.events e.known.was.cluster e.known.was.now makes.0 makes.1 in
         let many : length e.paused.failures ≡ length failures = ap (length {A = FailureAt}) (e.failures ∙ same) in
         let there : BoundsSteps st.graph st.program bound = subst₂ (λ (k : DataGraph) (p : Update). BoundsSteps k p bound) (sym (has owner placement).runs.placed.graph) (sym (has owner placement).runs.program_is) steps in
@@ -101,13 +101,13 @@ module _ {D P : Type 0} (meaning : P → Update) (past : D → DiskPast) (g : Da
     needs_no_more : HasRoomForRun g plan (length failures) journal.count journal.length → journal.count ≡ length bodies → journal.length ≡ 65 + records_size bodies → later.course.now.stopped ≡ false → after.failed ≡ false → (stored long : ℕ) →
         IsCallEnded meaning past later after bodies (past journal.disk) st o (end.Full stored long) → ⊥
     needs_no_more room counts lasts running well stored long e =
-        let makes = makes_call (IsSaverOf meaning) e.paused st o e.known.was.events e.known.was.cluster e.known.was.now in
+        let makes = makes_call (IsEngineSaverOf meaning) e.paused st o e.known.was.events e.known.was.cluster e.known.was.now in
         let half : half_of plan.window ≡ half_window st = ap half_of (sym ((has owner placement).runs.window ∙ placed.window)) in
         let budget : plan.run.budget ≡ o.first.left = sym (starts owner placement good).tickets in
         let many : length failures ≡ length e.paused.failures = sym (ap (length {A = FailureAt}) (e.failures ∙ same)) in
         let machines : plan.run.machines ≡ st.machines = sym ((has owner placement).runs.placed.machines ∙ placed.are.many) in
         let graph_is : g ≡ st.graph = sym (has owner placement).runs.placed.graph in
-        never_needs (IsSaverOf meaning) e.paused after.header bodies (bodies ++ e.at.added) later.lost.items later.restarts.stored.items later.restarts.front.items later.order.items st o e.known (past after.disk).now.seen (e.at.stored well) makes.0 makes.1
+        never_needs (IsEngineSaverOf meaning) e.paused after.header bodies (bodies ++ e.at.added) later.lost.items later.restarts.stored.items later.restarts.front.items later.order.items st o e.known (past after.disk).now.seen (e.at.stored well) makes.0 makes.1
         (subst (λ (h : ℕ). 0 < h) half room.half)
         (subst (λ (n : ℕ). n + (o.first.left / half_window st + 1) < 4096) counts
         (subst₂ (λ (b h : ℕ). journal.count + (b / h + 1) < 4096) budget half room.few))

@@ -15,7 +15,7 @@ use Rattle.snap_journal.specs.Journals.{AllStandFor}
 use Rattle.stored_answers.specs.declared.runs.StoredEnd.TheVariants as end
 use Rattle.stored_calls.proofs.Backs.{ended_here, known_later}
 use Rattle.stored_calls.proofs.Going.{fault_there, one_more, still_there}
-use Rattle.stored_calls.specs.Calls.{CallOpening, DiskPast, EndsBy, Header, IsCallAt, IsCallEnded, IsKnownAt, IsKnownCourse, IsSaverOf, JournalState, LeavesOnly, NoneReached, Setting, end_of, shared_of, snapshots_in}
+use Rattle.stored_calls.specs.Calls.{CallOpening, DiskPast, EndsBy, Header, IsCallAt, IsCallEnded, IsEngineSaverOf, IsKnownAt, IsKnownCourse, JournalState, LeavesOnly, NoneReached, Setting, end_of, shared_of, snapshots_in}
 use Rattle.stored_calls.specs.declared.calls.StoredCall.{StoredCall}
 use Rattle.update_api.specs.Updates.{Update}
 
@@ -40,20 +40,20 @@ module _ {D P : Type 0} (meaning : P → Update) (past : D → DiskPast) (call l
         (subst (λ (fs : List FailureAt). IsGoodStore (shared_of st fs) after.header (snapshots_in past after)) failures known.was.keeps.good) all is_line moments
 
   -- it was not
-  module _ (stays : StaysThere (IsSaverOf meaning) call.course later.course) (restarts : later.restarts ≡ call.restarts) (lost : later.lost.items ≡ call.lost.items) (order : later.order.items ≡ call.order.items) (lines : later.snapshots.items ≡ call.snapshots.items) (before now : ℕ) where
+  module _ (stays : StaysThere (IsEngineSaverOf meaning) call.course later.course) (restarts : later.restarts ≡ call.restarts) (lost : later.lost.items ≡ call.lost.items) (order : later.order.items ≡ call.order.items) (lines : later.snapshots.items ≡ call.snapshots.items) (before now : ℕ) where
     abbrev Moments : Type 0
-    Moments = (start : List (List ℕ)) (lost order : List Entry) (st : Setting) (o : CallOpening) → IsKnownCourse (IsSaverOf meaning) call.course journal.header start (snapshots_in past journal) lost call.restarts.stored.items call.restarts.front.items order st o →
+    Moments = (start : List (List ℕ)) (lost order : List Entry) (st : Setting) (o : CallOpening) → IsKnownCourse (IsEngineSaverOf meaning) call.course journal.header start (snapshots_in past journal) lost call.restarts.stored.items call.restarts.front.items order st o →
         LeavesOnly (past journal.disk) (past after.disk) (IsGoodImage (shared_of st call.course.failures) journal.header (snapshots_in past journal))
 
     module _ (start : List (List ℕ)) (first : DiskPast) (st : Setting) (o : CallOpening) (at : IsCallAt meaning past call journal start first st o) where
       known_still : IsKnownAt meaning later.course later after.header start (start ++ at.added) st o
       known_still = known_later meaning past call later journal after start first st o failures header well at
-          (stayed (IsSaverOf meaning) call.course later.course (λ a. ⊥) stays (λ st o events c is running a none reached. absurd none)) restarts lost order
+          (stayed (IsEngineSaverOf meaning) call.course later.course (λ a. ⊥) stays (λ st o events c is running a none reached. absurd none)) restarts lost order
 
       unmoved : after ≡ journal → IsCallAt meaning past later after start first st o
       unmoved same = still_there meaning past call later journal after start first st o failures header well at lines (ap (λ (j : JournalState D). past j.disk) same) known_still
 
-      pub not_added : (why : AppendFault) → IsWhyNotAppended (IsSaverOf meaning) call.course call.restarts journal after before now why → Moments → IsCallAt meaning past later after start first st o
+      pub not_added : (why : AppendFault) → IsWhyNotAppended (IsEngineSaverOf meaning) call.course call.restarts journal after before now why → Moments → IsCallAt meaning past later after start first st o
       not_added (append.Full stored long) is moments = unmoved is.2
       not_added append.DiskFault is moments =
           fault_there meaning past call later journal after start first st o failures header well at lines (λ ok. on_off (sym is.0 ∙ ok)) (moments start call.lost.items call.order.items st o (knows start first st o at)) known_still
@@ -69,12 +69,12 @@ module _ {D P : Type 0} (meaning : P → Update) (past : D → DiskPast) (call l
         paused_known =
             let bodies : snapshots_in past journal ≡ start ++ now_at.added = ap (snapshots_in past) (sym same) ∙ bodies_same in
             subst (λ (h : Header). IsKnownAt meaning call.course later h start (start ++ now_at.added) st o) (sym header)
-            (subst (λ (es : List Entry). IsKnownCourse (IsSaverOf meaning) call.course journal.header start (start ++ now_at.added) es later.restarts.stored.items later.restarts.front.items later.order.items st o) (sym lost)
-            (subst (λ (r : Restarts). IsKnownCourse (IsSaverOf meaning) call.course journal.header start (start ++ now_at.added) call.lost.items r.stored.items r.front.items later.order.items st o) (sym restarts)
-            (subst (λ (es : List Entry). IsKnownCourse (IsSaverOf meaning) call.course journal.header start (start ++ now_at.added) call.lost.items call.restarts.stored.items call.restarts.front.items es st o) (sym order)
+            (subst (λ (es : List Entry). IsKnownCourse (IsEngineSaverOf meaning) call.course journal.header start (start ++ now_at.added) es later.restarts.stored.items later.restarts.front.items later.order.items st o) (sym lost)
+            (subst (λ (r : Restarts). IsKnownCourse (IsEngineSaverOf meaning) call.course journal.header start (start ++ now_at.added) call.lost.items r.stored.items r.front.items later.order.items st o) (sym restarts)
+            (subst (λ (es : List Entry). IsKnownCourse (IsEngineSaverOf meaning) call.course journal.header start (start ++ now_at.added) call.lost.items call.restarts.stored.items call.restarts.front.items es st o) (sym order)
             (subst (λ (bs : List (List ℕ)). IsKnownAt meaning call.course call journal.header start bs st o) bodies (knows start first st o at)))))
 
-        pub full_there : (stored long : ℕ) → stored ≡ length (snapshots_in past after) → long ≡ 65 + records_size (snapshots_in past after) → NoneReached (IsSaverOf meaning) call.course → NeedsMore (IsSaverOf meaning) call.course st o →
+        pub full_there : (stored long : ℕ) → stored ≡ length (snapshots_in past after) → long ≡ 65 + records_size (snapshots_in past after) → NoneReached (IsEngineSaverOf meaning) call.course → NeedsMore (IsEngineSaverOf meaning) call.course st o →
             IsCallEnded meaning past later after start first st o (end.Full stored long)
         full_there stored long stored_is long_is none needs = record {
           at = now_at;
@@ -86,10 +86,10 @@ module _ {D P : Type 0} (meaning : P → Update) (past : D → DiskPast) (call l
         }
 
     -- how the run ends then
-    pub ends_so : (why : AppendFault) (size : ℕ) → IsWhyNotAppended (IsSaverOf meaning) call.course call.restarts journal after before now why → Moments →
-        (after.failed ≡ false → after.count ≡ length (snapshots_in past after)) → (after.failed ≡ false → after.length ≡ 65 + records_size (snapshots_in past after)) → NoneReached (IsSaverOf meaning) call.course →
-        ((start : List (List ℕ)) (lost order : List Entry) (st : Setting) (o : CallOpening) → IsKnownCourse (IsSaverOf meaning) call.course journal.header start (snapshots_in past journal) lost call.restarts.stored.items call.restarts.front.items order st o →
-        (stored long : ℕ) → why ≡ append.Full stored long → NeedsMore (IsSaverOf meaning) call.course st o) →
+    pub ends_so : (why : AppendFault) (size : ℕ) → IsWhyNotAppended (IsEngineSaverOf meaning) call.course call.restarts journal after before now why → Moments →
+        (after.failed ≡ false → after.count ≡ length (snapshots_in past after)) → (after.failed ≡ false → after.length ≡ 65 + records_size (snapshots_in past after)) → NoneReached (IsEngineSaverOf meaning) call.course →
+        ((start : List (List ℕ)) (lost order : List Entry) (st : Setting) (o : CallOpening) → IsKnownCourse (IsEngineSaverOf meaning) call.course journal.header start (snapshots_in past journal) lost call.restarts.stored.items call.restarts.front.items order st o →
+        (stored long : ℕ) → why ≡ append.Full stored long → NeedsMore (IsEngineSaverOf meaning) call.course st o) →
         IfOk (end_of why size) (λ how. IfSome how (λ e. (start : List (List ℕ)) (first : DiskPast) (st : Setting) (o : CallOpening) → IsCallAt meaning past call journal start first st o → IsCallEnded meaning past later after start first st o e))
     ends_so (append.Full stored long) size is moments count bytes none needs = λ start first st o at.
         let ok : after.failed ≡ false = ap (λ (j : JournalState D). j.failed) is.2 ∙ well in
@@ -99,7 +99,7 @@ module _ {D P : Type 0} (meaning : P → Update) (past : D → DiskPast) (call l
     ends_so append.NotInForm size is moments count bytes none needs = tt
     ends_so append.NoMemory size is moments count bytes none needs = tt
 
-    pub ends_by : (why : AppendFault) (size : ℕ) → IsWhyNotAppended (IsSaverOf meaning) call.course call.restarts journal after before now why → IfOk (end_of why size) (λ how. IfSome how (EndsBy after before now))
+    pub ends_by : (why : AppendFault) (size : ℕ) → IsWhyNotAppended (IsEngineSaverOf meaning) call.course call.restarts journal after before now why → IfOk (end_of why size) (λ how. IfSome how (EndsBy after before now))
     ends_by (append.Full stored long) size is = (ap (λ (j : JournalState D). j.failed) is.2 ∙ well, is.0 ∙ ap (λ (j : JournalState D). j.count) (sym is.2), is.1 ∙ ap (λ (j : JournalState D). j.length) (sym is.2))
     ends_by append.DiskFault size is = is
     ends_by append.NotInForm size is = tt

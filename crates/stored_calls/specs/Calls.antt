@@ -5,7 +5,7 @@ pub use Rattle.stored_calls.specs.call_ends.Gathered.{IsTaskIn}
 pub use Rattle.call_returns.specs.Missing.{Begins}
 pub use Rattle.call_rounds.specs.Pauses.{NoneReached, PausesSo}
 pub use Rattle.cluster_laws.specs.cluster_runs.Recorded.{shared_of}
-pub use Rattle.placed_savers.specs.Beginning.{ArePlacesOf, IsRunAt, IsSaverOf, SaverView}
+pub use Rattle.placed_savers.specs.Beginning.{ArePlacesOf, EngineSaver, IsEngineSaverOf, IsRunAt}
 pub use Rattle.recovery.specs.Recovered.{IsHeaderOf}
 pub use Rattle.snap_journal.specs.Disks.{DiskPast, IsImage, LeavesOnly}
 pub use Rattle.snap_journal.specs.Journals.{JournalState, snapshots_in}
@@ -29,9 +29,9 @@ use Rattle.stored_calls.specs.declared.calls.StoredCall.{StoredCall}
 use Rattle.update_api.specs.Updates.{Update}
 
 -- what is known of the course of the call, and of a store of these snapshots
-abbrev pub IsKnownAt : {P : Type 0} → (P → Update) → CourseView (SaverView P) → StoredCall P → Header → List (List ℕ) → List (List ℕ) → Setting → CallOpening → Type 0
+abbrev pub IsKnownAt : {P : Type 0} → (P → Update) → CourseView (EngineSaver P) → StoredCall P → Header → List (List ℕ) → List (List ℕ) → Setting → CallOpening → Type 0
 IsKnownAt meaning v call header start bodies st o =
-    IsKnownCourse (IsSaverOf meaning) v header start bodies call.lost.items call.restarts.stored.items call.restarts.front.items call.order.items st o
+    IsKnownCourse (IsEngineSaverOf meaning) v header start bodies call.lost.items call.restarts.stored.items call.restarts.front.items call.order.items st o
 
 -- The store began with these snapshots, and has got others since, of which the call has a line each. Whatever a crash left since that first
 -- time is a good store that begins with the first ones; and what one leaves now has the others besides.
@@ -44,20 +44,20 @@ pub record IsCallAt {D P : Type 0} (meaning : P → Update) (past : D → DiskPa
   pub at_end : (image : List ℕ) → IsImage (past journal.disk).now image → HoldsGood (shared_of st call.course.failures) journal.header (start ++ added) image
 
 -- what a pause of this course gives for the end of the run, where its store has these snapshots
-abbrev pub PauseGives : {P : Type 0} → (P → Update) → CourseView (SaverView P) → List (List ℕ) → Setting → CallOpening → Cluster → StoredEnd → Type 0
-PauseGives meaning v bodies st o c end.Finished = PausesSo (IsSaverOf meaning) v pause.Ended
-PauseGives meaning v bodies st o c (end.Spent left) = PausesSo (IsSaverOf meaning) v pause.Spent × IsTaskIn st c left.0
+abbrev pub PauseGives : {P : Type 0} → (P → Update) → CourseView (EngineSaver P) → List (List ℕ) → Setting → CallOpening → Cluster → StoredEnd → Type 0
+PauseGives meaning v bodies st o c end.Finished = PausesSo (IsEngineSaverOf meaning) v pause.Ended
+PauseGives meaning v bodies st o c (end.Spent left) = PausesSo (IsEngineSaverOf meaning) v pause.Spent × IsTaskIn st c left.0
 PauseGives meaning v bodies st o c (end.Full stored bytes) =
-    (stored ≡ length bodies) × (bytes ≡ 65 + records_size bodies) × NoneReached (IsSaverOf meaning) v × NeedsMore (IsSaverOf meaning) v st o
+    (stored ≡ length bodies) × (bytes ≡ 65 + records_size bodies) × NoneReached (IsEngineSaverOf meaning) v × NeedsMore (IsEngineSaverOf meaning) v st o
 PauseGives meaning v bodies st o c end.DiskFault = ⊤
 
 -- The run has ended so: the course paused where it gives that, and is where it paused.
 pub record IsCallEnded {D P : Type 0} (meaning : P → Update) (past : D → DiskPast) (call : StoredCall P) (journal : JournalState D) (start : List (List ℕ)) (first : DiskPast) (st : Setting) (o : CallOpening) (how : StoredEnd) : Type 0 where
   pub at : IsCallAt meaning past call journal start first st o
-  pub paused : CourseView (SaverView P)
+  pub paused : CourseView (EngineSaver P)
   pub known : IsKnownAt meaning paused call journal.header start (start ++ at.added) st o
   pub failures : paused.failures ≡ call.course.failures
-  pub now : IsCourseNow (IsSaverOf meaning) call.course st o known.was.events known.was.cluster
+  pub now : IsCourseNow (IsEngineSaverOf meaning) call.course st o known.was.events known.was.cluster
   pub gives : PauseGives meaning paused (start ++ at.added) st o known.was.cluster how
 
 -- what ends a run by the counts of the disk's faults, and what the journal has then

@@ -21,7 +21,7 @@ use Rattle.store_format.specs.declared.faults.StoreFault.TheVariants.{BadByte}
 use Rattle.stored_answers.specs.declared.runs.StoredEnd.{StoredEnd}
 use Rattle.stored_answers.specs.declared.runs.StoredEnd.TheVariants as end
 use Rattle.stored_answers.specs.declared.runs.StoredRun.{StoredRun}
-use Rattle.stored_calls.specs.Calls.{AreSnapLines, CallOpening, CourseView, Header, IsCallAt, IsCourseNow, IsKnownAt, IsSaverOf, JournalState, PauseGives, SaverView, Setting, orders_behind, shared_of, snapshots_in}
+use Rattle.stored_calls.specs.Calls.{AreSnapLines, CallOpening, CourseView, EngineSaver, Header, IsCallAt, IsCourseNow, IsEngineSaverOf, IsKnownAt, JournalState, PauseGives, Setting, orders_behind, shared_of, snapshots_in}
 use Rattle.stored_calls.specs.declared.calls.StoredCall.{StoredCall}
 use Rattle.update_api.specs.Updates.{Update}
 
@@ -35,10 +35,10 @@ pub record HasCallBegun {D P : Type 0} (meaning : P → Update) (past : D → Di
 -- The store began with these snapshots and got others, of which the call has a line each; and the run ends so, where the course paused.
 pub record IsEndAt {P : Type 0} (meaning : P → Update) (call : StoredCall P) (header : Header) (start added : List (List ℕ)) (st : Setting) (o : CallOpening) (how : StoredEnd) : Type 0 where
   pub lines : AreSnapLines (shared_of st call.course.failures) (suc (length start)) (orders_behind (stored_order start) added) call.snapshots.items
-  pub paused : CourseView (SaverView P)
+  pub paused : CourseView (EngineSaver P)
   pub known : IsKnownAt meaning paused call header start (start ++ added) st o
   pub failures : paused.failures ≡ call.course.failures
-  pub now : IsCourseNow (IsSaverOf meaning) call.course st o known.was.events known.was.cluster
+  pub now : IsCourseNow (IsEngineSaverOf meaning) call.course st o known.was.events known.was.cluster
   pub gives : PauseGives meaning paused (start ++ added) st o known.was.cluster how
 
 -- the run is one with a store that began with these snapshots, and got these others

@@ -1,5 +1,6 @@
 //! The lists of a call, gathered from its machines at its end, and what they say of how it ended.
 
+mod cores;
 mod fired;
 mod gathering;
 mod laws;

@@ -1,9 +1,9 @@
 //! A call that goes on.
 use call_courses::Course;
 use call_returns::Restarts;
+use engine_savers::EngineSaver;
 use gl_base::Entry;
 use placed_savers::Places;
-use snap_savers::Saver;
 use stored_answers::SnapLine;
 use update_api::Program;
 
@@ -11,7 +11,7 @@ use update_api::Program;
 /// that order, the updates that failures took away, and the snapshots that were acknowledged.
 #[derive(Drop)]
 pub(crate) struct StoredCall<P: Program> {
-    pub(crate) course: Course<Saver<P>>,
+    pub(crate) course: Course<EngineSaver<P>>,
     pub(crate) places: Places,
     pub(crate) restarts: Restarts,
     pub(crate) order: Vec<Entry>,

@@ -3,7 +3,7 @@ ghost use Rattle.std.specs.Prelude.{List, None, Some, false, ◌≡◌, ◌≢�
 ghost use Rattle.gl_base.specs.declared.numbers.MachineNo.{MachineNo};
 ghost use Rattle.snap_journal.specs.declared.faults.JournalFault.TheVariants as fault;
 ghost use Rattle.stored_answers.specs.declared.runs.StoredEnd.TheVariants as ending;
-ghost use Rattle.stored_calls.specs.Calls.{Begins, CallOpening, CanCallGoOn, DiskPast, EndsBy, EndsCall, IsCallAt, IsCallEnded, IsNotRefused, IsSameCall, IsSaverOf, IsWhyStopped, KeepsCall, PausesSo, Setting, end_of, end_without};
+ghost use Rattle.stored_calls.specs.Calls.{Begins, CallOpening, CanCallGoOn, DiskPast, EndsBy, EndsCall, IsCallAt, IsCallEnded, IsEngineSaverOf, IsNotRefused, IsSameCall, IsWhyStopped, KeepsCall, PausesSo, Setting, end_of, end_without};
 ghost use Rattle.call_rounds.specs.declared.pauses.Pause.TheVariants as pause;
 
 use crate::call_appends::{AppendFault, append_due};
@@ -26,7 +26,7 @@ pub(crate) fn go_back_from<D: Disk, P: Program>(
     journal: &mut Journal<D>,
 ) -> Result<Option<StoredEnd>, JournalFault>
     requires can { CanCallGoOn graph.now call.old journal.old }
-    requires reached { (m : MachineNo) × PausesSo (IsSaverOf P.meaning) call.old.course (pause.Reached m) }
+    requires reached { (m : MachineNo) × PausesSo (IsEngineSaverOf P.meaning) call.old.course (pause.Reached m) }
     ensures keeps { IsTrue D.told → KeepsCall P.meaning D.past graph.now (P.meaning program) call.old journal.old call.new journal.new }
     ensures ends { IsTrue D.told → IfOk result (λ end. IfSome end (EndsCall P.meaning D.past graph.now (P.meaning program) call.old journal.old call.new journal.new)) }
     ensures by { IfOk result (λ end. IfSome end (EndsBy journal.new (D.faults journal.old.disk) (D.faults journal.new.disk))) }
@@ -83,7 +83,7 @@ pub(crate) fn save_due<D: Disk, P: Program>(
     requires well { journal.old.failed ≡ false }
     requires running { call.old.course.now.stopped ≡ false }
     requires restarts { Begins call.old.restarts.stored.items call.old.restarts.front.items }
-    requires due { (k : ℕ) × PausesSo (IsSaverOf P.meaning) call.old.course (pause.Record k) }
+    requires due { (k : ℕ) × PausesSo (IsEngineSaverOf P.meaning) call.old.course (pause.Record k) }
     ensures keeps { IsTrue D.told → (start : List (List ℕ)) (first : DiskPast) (st : Setting) (o : CallOpening) →
         IsCallAt P.meaning D.past call.old journal.old start first st o → IsCallAt P.meaning D.past call.new journal.new start first st o }
     ensures ends { IsTrue D.told → IfOk result (λ end. IfSome end (λ how. (start : List (List ℕ)) (first : DiskPast) (st : Setting) (o : CallOpening) →

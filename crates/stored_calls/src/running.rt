@@ -16,11 +16,11 @@ use crate::call_ends::{CallLists, GatherFault, calls_end_so, gather_call};
 use crate::call_starts::{Started, start_call};
 use crate::calls::StoredCall;
 use crate::steps::play_to_end;
+use engine_savers::EngineSaver;
 use gl_base::FailureAt;
 use gl_outside::Disk;
 use graph_core::Graph;
 use snap_journal::{Journal, JournalFault};
-use snap_savers::Saver;
 use sole_placements::placements_are_one;
 use std::alloc::Global;
 use std::sync::Wait;
@@ -195,7 +195,7 @@ fn gathered<P: Program>(
     ensures other { IfErr result (λ why. (why ≡ fault.NoMemory) ⊎ ((why ≡ fault.BadStore (BadByte long)) × ((program : Update) (header : Header) (start added : List (List ℕ)) (st : Setting) (o : CallOpening) →
         IsRunAt graph.now program call.places st → IsEndAt P.meaning call header start added st o end → ⊥))) }
 {
-    calls_end_so::<Saver<P>>();
+    calls_end_so::<EngineSaver<P>>();
     let StoredCall {
         course,
         places,

@@ -1,6 +1,6 @@
 //! A call goes on, pause by pause, until it ends.
 ghost use Rattle.std.specs.Prelude.{List, None, ◌≡◌, ◌≤◌, ◌^◌, ℕ, IfErr, IfOk, IfSome, IsTrue};
-ghost use Rattle.stored_calls.specs.Calls.{CallOpening, CanCallGoOn, EndsBy, EndsCall, Header, IsKnownAt, IsNotRefused, IsRunAt, IsSameCall, IsSaverOf, IsWhyStopped, KeepsCall, PausesSo, Setting};
+ghost use Rattle.stored_calls.specs.Calls.{CallOpening, CanCallGoOn, EndsBy, EndsCall, Header, IsEngineSaverOf, IsKnownAt, IsNotRefused, IsRunAt, IsSameCall, IsWhyStopped, KeepsCall, PausesSo, Setting};
 
 use crate::call_ends::task_left;
 use crate::calls::StoredCall;
@@ -78,7 +78,7 @@ fn step<R: Wait, D: Disk, P: Program>(
 fn go_on<R: Wait, P: Program>(rt: &R, call: &mut StoredCall<P>) -> Result<Pause, NoMemory>
     ensures known { (header : Header) (start bodies : List (List ℕ)) (st : Setting) (o : CallOpening) →
         IsKnownAt P.meaning call.old.course call.old header start bodies st o → IsKnownAt P.meaning call.new.course call.new header start bodies st o }
-    ensures pause { IfOk result (PausesSo (IsSaverOf P.meaning) call.new.course) }
+    ensures pause { IfOk result (PausesSo (IsEngineSaverOf P.meaning) call.new.course) }
     ensures same { call.new ≡ record call.old { course = call.new.course } }
     ensures attempt { IsSameCall call.old call.new }
 {

@@ -1,29 +1,29 @@
 //! Clusters that begin, or begin again.
 ghost use Rattle.std.specs.Prelude.{◌≡◌, ◌+◌, ◌^◌, ◌<◌, ℕ, All, IfOk, IsTrue, length};
 ghost use Rattle.coord_core.specs.Stores.{store_view};
-ghost use Rattle.coord_core.specs.declared.steps.Engine.TheVariants.{Locking};
 ghost use Rattle.graph_core.specs.DataGraph.{IsDataGraph, size};
-ghost use Rattle.placed_savers.specs.Beginning.{BaseView, Cluster, IsBaseFor, IsSaverOf, Setting};
+ghost use Rattle.placed_savers.specs.Beginning.{AreColoursFor, ArePlacesOf, BaseView, Cluster, IsBaseFor, IsEngineSaverOf, Setting};
 ghost use Rattle.snap_clusters.specs.Clusters.{StartsSaving};
 
 use crate::plans::Plan;
 use crate::trouble::Trouble;
 use call_courses::Course;
+use color_steps::{greatest_colour, greedy_colouring};
 use coord_core::{Engine, Store};
-use gl_base::{AtomNo, Base, FailureAt, MachineNo, Vertex};
+use engine_savers::EngineSaver;
+use gl_base::{AtomNo, Base, EngineKind, FailureAt, MachineNo, NoMemory, Vertex};
 use graph_core::Graph;
 use placed_graphs::first_base;
-use placed_savers::{SavingRun, placed_savers};
+use placed_savers::{Places, SavingRun, placed_savers};
 use snap_clusters::{SavingMachine, SnapCluster};
-use snap_savers::Saver;
 use std::alloc::Global;
 use update_api::Program;
 
 /// A cluster that takes snapshots, whose machines run this program.
-pub type Whole<P> = SnapCluster<Saver<P>>;
+pub type Whole<P> = SnapCluster<EngineSaver<P>>;
 
 /// Such a cluster in the course of a call.
-pub type InCourse<P> = Course<Saver<P>>;
+pub type InCourse<P> = Course<EngineSaver<P>>;
 
 /// As many tickets as there are at most.
 const MOST_TICKETS: u64 = 4611686018427387904;
@@ -39,7 +39,10 @@ pub struct Beginning<'a, P: Program> {
     /// Each vertex is in the atom of its machine's number.
     pub of: Vec<AtomNo>,
     pub owner: Vec<MachineNo>,
-    pub run: SavingRun,
+    pub machines: u16,
+    pub pipeline: u16,
+    pub window: u32,
+    pub engine: EngineKind,
 }
 
 /// What the plan says of it.
@@ -67,13 +70,11 @@ pub fn beginning_of<'a, P: Program>(
         graph,
         program,
         of,
-        run: SavingRun {
-            machines,
-            pipeline: plan.pipeline,
-            first: Vertex(0),
-            window: plan.window,
-        },
         owner,
+        machines,
+        pipeline: plan.pipeline,
+        window: plan.window,
+        engine: plan.engine,
     })
 }
 
@@ -125,24 +126,68 @@ fn store_of(graph: &Graph, base: &Base) -> Store
     }
 }
 
-/// The machines that begin from this base, and its store, where each vertex has a machine, and each machine has admitted so many scopes.
+/// How updates on the graph are kept apart, and the colour of each vertex where they run by colours.
+fn kept_apart(
+    alloc: Global,
+    graph: &Graph,
+    kind: EngineKind,
+) -> Result<(Engine, Vec<u32>), NoMemory>
+    ensures { IfOk result (λ made. AreColoursFor graph.now made.0 made.1.items) }
+{
+    match kind {
+        EngineKind::Locking => Ok((Engine::Locking, Vec::new(alloc))),
+        EngineKind::Chromatic => {
+            let colours = greedy_colouring(alloc, graph)?;
+            Ok((Engine::Chromatic(greatest_colour(&colours)), colours))
+        }
+    }
+}
+
+/// The places of the graph, where each vertex has a machine.
+fn places_of<P: Program>(alloc: Global, beginning: &Beginning<'_, P>) -> Result<Places, Trouble>
+    ensures places { IfOk result (λ places. ArePlacesOf beginning.now.graph.now places.run.machines places) }
+    ensures graph { IfOk result (λ places. IsDataGraph beginning.now.graph.now) }
+{
+    let graph = beginning.graph;
+    let of = Vec::from_slice(alloc, &beginning.of)?;
+    let owner = Vec::from_slice(alloc, &beginning.owner)?;
+    if !has_places(graph, &of, &owner, beginning.machines) {
+        return Err(Trouble::Malformed("a vertex without a machine"));
+    }
+    let (engine, colours) = kept_apart(alloc, graph, beginning.engine)?;
+    let run = SavingRun {
+        machines: beginning.machines,
+        pipeline: beginning.pipeline,
+        first: Vertex(0),
+        window: beginning.window,
+        engine,
+    };
+    Ok(Places {
+        of,
+        owner,
+        colours,
+        run,
+    })
+}
+
+/// The machines that begin from this base, their engine, and the base's store, where each vertex has a machine, and each machine has admitted
+/// so many scopes.
 fn machines_of<P: Program>(
     alloc: Global,
     beginning: &Beginning<'_, P>,
     base: &Base,
     serials: &[u64],
-) -> Result<(Vec<Saver<P>>, Store), Trouble>
-    ensures start { IfOk result (λ made. (next left : ℕ) → (st : Setting) × (view : BaseView) × (before : Cluster) × StartsSaving (IsSaverOf P.meaning) made.0.items Locking (store_view made.1) next left st view before) }
+) -> Result<(Vec<EngineSaver<P>>, Engine, Store), Trouble>
+    ensures start { IfOk result (λ made. (next left : ℕ) → (st : Setting) × (view : BaseView) × (before : Cluster) × StartsSaving (IsEngineSaverOf P.meaning) made.0.items made.1 (store_view made.2) next left st view before) }
     ensures many { IfOk result (λ made. length made.0.items < 65535) }
-    ensures newest { IfOk result (λ made. made.1.newest + 1 < 2 ^ 32) }
-    ensures length { IfOk result (λ made. made.1.length < 2 ^ 32) }
+    ensures newest { IfOk result (λ made. made.2.newest + 1 < 2 ^ 32) }
+    ensures length { IfOk result (λ made. made.2.length < 2 ^ 32) }
 {
-    let (graph, program, run) = (beginning.graph, beginning.program, beginning.run);
-    let of = beginning.of.as_slice();
-    let owner = beginning.owner.as_slice();
-    let has_places = has_places(graph, of, owner, run.machines);
-    if !has_places || serials.len() != run.machines as usize || run.machines == u16::MAX {
-        return Err(Trouble::Malformed("a vertex without a machine"));
+    let (graph, program) = (beginning.graph, beginning.program);
+    let places = places_of(alloc, beginning)?;
+    let run = places.run;
+    if serials.len() != run.machines as usize || run.machines == u16::MAX {
+        return Err(Trouble::Malformed("another count of machines"));
     }
     if !has_numbers(graph, base) {
         return Err(Trouble::Malformed("not a number for each"));
@@ -151,8 +196,8 @@ fn machines_of<P: Program>(
     if store.newest == u32::MAX || store.length > MOST_BYTES {
         return Err(Trouble::Malformed("too great a store"));
     }
-    let machines = placed_savers(alloc, graph, program, base, of, owner, run, serials)?;
-    Ok((machines, store))
+    let machines = placed_savers(alloc, graph, program, base, &places, serials)?;
+    Ok((machines, run.engine, store))
 }
 
 /// The cluster that begins from this base, with so many tickets.
@@ -165,9 +210,9 @@ pub fn begun<P: Program>(
     if tickets >= MOST_TICKETS {
         return Err(Trouble::Malformed("too many tickets"));
     }
-    let serials = vec![in alloc; 0u64; beginning.run.machines as usize]?;
-    let (machines, store) = machines_of(alloc, beginning, base, &serials)?;
-    Ok(SnapCluster::new(alloc, machines, Engine::Locking, store, 0, tickets)?)
+    let serials = vec![in alloc; 0u64; beginning.machines as usize]?;
+    let (machines, engine, store) = machines_of(alloc, beginning, base, &serials)?;
+    Ok(SnapCluster::new(alloc, machines, engine, store, 0, tickets)?)
 }
 
 /// All machines of the cluster go back to this base.
@@ -181,11 +226,11 @@ pub fn begin_again<P: Program>(
     for m in 0..whole.machines() {
         serials.push(whole.machine(MachineNo(m as u16)).serial())?;
     }
-    let (machines, store) = machines_of(alloc, beginning, base, &serials)?;
+    let (machines, engine, store) = machines_of(alloc, beginning, base, &serials)?;
     if machines.len() != whole.machines() {
         return Err(Trouble::Malformed("another count of machines"));
     }
-    Ok(whole.recover(alloc, machines, Engine::Locking, store)?)
+    Ok(whole.recover(alloc, machines, engine, store)?)
 }
 
 /// The call that opens from this base, with so many tickets and these failures.
@@ -199,17 +244,9 @@ pub fn begin_call<P: Program>(
     if tickets >= MOST_TICKETS {
         return Err(Trouble::Malformed("too many tickets"));
     }
-    let serials = vec![in alloc; 0u64; beginning.run.machines as usize]?;
-    let (machines, store) = machines_of(alloc, beginning, base, &serials)?;
-    Ok(Course::open(
-        alloc,
-        machines,
-        Engine::Locking,
-        store,
-        0,
-        tickets,
-        failures,
-    )?)
+    let serials = vec![in alloc; 0u64; beginning.machines as usize]?;
+    let (machines, engine, store) = machines_of(alloc, beginning, base, &serials)?;
+    Ok(Course::open(alloc, machines, engine, store, 0, tickets, failures)?)
 }
 
 /// All machines of the call go back to this base.
@@ -223,9 +260,9 @@ pub fn call_again<P: Program>(
     for m in 0..course.machines() {
         serials.push(course.machine(MachineNo(m as u16)).serial())?;
     }
-    let (machines, store) = machines_of(alloc, beginning, base, &serials)?;
+    let (machines, engine, store) = machines_of(alloc, beginning, base, &serials)?;
     if machines.len() != course.machines() {
         return Err(Trouble::Malformed("another count of machines"));
     }
-    Ok(course.recover(alloc, machines, Engine::Locking, store)?)
+    Ok(course.recover(alloc, machines, engine, store)?)
 }

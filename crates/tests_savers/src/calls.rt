@@ -123,7 +123,7 @@ fn take_due<P: Program>(alloc: Global, call: &mut Call<'_, P>) -> Result<(), Tro
 /// Each machine that has reached the count of a failure fails, and all go back to the newest snapshot.
 fn go_back<P: Program>(alloc: Global, call: &mut Call<'_, P>) -> Result<(), Trouble> {
     let mut flags = Vec::new(alloc);
-    for m in 0..call.beginning.run.machines {
+    for m in 0..call.beginning.machines {
         flags.push(fails(&mut call.course, MachineNo(m))?)?;
     }
     let failures = count_failed(&flags);

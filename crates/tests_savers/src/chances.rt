@@ -9,7 +9,7 @@ use crate::records::take_record;
 use crate::recovering::go_back;
 use crate::scenes::Scene;
 use crate::trouble::Trouble;
-use gl_base::{MachineNo, ScopeId, Vertex};
+use gl_base::{EngineKind, MachineNo, ScopeId, Vertex};
 use snap_clusters::{Event, Lead, Local, Passage};
 use std::alloc::Global;
 use update_api::Program;
@@ -100,6 +100,9 @@ fn some_event<P: Program>(
     if chances.below(2) == 0 {
         return Ok(Event::Local(some_local(scene, chances, at)?));
     }
+    if scene.beginning.engine == EngineKind::Chromatic && chances.below(2) == 0 {
+        return Ok(some_turn(chances, at));
+    }
     let to = some_machine(scene, chances);
     let passage = match chances.below(11) {
         0..=2 => Passage::Send { from: at, to },
@@ -111,6 +114,18 @@ fn some_event<P: Program>(
         _ => return Ok(Event::Lead(some_lead(chances))),
     };
     Ok(Event::Passage(passage))
+}
+
+/// Where vertices run by colours: a step, a wave or a snapshot begins, or word of one goes on.
+fn some_turn(chances: &mut Chances, at: MachineNo) -> Event {
+    Event::Passage(match chances.below(12) {
+        0..=1 => Passage::SendCall(at),
+        2..=3 => Passage::DeliverCall(at),
+        4..=5 => Passage::SendReport(at),
+        6..=7 => Passage::DeliverReport(at),
+        8..=9 => return Event::Lead(Lead::Step),
+        _ => return Event::Lead(some_lead(chances)),
+    })
 }
 
 /// The next snapshot begins, or a wave is put out.
@@ -139,7 +154,7 @@ fn some_local<P: Program>(
 
 /// One of the machines.
 fn some_machine<P: Program>(scene: &Scene<'_, P>, chances: &mut Chances) -> MachineNo {
-    let machines = scene.beginning.run.machines;
+    let machines = scene.beginning.machines;
     if machines == 0 {
         return MachineNo(0);
     }

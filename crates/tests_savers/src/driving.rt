@@ -23,6 +23,7 @@ pub fn drive<P: Program>(
             Due::Record(_) if to_record => return Ok(()),
             Due::Record(_) => take_record(alloc, scene)?,
             Due::Snapshot(_) => happens(&mut scene.whole, Event::Lead(Lead::Begin))?,
+            Due::Step(_) => happens(&mut scene.whole, Event::Lead(Lead::Step))?,
             _ => round(scene)? || happens(&mut scene.whole, Event::Lead(Lead::Wave))?,
         };
         if !moved {
@@ -35,7 +36,7 @@ pub fn drive<P: Program>(
 /// Each machine has its turn. Tells whether anything moved.
 fn round<P: Program>(scene: &mut Scene<'_, P>) -> Result<bool, Trouble> {
     let mut moved = false;
-    for m in 0..scene.beginning.run.machines {
+    for m in 0..scene.beginning.machines {
         let at = MachineNo(m);
         moved = settle(scene, at)? || moved;
         moved = tell(scene, at)? || moved;
@@ -96,7 +97,7 @@ pub fn next_grant<P: Program>(
 pub fn bring<P: Program>(scene: &mut Scene<'_, P>) -> Result<(), Trouble> {
     for _ in 0..MOST {
         let mut moved = false;
-        for m in 0..scene.beginning.run.machines {
+        for m in 0..scene.beginning.machines {
             let at = MachineNo(m);
             if let Some(x) = next_grant(scene, at)? {
                 moved = happens(&mut scene.whole, Event::Local(Local::Grant(at, x)))? || moved;
@@ -122,7 +123,7 @@ fn tell<P: Program>(scene: &mut Scene<'_, P>, at: MachineNo) -> Result<bool, Tro
 /// What waits at the machine for others comes. Tells whether anything did.
 fn tell_others<P: Program>(scene: &mut Scene<'_, P>, at: MachineNo) -> Result<bool, Trouble> {
     let mut moved = false;
-    for other in 0..scene.beginning.run.machines {
+    for other in 0..scene.beginning.machines {
         let to = MachineNo(other);
         moved = exhaust(scene, Passage::Send { from: at, to })? || moved;
         moved = exhaust(scene, Passage::Deliver { from: at, to })? || moved;

@@ -3,7 +3,7 @@ use crate::fields::{Fields, number_of};
 use crate::graphs::add_edges;
 use crate::scenarios::Scenario;
 use crate::trouble::Trouble;
-use gl_base::{Algorithm, FailureAt, MachineNo};
+use gl_base::{Algorithm, EngineKind, FailureAt, MachineNo};
 use graph_core::EdgeIn;
 use std::alloc::Global;
 
@@ -17,6 +17,7 @@ pub struct Plan {
     pub source: u64,
     /// The machine of each vertex, by ascending identifier.
     pub machines: Vec<u64>,
+    pub engine: EngineKind,
     pub pipeline: u16,
     pub window: u32,
     pub tickets: u64,
@@ -27,7 +28,7 @@ pub struct Plan {
 }
 
 impl Plan {
-    /// No vertices, components, one scope in flight, a window of four updates, and many tickets.
+    /// No vertices, components, locks, one scope in flight, a window of four updates, and many tickets.
     pub fn new(alloc: Global) -> Plan {
         Plan {
             vertices: Vec::new(alloc),
@@ -35,6 +36,7 @@ impl Plan {
             algorithm: Algorithm::Components,
             source: 0,
             machines: Vec::new(alloc),
+            engine: EngineKind::Locking,
             pipeline: 1,
             window: 4,
             tickets: 1000000,
@@ -49,6 +51,8 @@ impl Plan {
             "vertices" | "on" | "values" => self.take_numbers(alloc, fields)?,
             "edges" | "failures" => self.take_pairs(fields)?,
             "components" | "levels" | "paths" => self.take_program(fields)?,
+            "locking" => self.engine = EngineKind::Locking,
+            "chromatic" => self.engine = EngineKind::Chromatic,
             _ => return self.take_limit(fields),
         }
         Ok(true)

@@ -55,7 +55,7 @@ fn look_at<P: Program>(
     order.sort_unstable_by_key(|entry| rank(*entry));
     let (graph, program) = (beginning.graph, beginning.program);
     let numbers = replay(alloc, graph, program, &kept.first, &order)?;
-    if record.sections.len() != beginning.run.machines as usize {
+    if record.sections.len() != beginning.machines as usize {
         return Err(Trouble::Differs("a section is missing"));
     }
     has_numbers(alloc, record, &numbers)?;

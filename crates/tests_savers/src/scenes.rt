@@ -66,7 +66,7 @@ pub fn first_kept<P: Program>(
     beginning: &Beginning<'_, P>,
     base: &Base,
 ) -> Result<Kept, Trouble> {
-    let (disk, header) = empty_store(alloc, beginning.graph, beginning.run.machines)?;
+    let (disk, header) = empty_store(alloc, beginning.graph, beginning.machines)?;
     let first = Numbers {
         values: Vec::from_slice(alloc, &base.values)?,
         edges: Vec::from_slice(alloc, &base.edges)?,

@@ -10,7 +10,7 @@ use Rattle.whole_files.specs.FilesUsed.{OfText}
 use Rattle.job_files.specs.declared.jobs.JobVerb.{JobVerb}
 use Rattle.job_files.specs.declared.jobs.NoJob.{NoJob}
 use Rattle.job_files.specs.declared.jobs.NoJob.TheVariants as job
-use Rattle.job_files.specs.BuiltJobs.{job_for}
+use Rattle.job_files.specs.DoableJobs.{job_for}
 use Rattle.job_files.specs.Inputs.{IsReady}
 use Rattle.job_files.specs.JobTexts.{SaysJob}
 

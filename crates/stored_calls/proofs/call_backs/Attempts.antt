@@ -2,8 +2,6 @@
 use Rattle.std.proofs.Common.{◌≡◌, ℕ, ◌+◌, ◌*◌, ◌<◌, ◌++◌, ◌∙◌, true, List, [], ◌∷◌, ap, ap₂, filter, if◌then◌else◌, length, refl, subst, sym, ⊎_elim}
 use Rattle.std.specs.Prelude.{slice_index_or}
 use Rattle.gl_base.specs.declared.entries.Entry.{Entry}
-use Rattle.gl_base.specs.declared.numbers.AtomNo.{AtomNo}
-use Rattle.gl_base.specs.declared.numbers.MachineNo.{MachineNo}
 use Rattle.gl_base.specs.declared.snapshots.Base.{Base}
 use Rattle.attempts.specs.Stores.{last_order}
 use Rattle.call_courses.proofs.Going.{setting_now}
@@ -14,17 +12,17 @@ use Rattle.cluster_laws.specs.cluster_model.Totals.{total}
 use Rattle.cluster_records.specs.Recorded.{HaveSameNumbers}
 use Rattle.cluster_laws.specs.cluster_runs.Attempts.{Shared}
 use Rattle.cluster_laws.specs.cluster_runs.Recorded.{shared_of}
-use Rattle.coord_core.specs.declared.steps.Engine.TheVariants.{Locking}
 use Rattle.graph_core.specs.DataGraph.{DataGraph, IsDataGraph, size}
 use Rattle.placed_savers.proofs.LawLemmas.{attempt_begins}
 use Rattle.placed_savers.specs.declared.savers.Places.{Places}
-use Rattle.placed_savers.specs.Beginning.{AreSaversOf, HaveAdmitted, IsAttemptFrom, IsBaseOf, IsSavingRunOf, placed_owner}
+use Rattle.placed_savers.specs.Beginning.{AreSaversOf, HaveAdmitted, IsAttemptFrom, IsBaseOf, placed_owner}
 use Rattle.machine_places.proofs.OwnerLemmas.{owner_low}
 use Rattle.recovery.proofs.Goodness.{last_behind}
 use Rattle.recovery.specs.GoodStores.{IsGoodBase, IsGoodStore, orders_behind}
 use Rattle.recovery.specs.Recovered.{IsRecovered}
 use Rattle.recovery.specs.Orders.{AreNumbers, replay}
 use Rattle.stored_calls.proofs.saver_courses.BeginLemmas.{go_back, run_now}
+use Rattle.stored_calls.proofs.saver_courses.EngineLemmas.{led_by}
 use Rattle.stored_courses.specs.Stores.{first_cluster, fronts_in, recorded_in}
 use Rattle.stored_records.specs.Keeping.{AreNextOrders}
 use Rattle.update_api.specs.Updates.{Update}
@@ -33,25 +31,26 @@ use Rattle.whole_calls.proofs.Leading.{behind_since}
 use Rattle.stored_calls.proofs.call_backs.Keepings.{machines_same}
 use Rattle.stored_calls.proofs.call_backs.Restarted.{AreRestarts, behind_before, lacks_so, one_more_each, order_append, same_numbers}
 use Rattle.stored_calls.specs.call_backs.Failing.{CallOpening, Cluster, CourseView, InEachCourse, IsCourseNow, Setting, newest_setting}
-use Rattle.stored_calls.specs.call_backs.Returning.{ArePlacesOf, BaseView, GoesBackSo, HasFailures, Header, IsBaseBehind, IsBaseFor, IsKnownCourse, IsRunAt, IsSaverOf, SaverView, StartsSaving, StoreView, TakesAway, is_restart, restarts, stored_order}
+use Rattle.stored_calls.specs.call_backs.Returning.{ArePlacesOf, BaseView, EngineSaver, GoesBackSo, HasFailures, Header, IsBaseBehind, IsBaseFor, IsEngineSaverOf, IsKnownCourse, IsRunAt, StartsSaving, StoreView, TakesAway, is_restart, restarts, stored_order}
 
 -- ---- machines for a base begin an attempt of the law, whoever made it
 
-pub starts_so : {P : Type 0} (meaning : P → Update) (g : DataGraph) (program : Update) (places : Places) (many : ℕ) (base : Base) (serials : List ℕ) (machines : List (SaverView P)) (next left : ℕ) → IsDataGraph g → ArePlacesOf g many places → IsBaseFor g base →
+pub starts_so : {P : Type 0} (meaning : P → Update) (g : DataGraph) (program : Update) (places : Places) (many : ℕ) (base : Base) (serials : List ℕ) (machines : List (EngineSaver P)) (next left : ℕ) → IsDataGraph g → ArePlacesOf g many places → IsBaseFor g base →
     ((st : Setting) (view : BaseView) (before : Cluster) → IsRunAt g program places st → IsBaseOf st base view → HaveAdmitted st serials before → AreSaversOf meaning st view before machines) →
     (store : StoreView) → store.vertices ≡ size g → store.edges ≡ length g.edges → store.newest ≡ base.number →
-    (st : Setting) × (to : BaseView) × (before : Cluster) × StartsSaving (IsSaverOf meaning) machines Locking store next left st to before
+    (st : Setting) × (to : BaseView) × (before : Cluster) × StartsSaving (IsEngineSaverOf meaning) machines places.run.engine store next left st to before
 starts_so meaning g program places many base serials machines next left graph placed for stand store vertices edges newest =
     let owner : ℕ → ℕ = placed_owner places.of.items places.owner.items in
-    let at : IsAttemptFrom g program owner places.run base serials next left store.store_end =
-    attempt_begins g program owner places.run base serials next left store.store_end graph (owner_low g places.run.machines places.of.items places.owner.items placed.each placed.atoms placed.owners) for in
+    let at : IsAttemptFrom g program owner places.colours.items places.run base serials next left store.store_end =
+    attempt_begins g program owner places.colours.items places.run base serials next left store.store_end graph (owner_low g places.run.machines places.of.items places.owner.items placed.each placed.atoms placed.owners)
+    placed.colours for in
     let are : AreSaversOf meaning at.st at.view at.before machines = stand at.st at.view at.before at.runs at.of_base at.admitted in (
       at.st,
       at.view,
       at.before,
       record {
         setting = at.runs.setting;
-        led = at.runs.locks;
+        led = led_by places.run.engine places.colours.items at.st at.runs.engine;
         many = are.many;
         each = are.each;
         vertices = ap size at.runs.placed.graph ∙ sym vertices;
@@ -63,21 +62,16 @@ starts_so meaning g program places many base serials machines next left graph pl
       },
     )
 
--- with what is known of the lists that were read
-pub stand_so : {P : Type 0} (meaning : P → Update) (g : DataGraph) (program : Update) (places : Places) (base : Base) (machines : List (SaverView P)) (atoms : List AtomNo) (owners : List MachineNo) (read serials : List ℕ) →
-    atoms ≡ places.of.items → owners ≡ places.owner.items → read ≡ serials →
-    ((st : Setting) (view : BaseView) (before : Cluster) → IsSavingRunOf g program (placed_owner atoms owners) places.run st → IsBaseOf st base view → HaveAdmitted st read before → AreSaversOf meaning st view before machines) →
+-- with what is known of the list that was read
+pub stand_so : {P : Type 0} (meaning : P → Update) (g : DataGraph) (program : Update) (places : Places) (base : Base) (machines : List (EngineSaver P)) (read serials : List ℕ) → read ≡ serials →
+    ((st : Setting) (view : BaseView) (before : Cluster) → IsRunAt g program places st → IsBaseOf st base view → HaveAdmitted st read before → AreSaversOf meaning st view before machines) →
     (st : Setting) (view : BaseView) (before : Cluster) → IsRunAt g program places st → IsBaseOf st base view → HaveAdmitted st serials before → AreSaversOf meaning st view before machines
-stand_so meaning g program places base machines atoms owners read serials atoms_are owners_are read_is stand st view before runs of admitted =
-    stand st view before
-    (subst (λ (ms : List MachineNo). IsSavingRunOf g program (placed_owner atoms ms) places.run st) (sym owners_are)
-    (subst (λ (es : List AtomNo). IsSavingRunOf g program (placed_owner es places.owner.items) places.run st) (sym atoms_are) runs))
-    of (subst (λ (ss : List ℕ). HaveAdmitted st ss before) (sym read_is) admitted)
+stand_so meaning g program places base machines read serials read_is stand st view before runs of admitted = stand st view before runs of (subst (λ (ss : List ℕ). HaveAdmitted st ss before) (sym read_is) admitted)
 
 -- the serials of the machines that are
-pub admitted_so : {P : Type 0} (meaning : P → Update) (v : CourseView (SaverView P)) (serials : List ℕ) →
-    ((a : ℕ) → a < length v.now.machines.items → InEachCourse (IsSaverOf meaning) v (λ st o events c. slice_index_or serials a 0 ≡ (c.machine a).part.serial)) →
-    (st : Setting) (o : CallOpening) (events : List law.Event) (c : Cluster) → IsCourseNow (IsSaverOf meaning) v st o events c → HaveAdmitted (newest_setting st o events) serials c
+pub admitted_so : {P : Type 0} (meaning : P → Update) (v : CourseView (EngineSaver P)) (serials : List ℕ) →
+    ((a : ℕ) → a < length v.now.machines.items → InEachCourse (IsEngineSaverOf meaning) v (λ st o events c. slice_index_or serials a 0 ≡ (c.machine a).part.serial)) →
+    (st : Setting) (o : CallOpening) (events : List law.Event) (c : Cluster) → IsCourseNow (IsEngineSaverOf meaning) v st o events c → HaveAdmitted (newest_setting st o events) serials c
 admitted_so meaning v serials each st o events c is = λ a low.
     let many : length v.now.machines.items ≡ (newest_setting st o events).machines = is.code.many in
     sym (each a (subst (λ (n : ℕ). a < n) (sym many) low) st o events c is)
@@ -104,8 +98,8 @@ base_so shared g program header bodies missing read base recovered good number o
 
 -- ---- where the store is known, the law goes back to its base
 
-module _ {P : Type 0} (meaning : P → Update) (g : DataGraph) (program : Update) (places : Places) (v : CourseView (SaverView P)) (header : Header) (start bodies : List (List ℕ)) (lost stored front before : List Entry) (st : Setting) (o : CallOpening)
-    (runs : IsRunAt g program places st) (known : IsKnownCourse (IsSaverOf meaning) v header start bodies lost stored front before st o) (has : HasFailures v st known.was.cluster) where
+module _ {P : Type 0} (meaning : P → Update) (g : DataGraph) (program : Update) (places : Places) (v : CourseView (EngineSaver P)) (header : Header) (start bodies : List (List ℕ)) (lost stored front before : List Entry) (st : Setting) (o : CallOpening)
+    (runs : IsRunAt g program places st) (known : IsKnownCourse (IsEngineSaverOf meaning) v header start bodies lost stored front before st o) (has : HasFailures v st known.was.cluster) where
   abbrev c : Cluster
   c = known.was.cluster
 
@@ -115,7 +109,7 @@ module _ {P : Type 0} (meaning : P → Update) (g : DataGraph) (program : Update
   abbrev now : Setting
   now = newest_setting st o events
 
-  is : IsCourseNow (IsSaverOf meaning) v st o events c
+  is : IsCourseNow (IsEngineSaverOf meaning) v st o events c
   is = known.was.now
 
   abbrev pub shared : Shared
@@ -188,9 +182,9 @@ module _ {P : Type 0} (meaning : P → Update) (g : DataGraph) (program : Update
       }
 
       run_here : IsRunAt g program places now
-      run_here = run_now st o events g program (placed_owner places.of.items places.owner.items) places.run runs
+      run_here = run_now st o events g program (placed_owner places.of.items places.owner.items) places.colours.items places.run runs
 
-      module _ (machines : List (SaverView P)) (stand : (to : BaseView) → IsRunAt g program places now → IsBaseOf now base to → AreSaversOf meaning now to c machines)
+      module _ (machines : List (EngineSaver P)) (stand : (to : BaseView) → IsRunAt g program places now → IsBaseOf now base to → AreSaversOf meaning now to c machines)
           (store : StoreView) (vertices : store.vertices ≡ size g) (edges : store.edges ≡ length g.edges) (newest : store.newest ≡ base.number) (place : store.store_end ≡ v.now.coordinator.saving.store_end + 16 * failures)
           (ahead later gone : List Entry) (ahead_is : ahead ≡ stored ++ missing) (later_is : later ≡ lost ++ gone) (takes : (to : BaseView) → to.order ≡ base.order.items → law.GoesBackTo now c to → TakesAway now c to gone) where
         stored_now : now.stored ≡ true
@@ -201,10 +195,10 @@ module _ {P : Type 0} (meaning : P → Update) (g : DataGraph) (program : Update
         store_end_is : (law.recovers now to c).coordinator.store_end ≡ store.store_end
         store_end_is = ap₂ (λ (n k : ℕ). n + 16 * k) ((is.code.coordinator.saving stored_now).store_end) (failures_now ∙ sym failures_are) ∙ sym place
 
-        pub goes_so : GoesBackSo meaning v machines store base.order.items lost later front ahead st o events c
+        pub goes_so : GoesBackSo meaning v machines places.run.engine store base.order.items lost later front ahead st o events c
         goes_so = record {
           to = to;
-          back = go_back st o events meaning v c to store machines is runs.locks back_to.5 has.running has.each (stand to run_here of_base)
+          back = go_back st o events meaning places.run.engine v c to store machines is (led_by places.run.engine places.colours.items st runs.engine) back_to.5 has.running has.each (stand to run_here of_base)
               (ap size graph_is ∙ sym vertices) (ap (λ (x : DataGraph). length x.edges) graph_is ∙ sym edges) (of_base.number ∙ sym newest) store_end_is;
           number = back_to.1;
           order_is = order_is;

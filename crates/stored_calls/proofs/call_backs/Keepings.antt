@@ -3,20 +3,19 @@ use Rattle.std.proofs.Common.{◌≡◌, ℕ, ◌+◌, ◌*◌, ◌<◌, ◌≤�
 use Rattle.gl_base.specs.declared.entries.Entry.{Entry}
 use Rattle.gl_base.specs.declared.jobs.FailureAt.{FailureAt}
 use Rattle.call_courses.specs.Courses.{HasGoneBack, first_setting}
-use Rattle.coord_core.specs.declared.steps.Engine.TheVariants.{Locking}
+use Rattle.coord_core.specs.declared.steps.Engine.{Engine}
 use Rattle.call_courses.proofs.Passing.{pass_fronts, pass_lost, pass_records, recover_fronts, recover_lost, recover_records}
 use Rattle.cluster_laws.specs.cluster_model.Events as law
 use Rattle.cluster_laws.specs.cluster_model.Leading.{Coordinator, Snapshot}
 use Rattle.cluster_laws.specs.cluster_model.Totals.{total}
 use Rattle.cluster_whole.proofs.Flows.{total_from-all_none}
 use Rattle.recovery.specs.Journals.{records_size}
-use Rattle.snap_savers.specs.Savers.{IsSaverOf, SaverView}
 use Rattle.stored_courses.specs.Stores.{KeepsUp, first_cluster, fronts_in, recorded_in}
 use Rattle.update_api.specs.Updates.{Update}
 use Rattle.whole_calls.proofs.Leading.{behind_since}
 use Rattle.whole_calls.specs.Lost.{AreLostIn}
 use Rattle.stored_calls.specs.call_backs.Failing.{CallOpening, Cluster, CourseView, HaveFailedSince, Machine, Setting, has_reached, newest_setting}
-use Rattle.stored_calls.specs.call_backs.Returning.{BaseView, GoesBackSo, HasFailures, HasReachedSome, Header, IsKnownCourse, StoreView, is_restart}
+use Rattle.stored_calls.specs.call_backs.Returning.{BaseView, EngineSaver, GoesBackSo, HasFailures, HasReachedSome, Header, IsEngineSaverOf, IsKnownCourse, StoreView, is_restart}
 
 -- a setting has as many machines in each attempt
 pub machines_same : (st : Setting) (o : CallOpening) (events : List law.Event) → (newest_setting st o events).machines ≡ st.machines
@@ -97,10 +96,10 @@ module _ {M : Type 0} (stands : Setting → ℕ → Machine → M → Type 0) (o
   known_failed known runs some fails = (known_on (λ a. a < length old.now.machines.items) known fails, have_failures known runs some fails)
 
 -- where all go back
-module _ {P : Type 0} (meaning : P → Update) (old new : CourseView (SaverView P)) (failures : new.failures ≡ old.failures) (header : Header) (start bodies : List (List ℕ)) (lost later stored front ahead before order : List Entry) (st : Setting) (o : CallOpening)
-    (machines : List (SaverView P)) (store : StoreView) where
-  pub known_back : (known : IsKnownCourse (IsSaverOf meaning) old header start bodies lost stored front before st o) → GoesBackSo meaning old machines store order lost later front ahead st o known.was.events known.was.cluster →
-      HasGoneBack (IsSaverOf meaning) old machines Locking store new → IsKnownCourse (IsSaverOf meaning) new header start bodies later stored ahead order st o
+module _ {P : Type 0} (meaning : P → Update) (old new : CourseView (EngineSaver P)) (failures : new.failures ≡ old.failures) (header : Header) (start bodies : List (List ℕ)) (lost later stored front ahead before order : List Entry) (st : Setting) (o : CallOpening)
+    (machines : List (EngineSaver P)) (engine : Engine) (store : StoreView) where
+  pub known_back : (known : IsKnownCourse (IsEngineSaverOf meaning) old header start bodies lost stored front before st o) → GoesBackSo meaning old machines engine store order lost later front ahead st o known.was.events known.was.cluster →
+      HasGoneBack (IsEngineSaverOf meaning) old machines engine store new → IsKnownCourse (IsEngineSaverOf meaning) new header start bodies later stored ahead order st o
   known_back known goes gone_back =
       let events : List law.Event = known.was.events in
       let c : Cluster = known.was.cluster in
@@ -129,12 +128,12 @@ module _ {P : Type 0} (meaning : P → Update) (old new : CourseView (SaverView 
       placed end failed stored size front ahead before is = omega (arith, before, is)
 
 -- where the lost updates were read
-pub lost_read : {P : Type 0} (meaning : P → Update) (v : CourseView (SaverView P)) (header : Header) (start bodies : List (List ℕ)) (read lost later stored front ahead before order : List Entry) (st : Setting) (o : CallOpening) (machines : List (SaverView P)) (store : StoreView) →
+pub lost_read : {P : Type 0} (meaning : P → Update) (v : CourseView (EngineSaver P)) (header : Header) (start bodies : List (List ℕ)) (read lost later stored front ahead before order : List Entry) (st : Setting) (o : CallOpening) (machines : List (EngineSaver P)) (engine : Engine) (store : StoreView) →
     read ≡ lost →
-    ((known : IsKnownCourse (IsSaverOf meaning) v header start bodies read stored front before st o) → HasFailures v st known.was.cluster → GoesBackSo meaning v machines store order read later front ahead st o known.was.events known.was.cluster) →
-    (known : IsKnownCourse (IsSaverOf meaning) v header start bodies lost stored front before st o) → HasFailures v st known.was.cluster → GoesBackSo meaning v machines store order lost later front ahead st o known.was.events known.was.cluster
-lost_read meaning v header start bodies read lost later stored front ahead before order st o machines store is goes =
+    ((known : IsKnownCourse (IsEngineSaverOf meaning) v header start bodies read stored front before st o) → HasFailures v st known.was.cluster → GoesBackSo meaning v machines engine store order read later front ahead st o known.was.events known.was.cluster) →
+    (known : IsKnownCourse (IsEngineSaverOf meaning) v header start bodies lost stored front before st o) → HasFailures v st known.was.cluster → GoesBackSo meaning v machines engine store order lost later front ahead st o known.was.events known.was.cluster
+lost_read meaning v header start bodies read lost later stored front ahead before order st o machines engine store is goes =
     subst
     (λ (es : List Entry).
-    (known : IsKnownCourse (IsSaverOf meaning) v header start bodies es stored front before st o) → HasFailures v st known.was.cluster → GoesBackSo meaning v machines store order es later front ahead st o known.was.events known.was.cluster)
+    (known : IsKnownCourse (IsEngineSaverOf meaning) v header start bodies es stored front before st o) → HasFailures v st known.was.cluster → GoesBackSo meaning v machines engine store order es later front ahead st o known.was.events known.was.cluster)
     is goes

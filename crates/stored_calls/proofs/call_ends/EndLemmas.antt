@@ -1,13 +1,11 @@
 -- As the course of a call ends, its lists end.
-use Rattle.std.proofs.Common.{Bool, List, [], ap, ap₂, filter, inl, inr, length, map, refl, subst, subst₂, sym, ℕ, ◌*◌, ◌++◌, ◌+◌, ◌-◌, ◌<◌, ◌∙◌, ◌∷◌, ◌≡◌, ◌≤◌, ◌⊎◌, arith}
-use Rattle.std.specs.List.{AllByRecursion, range_with_len}
-use Rattle.std.specs.List.Sorted.{IsPermutation}
-use Rattle.std.specs.Prelude.{false, sum_by, true}
+use Rattle.std.proofs.Common.{Bool, List, [], ap, ap₂, filter, inl, length, map, refl, subst, subst₂, sym, ℕ, ◌++◌, ◌+◌, ◌<◌, ◌∙◌, ◌∷◌, ◌≡◌, ◌≤◌, arith}
+use Rattle.std.specs.List.{range_with_len}
+use Rattle.std.specs.Prelude.{sum_by}
 use Rattle.gl_base.specs.Lists.{AreEach}
 use Rattle.gl_base.specs.declared.entries.Entry.{Entry}
-use Rattle.gl_base.specs.declared.numbers.Vertex.{Vertex}
 use Rattle.attempts.proofs.Opening.{last_begins, opening_begins}
-use Rattle.attempts.specs.EngineCalls.{EngineCall, IsEngineCall, call_order, done_of, last_beginning, lost_of, made_of, opening}
+use Rattle.attempts.specs.EngineCalls.{EngineCall, IsEngineCall, call_order, done_of, last_beginning, lost_of, opening}
 use Rattle.attempts.specs.Stores.{last_order, snapshots_of}
 use Rattle.call_answers.proofs.Listing.{counts_sum, run_is, window_is}
 use Rattle.attempts.specs.Entries.{is_restart}
@@ -15,27 +13,21 @@ use Rattle.call_answers.specs.Answers.{IsRunWithFailures, KeepsToWindow}
 use Rattle.call_answers.specs.Courses.{IsMerge, ListsOfCourse, all_logged, machine_logs}
 use Rattle.call_courses.specs.Calls.{HasEndedCall, MakesCall}
 use Rattle.call_courses.specs.Courses.{CallOpening, Cluster, CourseView, IsCourseNow, Machine, Setting, first_cluster, first_setting}
-use Rattle.stored_calls.specs.call_ends.Ends.{CallEndsSo, IsEndedRun, IsKnownCourse, NeedsMoreStore, NoneReached, PausesSo, orders_behind, records_size, shared_of, stored_order}
-use Rattle.stored_calls.specs.call_ends.Gathered.{IsTaskIn, RunLists, reached_places}
+use Rattle.stored_calls.specs.call_ends.Ends.{IsEndedRun, IsKnownCourse, NoneReached, orders_behind, records_size, shared_of, stored_order}
+use Rattle.stored_calls.specs.call_ends.Gathered.{RunLists, reached_places}
 use Rattle.stored_calls.proofs.call_ends.RoomLemmas.{needs_room}
-use Rattle.call_rounds.specs.declared.pauses.Pause.TheVariants as pause
-use Rattle.cluster_laws.specs.cluster_model.Events as law
 use Rattle.cluster_laws.specs.cluster_model.Leading.{Snapshot}
 use Rattle.cluster_laws.specs.cluster_model.Machines.{completed}
-use Rattle.cluster_whole.specs.Views.{world_of}
-use Rattle.graph_core.specs.DataGraph.{size}
 use Rattle.merged_logs.proofs.PartLemmas.{logs_merge, updates_rise}
 use Rattle.merged_logs.specs.Merges.{logs_of}
 use Rattle.recovery.proofs.Goodness.{last_behind}
 use Rattle.recovery.specs.Journals.{body_entries, order_behind, with_entries}
 use Rattle.seq_run.specs.Orders.{tasks_after}
 use Rattle.store_format.specs.declared.header.Header.{Header}
-use Rattle.stored_answers.specs.declared.runs.StoredEnd.TheVariants as end
 use Rattle.whole_calls.proofs.Calling.{the_call}
 use Rattle.whole_calls.proofs.Fronting.{next_once}
 use Rattle.whole_calls.proofs.Leading.{behind_since}
 use Rattle.whole_calls.specs.Called.{IsCallOf}
-use Rattle.whole_calls.specs.Following.{has_reached}
 use Rattle.whole_calls.specs.Saved.{AreNextOrders, fronts_in, recorded_in}
 
 sum_few : (n left budget : ℕ) → n + left ≡ budget → n ≤ budget

@@ -1,27 +1,23 @@
 -- The lists that are gathered from a course.
-use Rattle.std.proofs.Common.{All, Bool, List, [], ap, ap₂, append_assoc, append-nil, arith, filter, get_or, if◌then◌else◌, inl, inr, length, map, refl, subst, subst₂, suc, sym, true, false, zero, ℕ, ⊎_elim, ◌&&◌, ◌++◌, ◌+◌, ◌<◌, ◌==◌, ◌∙◌, ◌∷◌, ◌≡◌, ◌≤◌, ltb-true, not}
-use Rattle.std.specs.List.{AllByRecursion, flat_map, range_with_len}
+use Rattle.std.proofs.Common.{All, Bool, List, [], ap, ap₂, append_assoc, append-nil, arith, get_or, if◌then◌else◌, length, map, refl, subst, subst₂, suc, sym, true, zero, ℕ, ⊎_elim, ◌&&◌, ◌++◌, ◌+◌, ◌<◌, ◌==◌, ◌∙◌, ◌∷◌, ◌≡◌, ltb-true, not}
+use Rattle.std.specs.List.{AllByRecursion, range_with_len}
 use Rattle.std.specs.List.Sorted.{IsNonDecreasingBy, IsPermutation}
 use Rattle.std.specs.Prelude.{nat_le, slice_index, slice_index_or}
 use Rattle.std.proofs.lemmas.Bool.{and_parts, or_cases}
-use Rattle.std.proofs.lemmas.List.{map-append}
 use Rattle.gl_base.specs.Lists.{AreEach}
 use Rattle.gl_base.specs.declared.entries.Entry.{Entry}
 use Rattle.gl_base.specs.declared.entries.Entry.TheVariants.{Go, Restart}
 use Rattle.gl_base.specs.declared.jobs.FailureAt.{FailureAt}
 use Rattle.attempts.proofs.Opening.{call_in_turn, last_begins, opening_begins}
-use Rattle.attempts.specs.EngineCalls.{EngineCall, IsEngineCall, IsOrderInTurn, call_order, last_beginning, opening}
-use Rattle.call_courses.specs.Courses.{CallOpening, Cluster, CourseView, InEachCourse, IsCourseNow, Machine, Setting, first_setting, newest_setting}
-use Rattle.stored_calls.specs.call_ends.Gathered.{AreNumbers, GathersFrom, IsEntryOf, IsMerge, all_logged, machine_logs, reached_places}
-use Rattle.cluster_laws.specs.cluster_core.Settings.{IsSetting}
+use Rattle.attempts.specs.EngineCalls.{EngineCall, IsEngineCall, call_order, last_beginning, opening}
+use Rattle.call_courses.specs.Courses.{CallOpening, Cluster, CourseView, IsCourseNow, Machine, Setting, first_setting}
+use Rattle.stored_calls.specs.call_ends.Gathered.{AreNumbers, IsEntryOf, IsMerge, all_logged, machine_logs, reached_places}
 use Rattle.cluster_laws.specs.cluster_model.Events as law
 use Rattle.cluster_laws.specs.cluster_model.Machines.{completed}
-use Rattle.cluster_laws.specs.cluster_runs.Attempts.{Shared}
 use Rattle.cluster_laws.specs.cluster_runs.Recorded.{shared_of}
 use Rattle.graph_core.specs.DataGraph.{DataGraph, IsDataGraph, size}
 use Rattle.merged_logs.proofs.PartLemmas.{logs_merge, updates_rise}
 use Rattle.merged_logs.specs.Merges.{logs_of, ticket_of}
-use Rattle.placed_savers.specs.declared.savers.Places.{Places}
 use Rattle.seq_run.proofs.Waking.{wakes-within}
 use Rattle.seq_run.specs.Orders.{IsValidFrom, after_entry, all_tasks, replay, tasks_after_entry}
 use Rattle.seq_run.specs.States.{GraphState, start_state, wakes}

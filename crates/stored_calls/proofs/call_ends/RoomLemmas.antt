@@ -1,5 +1,5 @@
 -- Where a call needs more of a store, its lists say so.
-use Rattle.std.proofs.Common.{Bool, IsPermutation, List, [], ap, ap₂, append-nil, append_assoc, arith, filter, inl, inr, length, length-append, refl, subst, sym, suc, true, false, ℕ, ◌*◌, ◌++◌, ◌+◌, ◌-◌, ◌<◌, ◌∙◌, ◌∷◌, ◌≡◌, ◌≤◌, ◌⊎◌}
+use Rattle.std.proofs.Common.{Bool, IsPermutation, List, [], ap, ap₂, append-nil, append_assoc, arith, filter, inl, inr, length, length-append, refl, subst, sym, suc, true, false, ℕ, ◌*◌, ◌++◌, ◌+◌, ◌-◌, ◌<◌, ◌∙◌, ◌∷◌, ◌≡◌, ◌≤◌}
 use Rattle.std.specs.List.{AllByRecursion}
 use Rattle.std.proofs.lemmas.List.Elements.{filter-append}
 use Rattle.std.proofs.lemmas.List.Sorted.{IsPermutation-append_right, length_permutation}
@@ -22,7 +22,7 @@ use Rattle.cluster_laws.specs.cluster_core.Settings.{Setting}
 use Rattle.cluster_laws.specs.cluster_cuts.Goings.{AreUpdatesFrom}
 use Rattle.cluster_laws.specs.cluster_model.ByTicket.{restarts}
 use Rattle.cluster_laws.specs.cluster_model.Clusters.{Cluster}
-use Rattle.cluster_laws.specs.cluster_runs.Attempts.{Attempt, Beginning, IsAttempt, Shared, made_by}
+use Rattle.cluster_laws.specs.cluster_runs.Attempts.{Attempt, Beginning, IsAttempt, Shared}
 use Rattle.graph_core.specs.DataGraph.{size}
 use Rattle.seq_run.specs.Orders.{tasks_after}
 use Rattle.stored_answers.specs.Ends.{NeedsMoreRoom}

@@ -1,15 +1,15 @@
 -- What is read of a machine that takes part in snapshots.
-use Rattle.std.proofs.Common.{Bool, List, None, Option, Some, ap, get_or, length, slice_index, subst, sym, true, false, ℕ, ◌&&◌, ◌<◌, ◌==◌, ◌∙◌, ◌≡◌}
-use Rattle.std.specs.Prelude.{IfNone, IfSome, nat_lt}
+use Rattle.std.proofs.Common.{List, ap, get_or, length, slice_index, subst, sym, true, ℕ, ◌&&◌, ◌<◌, ◌==◌, ◌∙◌, ◌≡◌}
+use Rattle.std.specs.Prelude.{nat_lt}
 use Rattle.std.proofs.lemmas.Bool.{and_parts, eqb-true, ltb-true}
 use Rattle.std.proofs.lemmas.List.{get_or-map}
 use Rattle.gl_base.specs.declared.numbers.AtomNo.{AtomNo}
 use Rattle.gl_base.specs.declared.numbers.MachineNo.{MachineNo}
-use Rattle.gl_base.specs.declared.numbers.Vertex.{Vertex}
 use Rattle.gl_base.specs.declared.scopes.Datum.{Datum}
 use Rattle.call_courses.proofs.Going.{setting_now}
-use Rattle.call_courses.specs.Courses.{CallOpening, Cluster, CourseView, InEachCourse, IsCourseNow, Machine, Setting, first_setting, newest_setting}
-use Rattle.stored_calls.specs.call_ends.Gathered.{IsSaverOf, IsTaskIn, OfEach, placed_owner}
+use Rattle.call_courses.specs.Courses.{CallOpening, Cluster, CourseView, IsCourseNow, Machine, Setting, first_setting, newest_setting}
+use Rattle.stored_calls.specs.call_ends.Gathered.{IsEngineSaverOf, IsTaskIn, OfEach, placed_owner}
+use Rattle.stored_calls.specs.call_ends.Inner.Cores.{Chromatic, Core, EngineSaver, Locking, core_held}
 use Rattle.cluster_laws.proofs.cluster_core.Nearness.{owner_takes_part, scoped_itself}
 use Rattle.cluster_laws.specs.cluster_core.Parts.{Part}
 use Rattle.cluster_laws.specs.cluster_core.Scopes.{takes_part}
@@ -18,26 +18,43 @@ use Rattle.cluster_laws.specs.cluster_model.Events as law
 use Rattle.graph_core.specs.DataGraph.{size}
 use Rattle.local_graph.specs.Locals.{machine_numbers}
 use Rattle.machine_numbers.specs.Views.{datum_here}
-use Rattle.machine_core.specs.machine_parts.Parts.{is_own, part_of, task_here}
-use Rattle.snap_savers.specs.Savers.{SaverView}
+use Rattle.machine_core.specs.machine_parts.Parts.{is_own, task_here}
 use Rattle.update_api.specs.Updates.{Update}
 use Rattle.whole_calls.proofs.Leading.{behind_since}
 
-module _ {P : Type 0} (meaning : P → Update) (x : SaverView P) (st : Setting) (a : ℕ) (m : Machine) (is : IsSaverOf meaning st a m x) where
+-- The machine of the law has a part of the graph, and it looks like these parts.
+record HoldsPart (st : Setting) (a : ℕ) (m : Machine) (core : Core) : Type 0 where
+  own : (v : ℕ) → is_own core.numbers.local v ≡ (nat_lt v (size st.graph) && (st.owner v == core.numbers.local.me.0))
+  number : core.numbers.local.me.0 ≡ a
+  tasks : (u : ℕ) → m.part.task u ≡ task_here core.numbers u
+  vertices : (v : ℕ) → v < size st.graph → takes_part st v a ≡ true → m.part.datum v ≡ datum_here core.numbers v
+
+-- a machine of either engine has one
+holds_part : {P : Type 0} (meaning : P → Update) (x : EngineSaver P) (st : Setting) (a : ℕ) (m : Machine) → IsEngineSaverOf meaning st a m x → HoldsPart st a m (core_held x)
+holds_part meaning (Locking x) st a m is = record { own = is.here.local.own; number = is.number; tasks = λ u. ap (λ (p : Part). p.task u) is.part.rest; vertices = is.part.vertices }
+holds_part meaning (Chromatic x) st a m is = record { own = is.here.part.part.local.own; number = is.number; tasks = λ u. ap (λ (p : Part). p.task u) is.part.rest; vertices = is.part.vertices }
+
+module _ {P : Type 0} (meaning : P → Update) (x : EngineSaver P) (st : Setting) (a : ℕ) (m : Machine) (is : IsEngineSaverOf meaning st a m x) where
+  abbrev core : Core
+  core = core_held x
+
+  held : HoldsPart st a m core
+  held = holds_part meaning x st a m is
+
   -- its tasks
-  pub tasks_are : (u : ℕ) → m.part.task u ≡ task_here x.machine.core.numbers u
-  tasks_are u = ap (λ (p : Part). p.task u) is.part.rest
+  pub tasks_are : (u : ℕ) → m.part.task u ≡ task_here core.numbers u
+  tasks_are = held.tasks
 
   -- what it owns
-  pub owner_is : (v : ℕ) → is_own x.machine.core.numbers.local v ≡ true → (v < size st.graph) × (st.owner v ≡ a)
+  pub owner_is : (v : ℕ) → is_own core.numbers.local v ≡ true → (v < size st.graph) × (st.owner v ≡ a)
   owner_is v own =
-      let both = and_parts (nat_lt v (size st.graph)) (st.owner v == a) (sym (is.here.local.own v ∙ ap (λ (k : ℕ). nat_lt v (size st.graph) && (st.owner v == k)) is.number) ∙ own) in
+      let both = and_parts (nat_lt v (size st.graph)) (st.owner v == a) (sym (held.own v ∙ ap (λ (k : ℕ). nat_lt v (size st.graph) && (st.owner v == k)) held.number) ∙ own) in
       (ltb-true v (size st.graph) both.0, eqb-true (st.owner v) a both.1)
 
   -- the number of a vertex that it owns
-  pub number_is : IsSetting st → (v : ℕ) → v < size st.graph → st.owner v ≡ a → (datum_here x.machine.core.numbers v).value ≡ (m.part.datum v).value
+  pub number_is : IsSetting st → (v : ℕ) → v < size st.graph → st.owner v ≡ a → (datum_here core.numbers v).value ≡ (m.part.datum v).value
   number_is setting v low owned =
-      sym (ap (λ (d : Datum). d.value) (is.part.vertices v low (subst (λ (k : ℕ). takes_part st v k ≡ true) owned (owner_takes_part st setting v v low (scoped_itself st setting v)))))
+      sym (ap (λ (d : Datum). d.value) (held.vertices v low (subst (λ (k : ℕ). takes_part st v k ≡ true) owned (owner_takes_part st setting v v low (scoped_itself st setting v)))))
 
 -- where a vertex is placed, as it is read
 pub placed_at : (of : List AtomNo) (owner : List MachineNo) (v : ℕ) (atom : AtomNo) (m : MachineNo) → v < length of → atom.0 < length owner → atom ≡ get_or of v atom → m ≡ get_or owner atom.0 m → placed_owner of owner v ≡ m.0
@@ -69,7 +86,7 @@ module _ {M : Type 0} (stands : Setting → ℕ → Machine → M → Type 0) (v
   pub of_machine : (holds : Setting → ℕ → Machine → Type 0) (a : ℕ) (x : M) → stands last a (c.machine a) x → OfEach stands x holds → holds last a (c.machine a)
   of_machine holds a x is all = all last a (c.machine a) (setting_now st o events now.setting) is
 
-  pub number_in : {P : Type 0} (meaning : P → Update) (a : ℕ) (x : SaverView P) → IsSaverOf meaning last a (c.machine a) x → (u : ℕ) → u < size st.graph → st.owner u ≡ a → (datum_here x.machine.core.numbers u).value ≡ ((c.machine (st.owner u)).part.datum u).value
+  pub number_in : {P : Type 0} (meaning : P → Update) (a : ℕ) (x : EngineSaver P) → IsEngineSaverOf meaning last a (c.machine a) x → (u : ℕ) → u < size st.graph → st.owner u ≡ a → (datum_here (core_held x).numbers u).value ≡ ((c.machine (st.owner u)).part.datum u).value
   number_in meaning a x is u low owned =
       number_is meaning x last a (c.machine a) is (setting_now st o events now.setting).is u (subst (λ (n : ℕ). u < n) (sym graph_now) low) (owner_now u ∙ owned)
       ∙ ap (λ (k : ℕ). ((c.machine k).part.datum u).value) (sym owned)

@@ -4,9 +4,8 @@ use Rattle.std.specs.declared.alloc.Global.{Global}
 use Rattle.std.specs.declared.vec.Vec.{Vec}
 use Rattle.call_courses.specs.Courses.{CallOpening, CourseView, IsCourseNow, OpensCall, StartsCall, StartsSaving, StoreView, first_cluster}
 use Rattle.stored_calls.specs.call_starts.Inner.Openings.{CanOpenWith, IsStoreOf, OpensWith, base_with}
-use Rattle.stored_calls.specs.call_starts.Starting.{Base, IsSaverOf, SaverView, Setting, opening_from}
+use Rattle.stored_calls.specs.call_starts.Starting.{Base, EngineSaver, IsEngineSaverOf, Setting, opening_from}
 use Rattle.coord_core.specs.Stores.{store_view}
-use Rattle.coord_core.specs.declared.steps.Engine.TheVariants as engine
 use Rattle.coord_core.specs.declared.stores.Store.{Store}
 use Rattle.gl_base.specs.declared.entries.Entry.{Entry}
 use Rattle.gl_base.specs.declared.jobs.FailureAt.{FailureAt}
@@ -15,6 +14,7 @@ use Rattle.opened_bases.specs.Opening.{base_opened, cluster_before, ticket_above
 use Rattle.placed_savers.specs.Beginning.{AreSaversOf, BaseView, Cluster, HaveAdmitted, IsAttemptFrom, IsBaseOf, IsSavingRunOf}
 use Rattle.placed_savers.specs.declared.savers.SavingRun.{SavingRun}
 use Rattle.stored_calls.proofs.saver_courses.BeginLemmas.{start_call}
+use Rattle.stored_calls.proofs.saver_courses.EngineLemmas.{led_by}
 use Rattle.stored_calls.specs.saver_courses.Beginning.{store_from}
 use Rattle.update_api.specs.Updates.{Update}
 
@@ -25,10 +25,10 @@ none_admitted zero (suc a) = refl
 none_admitted (suc n) zero = refl
 none_admitted (suc n) (suc a) = none_admitted n a
 
-module _ {P : Type 0} (meaning : P → Update) (g : DataGraph) (program : Update) (owner : ℕ → ℕ) (run : SavingRun) (base : Base) (serials : List ℕ) (store : Store) (of_store : IsStoreOf g base store) (savers : List (SaverView P))
-    (stand : (st : Setting) (view : BaseView) (before : Cluster) → IsSavingRunOf g program owner run st → IsBaseOf st base view → HaveAdmitted st serials before → AreSaversOf meaning st view before savers) where
+module _ {P : Type 0} (meaning : P → Update) (g : DataGraph) (program : Update) (owner : ℕ → ℕ) (colours : List ℕ) (run : SavingRun) (base : Base) (serials : List ℕ) (store : Store) (of_store : IsStoreOf g base store) (savers : List (EngineSaver P))
+    (stand : (st : Setting) (view : BaseView) (before : Cluster) → IsSavingRunOf g program owner colours run st → IsBaseOf st base view → HaveAdmitted st serials before → AreSaversOf meaning st view before savers) where
   -- they begin an attempt of the law
-  pub starts_some : (next left : ℕ) → IsAttemptFrom g program owner run base serials next left store.length → (st : Setting) × (view : BaseView) × (before : Cluster) × StartsSaving (IsSaverOf meaning) savers engine.Locking (store_view store) next left st view before
+  pub starts_some : (next left : ℕ) → IsAttemptFrom g program owner colours run base serials next left store.length → (st : Setting) × (view : BaseView) × (before : Cluster) × StartsSaving (IsEngineSaverOf meaning) savers run.engine (store_view store) next left st view before
   starts_some next left is =
       let are : AreSaversOf meaning is.st is.view is.before savers = stand is.st is.view is.before is.runs is.of_base is.admitted in (
         is.st,
@@ -36,7 +36,7 @@ module _ {P : Type 0} (meaning : P → Update) (g : DataGraph) (program : Update
         is.before,
         record {
           setting = is.runs.setting;
-          led = is.runs.locks;
+          led = led_by run.engine colours is.st is.runs.engine;
           many = are.many;
           each = are.each;
           vertices = ap size is.runs.placed.graph ∙ sym of_store.vertices;
@@ -48,7 +48,7 @@ module _ {P : Type 0} (meaning : P → Update) (g : DataGraph) (program : Update
         },
       )
 
-  module _ (many : ℕ) (zeros : serials ≡ replicate many 0) (st : Setting) (failures : List FailureAt) (resumed : Bool) (kept : Vec Entry Global) (next left budget : ℕ) (runs : IsSavingRunOf g program owner run st) (can : CanOpenWith st failures resumed (base_with kept base) next budget)
+  module _ (many : ℕ) (zeros : serials ≡ replicate many 0) (st : Setting) (failures : List FailureAt) (resumed : Bool) (kept : Vec Entry Global) (next left budget : ℕ) (runs : IsSavingRunOf g program owner colours run st) (can : CanOpenWith st failures resumed (base_with kept base) next budget)
       (all : next + budget < 2 ^ 64 → left ≡ budget) where
     abbrev first : Base
     first = base_with kept base
@@ -72,17 +72,17 @@ module _ {P : Type 0} (meaning : P → Update) (g : DataGraph) (program : Update
         λ i. record { vertices = vertices i; edges = edges i; newest = newest i; store_end = long i }
 
     -- they start the call
-    pub starts_call : StartsCall (IsSaverOf meaning) savers engine.Locking (store_view store) next left failures st (opening_from st resumed first budget)
+    pub starts_call : StartsCall (IsEngineSaverOf meaning) savers run.engine (store_view store) next left failures st (opening_from st resumed first budget)
     starts_call =
-        subst (λ (s : StoreView). StartsCall (IsSaverOf meaning) savers engine.Locking s next left failures st (opening_from st resumed first budget)) store_is
-        (subst (λ (n : ℕ). StartsCall (IsSaverOf meaning) savers engine.Locking (store_from st first) n left failures st (opening_from st resumed first budget)) (sym can.next_is)
-        (subst (λ (n : ℕ). StartsCall (IsSaverOf meaning) savers engine.Locking (store_from st first) (ticket_above kept.items) n failures st (opening_from st resumed first budget)) (sym (all can.few))
-        (start_call meaning st failures resumed first budget savers runs.setting runs.locks can.good can.ordered can.begins
+        subst (λ (s : StoreView). StartsCall (IsEngineSaverOf meaning) savers run.engine s next left failures st (opening_from st resumed first budget)) store_is
+        (subst (λ (n : ℕ). StartsCall (IsEngineSaverOf meaning) savers run.engine (store_from st first) n left failures st (opening_from st resumed first budget)) (sym can.next_is)
+        (subst (λ (n : ℕ). StartsCall (IsEngineSaverOf meaning) savers run.engine (store_from st first) (ticket_above kept.items) n failures st (opening_from st resumed first budget)) (sym (all can.few))
+        (start_call meaning run.engine st failures resumed first budget savers runs.setting (led_by run.engine colours st runs.engine) can.good can.ordered can.begins
         (stand st (base_opened resumed first) (cluster_before st (ticket_above kept.items) budget base.length) runs view_of admitted))))
 
 -- what is opened
-pub opens_so : {P : Type 0} (meaning : P → Update) (v : CourseView (SaverView P)) (st : Setting) (failures : List FailureAt) (resumed : Bool) (base : Base) (budget : ℕ) → OpensCall (IsSaverOf meaning) v.start v.failures st (opening_from st resumed base budget) →
-    ((o : CallOpening) → OpensCall (IsSaverOf meaning) v.start v.failures st o → IsCourseNow (IsSaverOf meaning) v st o [] (first_cluster st o)) → OpensWith meaning v st resumed base budget
+pub opens_so : {P : Type 0} (meaning : P → Update) (v : CourseView (EngineSaver P)) (st : Setting) (failures : List FailureAt) (resumed : Bool) (base : Base) (budget : ℕ) → OpensCall (IsEngineSaverOf meaning) v.start v.failures st (opening_from st resumed base budget) →
+    ((o : CallOpening) → OpensCall (IsEngineSaverOf meaning) v.start v.failures st o → IsCourseNow (IsEngineSaverOf meaning) v st o [] (first_cluster st o)) → OpensWith meaning v st resumed base budget
 opens_so meaning v st failures resumed base budget opens begun = record { opens = opens; now = begun (opening_from st resumed base budget) opens }
 
 pub two_ok : {X E : Type 0} (r : Result X E) (P Q R : X → Type 0) → ((x : X) → P x → Q x → R x) → IfOk r P → IfOk r Q → IfOk r R

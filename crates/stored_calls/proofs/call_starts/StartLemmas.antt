@@ -7,9 +7,8 @@ use Rattle.attempts.specs.Entries.{is_restart}
 use Rattle.call_courses.specs.Courses.{CallOpening, CourseView, first_cluster}
 use Rattle.stored_calls.proofs.call_starts.TicketLemmas.{tickets_low}
 use Rattle.stored_calls.specs.call_starts.Inner.Openings.{CanOpenWith, IsOpeningOf, OpensWith, base_with}
-use Rattle.stored_calls.specs.call_starts.Starting.{AreJobFailures, ArePlacesOf, Base, HasStarted, IsGoodStore, IsHeaderOf, IsKnownCourse, IsRunAt, IsSaverOf, SaverView, Setting, opening_from, placed_owner, restart_room, run_shared, shared_of}
+use Rattle.stored_calls.specs.call_starts.Starting.{AreJobFailures, ArePlacesOf, Base, EngineSaver, HasStarted, IsEngineSaverOf, IsGoodStore, IsHeaderOf, IsKnownCourse, IsRunAt, Setting, opening_from, placed_owner, restart_room, run_shared, shared_of}
 use Rattle.stored_calls.specs.declared.call_starts.openings.Opening.{Opening}
-use Rattle.cluster_laws.specs.cluster_core.Settings.{Locking}
 use Rattle.cluster_laws.specs.cluster_model.Totals.{total}
 use Rattle.gl_base.specs.declared.entries.Entry.{Entry}
 use Rattle.gl_base.specs.declared.entries.Entry.TheVariants.{Restart}
@@ -17,9 +16,11 @@ use Rattle.gl_base.specs.declared.jobs.FailureAt.{FailureAt}
 use Rattle.graph_core.specs.DataGraph.{DataGraph, IsDataGraph, size}
 use Rattle.machine_places.proofs.OwnerLemmas.{owner_low}
 use Rattle.opened_bases.specs.Opening.{IsGoodBase, ticket_above}
+use Rattle.placed_savers.proofs.RunLemmas.{engine_of, runs_by}
 use Rattle.placed_savers.specs.declared.savers.Places.{Places}
 use Rattle.recovery.specs.Journals.{records_size, stored_in, stored_order}
 use Rattle.recovery.specs.Recovered.{IsRecovered}
+use Rattle.stored_calls.proofs.saver_courses.EngineLemmas.{coloured_by}
 use Rattle.seq_run.specs.Orders.{replay}
 use Rattle.seq_run.specs.Runs.{AreNumbers}
 use Rattle.store_format.specs.declared.header.Header.{Header}
@@ -89,7 +90,7 @@ some_setting g program places machines failures graph are =
       owner = placed_owner places.of.items places.owner.items;
       machines = places.run.machines;
       pipeline = places.run.pipeline;
-      engine = Locking;
+      engine = engine_of places.run.engine places.colours.items;
       stored = true;
       window = places.run.window;
       start = record { vertex = λ v. 0; edge = λ e. 0 };
@@ -97,8 +98,8 @@ some_setting g program places machines failures graph are =
     } in (
       st,
       record {
-        setting = record { is = record { graph = graph; owner = owner_low g places.run.machines places.of.items places.owner.items are.each are.atoms are.owners }; coloured = tt; stored = refl };
-        locks = refl;
+        setting = record { is = record { graph = graph; owner = owner_low g places.run.machines places.of.items places.owner.items are.each are.atoms are.owners }; coloured = coloured_by g places.run.engine places.colours.items st refl are.colours; stored = refl };
+        engine = runs_by places.run.engine places.colours.items st refl;
         placed = record { graph = refl; machines = refl; owners = λ v inside. refl };
         program_is = refl;
         pipeline = refl;
@@ -107,7 +108,7 @@ some_setting g program places machines failures graph are =
       refl,
     )
 
-module _ {P : Type 0} (meaning : P → Update) (g : DataGraph) (program : Update) (header : Header) (seen : List ℕ) (base : Base) (resumed : Bool) (opening : Opening) (course : CourseView (SaverView P)) (places : Places) (failures : List FailureAt) (budget machines : ℕ)
+module _ {P : Type 0} (meaning : P → Update) (g : DataGraph) (program : Update) (header : Header) (seen : List ℕ) (base : Base) (resumed : Bool) (opening : Opening) (course : CourseView (EngineSaver P)) (places : Places) (failures : List FailureAt) (budget machines : ℕ)
     (recovered : IsRecovered g program header (stored_in header seen) base) (op : IsOpeningOf resumed base opening) where
   abbrev bodies : List (List ℕ)
   bodies = stored_in header seen
@@ -153,7 +154,7 @@ module _ {P : Type 0} (meaning : P → Update) (g : DataGraph) (program : Update
       abbrev o : CallOpening
       o = opening_from st resumed kept budget
 
-      stored_course : IsStoredCourse (IsSaverOf meaning) course header bodies bodies [] st o
+      stored_course : IsStoredCourse (IsEngineSaverOf meaning) course header bodies bodies [] st o
       stored_course = record {
         events = [];
         cluster = first_cluster st o;
@@ -176,7 +177,7 @@ module _ {P : Type 0} (meaning : P → Update) (g : DataGraph) (program : Update
           (ap (λ (es : List Entry). 16 * length es) (op.front ∙ ap (filter is_restart) op.opened.order) ∙ restarts_long resumed base.order.items opening.next
           ∙ ap (λ (es : List Entry). 16 * length es + restart_room resumed) (sym op.stored))
 
-      known_is : IsKnownCourse (IsSaverOf meaning) course header bodies bodies [] opening.restarts.stored.items opening.restarts.front.items opening.base.order.items st o
+      known_is : IsKnownCourse (IsEngineSaverOf meaning) course header bodies bodies [] opening.restarts.stored.items opening.restarts.front.items opening.base.order.items st o
       unfolding stored_course
       known_is = record {
         kept = order_is;

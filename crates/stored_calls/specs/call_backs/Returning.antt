@@ -2,7 +2,7 @@
 pub use Rattle.stored_calls.specs.call_backs.Failing.{Cluster, CourseView, InEachCourse, IsCourseNow, IsSameAttempt, Setting, has_reached, newest_setting}
 pub use Rattle.call_courses.specs.Courses.{BaseView, CallOpening, GoesBackWith, StartsSaving, StoreView}
 pub use Rattle.call_returns.specs.Missing.{Begins, is_restart, restarts}
-pub use Rattle.placed_savers.specs.Beginning.{ArePlacesOf, IsBaseFor, IsRunAt, IsSaverOf, SaverView}
+pub use Rattle.placed_savers.specs.Beginning.{ArePlacesOf, EngineSaver, IsBaseFor, IsEngineSaverOf, IsRunAt}
 pub use Rattle.stored_courses.specs.Stores.{Header, IsKnownCourse, stored_order}
 pub use Rattle.whole_calls.specs.Lost.{TakesAway}
 use Rattle.std.specs.Prelude.{Bool, List, false, filter, length, true, ℕ, ◌+◌, ◌++◌, ◌<◌, ◌≡◌}
@@ -10,7 +10,7 @@ use Rattle.gl_base.specs.declared.entries.Entry.{Entry}
 use Rattle.gl_base.specs.declared.snapshots.Base.{Base}
 use Rattle.graph_core.specs.DataGraph.{size}
 use Rattle.cluster_laws.specs.cluster_model.Events as law
-use Rattle.coord_core.specs.declared.steps.Engine.TheVariants.{Locking}
+use Rattle.coord_core.specs.declared.steps.Engine.{Engine}
 use Rattle.recovery.specs.Orders.{AreNumbers, Shared, replay}
 use Rattle.snap_journal.specs.Disks.{Rose}
 use Rattle.snap_journal.specs.declared.faults.JournalFault.{JournalFault}
@@ -34,11 +34,11 @@ pub record IsBaseBehind (shared : Shared) (header : Header) (bodies : List (List
   pub vertices : AreNumbers (size shared.graph) (replay shared.graph shared.program (stored_order bodies)).vertex base.values.items
   pub edges : AreNumbers (length shared.graph.edges) (replay shared.graph shared.program (stored_order bodies)).edge base.edges.items
 
--- With these machines and this store the course may go back to this order. That takes away what is behind the lost updates before, and the next
+-- With these machines, this engine and this store the course may go back to this order. That takes away what is behind the lost updates before, and the next
 -- attempt begins with these restarts, one more than before for each failure.
-pub record GoesBackSo {P : Type 0} (meaning : P → Update) (v : CourseView (SaverView P)) (machines : List (SaverView P)) (store : StoreView) (order lost later before front : List Entry) (st : Setting) (o : CallOpening) (events : List law.Event) (c : Cluster) : Type 0 where
+pub record GoesBackSo {P : Type 0} (meaning : P → Update) (v : CourseView (EngineSaver P)) (machines : List (EngineSaver P)) (engine : Engine) (store : StoreView) (order lost later before front : List Entry) (st : Setting) (o : CallOpening) (events : List law.Event) (c : Cluster) : Type 0 where
   pub to : BaseView
-  pub back : GoesBackWith (IsSaverOf meaning) v machines Locking store st o events c to
+  pub back : GoesBackWith (IsEngineSaverOf meaning) v machines engine store st o events c to
   pub number : to.number ≡ c.coordinator.acknowledged
   pub order_is : to.order ≡ order
   pub gone : List Entry

@@ -13,7 +13,6 @@ use Rattle.attempts.specs.EngineCalls.{EngineCall}
 use Rattle.attempts.specs.Stores.{snapshots_of}
 use Rattle.stored_calls.specs.call_ends.Gathered.{CallOpening, Cluster, CourseView, Event, IsTaskIn, Machine, RunLists, Setting}
 use Rattle.call_rounds.specs.declared.pauses.Pause.TheVariants as pause
-use Rattle.gl_base.specs.declared.entries.Entry.{Entry}
 use Rattle.gl_base.specs.declared.numbers.Vertex.{Vertex}
 use Rattle.stored_answers.specs.declared.runs.StoredEnd.{StoredEnd}
 use Rattle.stored_answers.specs.declared.runs.StoredEnd.TheVariants as end

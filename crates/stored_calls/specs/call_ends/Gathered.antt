@@ -5,7 +5,7 @@ pub use Rattle.call_rounds.specs.Pauses.{HasFlaggedTask}
 pub use Rattle.call_courses.specs.Courses.{CallOpening, Cluster, CourseView, InEachCourse, IsCourseNow, Machine, Setting, first_cluster, first_setting}
 pub use Rattle.cluster_laws.specs.cluster_model.Events.{Event}
 pub use Rattle.order_text.specs.Orders.{IsEntryOf}
-pub use Rattle.placed_savers.specs.Beginning.{ArePlacesOf, IsSaverOf, placed_owner}
+pub use Rattle.placed_savers.specs.Beginning.{ArePlacesOf, IsEngineSaverOf, placed_owner}
 pub use Rattle.seq_run.specs.Runs.{AreNumbers}
 pub use Rattle.snap_members.specs.Promises.{OfEach}
 use Rattle.std.specs.Prelude.{List, true, ℕ, ◌<◌, ◌≡◌}

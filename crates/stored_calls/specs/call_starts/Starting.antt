@@ -4,16 +4,20 @@ pub use Rattle.call_returns.specs.Missing.{Begins}
 pub use Rattle.cluster_plays.specs.Plans.{IsInRange}
 pub use Rattle.gl_base.specs.declared.snapshots.Base.{Base}
 pub use Rattle.job_runs.specs.Plays.{IsPlacement}
-pub use Rattle.placed_savers.specs.Beginning.{ArePlacesOf, IsBaseFor, IsRunAt, IsSaverOf, SaverView, placed_owner}
+pub use Rattle.placed_savers.specs.Beginning.{AreColoursFor, ArePlacesOf, EngineSaver, IsBaseFor, IsEngineSaverOf, IsRunAt, placed_owner}
 pub use Rattle.recovery.specs.GoodStores.{IsGoodStore}
 pub use Rattle.recovery.specs.Recovered.{IsHeaderOf}
 pub use Rattle.stored_calls.specs.saver_courses.Beginning.{opening_from, shared_of}
 pub use Rattle.snap_journal.specs.Journals.{JournalState, snapshots_in}
 pub use Rattle.stored_courses.specs.Stores.{IsKnownCourse}
 pub use Rattle.whole_calls.specs.Following.{AreJobFailures}
-use Rattle.std.specs.Prelude.{Bool, List, [], false, if◌then◌else◌, length, true, ℕ, ◌+◌, ◌≡◌, ◌≤◌}
+use Rattle.std.specs.Prelude.{All, Bool, List, [], false, if◌then◌else◌, length, true, ℕ, ◌+◌, ◌≡◌, ◌≤◌}
 use Rattle.stored_calls.specs.declared.call_starts.starting.Started.{Started}
 use Rattle.cluster_laws.specs.cluster_runs.Attempts.{Shared}
+use Rattle.coord_core.specs.declared.steps.Engine.{Engine}
+use Rattle.coord_core.specs.declared.steps.Engine.TheVariants as by
+use Rattle.gl_base.specs.declared.jobs.EngineKind.{EngineKind}
+use Rattle.gl_base.specs.declared.jobs.EngineKind.TheVariants.{Chromatic, Locking}
 use Rattle.gl_base.specs.declared.jobs.FailureAt.{FailureAt}
 use Rattle.graph_core.specs.DataGraph.{DataGraph}
 use Rattle.placed_savers.specs.declared.savers.Places.{Places}
@@ -29,12 +33,18 @@ use Rattle.update_api.specs.Updates.{Update}
 abbrev pub restart_room : Bool → ℕ
 restart_room resumed = if resumed then 16 else 0
 
+-- Updates are kept apart as this asks: by locks, with as many scopes of a machine in flight at most; or by these colours, of which none is above
+-- the greatest.
+abbrev pub IsEngineAsked : EngineKind → ℕ → Engine → ℕ → List ℕ → Type 0
+IsEngineAsked Locking asked engine pipeline colours = (engine ≡ by.Locking) × (pipeline ≡ asked)
+IsEngineAsked Chromatic asked engine pipeline colours = (greatest : ℕ) × (engine ≡ by.Chromatic greatest) × All (λ colour. colour ≤ greatest) colours
+
 -- The graph is placed as the plan says, and attempts run there as it says.
 pub record ArePlacedFor (g : DataGraph) (plan : StoredPlan) (places : Places) : Type 0 where
   pub are : ArePlacesOf g plan.run.machines places
   pub placement : IsPlacement g plan.run.atoms plan.run.machines (placed_owner places.of.items places.owner.items)
-  pub pipeline : places.run.pipeline ≡ plan.run.pipeline
   pub window : places.run.window ≡ plan.window
+  pub engine : IsEngineAsked plan.engine plan.run.pipeline places.run.engine places.run.pipeline places.colours.items
 
 -- what the attempts of a call share that runs this program on this graph, placed so
 abbrev pub run_shared : DataGraph → Update → Places → List FailureAt → Shared
@@ -44,11 +54,11 @@ run_shared g program places failures = record { graph = g; program = program; ow
 -- the store and of the course is so as it starts.
 pub record HasStarted {P : Type 0} (meaning : P → Update) (started : Started P) (header : Header) (bodies : List (List ℕ)) (resumed : Bool) (budget : ℕ) (st : Setting) : Type 0 where
   pub opening : CallOpening
-  pub opens : OpensCall (IsSaverOf meaning) started.course.start started.course.failures st opening
+  pub opens : OpensCall (IsEngineSaverOf meaning) started.course.start started.course.failures st opening
   pub resumed_is : opening.resumed ≡ resumed
   pub tickets : opening.first.left ≡ budget
   pub number : opening.base.number ≡ length bodies
-  pub known : IsKnownCourse (IsSaverOf meaning) started.course header bodies bodies [] started.restarts.stored.items started.restarts.front.items started.order.items st opening
+  pub known : IsKnownCourse (IsEngineSaverOf meaning) started.course header bodies bodies [] started.restarts.stored.items started.restarts.front.items started.order.items st opening
 
 -- Why no call started. `before` and `now` are how often the disk had failed; and a restart has so many bytes, for which the store has no place
 -- where it is too long. Where a disk tells what it holds, its bytes are a store.

@@ -1,7 +1,9 @@
 -- How a call begins from a base of a store.
 pub use Rattle.call_courses.specs.Courses.{BaseView, CallOpening, Cluster, CourseView, GoesBackWith, IsCourseNow, IsSnapSetting, Setting, StartsCall, StoreView, newest_setting}
 pub use Rattle.opened_bases.specs.Opening.{IsGoodBase, base_opened, cluster_before, shared_of, ticket_above}
-pub use Rattle.placed_savers.specs.Beginning.{AreSaversOf, IsSaverOf, IsSavingRunOf, SaverView}
+pub use Rattle.coord_core.specs.Coordinators.{IsEngineOf}
+pub use Rattle.coord_core.specs.declared.steps.Engine.{Engine}
+pub use Rattle.placed_savers.specs.Beginning.{AreSaversOf, EngineSaver, IsEngineSaverOf, IsSavingRunOf, RunsBy}
 use Rattle.std.specs.Prelude.{Bool, length, ℕ}
 use Rattle.gl_base.specs.declared.snapshots.Base.{Base}
 use Rattle.graph_core.specs.DataGraph.{size}

@@ -1,7 +1,7 @@
 //! All machines of a call go back.
 ghost use Rattle.std.specs.Prelude.{◌≡◌, ◌≤◌, ◌+◌, ◌*◌, ◌^◌, ℕ, List, false, length, IfErr, IfOk, IsTrue, OnErr, OnOk};
 ghost use Rattle.stored_calls.specs.call_backs.Failing.{HaveFailedSince};
-ghost use Rattle.stored_calls.specs.call_backs.Returning.{ArePlacesOf, Begins, CallOpening, HasReachedSome, InEachCourse, IsKnownCourse, IsRunAt, IsSameAttempt, IsSaverOf, IsWhyNotBack, Setting};
+ghost use Rattle.stored_calls.specs.call_backs.Returning.{ArePlacesOf, Begins, CallOpening, HasReachedSome, InEachCourse, IsEngineSaverOf, IsKnownCourse, IsRunAt, IsSameAttempt, IsWhyNotBack, Setting};
 ghost use Rattle.cluster_laws.specs.cluster_model.Events.{failures_in};
 ghost use Rattle.gl_base.specs.declared.entries.Entry.{Entry};
 ghost use Rattle.recovery.specs.Recovered.{IsHeaderOf};
@@ -9,14 +9,14 @@ ghost use Rattle.snap_journal.specs.Journals.{snapshots_in};
 
 use crate::call_backs::failing::fail_reached;
 use crate::call_backs::next_attempts::next_attempt;
-use call_courses::{Course, Engine};
+use call_courses::Course;
 use call_returns::Restarts;
+use engine_savers::EngineSaver;
 use gl_base::Entry;
 use gl_outside::Disk;
 use graph_core::Graph;
 use placed_savers::Places;
 use snap_journal::{Journal, JournalFault};
-use snap_savers::Saver;
 use std::alloc::Global;
 use update_api::Program;
 
@@ -28,7 +28,7 @@ use update_api::Program;
 /// and `lost` and `restarts` are as they were. After `NoMemory` call it again, and after `DiskFault` open the store again.
 pub fn go_back<D: Disk, P: Program>(
     alloc: Global,
-    course: &mut Course<Saver<P>>,
+    course: &mut Course<EngineSaver<P>>,
     journal: &mut Journal<D>,
     graph: &Graph,
     program: P,
@@ -43,9 +43,9 @@ pub fn go_back<D: Disk, P: Program>(
     // Of a disk that tells what it holds: where the store has kept up with the run from an opening, in which a machine has reached the count of
     // a failure, it has with the run as it goes on.
     ensures back { IsTrue D.told → course.old.now.stopped ≡ false → (start : List (List ℕ)) (order : List Entry) (st : Setting) (o : CallOpening) → IsRunAt graph.now (P.meaning program) places.now st →
-        (known : IsKnownCourse (IsSaverOf P.meaning) course.old journal.old.header start (snapshots_in D.past journal.old) lost.old.items restarts.old.stored.items restarts.old.front.items order st o) →
+        (known : IsKnownCourse (IsEngineSaverOf P.meaning) course.old journal.old.header start (snapshots_in D.past journal.old) lost.old.items restarts.old.stored.items restarts.old.front.items order st o) →
         HasReachedSome course.old st known.was.cluster →
-        IfOk result (λ order. IsKnownCourse (IsSaverOf P.meaning) course.new journal.old.header start (snapshots_in D.past journal.old) lost.new.items restarts.new.stored.items restarts.new.front.items order.items st o) }
+        IfOk result (λ order. IsKnownCourse (IsEngineSaverOf P.meaning) course.new journal.old.header start (snapshots_in D.past journal.old) lost.new.items restarts.new.stored.items restarts.new.front.items order.items st o) }
 
     // Whatever the disk holds.
     ensures since { OnOk result (course.new.since ≡ course.new.now) }
@@ -55,10 +55,10 @@ pub fn go_back<D: Disk, P: Program>(
     ensures stored { restarts.new.stored ≡ restarts.old.stored }
     ensures lost { Begins lost.old.items lost.new.items }
 
-    ensures refused { IfErr result (IsWhyNotBack (IsTrue D.told) (InEachCourse (IsSaverOf P.meaning) course.new (λ st o events c. 2 ^ 32 ≤ c.coordinator.store_end + 16 * failures_in st c))
+    ensures refused { IfErr result (IsWhyNotBack (IsTrue D.told) (InEachCourse (IsEngineSaverOf P.meaning) course.new (λ st o events c. 2 ^ 32 ≤ c.coordinator.store_end + 16 * failures_in st c))
         journal.old.failed journal.new.failed (D.faults journal.old.disk) (D.faults journal.new.disk)) }
     ensures attempt { OnErr result (IsSameAttempt course.old course.new) }
-    ensures failed { OnErr result (InEachCourse (IsSaverOf P.meaning) course.old (HaveFailedSince (IsSaverOf P.meaning) course.new (λ a. ⊥))) }
+    ensures failed { OnErr result (InEachCourse (IsEngineSaverOf P.meaning) course.old (HaveFailedSince (IsEngineSaverOf P.meaning) course.new (λ a. ⊥))) }
     ensures unlost { OnErr result ((lost.new ≡ lost.old) × (restarts.new ≡ restarts.old)) }
 
     // The journal is as it is where its last snapshot is read.
@@ -72,7 +72,7 @@ pub fn go_back<D: Disk, P: Program>(
     let next = next_attempt(
         alloc, course, journal, graph, program, places, restarts, lost,
     )?;
-    course.recover(alloc, next.machines, Engine::Locking, next.store)?;
+    course.recover(alloc, next.machines, places.run.engine, next.store)?;
     restarts.front = next.front;
     *lost = next.lost;
     Ok(next.order)

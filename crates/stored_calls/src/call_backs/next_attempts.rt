@@ -1,10 +1,9 @@
 //! The next attempt.
 ghost use Rattle.std.specs.Prelude.{◌≡◌, ◌≤◌, ◌<◌, ◌+◌, ◌*◌, ◌^◌, ◌++◌, ℕ, List, filter, length, true, false, IfErr, IfOk, IsTrue};
 ghost use Rattle.std.specs.List.{AllByRecursion};
-ghost use Rattle.stored_calls.specs.call_backs.Returning.{ArePlacesOf, BaseView, Begins, CallOpening, Cluster, GoesBackSo, HasFailures, Header, InEachCourse, IsBaseBehind, IsBaseFor, IsCourseNow, IsKnownCourse, IsRunAt, IsSaverOf, IsWhyNotBack, Setting, StartsSaving, StoreView, is_restart, newest_setting, restarts};
+ghost use Rattle.stored_calls.specs.call_backs.Returning.{ArePlacesOf, BaseView, Begins, CallOpening, Cluster, GoesBackSo, HasFailures, Header, InEachCourse, IsBaseBehind, IsBaseFor, IsCourseNow, IsEngineSaverOf, IsKnownCourse, IsRunAt, IsWhyNotBack, Setting, StartsSaving, StoreView, is_restart, newest_setting, restarts};
 ghost use Rattle.cluster_laws.specs.cluster_model.Events.{Event, GoesBackTo, failures_in};
 ghost use Rattle.coord_core.specs.Stores.{store_view};
-ghost use Rattle.coord_core.specs.declared.steps.Engine.TheVariants.{Locking};
 ghost use Rattle.graph_core.specs.DataGraph.{IsDataGraph, size};
 ghost use Rattle.gl_base.specs.declared.entries.Entry.{Entry};
 ghost use Rattle.whole_calls.specs.Lost.{TakesAway};
@@ -20,13 +19,13 @@ use crate::call_backs::reading::{failures_now, serials};
 use crate::call_backs::rooms::store_behind;
 use call_courses::{Course, Store};
 use call_returns::{Restarts, base_behind, missing_restarts};
+use engine_savers::EngineSaver;
 use gl_base::{Base, Entry, NoMemory};
 use gl_outside::Disk;
 use graph_core::Graph;
 use placed_savers::{Places, placed_savers};
 use recovery::recover;
 use snap_journal::{Journal, JournalFault};
-use snap_savers::Saver;
 use std::alloc::Global;
 use update_api::Program;
 
@@ -34,7 +33,7 @@ use update_api::Program;
 /// updates that the call has lost then.
 #[derive(Drop)]
 pub(crate) struct NextAttempt<P: Program> {
-    pub(crate) machines: Vec<Saver<P>>,
+    pub(crate) machines: Vec<EngineSaver<P>>,
     pub(crate) store: Store,
     pub(crate) order: Vec<Entry>,
     pub(crate) front: Vec<Entry>,
@@ -44,7 +43,7 @@ pub(crate) struct NextAttempt<P: Program> {
 /// The next attempt, from what the store has.
 pub(crate) fn next_attempt<D: Disk, P: Program>(
     alloc: Global,
-    course: &Course<Saver<P>>,
+    course: &Course<EngineSaver<P>>,
     journal: &mut Journal<D>,
     graph: &Graph,
     program: P,
@@ -55,16 +54,16 @@ pub(crate) fn next_attempt<D: Disk, P: Program>(
     requires places { ArePlacesOf graph.now (length course.now.now.machines.items) places.now }
     requires header { IsHeaderOf graph.now journal.old.header }
     requires first { Begins restarts.now.stored.items restarts.now.front.items }
-    ensures start { IfOk result (λ next. (st : Setting) × (base : BaseView) × (before : Cluster) × StartsSaving (IsSaverOf P.meaning) next.machines.items Locking (store_view next.store) course.now.now.next course.now.now.left st base before) }
+    ensures start { IfOk result (λ next. (st : Setting) × (base : BaseView) × (before : Cluster) × StartsSaving (IsEngineSaverOf P.meaning) next.machines.items places.now.run.engine (store_view next.store) course.now.now.next course.now.now.left st base before) }
     ensures many { IfOk result (λ next. length next.machines.items ≡ length course.now.now.machines.items) }
     ensures newest { IfOk result (λ next. next.store.newest + 1 < 2 ^ 32) }
     ensures short { IfOk result (λ next. next.store.length < 2 ^ 32) }
     ensures first { IfOk result (λ next. Begins restarts.now.stored.items next.front.items) }
     ensures lost { IfOk result (λ next. Begins lost.now next.lost.items) }
     ensures back { IsTrue D.told → (start : List (List ℕ)) (order : List Entry) (st : Setting) (o : CallOpening) → IsRunAt graph.now (P.meaning program) places.now st →
-        (known : IsKnownCourse (IsSaverOf P.meaning) course.now journal.old.header start (snapshots_in D.past journal.old) lost.now restarts.now.stored.items restarts.now.front.items order st o) → HasFailures course.now st known.was.cluster →
-        IfOk result (λ next. GoesBackSo P.meaning course.now next.machines.items (store_view next.store) next.order.items lost.now next.lost.items restarts.now.front.items next.front.items st o known.was.events known.was.cluster) }
-    ensures refused { IfErr result (IsWhyNotBack (IsTrue D.told) (InEachCourse (IsSaverOf P.meaning) course.now (λ st o events c. 2 ^ 32 ≤ c.coordinator.store_end + 16 * failures_in st c))
+        (known : IsKnownCourse (IsEngineSaverOf P.meaning) course.now journal.old.header start (snapshots_in D.past journal.old) lost.now restarts.now.stored.items restarts.now.front.items order st o) → HasFailures course.now st known.was.cluster →
+        IfOk result (λ next. GoesBackSo P.meaning course.now next.machines.items places.now.run.engine (store_view next.store) next.order.items lost.now next.lost.items restarts.now.front.items next.front.items st o known.was.events known.was.cluster) }
+    ensures refused { IfErr result (IsWhyNotBack (IsTrue D.told) (InEachCourse (IsEngineSaverOf P.meaning) course.now (λ st o events c. 2 ^ 32 ≤ c.coordinator.store_end + 16 * failures_in st c))
         journal.old.failed journal.new.failed (D.faults journal.old.disk) (D.faults journal.new.disk)) }
     ensures well { IfOk result (λ next. (journal.old.failed ≡ false) × (journal.new.failed ≡ false)) }
     ensures past { IsTrue D.told → D.past journal.new.disk ≡ D.past journal.old.disk }
@@ -116,7 +115,7 @@ fn base_with<D: Disk, P: Program>(
 /// The next attempt from this base, with this store.
 fn attempt_from<P: Program>(
     alloc: Global,
-    course: &Course<Saver<P>>,
+    course: &Course<EngineSaver<P>>,
     graph: &Graph,
     program: P,
     places: &Places,
@@ -129,31 +128,22 @@ fn attempt_from<P: Program>(
     requires places { ArePlacesOf graph.now (length course.now.now.machines.items) places.now }
     requires base { IsBaseFor graph.now base }
     requires graph { IsDataGraph graph.now }
-    ensures lost { IfOk result (λ next. (gone : List Entry) × (next.lost.items ≡ lost.now ++ gone) × InEachCourse (IsSaverOf P.meaning) course.now (λ st o events c. (to : BaseView) → to.order ≡ base.order.items →
+    ensures lost { IfOk result (λ next. (gone : List Entry) × (next.lost.items ≡ lost.now ++ gone) × InEachCourse (IsEngineSaverOf P.meaning) course.now (λ st o events c. (to : BaseView) → to.order ≡ base.order.items →
         GoesBackTo (newest_setting st o events) c to → TakesAway (newest_setting st o events) c to gone)) }
     ensures front { IfOk result (λ next. next.front.items ≡ restarts.now.stored.items ++ missing.now) }
     ensures order { IfOk result (λ next. next.order.items ≡ base.order.items) }
     ensures store { IfOk result (λ next. next.store ≡ store) }
     ensures many { IfOk result (λ next. length next.machines.items ≡ length course.now.now.machines.items) }
-    ensures stand { IfOk result (λ next. InEachCourse (IsSaverOf P.meaning) course.now (λ st o events c. (to : BaseView) → IsRunAt graph.now (P.meaning program) places.now (newest_setting st o events) → IsBaseOf (newest_setting st o events) base to →
+    ensures stand { IfOk result (λ next. InEachCourse (IsEngineSaverOf P.meaning) course.now (λ st o events c. (to : BaseView) → IsRunAt graph.now (P.meaning program) places.now (newest_setting st o events) → IsBaseOf (newest_setting st o events) base to →
         AreSaversOf P.meaning (newest_setting st o events) to c next.machines.items)) }
     ensures start { IfOk result (λ next. (store : StoreView) → store.vertices ≡ size graph.now → store.edges ≡ length graph.now.edges → store.newest ≡ base.number →
-        (st : Setting) × (to : BaseView) × (before : Cluster) × StartsSaving (IsSaverOf P.meaning) next.machines.items Locking store course.now.now.next course.now.now.left st to before) }
+        (st : Setting) × (to : BaseView) × (before : Cluster) × StartsSaving (IsEngineSaverOf P.meaning) next.machines.items places.now.run.engine store course.now.now.next course.now.now.left st to before) }
 {
     let gone = taken_away(alloc, course, &base.order)?;
     let lost = list_behind(alloc, lost, &gone)?;
     let front = list_behind(alloc, &restarts.stored, missing)?;
     let serials = serials(alloc, course)?;
-    let machines = placed_savers(
-        alloc,
-        graph,
-        program,
-        &base,
-        &places.of,
-        &places.owner,
-        places.run,
-        &serials,
-    )?;
+    let machines = placed_savers(alloc, graph, program, &base, places, &serials)?;
     Ok(NextAttempt {
         machines,
         store,

@@ -1,16 +1,16 @@
 //! The lists of a call.
 ghost use Rattle.std.specs.Prelude.{◌≡◌, ◌≤◌, All, List, ℕ, false, length, true, IfOk, IsErrOf};
-ghost use Rattle.stored_calls.specs.call_ends.Gathered.{ArePlacesOf, CallOpening, Cluster, Event, GathersFrom, IsCourseNow, IsEntryOf, IsGathered, IsSaverOf, Setting};
+ghost use Rattle.stored_calls.specs.call_ends.Gathered.{ArePlacesOf, CallOpening, Cluster, Event, GathersFrom, IsCourseNow, IsEngineSaverOf, IsEntryOf, IsGathered, Setting};
 ghost use Rattle.graph_core.specs.DataGraph.{size};
 
 use crate::call_ends::fired::fired_places;
 use crate::call_ends::logs::order_behind;
 use crate::call_ends::numbers::vertex_numbers;
 use call_courses::Course;
+use engine_savers::EngineSaver;
 use gl_base::{Entry, FailureAt, NoMemory};
 use graph_core::Graph;
 use placed_savers::Places;
-use snap_savers::Saver;
 use std::alloc::Global;
 use thiserror::Error;
 use update_api::Program;
@@ -53,7 +53,7 @@ impl From<NoMemory> for GatherFault {
 pub fn gather_call<P: Program>(
     alloc: Global,
     graph: &Graph,
-    course: &Course<Saver<P>>,
+    course: &Course<EngineSaver<P>>,
     places: &Places,
     failures: &[FailureAt],
     front: Vec<Entry>,
@@ -63,9 +63,9 @@ pub fn gather_call<P: Program>(
     requires failures { course.now.failures ≡ failures.now }
     requires few { length failures.now ≤ 65536 }
 
-    ensures gathered { IfOk result (λ lists. (st : Setting) (o : CallOpening) (events : List Event) (c : Cluster) → IsCourseNow (IsSaverOf P.meaning) course.now st o events c →
+    ensures gathered { IfOk result (λ lists. (st : Setting) (o : CallOpening) (events : List Event) (c : Cluster) → IsCourseNow (IsEngineSaverOf P.meaning) course.now st o events c →
         GathersFrom graph.now places.now front.items lost.items st o events c → IsGathered course.now.failures st o events c lists) }
-    ensures other { IsErrOf result GatherFault.OtherGraph → (st : Setting) (o : CallOpening) (events : List Event) (c : Cluster) → IsCourseNow (IsSaverOf P.meaning) course.now st o events c →
+    ensures other { IsErrOf result GatherFault.OtherGraph → (st : Setting) (o : CallOpening) (events : List Event) (c : Cluster) → IsCourseNow (IsEngineSaverOf P.meaning) course.now st o events c →
         GathersFrom graph.now places.now front.items lost.items st o events c → ⊥ }
 
     // Told or not.

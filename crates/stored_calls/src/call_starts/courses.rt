@@ -9,11 +9,11 @@ ghost use Rattle.graph_core.specs.DataGraph.{IsDataGraph};
 
 use crate::call_starts::openings::Opening;
 use crate::call_starts::tickets::tickets_from;
-use call_courses::{Course, Engine, Store};
+use call_courses::{Course, Store};
+use engine_savers::EngineSaver;
 use gl_base::{Base, FailureAt, NoMemory};
 use graph_core::Graph;
 use placed_savers::{Places, attempts_can_begin, placed_savers};
-use snap_savers::Saver;
 use std::alloc::Global;
 use update_api::Program;
 
@@ -26,7 +26,7 @@ pub(crate) fn course_of<P: Program>(
     opening: &Opening,
     budget: u64,
     failures: &[FailureAt],
-) -> Result<Course<Saver<P>>, NoMemory>
+) -> Result<Course<EngineSaver<P>>, NoMemory>
     requires places { ArePlacesOf graph.now places.now.run.machines places.now }
     requires few { places.now.run.machines < 65535 }
     requires base { IsBaseFor graph.now opening.now.base }
@@ -40,23 +40,14 @@ pub(crate) fn course_of<P: Program>(
 {
     attempts_can_begin();
     let serials = Vec::from_elem(alloc, 0u64, places.run.machines as usize)?;
-    let machines = placed_savers(
-        alloc,
-        graph,
-        program,
-        &opening.base,
-        &places.of,
-        &places.owner,
-        places.run,
-        &serials,
-    )?;
+    let machines = placed_savers(alloc, graph, program, &opening.base, places, &serials)?;
     let listed = Vec::from_slice(alloc, failures)?;
     let store = store_of(graph, &opening.base);
     let left = tickets_from(opening.next, budget);
     Course::open(
         alloc,
         machines,
-        Engine::Locking,
+        places.run.engine,
         store,
         opening.next,
         left,

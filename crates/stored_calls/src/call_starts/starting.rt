@@ -7,13 +7,13 @@ use crate::call_starts::openings::{Opening, opening_of};
 use crate::call_starts::placing::places_of;
 use call_courses::Course;
 use call_returns::Restarts;
+use engine_savers::EngineSaver;
 use gl_base::{Entry, FailureAt};
 use gl_outside::Disk;
 use graph_core::Graph;
 use placed_savers::Places;
 use recovery::recover;
 use snap_journal::{Journal, JournalFault};
-use snap_savers::Saver;
 use std::alloc::Global;
 use stored_answers::StoredPlan;
 use update_api::Program;
@@ -22,16 +22,16 @@ use update_api::Program;
 /// store's last order and of that one.
 #[derive(Drop)]
 pub struct Started<P: Program> {
-    pub course: Course<Saver<P>>,
+    pub course: Course<EngineSaver<P>>,
     pub places: Places,
     pub order: Vec<Entry>,
     pub restarts: Restarts,
 }
 
 /// Starts a call from the last snapshot of the journal, or from the start where there is none: places the graph as the plan says, makes the
-/// machines, and opens the course with the ticket behind the greatest of that order, and with as many tickets as the budget has. Where the
-/// call resumes, a restart of that ticket stands behind the order. `Full` comes where the store would have 2^32 bytes or more with that, which
-/// is far more than a journal adds up to. After `DiskFault` open the store again.
+/// machines, of the engine that the plan asks for, and opens the course with the ticket behind the greatest of that order, and with as many
+/// tickets as the budget has. Where the call resumes, a restart of that ticket stands behind the order. `Full` comes where the store would
+/// have 2^32 bytes or more with that, which is far more than a journal adds up to. After `DiskFault` open the store again.
 pub fn start_call<D: Disk, P: Program>(
     alloc: Global,
     graph: &Graph,

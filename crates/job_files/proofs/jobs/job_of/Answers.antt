@@ -2,7 +2,7 @@ use Rattle.std.proofs.Common.{◌≡◌, ℕ, List, Ok, Err, sym, ap, subst}
 use Rattle.std.proofs.lemmas.Result.{err_from_is_err_and}
 use Rattle.gl_base.specs.declared.limits.TheConstants.{MAX_JOB_BYTES}
 use Rattle.job_config.specs.Views.{job_view}
-use Rattle.job_files.specs.BuiltJobs.{doable}
+use Rattle.job_files.specs.DoableJobs.{doable}
 use Rattle.whole_files.specs.FilesUsed.{OfText}
 use Rattle.whole_files.specs.FilesRead.{IsFront}
 use Rattle.job_files.proofs.JobsTold.{job-unread, job-refused, job-not-doable, job-ready}

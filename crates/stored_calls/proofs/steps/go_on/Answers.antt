@@ -1,12 +1,12 @@
 -- The course goes on, and what is known of it goes on with it.
 use Rattle.std.proofs.Common.{◌∙◌, ap}
-use Rattle.stored_calls.specs.Calls.{IsSaverOf}
+use Rattle.stored_calls.specs.Calls.{IsEngineSaverOf}
 use Rattle.stored_courses.proofs.Keeping.{passes_known}
 use Rattle.stored_calls.proofs.steps.go_on.Goals as goal
 
 pub returns-clause-known : goal.returns-clause-known
 returns-clause-known g c = λ header start bodies st o known.
-    passes_known (IsSaverOf g.P.Program.meaning) c.args.call.now.course c.drive-pause.new.course header start bodies _ _ _ _ st o
+    passes_known (IsEngineSaverOf g.P.Program.meaning) c.args.call.now.course c.drive-pause.new.course header start bodies _ _ _ _ st o
     (record {
       start = c.drive-pause.ensures.same.start ∙ ap (λ (v : _). v.start) c.remember.ensures;
       failures = c.drive-pause.ensures.same.failures ∙ ap (λ (v : _). v.failures) c.remember.ensures;

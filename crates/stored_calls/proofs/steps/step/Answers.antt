@@ -1,6 +1,6 @@
 -- The call goes on to its next pause, and is led on or ended there.
 use Rattle.std.proofs.Common.{subst}
-use Rattle.stored_calls.specs.Calls.{IsSaverOf, PausesSo}
+use Rattle.stored_calls.specs.Calls.{IsEngineSaverOf, PausesSo}
 use Rattle.stored_calls.proofs.Pausing.{ends_from, finished, on_at, spent, then_ends, then_keeps}
 use Rattle.stored_calls.proofs.Refusing.{bounds_on}
 use Rattle.stored_calls.proofs.steps.step.Goals as goal
@@ -38,7 +38,7 @@ returns-in-Ended-clause-keeps g c = λ told start first st o runs at.
 pub returns-in-Ended-clause-ends : goal.returns-in-Ended-clause-ends
 returns-in-Ended-clause-ends g c = λ told.
     finished g.P.Program.meaning g.D.Disk.past c.args.graph.now (g.P.Program.meaning c.args.program) c.args.call.now c.go_on.new.call c.args.journal.now c.go_on.ensures.same c.go_on.ensures.attempt c.go_on.ensures.known c.requires.can.well
-    (subst (PausesSo (IsSaverOf g.P.Program.meaning) c.go_on.new.call.course) c.in-Ended.is c.in_ok-go_on.ensures.pause)
+    (subst (PausesSo (IsEngineSaverOf g.P.Program.meaning) c.go_on.new.call.course) c.in-Ended.is c.in_ok-go_on.ensures.pause)
 
 pub returns-in-Spent-clause-keeps : goal.returns-in-Spent-clause-keeps
 returns-in-Spent-clause-keeps g c = λ told start first st o runs at.
@@ -46,7 +46,7 @@ returns-in-Spent-clause-keeps g c = λ told start first st o runs at.
 
 pub returns-in-Spent-clause-ends : goal.returns-in-Spent-clause-ends
 returns-in-Spent-clause-ends g c = λ told.
-    let pauses = subst (PausesSo (IsSaverOf g.P.Program.meaning) c.go_on.new.call.course) c.in-Spent.is c.in_ok-go_on.ensures.pause in
+    let pauses = subst (PausesSo (IsEngineSaverOf g.P.Program.meaning) c.go_on.new.call.course) c.in-Spent.is c.in_ok-go_on.ensures.pause in
     spent g.P.Program.meaning g.D.Disk.past c.args.graph.now (g.P.Program.meaning c.args.program) c.args.call.now c.go_on.new.call c.args.journal.now c.go_on.ensures.same c.go_on.ensures.attempt c.go_on.ensures.known c.requires.can.well
     c.task_left.result pauses (c.task_left.ensures pauses.2)
 

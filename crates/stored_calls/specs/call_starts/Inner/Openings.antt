@@ -3,8 +3,9 @@ use Rattle.std.specs.Prelude.{Bool, List, [], false, filter, if◌then◌else◌
 use Rattle.std.specs.declared.alloc.Global.{Global}
 use Rattle.std.specs.declared.vec.Vec.{Vec}
 use Rattle.attempts.specs.Entries.{is_restart}
-use Rattle.stored_calls.specs.call_starts.Starting.{AreJobFailures, Base, CourseView, IsCourseNow, IsSaverOf, OpensCall, SaverView, Setting, first_cluster, opening_from, restart_room, shared_of}
+use Rattle.stored_calls.specs.call_starts.Starting.{AreColoursFor, AreJobFailures, Base, CourseView, EngineSaver, IsCourseNow, IsEngineAsked, IsEngineSaverOf, OpensCall, Setting, first_cluster, opening_from, restart_room, shared_of}
 use Rattle.stored_calls.specs.declared.call_starts.openings.Opening.{Opening}
+use Rattle.coord_core.specs.declared.steps.Engine.{Engine}
 use Rattle.coord_core.specs.declared.stores.Store.{Store}
 use Rattle.gl_base.specs.declared.entries.Entry.{Entry}
 use Rattle.gl_base.specs.declared.entries.Entry.TheVariants.{Restart}
@@ -13,6 +14,7 @@ use Rattle.graph_core.specs.DataGraph.{DataGraph, size}
 use Rattle.opened_bases.specs.Opening.{IsGoodBase, ticket_above}
 use Rattle.snap_journal.specs.declared.faults.JournalFault.{JournalFault}
 use Rattle.snap_journal.specs.declared.faults.JournalFault.TheVariants.{BadStore, DiskFault, Failed, Full, NoMemory}
+use Rattle.stored_answers.specs.declared.runs.StoredPlan.{StoredPlan}
 use Rattle.update_api.specs.Updates.{Update}
 
 -- The base with a restart of this ticket behind its order, where the call resumes, and so many bytes more in the store.
@@ -51,9 +53,9 @@ pub record CanOpenWith (st : Setting) (failures : List FailureAt) (resumed : Boo
   pub few : next + budget < 2 ^ 64
 
 -- The course has opened so, and nothing has happened yet.
-pub record OpensWith {P : Type 0} (meaning : P → Update) (v : CourseView (SaverView P)) (st : Setting) (resumed : Bool) (base : Base) (budget : ℕ) : Type 0 where
-  pub opens : OpensCall (IsSaverOf meaning) v.start v.failures st (opening_from st resumed base budget)
-  pub now : IsCourseNow (IsSaverOf meaning) v st (opening_from st resumed base budget) [] (first_cluster st (opening_from st resumed base budget))
+pub record OpensWith {P : Type 0} (meaning : P → Update) (v : CourseView (EngineSaver P)) (st : Setting) (resumed : Bool) (base : Base) (budget : ℕ) : Type 0 where
+  pub opens : OpensCall (IsEngineSaverOf meaning) v.start v.failures st (opening_from st resumed base budget)
+  pub now : IsCourseNow (IsEngineSaverOf meaning) v st (opening_from st resumed base budget) [] (first_cluster st (opening_from st resumed base budget))
 
 -- the store that a coordinator knows is that of this base of a graph
 pub record IsStoreOf (g : DataGraph) (base : Base) (store : Store) : Type 0 where
@@ -61,3 +63,8 @@ pub record IsStoreOf (g : DataGraph) (base : Base) (store : Store) : Type 0 wher
   pub edges : store.edges ≡ length g.edges
   pub newest : store.newest ≡ base.number
   pub length_is : store.length ≡ base.length
+
+-- The graph may run by this engine and these colours, and they are those that the plan asks for, with so many scopes in flight.
+pub record KeepsApart (g : DataGraph) (plan : StoredPlan) (engine : Engine) (pipeline : ℕ) (colours : List ℕ) : Type 0 where
+  pub colours_are : AreColoursFor g engine colours
+  pub asked : IsEngineAsked plan.engine plan.run.pipeline engine pipeline colours

@@ -5,6 +5,6 @@ use Rattle.tests_savers.proofs.beginnings.machines_of.Goals as goal
 
 pub returns-clause-start : goal.returns-clause-start
 returns-clause-start g c next left =
-    start_of _ c.args.beginning.now.graph.now _ c.as_slice-of.result.now c.as_slice-owner.result.now _ c.args.base.now c.args.serials.now c.in_ok-machines.machines.items _ next left
-    c.if-not-has_places.ensures.graph (c.if-not-has_places.ensures.each refl) (c.if-not-has_places.ensures.atoms refl) (c.if-not-has_places.ensures.machines refl)
-    (c.if-not-has_numbers.ensures refl) c.in_ok-machines.ensures.stand c.store_of-store.ensures.vertices c.store_of-store.ensures.edges c.store_of-store.ensures.newest
+    start_of _ c.args.beginning.now.graph.now _ c.in_ok-places.places c.args.base.now c.args.serials.now c.in_ok-machines.machines.items _ next left
+    c.in_ok-places.ensures.graph c.in_ok-places.ensures.places (c.if-not-has_numbers.ensures refl) c.in_ok-machines.ensures.stand
+    c.store_of-store.ensures.vertices c.store_of-store.ensures.edges c.store_of-store.ensures.newest

@@ -8,7 +8,7 @@ use Rattle.snap_journal.specs.Journals.{snapshots_in}
 use Rattle.stored_calls.proofs.call_backs.Attempts.{goes_so}
 use Rattle.stored_calls.proofs.call_backs.Refusals.{is_full, no_place}
 use Rattle.stored_calls.proofs.call_backs.Restarted.{begins_kept}
-use Rattle.stored_calls.specs.call_backs.Returning.{Begins, GoesBackSo, IsBaseBehind, IsSaverOf, is_restart, restarts}
+use Rattle.stored_calls.specs.call_backs.Returning.{Begins, GoesBackSo, IsBaseBehind, IsEngineSaverOf, is_restart, restarts}
 use Rattle.stored_calls.proofs.call_backs.next_attempts.next_attempt.Goals as goal
 
 pub missing_restarts-requires : goal.missing_restarts-requires
@@ -20,7 +20,7 @@ pub returns-in_err-store-clause-refused : goal.returns-in_err-store-clause-refus
 returns-in_err-store-clause-refused g c =
     let exit = err_from_is_err_and c.from_residual-in_err-store.result c.from_residual-in_err-store.ensures.1 in
     rw (exit.1, exit.2) (is_full _ _ _ _ _ _ c.in_ok-base.base.number c.args.course.now.now.coordinator.saving.store_end _ c.in_err-store.ensures.full.0
-    (no_place (IsSaverOf g.P.Program.meaning) c.args.course.now c.in_ok-failures.failures c.in_ok-failures.ensures c.in_err-store.ensures.full.1) c.in_ok-base.ensures.well.0 c.in_ok-base.ensures.well.1)
+    (no_place (IsEngineSaverOf g.P.Program.meaning) c.args.course.now c.in_ok-failures.failures c.in_ok-failures.ensures c.in_err-store.ensures.full.1) c.in_ok-base.ensures.well.0 c.in_ok-base.ensures.well.1)
 
 pub returns-clause-back : goal.returns-clause-back
 returns-clause-back g c = λ told start order st o runs known has.
@@ -37,7 +37,7 @@ returns-clause-back g c = λ told start order st o runs known has.
     subst (λ (es : List Entry). IsBaseBehind shared header bodies es c.in_ok-base.base) c.deref-3.ensures.value (c.in_ok-base.ensures.base told shared runs.placed.graph runs.program_is known.was.keeps.good) in
     let next = c.in_ok-next.next in
     let lost = c.in_ok-next.ensures.lost in
-    subst (λ (es : List Entry). GoesBackSo meaning c.args.course.now next.machines.items (store_view next.store) es c.args.lost.now next.lost.items c.args.restarts.now.front.items next.front.items st o known.was.events known.was.cluster) (sym c.in_ok-next.ensures.order)
+    subst (λ (es : List Entry). GoesBackSo meaning c.args.course.now next.machines.items c.args.places.now.run.engine (store_view next.store) es c.args.lost.now next.lost.items c.args.restarts.now.front.items next.front.items st o known.was.events known.was.cluster) (sym c.in_ok-next.ensures.order)
     (goes_so meaning c.args.graph.now (meaning c.args.program) c.args.places.now c.args.course.now header start bodies c.args.lost.now c.args.restarts.now.stored.items c.args.restarts.now.front.items order st o runs known has failures c.next.result
     (c.in_ok-failures.ensures st o known.was.events known.was.cluster known.was.now) (c.next.ensures st o known.was.events known.was.cluster known.was.now) missing c.in_ok-missing.ensures.alone lacks c.in_ok-base.base behind next.machines.items
     (λ to. c.in_ok-next.ensures.stand st o known.was.events known.was.cluster known.was.now to) (store_view next.store) (ap (λ s. s.vertices) c.in_ok-next.ensures.store ∙ c.in_ok-store.ensures.vertices)

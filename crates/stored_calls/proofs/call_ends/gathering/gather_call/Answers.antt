@@ -4,7 +4,7 @@ use Rattle.std.specs.Prelude.{slice_index_or}
 use Rattle.gl_base.specs.declared.entries.Entry.{Entry}
 use Rattle.gl_base.specs.declared.jobs.FailureAt.{FailureAt}
 use Rattle.stored_calls.proofs.call_ends.GatherLemmas.{all_of, counts_here, entries_here, fired_here, numbers_here}
-use Rattle.stored_calls.specs.call_ends.Gathered.{IsEntryOf, IsSaverOf, reached_places}
+use Rattle.stored_calls.specs.call_ends.Gathered.{IsEntryOf, IsEngineSaverOf, reached_places}
 use Rattle.graph_core.specs.DataGraph.{DataGraph, size}
 use Rattle.stored_calls.proofs.call_ends.gathering.gather_call.Goals as goal
 
@@ -14,11 +14,11 @@ returns-then-not-are_of_graph-clause-other g c = λ is st o events x now from.
     let graph = c.args.graph.now in
     let other : c.are_of_graph.result ≡ false = search rules in
     c.are_of_graph.ensures.no other (subst (All (IsEntryOf graph)) (sym c.deref.ensures.value) (all_of (IsEntryOf graph) c.in_ok-order.order.items
-    (entries_here (IsSaverOf g.P.Program.meaning) c.args.course.now st o events x now c.args.front.items has.merged c.in_ok-order.order.items from.base has.behind (has.merges st o events x now) graph from.graph)))
+    (entries_here (IsEngineSaverOf g.P.Program.meaning) c.args.course.now st o events x now c.args.front.items has.merged c.in_ok-order.order.items from.base has.behind (has.merges st o events x now) graph from.graph)))
 
 pub returns-clause-gathered : goal.returns-clause-gathered
 returns-clause-gathered g c = λ st o events x now from.
-    let stands = IsSaverOf g.P.Program.meaning in
+    let stands = IsEngineSaverOf g.P.Program.meaning in
     let has = c.in_ok-order.ensures in
     let done = c.in_ok-done.done.items in
     let each = λ (a : ℕ) (low : a < length c.args.course.now.now.machines.items). c.in_ok-done.ensures.each a low st o events x now in

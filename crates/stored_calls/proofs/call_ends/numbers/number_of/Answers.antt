@@ -1,9 +1,9 @@
 -- The machine that owns the vertex has its number.
-use Rattle.std.proofs.Common.{◌≡◌, ℕ, ◌<◌, ◌∙◌, ap, get_or, length, subst, sym}
+use Rattle.std.proofs.Common.{◌≡◌, ℕ, ◌<◌, ◌∙◌, ap, length, subst, sym}
 use Rattle.gl_base.specs.declared.numbers.AtomNo.{AtomNo}
 use Rattle.gl_base.specs.declared.scopes.Datum.{Datum}
 use Rattle.stored_calls.proofs.call_ends.SaverLemmas.{number_in, placed_at}
-use Rattle.stored_calls.specs.call_ends.Gathered.{IsSaverOf, placed_owner}
+use Rattle.stored_calls.specs.call_ends.Gathered.{IsEngineSaverOf, placed_owner}
 use Rattle.machine_numbers.specs.Views.{datum_here}
 use Rattle.machine_core.specs.declared.machine_parts.cores.Core.{Core}
 use Rattle.stored_calls.proofs.call_ends.numbers.number_of.Given as given
@@ -18,6 +18,5 @@ owner_at g c =
 
 pub returns : goal.returns
 returns g c = λ st o events x now low owned.
-    let core_is = c.core-core.ensures.parts ∙ ap (λ m. m.core) c.machine-2.ensures in
-    ap (λ (d : Datum). d.value) (c.datum.ensures ∙ ap (λ (k : Core). datum_here k.numbers c.args.v.0) core_is)
-    ∙ number_in (IsSaverOf g.P.Program.meaning) c.args.course.now st o events x now g.P.Program.meaning c.index-owner.result.now.0 c.machine.result.now (c.machine.ensures st o events x now) c.args.v.0 low (owned ∙ owner_at g c)
+    ap (λ (d : Datum). d.value) (c.datum.ensures ∙ ap (λ (k : Core). datum_here k.numbers c.args.v.0) c.core_of-core.ensures.parts)
+    ∙ number_in (IsEngineSaverOf g.P.Program.meaning) c.args.course.now st o events x now g.P.Program.meaning c.index-owner.result.now.0 c.machine.result.now (c.machine.ensures st o events x now) c.args.v.0 low (owned ∙ owner_at g c)

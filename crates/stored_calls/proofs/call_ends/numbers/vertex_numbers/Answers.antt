@@ -2,13 +2,13 @@
 use Rattle.std.proofs.Common.{◌≡◌, ℕ, suc, ◌+◌, ◌<◌, ◌++◌, [], ◌∷◌, ◌∙◌, add-one, ap, arith, length, length-append, subst, sym}
 use Rattle.std.specs.Prelude.{slice_index_or}
 use Rattle.call_courses.proofs.Calling.{grown}
-use Rattle.stored_calls.specs.call_ends.Gathered.{InEachCourse, IsSaverOf, placed_owner}
+use Rattle.stored_calls.specs.call_ends.Gathered.{InEachCourse, IsEngineSaverOf, placed_owner}
 use Rattle.graph_core.specs.DataGraph.{size}
 use Rattle.stored_calls.proofs.call_ends.numbers.vertex_numbers.Given as given
 use Rattle.stored_calls.proofs.call_ends.numbers.vertex_numbers.Goals as goal
 
 abbrev Numbered : (g : given.Over) (c : goal.After-push_reserved g) → ℕ → ℕ → Type 0
-Numbered g c u n = InEachCourse (IsSaverOf g.P.Program.meaning) c.args.course.now (λ st o events x.
+Numbered g c u n = InEachCourse (IsEngineSaverOf g.P.Program.meaning) c.args.course.now (λ st o events x.
     u < size st.graph → st.owner u ≡ placed_owner c.args.places.now.of.items c.args.places.now.owner.items u → n ≡ ((x.machine (st.owner u)).part.datum u).value)
 
 -- the numbers so far and the vertex's

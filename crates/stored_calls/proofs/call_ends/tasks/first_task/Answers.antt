@@ -3,7 +3,7 @@ use Rattle.std.proofs.Common.{◌≡◌, ℕ, ◌<◌, arith, false, length, rul
 use Rattle.call_courses.proofs.Going.{setting_now}
 use Rattle.call_courses.specs.Courses.{newest_setting}
 use Rattle.stored_calls.proofs.call_ends.SaverLemmas.{task_in}
-use Rattle.stored_calls.specs.call_ends.Gathered.{InEachCourse, IsSaverOf, OfEach}
+use Rattle.stored_calls.specs.call_ends.Gathered.{InEachCourse, IsEngineSaverOf, OfEach}
 use Rattle.stored_calls.proofs.call_ends.tasks.first_task.Given as given
 use Rattle.stored_calls.proofs.call_ends.tasks.first_task.Goals as goal
 use borrow.Author.Count.{below_more}
@@ -13,13 +13,13 @@ returns-in-Some-clause-some g c = λ st o events x now.
     let last = newest_setting st o events in
     let setting = setting_now st o events now.setting in
     let stands = c.machine.ensures st o events x now in
-    task_in (IsSaverOf g.P.Program.meaning) c.args.course.now st o events x now c.loop-m.m c.in-Some.v.0 (c.in-Some.ensures.some last c.loop-m.m (x.machine c.loop-m.m) setting stands)
+    task_in (IsEngineSaverOf g.P.Program.meaning) c.args.course.now st o events x now c.loop-m.m c.in-Some.v.0 (c.in-Some.ensures.some last c.loop-m.m (x.machine c.loop-m.m) setting stands)
     (c.in-Some.ensures.own last c.loop-m.m (x.machine c.loop-m.m) setting stands)
 
 pub loop-m-preserved : goal.loop-m-preserved
 loop-m-preserved g c =
-    let none : OfEach (IsSaverOf g.P.Program.meaning) c.machine.result.now (λ st a m. (u : ℕ) → m.part.task u ≡ false) = search rules in
-    below_more (λ a. InEachCourse (IsSaverOf g.P.Program.meaning) c.args.course.now (λ st o events x. (u : ℕ) → (x.machine a).part.task u ≡ false)) c.loop-m.m c.loop-m.invariant
+    let none : OfEach (IsEngineSaverOf g.P.Program.meaning) c.machine.result.now (λ st a m. (u : ℕ) → m.part.task u ≡ false) = search rules in
+    below_more (λ a. InEachCourse (IsEngineSaverOf g.P.Program.meaning) c.args.course.now (λ st o events x. (u : ℕ) → (x.machine a).part.task u ≡ false)) c.loop-m.m c.loop-m.invariant
     (λ st o events x now. none (newest_setting st o events) c.loop-m.m (x.machine c.loop-m.m) (setting_now st o events now.setting) (c.machine.ensures st o events x now))
 
 below : (g : given.Over) (c : goal.After-loop-m g) (a : ℕ) → a < length c.args.course.now.now.machines.items → a < c.loop-m.m

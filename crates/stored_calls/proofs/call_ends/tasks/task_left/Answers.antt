@@ -1,5 +1,5 @@
 -- Where a machine has a task, one is found.
-use Rattle.std.proofs.Common.{false, sym, true, true≢false, ◌∙◌}
+use Rattle.std.proofs.Common.{sym, true≢false, ◌∙◌}
 use Rattle.stored_calls.proofs.call_ends.tasks.task_left.Goals as goal
 
 pub returns-in-None : goal.returns-in-None
