@@ -62,7 +62,6 @@ fn tell_job<N: Sink>(note: &mut N, fault: &JobFault) -> Result<(), Failed>
         JobFault::Missing(key) => tell_key(note, "job: missing key ", *key),
         JobFault::WrongKind(key) => tell_key(note, "job: wrong kind ", *key),
         JobFault::OutOfRange(key, value) => tell_range(note, *key, *value),
-        JobFault::NotBuilt(key) => tell_key(note, "job: not built ", *key),
     }
 }
 

@@ -79,7 +79,4 @@ pub enum JobFault {
     /// the first faulty failure.
     #[error("the value of {0} is out of its range: {1}")]
     OutOfRange(Key, u64),
-    /// The key's value asks for what is not built yet.
-    #[error("what {0} asks for is not built yet")]
-    NotBuilt(Key),
 }

@@ -9,6 +9,3 @@ returns-in-UnknownKey-clause-note g c = rw (c.in-UnknownKey.is, sym c.as_str.ens
 
 pub returns-in-Missing-clause-note : goal.returns-in-Missing-clause-note
 returns-in-Missing-clause-note g c = rw c.in-Missing.is c.tell_key.ensures.note
-
-pub returns-in-NotBuilt-clause-note : goal.returns-in-NotBuilt-clause-note
-returns-in-NotBuilt-clause-note g c = rw c.in-NotBuilt.is c.tell_key-in-NotBuilt.ensures.note
