@@ -2,8 +2,8 @@
 use Rattle.std.proofs.Common.{◌≡◌, ◌<◌, ℕ, ◌∙◌, All, Some, List, length, ap, sym, subst}
 use Rattle.coord_core.specs.declared.steps.Engine.{Engine}
 use Rattle.coord_core.specs.declared.steps.Engine.TheVariants.{Chromatic, Locking}
-use Rattle.engine_savers.specs.declared.savers.EngineSaver.{EngineSaver}
-use Rattle.engine_savers.specs.declared.savers.EngineSaver.TheVariants as saver
+use Rattle.placed_savers.specs.declared.engine_savers.savers.EngineSaver.{EngineSaver}
+use Rattle.placed_savers.specs.declared.engine_savers.savers.EngineSaver.TheVariants as saver
 use Rattle.gl_base.specs.declared.numbers.Vertex.{Vertex}
 use Rattle.gl_base.specs.declared.snapshots.Base.{Base}
 use Rattle.graph_core.specs.DataGraph.{size}
@@ -15,7 +15,7 @@ use Rattle.placed_clusters.specs.Making.{IsMadeWith}
 use Rattle.placed_clusters.specs.declared.cores.NewTerms.{NewTerms}
 use Rattle.placed_clusters.proofs.NewLemmas.{begins_here, made_itself}
 use Rattle.placed_graphs.specs.Beginnings.{AreFirstNumbers, AreFreshTasks, BeginsAt, IsReadyPart}
-use Rattle.color_savers.specs.Savers.{IsColorSaverOf}
+use Rattle.placed_savers.specs.color_savers.Savers.{IsColorSaverOf}
 use Rattle.saving_machines.specs.Machines.{IsFreshMachine}
 use Rattle.snap_savers.specs.Savers.{IsSaverOf}
 use Rattle.snap_update.specs.Snaps.{nothing_since}

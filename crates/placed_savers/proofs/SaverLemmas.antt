@@ -5,7 +5,7 @@ use Rattle.std.proofs.lemmas.Bool.{lt-ltb, ltb-true}
 use Rattle.std.proofs.lemmas.List.{length-map}
 use Rattle.cluster_laws.proofs.cluster_core.Basics.{same_truth}
 use Rattle.cluster_laws.specs.cluster_core.Settings.{Locking}
-use Rattle.color_savers.specs.Savers.{IsColorSaverOf}
+use Rattle.placed_savers.specs.color_savers.Savers.{IsColorSaverOf}
 use Rattle.color_snaps.specs.Machines.{IsColorSnapPart}
 use Rattle.coord_core.specs.declared.steps.Engine.TheVariants.{Chromatic}
 use Rattle.machine_numbers.specs.Views.{is_flagged}

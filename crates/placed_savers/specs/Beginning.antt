@@ -3,8 +3,8 @@ pub use Rattle.cluster_laws.specs.cluster_model.Clusters.{BaseView, Cluster}
 pub use Rattle.placed_graphs.specs.Beginnings.{IsBaseFor}
 pub use Rattle.placed_graphs.specs.Placed.{IsOwnedBy, placed_owner}
 pub use Rattle.snap_members.specs.Going.{IsSnapSetting}
-pub use Rattle.engine_savers.specs.Savers.{IsEngineSaverOf, Setting}
-pub use Rattle.engine_savers.specs.declared.savers.EngineSaver.{EngineSaver}
+pub use Rattle.placed_savers.specs.engine_savers.Savers.{IsEngineSaverOf, Setting}
+pub use Rattle.placed_savers.specs.declared.engine_savers.savers.EngineSaver.{EngineSaver}
 use Rattle.std.specs.Prelude.{All, List, length, slice_index, slice_index_or, ⊤, ℕ, ◌<◌, ◌≡◌}
 use Rattle.cluster_laws.specs.cluster_core.Recovering.{going_on}
 use Rattle.cluster_laws.specs.cluster_core.Settings as law

@@ -4,7 +4,7 @@ ghost use Rattle.placed_savers.specs.Inner.Making.{AreUnsetParts, CanAllSave, Ca
 
 use crate::members::new_member;
 use crate::savers::Places;
-use engine_savers::EngineSaver;
+use crate::engine_savers::EngineSaver;
 use gl_base::{Base, NoMemory};
 use local_graph::LocalGraph;
 use placed_clusters::{NewTerms, new_core};

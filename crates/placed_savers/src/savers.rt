@@ -6,7 +6,7 @@ ghost use Rattle.placed_savers.specs.Inner.Making.{AreUnsetParts, GoesBy, IsRunF
 
 use crate::machines::new_savers;
 use coord_core::Engine;
-use engine_savers::EngineSaver;
+use crate::engine_savers::EngineSaver;
 use gl_base::{AtomNo, Base, MachineNo, NoMemory, Vertex};
 use graph_core::Graph;
 use local_graph::LocalGraph;

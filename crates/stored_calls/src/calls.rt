@@ -1,7 +1,7 @@
 //! A call that goes on.
 use call_courses::Course;
 use call_returns::Restarts;
-use engine_savers::EngineSaver;
+use placed_savers::engine_savers::EngineSaver;
 use gl_base::Entry;
 use placed_savers::Places;
 use stored_answers::SnapLine;

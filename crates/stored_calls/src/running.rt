@@ -16,7 +16,7 @@ use crate::call_ends::{CallLists, GatherFault, calls_end_so, gather_call};
 use crate::call_starts::{Started, start_call};
 use crate::calls::StoredCall;
 use crate::steps::play_to_end;
-use engine_savers::EngineSaver;
+use placed_savers::engine_savers::EngineSaver;
 use gl_base::FailureAt;
 use gl_outside::Disk;
 use graph_core::Graph;

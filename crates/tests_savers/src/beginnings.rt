@@ -10,7 +10,7 @@ use crate::trouble::Trouble;
 use call_courses::Course;
 use color_steps::{greatest_colour, greedy_colouring};
 use coord_core::{Engine, Store};
-use engine_savers::EngineSaver;
+use placed_savers::engine_savers::EngineSaver;
 use gl_base::{AtomNo, Base, EngineKind, FailureAt, MachineNo, NoMemory, Vertex};
 use graph_core::Graph;
 use placed_graphs::first_base;

@@ -1,13 +1,13 @@
 -- A new machine as a member of a cluster.
-pub use Rattle.color_savers.specs.Savers.{ColorSaverView}
+pub use Rattle.placed_savers.specs.color_savers.Savers.{ColorSaverView}
 pub use Rattle.color_snaps.specs.Machines.{ColorSnapView, IsColorSnapOf, IsFreshInSteps, in_no_step}
 pub use Rattle.saving_machines.specs.Machines.{SnapMachineView}
 pub use Rattle.snap_savers.specs.Savers.{SaverView}
 use Rattle.std.specs.Prelude.{All, List, [], length, true, ℕ, ◌<◌, ◌≡◌}
 use Rattle.coord_core.specs.declared.steps.Engine.{Engine}
 use Rattle.coord_core.specs.declared.steps.Engine.TheVariants.{Chromatic, Locking}
-use Rattle.engine_savers.specs.declared.savers.EngineSaver.{EngineSaver}
-use Rattle.engine_savers.specs.declared.savers.EngineSaver.TheVariants as saver
+use Rattle.placed_savers.specs.declared.engine_savers.savers.EngineSaver.{EngineSaver}
+use Rattle.placed_savers.specs.declared.engine_savers.savers.EngineSaver.TheVariants as saver
 use Rattle.machine_places.specs.Colours.{colours_by_place}
 use Rattle.update_api.specs.Updates.{Update}
 use Rattle.wave_counts.specs.Counts.{none_counted}

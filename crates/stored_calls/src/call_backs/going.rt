@@ -11,7 +11,7 @@ use crate::call_backs::failing::fail_reached;
 use crate::call_backs::next_attempts::next_attempt;
 use call_courses::Course;
 use call_returns::Restarts;
-use engine_savers::EngineSaver;
+use placed_savers::engine_savers::EngineSaver;
 use gl_base::Entry;
 use gl_outside::Disk;
 use graph_core::Graph;

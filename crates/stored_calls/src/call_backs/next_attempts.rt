@@ -19,7 +19,7 @@ use crate::call_backs::reading::{failures_now, serials};
 use crate::call_backs::rooms::store_behind;
 use call_courses::{Course, Store};
 use call_returns::{Restarts, base_behind, missing_restarts};
-use engine_savers::EngineSaver;
+use placed_savers::engine_savers::EngineSaver;
 use gl_base::{Base, Entry, NoMemory};
 use gl_outside::Disk;
 use graph_core::Graph;

@@ -2,7 +2,7 @@
 ghost use Rattle.std.specs.Prelude.{◌≡◌};
 ghost use Rattle.stored_calls.specs.call_ends.Inner.Cores.{IsOrderly, KnowsPlaces, core_held};
 
-use engine_savers::EngineSaver;
+use placed_savers::engine_savers::EngineSaver;
 use machine_core::machine_parts::Core;
 use update_api::Program;
 

@@ -7,7 +7,7 @@ use crate::call_ends::fired::fired_places;
 use crate::call_ends::logs::order_behind;
 use crate::call_ends::numbers::vertex_numbers;
 use call_courses::Course;
-use engine_savers::EngineSaver;
+use placed_savers::engine_savers::EngineSaver;
 use gl_base::{Entry, FailureAt, NoMemory};
 use graph_core::Graph;
 use placed_savers::Places;

@@ -5,7 +5,7 @@ ghost use Rattle.graph_core.specs.DataGraph.{size};
 
 use crate::call_ends::cores::core_of;
 use call_courses::Course;
-use engine_savers::EngineSaver;
+use placed_savers::engine_savers::EngineSaver;
 use gl_base::{MachineNo, Vertex};
 use update_api::Program;
 

@@ -10,7 +10,7 @@ ghost use Rattle.graph_core.specs.DataGraph.{IsDataGraph};
 use crate::call_starts::openings::Opening;
 use crate::call_starts::tickets::tickets_from;
 use call_courses::{Course, Store};
-use engine_savers::EngineSaver;
+use placed_savers::engine_savers::EngineSaver;
 use gl_base::{Base, FailureAt, NoMemory};
 use graph_core::Graph;
 use placed_savers::{Places, attempts_can_begin, placed_savers};

@@ -7,7 +7,7 @@ use crate::call_starts::openings::{Opening, opening_of};
 use crate::call_starts::placing::places_of;
 use call_courses::Course;
 use call_returns::Restarts;
-use engine_savers::EngineSaver;
+use placed_savers::engine_savers::EngineSaver;
 use gl_base::{Entry, FailureAt};
 use gl_outside::Disk;
 use graph_core::Graph;

@@ -1,6 +1,6 @@
 -- The parts of a machine of either engine.
-pub use Rattle.engine_savers.specs.declared.savers.EngineSaver.{EngineSaver}
-pub use Rattle.engine_savers.specs.declared.savers.EngineSaver.TheVariants.{Chromatic, Locking}
+pub use Rattle.placed_savers.specs.declared.engine_savers.savers.EngineSaver.{EngineSaver}
+pub use Rattle.placed_savers.specs.declared.engine_savers.savers.EngineSaver.TheVariants.{Chromatic, Locking}
 pub use Rattle.machine_core.specs.machine_parts.Order.{IsOrderly, KnowsPlaces}
 pub use Rattle.machine_core.specs.declared.machine_parts.cores.Core.{Core}
 

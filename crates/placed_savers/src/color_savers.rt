@@ -1,0 +1,12 @@
+//! A machine that goes by colours and takes part in snapshots, as a cluster knows it: with what it counts and what it tells the coordinator.
+mod hearing;
+mod members;
+mod prompting;
+mod reading;
+mod receiving;
+mod savers;
+mod scopes;
+mod snapshots;
+mod updates;
+
+pub use savers::ColorSaver;
