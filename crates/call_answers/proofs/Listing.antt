@@ -5,13 +5,13 @@ use Rattle.std.proofs.lemmas.List.Sums.{sum_by-cons}
 use Rattle.gl_base.specs.Lists.{AreEach}
 use Rattle.gl_base.specs.declared.entries.Entry.{Entry}
 use Rattle.gl_base.specs.declared.jobs.FailureAt.{FailureAt}
-use Rattle.attempts.proofs.Accounting.{call_accounted}
-use Rattle.attempts.proofs.Failing.{call_followed, call_restarts}
-use Rattle.attempts.proofs.Opening.{call_in_turn, last_begins, opening_begins}
-use Rattle.attempts.proofs.Pieces.{call_between}
-use Rattle.attempts.specs.Accounted.{AreAccounted, AreRestarts, AreValidBetween, IsFollowedByRestart}
-use Rattle.attempts.specs.EngineCalls.{EngineCall, IsEngineCall, IsOrderInTurn, call_order, done_of, fired_of, first_ticket, last_beginning, lost_of, made_of, opening, struck_in}
-use Rattle.attempts.specs.Stores.{IsWithinWindow, last_order, snapshots_of}
+use Rattle.whole_laws.proofs.attempts.Accounting.{call_accounted}
+use Rattle.whole_laws.proofs.attempts.Failing.{call_followed, call_restarts}
+use Rattle.whole_laws.proofs.attempts.Opening.{call_in_turn, last_begins, opening_begins}
+use Rattle.whole_laws.proofs.attempts.Pieces.{call_between}
+use Rattle.whole_laws.specs.attempts.Accounted.{AreAccounted, AreRestarts, AreValidBetween, IsFollowedByRestart}
+use Rattle.whole_laws.specs.attempts.EngineCalls.{EngineCall, IsEngineCall, IsOrderInTurn, call_order, done_of, fired_of, first_ticket, last_beginning, lost_of, made_of, opening, struck_in}
+use Rattle.whole_laws.specs.attempts.Stores.{IsWithinWindow, last_order, snapshots_of}
 use Rattle.call_answers.specs.Answers.{HasRestarts, IsRunWithFailures, KeepsToWindow, RunLists, Shared, is_restart, made_by, reached_places}
 use Rattle.call_answers.specs.Ends.{FinishesRun, SpendsRun}
 use Rattle.call_answers.specs.Courses.{IsMerge, ListsOfCourse, all_logged, machine_logs}
@@ -23,17 +23,17 @@ use Rattle.cluster_laws.specs.cluster_model.Events.{Event, recovers}
 use Rattle.cluster_laws.specs.cluster_model.Machines.{completed}
 use Rattle.cluster_laws.specs.cluster_model.Working.{half_window}
 use Rattle.cluster_laws.specs.cluster_runs.Recorded.{shared_of}
-use Rattle.cluster_whole.specs.Views.{world_of}
+use Rattle.whole_laws.specs.cluster_whole.Views.{world_of}
 use Rattle.graph_core.specs.DataGraph.{size}
 use Rattle.seq_run.specs.Orders.{tasks_after}
 use Rattle.merged_logs.proofs.PartLemmas.{logs_merge, machines_sum, updates_rise}
 use Rattle.merged_logs.specs.Merges.{IsByMachineBelow, logs_of}
-use Rattle.whole_calls.proofs.Calling.{the_call}
-use Rattle.whole_calls.specs.Called.{IsCallOf, KeepsWindows}
-use Rattle.whole_calls.specs.Following.{has_reached}
-use Rattle.whole_calls.specs.Opened.{IsCourseOfCall}
-use Rattle.whole_calls.specs.Saved.{AreNextOrders, AreSnapshotsOf, fronts_in, recorded_in}
-use Rattle.whole_calls.specs.Telling.{HasSavedTheEnd, TellsOfCall}
+use Rattle.whole_laws.proofs.whole_calls.Calling.{the_call}
+use Rattle.whole_laws.specs.whole_calls.Called.{IsCallOf, KeepsWindows}
+use Rattle.whole_laws.specs.whole_calls.Following.{has_reached}
+use Rattle.whole_laws.specs.whole_calls.Opened.{IsCourseOfCall}
+use Rattle.whole_laws.specs.whole_calls.Saved.{AreNextOrders, AreSnapshotsOf, fronts_in, recorded_in}
+use Rattle.whole_laws.specs.whole_calls.Telling.{HasSavedTheEnd, TellsOfCall}
 
 -- as many places as failures
 as_many : (done : ℕ → ℕ) (place : ℕ) (failures : List FailureAt) →

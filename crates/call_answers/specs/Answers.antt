@@ -1,8 +1,8 @@
 -- What is said of the lists that a run leaves in which machines may fail.
-pub use Rattle.attempts.specs.Accounted.{AreAccounted, AreValidBetween, IsFollowedByRestart}
-pub use Rattle.attempts.specs.EngineCalls.{IsOrderInTurn, ticket_above}
-pub use Rattle.attempts.specs.Entries.{is_restart}
-pub use Rattle.attempts.specs.Stores.{AreGoodOrders, IsWithinWindow, last_order}
+pub use Rattle.whole_laws.specs.attempts.Accounted.{AreAccounted, AreValidBetween, IsFollowedByRestart}
+pub use Rattle.whole_laws.specs.attempts.EngineCalls.{IsOrderInTurn, ticket_above}
+pub use Rattle.whole_laws.specs.attempts.Entries.{is_restart}
+pub use Rattle.whole_laws.specs.attempts.Stores.{AreGoodOrders, IsWithinWindow, last_order}
 pub use Rattle.cluster_laws.specs.cluster_runs.Attempts.{Shared, made_by}
 use Rattle.std.specs.List.{AllByRecursion}
 use Rattle.std.specs.Prelude.{List, [], filter, if◌then◌else◌, length, nat_le, suc, sum_by, Bool, ℕ, ◌*◌, ◌++◌, ◌+◌, ◌∷◌, ◌≡◌, ◌≤◌}

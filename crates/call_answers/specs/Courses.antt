@@ -1,6 +1,6 @@
 -- What the lists of a run are, told of a cluster and of the events that led to it.
 pub use Rattle.merged_logs.specs.Merges.{IsMerge}
-pub use Rattle.whole_calls.specs.Lost.{AreLostIn, all_logged, machine_logs}
+pub use Rattle.whole_laws.specs.whole_calls.Lost.{AreLostIn, all_logged, machine_logs}
 use Rattle.std.specs.Prelude.{List, ◌++◌, ◌≡◌}
 use Rattle.gl_base.specs.Lists.{AreEach}
 use Rattle.gl_base.specs.declared.entries.Entry.{Entry}

@@ -4,8 +4,8 @@ ghost use Rattle.std.specs.Prelude.{Bool, List, false, length, sum_by, true, ℕ
 ghost use Rattle.gl_base.specs.Lists.{AreEach};
 ghost use Rattle.gl_base.specs.declared.entries.Entry.{Entry};
 ghost use Rattle.gl_base.specs.declared.jobs.FailureAt.{FailureAt};
-ghost use Rattle.attempts.specs.EngineCalls.{EngineCall, IsEngineCall, call_order, done_of, lost_of, made_of};
-ghost use Rattle.attempts.specs.Stores.{snapshots_of};
+ghost use Rattle.whole_laws.specs.attempts.EngineCalls.{EngineCall, IsEngineCall, call_order, done_of, lost_of, made_of};
+ghost use Rattle.whole_laws.specs.attempts.Stores.{snapshots_of};
 ghost use Rattle.call_answers.specs.Answers.{IsRunWithFailures, KeepsToWindow, RunLists, Shared, reached_places};
 ghost use Rattle.call_answers.specs.Courses.{ListsOfCourse};
 ghost use Rattle.call_answers.specs.Ends.{FinishesRun, SpendsRun};
@@ -16,14 +16,14 @@ ghost use Rattle.cluster_laws.specs.cluster_model.Clusters.{BaseView, Cluster};
 ghost use Rattle.cluster_laws.specs.cluster_model.Events.{Event, recovers};
 ghost use Rattle.cluster_laws.specs.cluster_model.Working.{half_window};
 ghost use Rattle.cluster_laws.specs.cluster_runs.Recorded.{shared_of};
-ghost use Rattle.cluster_whole.specs.Views.{world_of};
+ghost use Rattle.whole_laws.specs.cluster_whole.Views.{world_of};
 ghost use Rattle.graph_core.specs.DataGraph.{size};
 ghost use Rattle.merged_logs.specs.Merges.{IsByMachineBelow};
-ghost use Rattle.whole_calls.specs.Called.{IsCallOf};
-ghost use Rattle.whole_calls.specs.Following.{has_reached};
-ghost use Rattle.whole_calls.specs.Opened.{IsCourseOfCall};
-ghost use Rattle.whole_calls.specs.Saved.{AreNextOrders, AreSnapshotsOf, fronts_in, recorded_in};
-ghost use Rattle.whole_calls.specs.Telling.{HasSavedTheEnd, TellsOfCall};
+ghost use Rattle.whole_laws.specs.whole_calls.Called.{IsCallOf};
+ghost use Rattle.whole_laws.specs.whole_calls.Following.{has_reached};
+ghost use Rattle.whole_laws.specs.whole_calls.Opened.{IsCourseOfCall};
+ghost use Rattle.whole_laws.specs.whole_calls.Saved.{AreNextOrders, AreSnapshotsOf, fronts_in, recorded_in};
+ghost use Rattle.whole_laws.specs.whole_calls.Telling.{HasSavedTheEnd, TellsOfCall};
 
 /// The lists of a call of attempts are those of a run with failures. The failures of its last attempt that were reached go unanswered.
 pub fn calls_are_runs()

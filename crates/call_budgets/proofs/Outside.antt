@@ -3,12 +3,12 @@ use Rattle.std.proofs.Common.{◌≡◌, ◌∙◌, ℕ, suc, ◌+◌, ◌≤◌
 use Rattle.std.proofs.lemmas.List.Elements.{filter-append}
 use Rattle.gl_base.specs.declared.entries.Entry.{Entry}
 use Rattle.gl_base.specs.declared.entries.Entry.TheVariants.{Go, Restart}
-use Rattle.attempts.proofs.Prefixes.{last_order_append, last_order_map}
-use Rattle.attempts.proofs.Storing.{call_back}
-use Rattle.attempts.specs.Beginnings.{last_of, left_out, nothing, snapshot_order, unheld_updates}
-use Rattle.attempts.specs.EngineCalls.{EngineCall, IsEngineCall, call_order, last_beginning, opening}
-use Rattle.attempts.specs.Entries.{is_restart}
-use Rattle.attempts.specs.Stores.{ResumesFrom, attempted_snapshots, last_order, snapshot_orders, snapshots_of}
+use Rattle.whole_laws.proofs.attempts.Prefixes.{last_order_append, last_order_map}
+use Rattle.whole_laws.proofs.attempts.Storing.{call_back}
+use Rattle.whole_laws.specs.attempts.Beginnings.{last_of, left_out, nothing, snapshot_order, unheld_updates}
+use Rattle.whole_laws.specs.attempts.EngineCalls.{EngineCall, IsEngineCall, call_order, last_beginning, opening}
+use Rattle.whole_laws.specs.attempts.Entries.{is_restart}
+use Rattle.whole_laws.specs.attempts.Stores.{ResumesFrom, attempted_snapshots, last_order, snapshot_orders, snapshots_of}
 use Rattle.call_budgets.proofs.Stretches.{filter_few}
 use Rattle.cluster_laws.specs.cluster_core.Cuts.{cut_of}
 use Rattle.cluster_laws.specs.cluster_core.Ranges.{set_at}

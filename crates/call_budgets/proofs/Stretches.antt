@@ -5,11 +5,11 @@ use Rattle.std.proofs.Math.Nat.{mul-le-mul_right, suc-mul, zero-mul}
 use Rattle.gl_base.specs.declared.entries.Entry.{Entry}
 use Rattle.gl_base.specs.declared.entries.Entry.TheVariants.{Go, Restart}
 use Rattle.gl_base.specs.declared.jobs.FailureAt.{FailureAt}
-use Rattle.attempts.proofs.Beginning.{again_begins, longer_valid}
-use Rattle.attempts.proofs.Counting.{failed_few, fired_many}
-use Rattle.attempts.proofs.Opening.{last_begins, opening_begins}
-use Rattle.attempts.specs.Beginnings.{IsBeginning, again, held_updates, last_of, nothing, order_after}
-use Rattle.attempts.specs.EngineCalls.{AreAttempts, EngineCall, IsEngineCall, begins_behind, call_order, done_of, fired_of, last_beginning, made_in, made_of, opening, struck_in, ticket_above}
+use Rattle.whole_laws.proofs.attempts.Beginning.{again_begins, longer_valid}
+use Rattle.whole_laws.proofs.attempts.Counting.{failed_few, fired_many}
+use Rattle.whole_laws.proofs.attempts.Opening.{last_begins, opening_begins}
+use Rattle.whole_laws.specs.attempts.Beginnings.{IsBeginning, again, held_updates, last_of, nothing, order_after}
+use Rattle.whole_laws.specs.attempts.EngineCalls.{AreAttempts, EngineCall, IsEngineCall, begins_behind, call_order, done_of, fired_of, last_beginning, made_in, made_of, opening, struck_in, ticket_above}
 use Rattle.call_budgets.specs.Enough.{BoundsSteps}
 use Rattle.cluster_laws.specs.cluster_core.Cuts.{cut_of}
 use Rattle.cluster_laws.specs.cluster_core.Ranges.{set_at}

@@ -1,9 +1,9 @@
 //! Laws of how much a call makes. Each is the contract of a function that does nothing.
 ghost use Rattle.std.specs.Prelude.{filter, length, true, ℕ, ◌*◌, ◌+◌, ◌<◌, ◌≡◌, ◌≤◌};
-ghost use Rattle.attempts.specs.Beginnings.{unheld_updates};
-ghost use Rattle.attempts.specs.EngineCalls.{EngineCall, IsEngineCall, call_order, last_beginning, made_of};
-ghost use Rattle.attempts.specs.Entries.{is_restart};
-ghost use Rattle.attempts.specs.Stores.{last_order, snapshots_of};
+ghost use Rattle.whole_laws.specs.attempts.Beginnings.{unheld_updates};
+ghost use Rattle.whole_laws.specs.attempts.EngineCalls.{EngineCall, IsEngineCall, call_order, last_beginning, made_of};
+ghost use Rattle.whole_laws.specs.attempts.Entries.{is_restart};
+ghost use Rattle.whole_laws.specs.attempts.Stores.{last_order, snapshots_of};
 ghost use Rattle.call_budgets.specs.Enough.{BoundsSteps};
 ghost use Rattle.cluster_laws.specs.cluster_runs.Attempts.{Shared};
 ghost use Rattle.seq_run.specs.Orders.{tasks_after};

@@ -13,21 +13,21 @@ use Rattle.cluster_laws.specs.cluster_core.Parts.{Part, Stand}
 use Rattle.cluster_laws.specs.cluster_core.Scopes.{machines_from, own_from, set_for}
 use Rattle.cluster_laws.specs.cluster_core.Settings.{Chromatic, Engine, Locking}
 use Rattle.cluster_laws.proofs.cluster_core.Basics.{set_at-same}
-use Rattle.cluster_attempts.proofs.Joining.{done_kept}
-use Rattle.cluster_ending.proofs.Courses.{setting_same}
+use Rattle.whole_laws.proofs.cluster_attempts.Joining.{done_kept}
+use Rattle.whole_laws.proofs.cluster_ending.Courses.{setting_same}
 use Rattle.cluster_laws.specs.cluster_model.Events as law
 use Rattle.cluster_laws.specs.cluster_model.Working.{admits, grants, prompt}
-use Rattle.cluster_records.specs.LineOfFour.{after_events}
-use Rattle.cluster_whole.specs.Whole.{setting_behind}
+use Rattle.whole_laws.specs.cluster_records.LineOfFour.{after_events}
+use Rattle.whole_laws.specs.cluster_whole.Whole.{setting_behind}
 use Rattle.snap_clusters.specs.AtOnce.{CanNotTakePlaceAtOnce, CanTakePlaceAtOnce, IsMadeAtOnce, TakesPlaceAtOnce, events_at_once, own_vertices}
 use Rattle.snap_clusters.specs.Clusters.{StandsForSameSaving}
 use Rattle.call_courses.specs.AtOnce.{CanHappenAtOnceInCall, CanNotHappenAtOnceInCall, HappensAtOnceInCall}
 use Rattle.call_courses.specs.Courses.{ArePassing, CallOpening, Cluster, CourseGoesOn, CourseView, HasCourse, InEachCourse, IsCourseNow, IsSavingClusterOf, Machine, Parts, Setting, as_since, first_cluster, first_setting, newest_setting}
 use Rattle.call_courses.specs.Events.{StaysThere}
 use Rattle.call_courses.proofs.Going.{behind_append, ends_at, going_still, setting_now, since_back, stays}
-use Rattle.whole_calls.specs.Following.{FollowJob, has_reached, reaches}
-use Rattle.whole_calls.specs.Opened.{IsCourseOfCall}
-use Rattle.whole_calls.proofs.WorkedPair.{course_append, follow_append}
+use Rattle.whole_laws.specs.whole_calls.Following.{FollowJob, has_reached, reaches}
+use Rattle.whole_laws.specs.whole_calls.Opened.{IsCourseOfCall}
+use Rattle.whole_laws.proofs.whole_calls.WorkedPair.{course_append, follow_append}
 
 -- ---- as a scope is admitted and goes on, the log stays
 

@@ -12,13 +12,13 @@ use Rattle.snap_clusters.specs.Events.{CanNotTakePlace}
 use Rattle.snap_clusters.specs.declared.events.Event.TheVariants as event
 use Rattle.snap_clusters.specs.declared.events.Local.TheVariants as local
 use Rattle.snap_members.specs.Promises.{CanUpdate, CanUpdateNone, OfEach}
-use Rattle.whole_calls.specs.Following.{has_reached, reaches}
+use Rattle.whole_laws.specs.whole_calls.Following.{has_reached, reaches}
 use Rattle.std.proofs.lemmas.List.Sums.{count_by-le-length}
-use Rattle.attempts.specs.EngineCalls.{EngineCall, first_ticket, made_of}
+use Rattle.whole_laws.specs.attempts.EngineCalls.{EngineCall, first_ticket, made_of}
 use Rattle.cluster_laws.specs.cluster_core.Actions.{MayUpdate}
 use Rattle.gl_base.specs.declared.scopes.ScopeId.{ScopeId}
 use Rattle.graph_core.specs.DataGraph.{size}
-use Rattle.cluster_whole.proofs.Wholeness.{is_exclusive}
+use Rattle.whole_laws.proofs.cluster_whole.Wholeness.{is_exclusive}
 use Rattle.cluster_laws.specs.cluster_model.Machines.{completed}
 use Rattle.call_courses.specs.Calls.{HasEndedCall, HasTaskLeft, MakesCall, OfTheCall}
 use Rattle.call_courses.specs.Courses.{CallOpening, Cluster, CourseView, InEachCourse, IsCourseNow, IsSnapSetting, Machine, Setting, first_setting, newest_setting}
@@ -28,10 +28,10 @@ use Rattle.cluster_laws.specs.cluster_model.Leading.{RecordIsDue, SnapshotIsDue}
 use Rattle.coord_core.specs.Calls.{IsDueOf, IsRecordFor}
 use Rattle.coord_core.specs.declared.leading.Due.{Due}
 use Rattle.coord_core.specs.declared.leading.Due.TheVariants as what
-use Rattle.whole_calls.specs.Saved.{MayFollow}
-use Rattle.whole_calls.specs.Telling.{HasSavedTheEnd}
-use Rattle.whole_calls.proofs.Calling.{the_call}
-use Rattle.whole_calls.proofs.Leading.{behind_since, since}
+use Rattle.whole_laws.specs.whole_calls.Saved.{MayFollow}
+use Rattle.whole_laws.specs.whole_calls.Telling.{HasSavedTheEnd}
+use Rattle.whole_laws.proofs.whole_calls.Calling.{the_call}
+use Rattle.whole_laws.proofs.whole_calls.Leading.{behind_since, since}
 
 module _ {M : Type 0} (stands : Setting → ℕ → Machine → M → Type 0) (v : CourseView M) (st : Setting) (o : CallOpening) (events : List law.Event) (c : Cluster) (is : IsCourseNow stands v st o events c) where
   pub makes_call : (call : EngineCall) × MakesCall st v.failures o events c call

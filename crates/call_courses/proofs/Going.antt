@@ -8,10 +8,10 @@ use Rattle.gl_base.specs.declared.refusals.Refused.{Refused}
 use Rattle.cluster_laws.specs.cluster_core.Recovering.{going_on}
 use Rattle.cluster_laws.specs.cluster_model.Events as law
 use Rattle.cluster_laws.specs.cluster_model.Machines.{completed}
-use Rattle.cluster_records.specs.LineOfFour.{after_events}
-use Rattle.cluster_attempts.proofs.Joining.{done_kept}
-use Rattle.cluster_ending.proofs.Courses.{setting_same}
-use Rattle.cluster_whole.specs.Whole.{IsNoRecovery, setting_behind}
+use Rattle.whole_laws.specs.cluster_records.LineOfFour.{after_events}
+use Rattle.whole_laws.proofs.cluster_attempts.Joining.{done_kept}
+use Rattle.whole_laws.proofs.cluster_ending.Courses.{setting_same}
+use Rattle.whole_laws.specs.cluster_whole.Whole.{IsNoRecovery, setting_behind}
 use Rattle.call_courses.specs.Courses.{BaseView, CallOpening, Cluster, CourseView, CourseGoesOn, Engine, GoesBackWith, HasCourse, HasGoneBack, InEachCourse, IsCourseNow, IsSameAttempt, IsSavingClusterOf, IsSnapSetting, Machine, OpensCall, Parts, ArePassing, IsPassing, Setting, StartsCall, StartsSaving, StoreView, as_since, first_cluster, first_setting, newest_setting}
 use Rattle.call_courses.specs.Events.{CanHappenInCall, CanNotHappenInCall, HappensInCall, IsHeldBack, GoesOnBy, StaysThere, watched}
 use Rattle.snap_clusters.specs.Clusters.{GoesOnWith, StandsForSameSaving}
@@ -21,10 +21,10 @@ use Rattle.snap_clusters.specs.declared.events.Event.TheVariants as event
 use Rattle.snap_clusters.specs.declared.events.Lead.TheVariants as lead
 use Rattle.snap_clusters.specs.declared.events.Local.TheVariants as local
 use Rattle.snap_clusters.specs.declared.events.Passage.TheVariants as passage
-use Rattle.whole_calls.specs.Following.{FollowJob, FollowsJob, has_reached}
-use Rattle.whole_calls.specs.Opened.{IsCourseOfCall}
-use Rattle.whole_calls.proofs.Leading.{behind_since}
-use Rattle.whole_calls.proofs.WorkedPair.{course_append, follow_append}
+use Rattle.whole_laws.specs.whole_calls.Following.{FollowJob, FollowsJob, has_reached}
+use Rattle.whole_laws.specs.whole_calls.Opened.{IsCourseOfCall}
+use Rattle.whole_laws.proofs.whole_calls.Leading.{behind_since}
+use Rattle.whole_laws.proofs.whole_calls.WorkedPair.{course_append, follow_append}
 
 -- ---- one event behind a course
 

@@ -6,11 +6,11 @@ use Rattle.call_courses.specs.Courses.{ArePassing, BaseView, CallOpening, Cluste
 use Rattle.call_courses.proofs.Going.{ends_at}
 use Rattle.cluster_laws.specs.cluster_model.Events as law
 use Rattle.cluster_laws.specs.cluster_model.Leading.{Snapshot}
-use Rattle.cluster_records.specs.LineOfFour.{after_events}
-use Rattle.cluster_records.specs.Recorded.{snapshot_due}
-use Rattle.cluster_whole.specs.Whole.{setting_behind}
-use Rattle.whole_calls.specs.Lost.{AreLostIn, TakesAway}
-use Rattle.whole_calls.specs.Saved.{front_at, fronts_in, recorded_at, recorded_in}
+use Rattle.whole_laws.specs.cluster_records.LineOfFour.{after_events}
+use Rattle.whole_laws.specs.cluster_records.Recorded.{snapshot_due}
+use Rattle.whole_laws.specs.cluster_whole.Whole.{setting_behind}
+use Rattle.whole_laws.specs.whole_calls.Lost.{AreLostIn, TakesAway}
+use Rattle.whole_laws.specs.whole_calls.Saved.{front_at, fronts_in, recorded_at, recorded_in}
 
 nothing_recorded : (c : Cluster) (event : law.Event) → IsPassing event → recorded_at c event ≡ []
 nothing_recorded c (law.Admit a v) is = refl

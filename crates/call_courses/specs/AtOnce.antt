@@ -4,7 +4,7 @@ use Rattle.std.specs.Prelude.{List, false, true, ℕ, ◌++◌, ◌≡◌, ◌�
 use Rattle.gl_base.specs.declared.numbers.MachineNo.{MachineNo}
 use Rattle.cluster_laws.specs.cluster_model.Events as law
 use Rattle.call_courses.specs.Courses.{CallOpening, Cluster, CourseView, InEachCourse, IsCourseNow, Machine, Setting, newest_setting}
-use Rattle.whole_calls.specs.Following.{has_reached}
+use Rattle.whole_laws.specs.whole_calls.Following.{has_reached}
 
 -- Machine a had reached the count of no failure, v might be updated at once there, and the course goes on by what the machine does in turn.
 pub record HasHappenedAtOnce {M : Type 0} (stands : Setting → ℕ → Machine → M → Type 0) (old : CourseView M) (a v : ℕ) (new : CourseView M) (st : Setting) (o : CallOpening) (events : List law.Event) (c : Cluster) : Type 0 where

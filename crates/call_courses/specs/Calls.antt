@@ -3,18 +3,18 @@ use Rattle.std.specs.List.{AllByRecursion}
 use Rattle.std.specs.Prelude.{List, false, length, true, ℕ, ◌+◌, ◌/◌, ◌<◌, ◌≡◌, ◌≤◌}
 use Rattle.gl_base.specs.declared.jobs.FailureAt.{FailureAt}
 use Rattle.gl_base.specs.declared.entries.Entry.{Entry}
-use Rattle.attempts.specs.EngineCalls.{EngineCall, call_order, lost_of, made_of}
-use Rattle.attempts.specs.Stores.{last_order, snapshots_of}
+use Rattle.whole_laws.specs.attempts.EngineCalls.{EngineCall, call_order, lost_of, made_of}
+use Rattle.whole_laws.specs.attempts.Stores.{last_order, snapshots_of}
 use Rattle.cluster_laws.specs.cluster_model.Events as law
 use Rattle.cluster_laws.specs.cluster_model.Working.{half_window}
 use Rattle.call_courses.specs.Courses.{CallOpening, Cluster, CourseView, InEachCourse, Machine, Setting, first_cluster, first_setting}
 use Rattle.graph_core.specs.DataGraph.{size}
 use Rattle.merged_logs.specs.Merges.{IsByMachineBelow}
 use Rattle.seq_run.specs.Orders.{tasks_after}
-use Rattle.whole_calls.specs.Called.{IsCallOf, KeepsWindows}
-use Rattle.whole_calls.specs.Lost.{AreLostIn}
-use Rattle.whole_calls.specs.Saved.{AreNextOrders, AreSnapshotsOf, fronts_in, recorded_in}
-use Rattle.whole_calls.specs.Telling.{TellsOfCall}
+use Rattle.whole_laws.specs.whole_calls.Called.{IsCallOf, KeepsWindows}
+use Rattle.whole_laws.specs.whole_calls.Lost.{AreLostIn}
+use Rattle.whole_laws.specs.whole_calls.Saved.{AreNextOrders, AreSnapshotsOf, fronts_in, recorded_in}
+use Rattle.whole_laws.specs.whole_calls.Telling.{TellsOfCall}
 
 -- These events make this call: it keeps its windows, the snapshots that were acknowledged are its, and what waves and tickets tell is so
 -- of it.

@@ -11,9 +11,9 @@ use Rattle.gl_base.specs.declared.entries.Entry.{Entry}
 use Rattle.gl_base.specs.declared.jobs.FailureAt.{FailureAt}
 use Rattle.cluster_laws.specs.cluster_core.Recovering.{going_on}
 use Rattle.cluster_laws.specs.cluster_model.Events as law
-use Rattle.cluster_whole.specs.Whole.{IsNoRecovery, setting_behind}
-use Rattle.whole_calls.specs.Following.{FollowsJob}
-use Rattle.whole_calls.specs.Opened.{IsCourseOfCall, IsOpened}
+use Rattle.whole_laws.specs.cluster_whole.Whole.{IsNoRecovery, setting_behind}
+use Rattle.whole_laws.specs.whole_calls.Following.{FollowsJob}
+use Rattle.whole_laws.specs.whole_calls.Opened.{IsCourseOfCall, IsOpened}
 
 -- How a call opened: the order of the store's last snapshot, and whether the call resumes it; what the first attempt goes back to; and
 -- the cluster before that.

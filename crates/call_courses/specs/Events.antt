@@ -10,7 +10,7 @@ use Rattle.snap_clusters.specs.declared.events.Event.TheVariants as event
 use Rattle.snap_clusters.specs.declared.events.Lead.TheVariants as lead
 use Rattle.snap_clusters.specs.declared.events.Local.TheVariants as local
 use Rattle.snap_clusters.specs.declared.events.Passage.TheVariants as passage
-use Rattle.whole_calls.specs.Following.{FollowsJob}
+use Rattle.whole_laws.specs.whole_calls.Following.{FollowsJob}
 
 -- such an event might occur, and follows the job
 pub record MayHappenInCall (st : Setting) (failures : List FailureAt) (c : Cluster) (what : Event) (event : law.Event) : Type 0 where

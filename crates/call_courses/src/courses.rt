@@ -1,6 +1,6 @@
 //! The course of a call.
 ghost use Rattle.std.specs.Prelude.{[], ◌≡◌, ◌+◌, ◌^◌, ◌<◌, ◌≤◌, ℕ, length, slice_index_or, false, true, IfNone, IfOk, IfSome, IsErrOf, OnErr, OnOk};
-ghost use Rattle.attempts.specs.EngineCalls.{done_of, first_ticket, made_of};
+ghost use Rattle.whole_laws.specs.attempts.EngineCalls.{done_of, first_ticket, made_of};
 ghost use Rattle.call_courses.specs.AtOnce.{CanHappenAtOnceInCall, CanNotHappenAtOnceInCall, HappensAtOnceInCall};
 ghost use Rattle.call_courses.specs.Calls.{HasCall, HasEndedCall, HasTaskLeft, OfTheCall};
 ghost use Rattle.call_courses.specs.Courses.{BaseView, CallOpening, Cluster, CourseGoesOn, HasCourse, HasGoneBack, InEachCourse, IsCourseNow, IsSameAttempt, OpensCall, Setting, StartsCall, StartsSaving, as_since, first_cluster, newest_setting};
@@ -11,8 +11,8 @@ ghost use Rattle.coord_core.specs.Calls.{IsDueOf, IsRecordFor};
 ghost use Rattle.coord_core.specs.Stores.{store_view};
 ghost use Rattle.snap_clusters.specs.Cuts.{snapshot_due};
 ghost use Rattle.snap_clusters.specs.Events.{CanNotTakePlace, CanTakePlace, IsReadyToAcknowledge, NamesItsMachines};
-ghost use Rattle.whole_calls.specs.Following.{has_reached};
-ghost use Rattle.whole_calls.specs.Saved.{MayFollow};
+ghost use Rattle.whole_laws.specs.whole_calls.Following.{has_reached};
+ghost use Rattle.whole_laws.specs.whole_calls.Saved.{MayFollow};
 
 use crate::failing::{is_count_reached, watched};
 use gl_base::{Entry, FailureAt, MachineNo, NoMemory, Record, Refused, ScopeId, Vertex};

@@ -1,7 +1,7 @@
 //! What a machine makes only before it has reached the count of a failure, or only once it has.
 ghost use Rattle.std.specs.Prelude.{◌≡◌, ◌+◌, ◌&&◌, ◌==◌, nat_le, nat_lt};
 ghost use Rattle.call_courses.specs.Events as events;
-ghost use Rattle.whole_calls.specs.Following.{reaches};
+ghost use Rattle.whole_laws.specs.whole_calls.Following.{reaches};
 
 use gl_base::{FailureAt, MachineNo};
 use snap_clusters::{Event, Local, Passage};

@@ -3,9 +3,9 @@ ghost use Rattle.std.specs.Prelude.{List, [], ◌++◌, ◌∷◌, ◌≡◌};
 ghost use Rattle.gl_base.specs.declared.entries.Entry.{Entry};
 ghost use Rattle.call_courses.specs.Courses.{ArePassing, BaseView, CallOpening, Cluster, Setting, first_cluster, first_setting, newest_setting};
 ghost use Rattle.cluster_laws.specs.cluster_model.Events.{Event, IsCourse, Record, Recover};
-ghost use Rattle.cluster_records.specs.Recorded.{snapshot_due};
-ghost use Rattle.whole_calls.specs.Lost.{AreLostIn, TakesAway};
-ghost use Rattle.whole_calls.specs.Saved.{fronts_in, recorded_in};
+ghost use Rattle.whole_laws.specs.cluster_records.Recorded.{snapshot_due};
+ghost use Rattle.whole_laws.specs.whole_calls.Lost.{AreLostIn, TakesAway};
+ghost use Rattle.whole_laws.specs.whole_calls.Saved.{fronts_in, recorded_in};
 
 /// What events add to the snapshots that were acknowledged, with the orders that their attempts began with, and to what recoveries took
 /// away: passing events add nothing, an acknowledgement adds the snapshot that was due, and going back adds what it takes away.

@@ -4,11 +4,11 @@ use Rattle.std.proofs.lemmas.List.Elements.{filter-append}
 use Rattle.gl_base.specs.declared.entries.Entry.{Entry}
 use Rattle.gl_base.specs.declared.jobs.FailureAt.{FailureAt}
 use Rattle.cluster_laws.specs.cluster_runs.Attempts.{Beginning}
-use Rattle.attempts.specs.EngineCalls.{EngineCall, IsEngineCall, last_beginning, opening}
-use Rattle.attempts.specs.Stores.{ResumesFrom, attempted_snapshots, last_order, snapshot_orders, snapshots_of}
-use Rattle.attempts.proofs.Opening.{last_begins, opening_begins}
-use Rattle.attempts.proofs.Prefixes.{last_order_append}
-use Rattle.attempts.proofs.Storing.{call_back}
+use Rattle.whole_laws.specs.attempts.EngineCalls.{EngineCall, IsEngineCall, last_beginning, opening}
+use Rattle.whole_laws.specs.attempts.Stores.{ResumesFrom, attempted_snapshots, last_order, snapshot_orders, snapshots_of}
+use Rattle.whole_laws.proofs.attempts.Opening.{last_begins, opening_begins}
+use Rattle.whole_laws.proofs.attempts.Prefixes.{last_order_append}
+use Rattle.whole_laws.proofs.attempts.Storing.{call_back}
 use Rattle.cluster_laws.specs.cluster_core.Recovering.{going_on}
 use Rattle.cluster_laws.specs.cluster_model.Clusters.{BaseView, Cluster}
 use Rattle.cluster_laws.specs.cluster_model.Events.{Event, recovers}
@@ -20,10 +20,10 @@ use Rattle.recovery.specs.Journals.{order_behind, with_entries}
 use Rattle.store_format.specs.declared.header.Header.{Header}
 use Rattle.store_format.specs.StoredOrders.{body_entries}
 use Rattle.stored_records.specs.Keeping.{AreNextOrders, KeepsUp, fronts_in, orders_behind, recorded_in, stored_order}
-use Rattle.whole_calls.proofs.Calling.{the_call}
-use Rattle.whole_calls.proofs.Fronting.{HaveRestartsOf, attempt_restarts, next_once}
-use Rattle.whole_calls.specs.Called.{IsCallOf}
-use Rattle.whole_calls.specs.Opened.{IsCourseOfCall}
+use Rattle.whole_laws.proofs.whole_calls.Calling.{the_call}
+use Rattle.whole_laws.proofs.whole_calls.Fronting.{HaveRestartsOf, attempt_restarts, next_once}
+use Rattle.whole_laws.specs.whole_calls.Called.{IsCallOf}
+use Rattle.whole_laws.specs.whole_calls.Opened.{IsCourseOfCall}
 use Rattle.call_returns.specs.Missing.{Begins, Setting, is_restart}
 
 order_append : (order : List Entry) (xs ys : List (List ℕ)) → order_behind order (xs ++ ys) ≡ order_behind (order_behind order xs) ys

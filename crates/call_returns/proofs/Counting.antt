@@ -5,7 +5,7 @@ use Rattle.cluster_laws.specs.cluster_core.Settings.{Setting}
 use Rattle.cluster_laws.specs.cluster_model.Clusters.{Cluster}
 use Rattle.cluster_laws.specs.cluster_model.Events.{failures_in}
 use Rattle.cluster_laws.specs.cluster_model.Totals.{total, total_from}
-use Rattle.cluster_whole.proofs.Flows.{total_from-same}
+use Rattle.whole_laws.proofs.cluster_whole.Flows.{total_from-same}
 
 -- 1 where the flag of machine a is up
 abbrev pub one_at : List Bool → ℕ → ℕ

@@ -1,5 +1,5 @@
 -- What is said of the restarts that a store lacks, and of records with them.
-pub use Rattle.attempts.specs.Entries.{is_restart}
+pub use Rattle.whole_laws.specs.attempts.Entries.{is_restart}
 pub use Rattle.cluster_laws.specs.cluster_core.Cuts.{Begins}
 pub use Rattle.cluster_laws.specs.cluster_core.Settings.{Setting}
 pub use Rattle.cluster_laws.specs.cluster_model.ByTicket.{restarts}

@@ -8,7 +8,7 @@ ghost use Rattle.cluster_laws.specs.cluster_model.Clusters.{BaseView, Cluster};
 ghost use Rattle.cluster_laws.specs.cluster_model.Events.{Event, recovers};
 ghost use Rattle.store_format.specs.declared.header.Header.{Header};
 ghost use Rattle.stored_records.specs.Keeping.{KeepsUp, fronts_in, recorded_in, stored_order};
-ghost use Rattle.whole_calls.specs.Opened.{IsCourseOfCall};
+ghost use Rattle.whole_laws.specs.whole_calls.Opened.{IsCourseOfCall};
 
 /// A store that keeps up with a call has no restart but those of the order that the newest attempt began with, and these in the same turn,
 /// the first first. So it may be told which it lacks.

@@ -5,13 +5,13 @@ pub use Rattle.call_courses.specs.Events.{GoesOnBy}
 pub use Rattle.snap_clusters.specs.Events.{NamesItsMachines}
 use Rattle.std.specs.Prelude.{false, length, true, ℕ, ◌<◌, ◌≡◌}
 use Rattle.gl_base.specs.declared.numbers.MachineNo.{MachineNo}
-use Rattle.attempts.specs.EngineCalls.{made_of}
+use Rattle.whole_laws.specs.attempts.EngineCalls.{made_of}
 use Rattle.call_rounds.specs.declared.pauses.Pause.{Pause}
 use Rattle.call_rounds.specs.declared.pauses.Pause.TheVariants.{Ended, Reached, Record, Spent}
 use Rattle.coord_core.specs.Calls.{IsDueOf}
 use Rattle.coord_core.specs.declared.leading.Due.TheVariants as due
-use Rattle.whole_calls.specs.Following.{has_reached}
-use Rattle.whole_calls.specs.Saved.{MayFollow}
+use Rattle.whole_laws.specs.whole_calls.Following.{has_reached}
+use Rattle.whole_laws.specs.whole_calls.Saved.{MayFollow}
 
 -- no machine has reached the count of a failure
 abbrev pub NoneReached : {M : Type 0} → (Setting → ℕ → Machine → M → Type 0) → CourseView M → Type 0

@@ -19,8 +19,8 @@ use Rattle.cluster_laws.proofs.cluster_places.Standing.{aside_keeps}
 use Rattle.cluster_laws.specs.cluster_places.Steps.{AreApart, IsOfColour}
 use Rattle.cluster_laws.specs.cluster_cuts.Goings.{IsOneStep}
 use Rattle.cluster_laws.proofs.cluster_cuts.CutsGoOn.{goes_then, step_goes}
-use Rattle.cluster_whole.specs.Views.{IsMove, IsTurned}
-use Rattle.cluster_whole.proofs.Keeping.{move_step}
+use Rattle.whole_laws.specs.cluster_whole.Views.{IsMove, IsTurned}
+use Rattle.whole_laws.proofs.cluster_whole.Keeping.{move_step}
 use Rattle.step_worlds.specs.Going.{GoesInStep, IsAtStandstill, IsStepMessage}
 use Rattle.step_worlds.proofs.GoingLemmas.{step_begins, still_next}
 use Rattle.cluster_step.specs.Clusters.{ClusterView}

@@ -6,7 +6,7 @@ ghost use Rattle.job_config.specs.Views.{job_view};
 ghost use Rattle.job_files.specs.JobTexts.{HasStart};
 ghost use Rattle.job_stores.specs.JobHeaders.{header_for};
 ghost use Rattle.store_format.specs.Stores.{StandsFor};
-ghost use Rattle.whole_calls.specs.Following.{AreJobFailures};
+ghost use Rattle.whole_laws.specs.whole_calls.Following.{AreJobFailures};
 ghost use Rattle.engine_cli.specs.JobRuns.{IsEndAlone, RunsThroughFailures, RunsWithoutStore};
 ghost use Rattle.engine_cli.specs.Inner.Failing.{IsRunWithoutSnapshots};
 ghost use Rattle.engine_cli.specs.Inner.Prepares.{IsPrintable};

@@ -10,7 +10,7 @@ ghost use Rattle.stored_answers.specs.declared.runs.StoredEnd.TheVariants.{DiskF
 ghost use Rattle.gl_outside.specs.Faults.{Rose};
 ghost use Rattle.gl_outside.specs.FilesState.{disk_past};
 ghost use Rattle.gl_outside.specs.Frames.{ChangesDisk};
-ghost use Rattle.whole_calls.specs.Following.{AreJobFailures};
+ghost use Rattle.whole_laws.specs.whole_calls.Following.{AreJobFailures};
 ghost use Rattle.engine_cli.specs.JobRuns.{RunsOnStore};
 ghost use Rattle.engine_cli.specs.Inner.Prepares.{IsPrintable, IsRunnable};
 ghost use Rattle.engine_cli.specs.Inner.Storing.{IsStoreRunFrom, IsRunIntoStore, IsWhyNoStoredRun, IsWhyNotOnDisk, IsWhyNotOnJournal, IsWhyNoneStored, no_store_of_open, no_store_of_journal};

@@ -5,10 +5,10 @@ use Rattle.gl_base.specs.declared.entries.Entry.{Entry}
 use Rattle.gl_base.specs.declared.entries.Entry.TheVariants.{Restart}
 use Rattle.gl_base.specs.declared.jobs.FailureAt.{FailureAt}
 use Rattle.gl_base.specs.declared.snapshots.Base.{Base}
-use Rattle.attempts.specs.Beginnings.{IsBeginning, nothing}
-use Rattle.attempts.proofs.Opening.{plain_begins, resumed_begins}
+use Rattle.whole_laws.specs.attempts.Beginnings.{IsBeginning, nothing}
+use Rattle.whole_laws.proofs.attempts.Opening.{plain_begins, resumed_begins}
 use Rattle.cluster_laws.specs.cluster_model.ByTicket.{StandByTicket}
-use Rattle.cluster_records.specs.Recorded.{HaveSameNumbers}
+use Rattle.whole_laws.specs.cluster_records.Recorded.{HaveSameNumbers}
 use Rattle.cluster_laws.specs.cluster_runs.Attempts.{Beginning, Shared}
 use Rattle.seq_run.specs.Orders.{IsValidOrder, replay, tasks_after}
 use Rattle.seq_run.specs.States.{GraphState, start_state}

@@ -1,19 +1,19 @@
 -- What the law sees of the base with which a call opens, and of the cluster before its first attempt.
-pub use Rattle.attempts.specs.EngineCalls.{ticket_above}
+pub use Rattle.whole_laws.specs.attempts.EngineCalls.{ticket_above}
 pub use Rattle.cluster_laws.specs.cluster_model.Clusters.{BaseView, Cluster}
-pub use Rattle.cluster_records.specs.Bases.{IsBase}
+pub use Rattle.whole_laws.specs.cluster_records.Bases.{IsBase}
 pub use Rattle.cluster_laws.specs.cluster_runs.Recorded.{shared_of}
 pub use Rattle.cluster_laws.specs.cluster_core.Settings.{Setting}
 pub use Rattle.graph_core.specs.DataGraph.{size}
 pub use Rattle.recovery.specs.GoodStores.{IsGoodBase}
 pub use Rattle.seq_run.specs.Runs.{AreNumbers}
-pub use Rattle.whole_calls.specs.Following.{AreJobFailures}
-pub use Rattle.whole_calls.specs.Opened.{IsOpened}
+pub use Rattle.whole_laws.specs.whole_calls.Following.{AreJobFailures}
+pub use Rattle.whole_laws.specs.whole_calls.Opened.{IsOpened}
 use Rattle.std.specs.Prelude.{Bool, List, [], if◌then◌else◌, slice_index, ℕ, ◌++◌, ◌∷◌}
 use Rattle.gl_base.specs.declared.entries.Entry.{Entry}
 use Rattle.gl_base.specs.declared.entries.Entry.TheVariants.{Restart}
 use Rattle.gl_base.specs.declared.snapshots.Base.{Base}
-use Rattle.cluster_ending.specs.FourWaves.{fresh_cluster}
+use Rattle.whole_laws.specs.cluster_ending.FourWaves.{fresh_cluster}
 use Rattle.cluster_laws.specs.cluster_model.Leading.{first_coordinator}
 use Rattle.seq_run.specs.States.{GraphState}
 

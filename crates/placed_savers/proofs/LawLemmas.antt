@@ -1,6 +1,6 @@
 -- There is an attempt that begins as it is to.
 use Rattle.std.proofs.Common.{◌≡◌, ◌+◌, ◌*◌, ◌<◌, ℕ, true, List, refl, slice_index, arith}
-use Rattle.cluster_ending.specs.FourWaves.{fresh_cluster, fresh_machine, fresh_part}
+use Rattle.whole_laws.specs.cluster_ending.FourWaves.{fresh_cluster, fresh_machine, fresh_part}
 use Rattle.cluster_laws.specs.cluster_model.Leading.{first_coordinator}
 use Rattle.cluster_laws.specs.cluster_model.Totals.{total}
 use Rattle.cluster_laws.specs.cluster_core.Settings.{IsSetting}

@@ -1,5 +1,3 @@
-pub mod color_savers
-mod engine_savers
 pub mod FirstLemmas
 pub mod SaverLemmas
 pub mod MemberLemmas

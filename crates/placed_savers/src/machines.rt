@@ -2,9 +2,9 @@
 ghost use Rattle.std.specs.Prelude.{◌≡◌, ℕ, length, IfOk};
 ghost use Rattle.placed_savers.specs.Inner.Making.{AreUnsetParts, CanAllSave, CanSave, Cluster, HaveAdmitted, IsEngineSaverOf, IsUnsetPart, Machine, SavesBy, Setting, StandFirst, goes_back, with_locking};
 
+use crate::engine_savers::EngineSaver;
 use crate::members::new_member;
 use crate::savers::Places;
-use crate::engine_savers::EngineSaver;
 use gl_base::{Base, NoMemory};
 use local_graph::LocalGraph;
 use placed_clusters::{NewTerms, new_core};

@@ -2,11 +2,11 @@
 ghost use Rattle.std.specs.Prelude.{IfOk};
 ghost use Rattle.placed_savers.specs.Inner.Members.{CanRunInColours, FitsEngine, IsNewColorSaver, IsNewMember, in_own_colours};
 
-use crate::savers::Places;
 use crate::color_savers::ColorSaver;
+use crate::engine_savers::EngineSaver;
+use crate::savers::Places;
 use color_snaps::ColorSnapMachine;
 use coord_core::Engine;
-use crate::engine_savers::EngineSaver;
 use gl_base::NoMemory;
 use machine_places::colours_of;
 use saving_machines::SnapMachine;

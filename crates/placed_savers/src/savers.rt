@@ -4,9 +4,9 @@ ghost use Rattle.graph_core.specs.DataGraph.{IsDataGraph};
 ghost use Rattle.placed_savers.specs.Beginning.{ArePlacesOf, AreSaversOf, BaseView, Cluster, HaveAdmitted, IsBaseFor, IsBaseOf, IsOwnedBy, IsRunAt, Setting, placed_owner};
 ghost use Rattle.placed_savers.specs.Inner.Making.{AreUnsetParts, GoesBy, IsRunFrom, Update, takes_locks, with_locking};
 
+use crate::engine_savers::EngineSaver;
 use crate::machines::new_savers;
 use coord_core::Engine;
-use crate::engine_savers::EngineSaver;
 use gl_base::{AtomNo, Base, MachineNo, NoMemory, Vertex};
 use graph_core::Graph;
 use local_graph::LocalGraph;

@@ -8,9 +8,9 @@ use Rattle.update_api.specs.Updates.{Update}
 use Rattle.seq_run.specs.Orders.{replay}
 use Rattle.seq_run.specs.Runs.{AreNumbers}
 use Rattle.cluster_laws.specs.cluster_runs.Attempts.{Shared}
-use Rattle.attempts.specs.EngineCalls.{IsOrderInTurn}
-use Rattle.attempts.specs.Stores.{AreGoodOrders, last_order}
-use Rattle.attempts.proofs.Storing.{last_in_turn}
+use Rattle.whole_laws.specs.attempts.EngineCalls.{IsOrderInTurn}
+use Rattle.whole_laws.specs.attempts.Stores.{AreGoodOrders, last_order}
+use Rattle.whole_laws.proofs.attempts.Storing.{last_in_turn}
 use Rattle.store_format.specs.declared.header.Header.{Header}
 use Rattle.store_format.specs.Stores.{stored_in, IsBeforeOrAfter}
 use Rattle.store_format.specs.StoredOrders.{body_entries, with_entries, order_behind, stored_order}

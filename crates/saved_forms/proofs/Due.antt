@@ -9,14 +9,14 @@ use Rattle.gl_base.specs.declared.entries.Entry.TheVariants.{Go, Restart}
 use Rattle.gl_base.specs.declared.jobs.FailureAt.{FailureAt}
 use Rattle.gl_base.specs.declared.snapshots.Record.{Record}
 use Rattle.gl_base.specs.declared.snapshots.SavedPart.{SavedPart}
-use Rattle.attempts.specs.Entries.{is_restart}
+use Rattle.whole_laws.specs.attempts.Entries.{is_restart}
 use Rattle.cluster_laws.specs.cluster_core.Messages.{Section}
 use Rattle.cluster_laws.specs.cluster_core.Replays.{ticket_of}
 use Rattle.cluster_laws.specs.cluster_core.Settings.{Setting}
 use Rattle.cluster_laws.specs.cluster_model.Clusters.{BaseView, Cluster}
 use Rattle.cluster_laws.specs.cluster_model.Events.{Event, entries_below}
 use Rattle.cluster_laws.specs.cluster_model.Leading.{RecordIsDue}
-use Rattle.cluster_records.specs.Recorded.{IsOwnUpdate, snapshot_due}
+use Rattle.whole_laws.specs.cluster_records.Recorded.{IsOwnUpdate, snapshot_due}
 use Rattle.graph_core.specs.DataGraph.{size}
 use Rattle.graph_core.proofs.HalvesLaws.{each-append, each-back, each-both}
 use Rattle.seq_run.proofs.EachOf.{all_is, each_is}
@@ -27,9 +27,9 @@ use Rattle.store_format.specs.Encoding.{RecordFits, body_bytes}
 use Rattle.store_format.specs.ReadBack.{NumbersFit}
 use Rattle.store_format.specs.StoredOrders.{entry_rank}
 use Rattle.stored_records.specs.Keeping.{IsRecordBehind}
-use Rattle.whole_calls.proofs.Calling.{the_call}
-use Rattle.whole_calls.specs.Opened.{IsCourseOfCall}
-use Rattle.whole_calls.specs.Saved.{SaysOnce}
+use Rattle.whole_laws.proofs.whole_calls.Calling.{the_call}
+use Rattle.whole_laws.specs.whole_calls.Opened.{IsCourseOfCall}
+use Rattle.whole_laws.specs.whole_calls.Saved.{SaysOnce}
 use Rattle.saved_forms.proofs.AllSaved.{AreWhole, ArePartsOf, all_edges, all_in_order, all_saved, all_vertices}
 use Rattle.saved_forms.proofs.Formed.{is_body, record_fits}
 use Rattle.saved_forms.proofs.InTurn.{IsTaken}

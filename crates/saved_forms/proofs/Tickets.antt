@@ -8,7 +8,7 @@ use Rattle.std.proofs.lemmas.Bool.{ltb-true}
 use Rattle.gl_base.specs.declared.entries.Entry.{Entry}
 use Rattle.gl_base.specs.declared.entries.Entry.TheVariants.{Go, Restart}
 use Rattle.graph_core.proofs.HalvesLaws.{each-weaker}
-use Rattle.attempts.specs.EngineCalls.{ticket_above}
+use Rattle.whole_laws.specs.attempts.EngineCalls.{ticket_above}
 use Rattle.cluster_laws.specs.cluster_core.Replays.{ticket_of}
 use Rattle.store_format.specs.declared.faults.StoreFault.{StoreFault}
 use Rattle.store_format.specs.declared.faults.StoreFault.TheVariants.{BadByte, Torn}

@@ -4,12 +4,12 @@ ghost use Rattle.std.specs.Prelude.{Bool, List, length, ℕ, ◌*◌, ◌++◌, 
 ghost use Rattle.gl_base.specs.declared.entries.Entry.{Entry};
 ghost use Rattle.gl_base.specs.declared.jobs.FailureAt.{FailureAt};
 ghost use Rattle.gl_base.specs.declared.snapshots.Record.{Record};
-ghost use Rattle.attempts.specs.EngineCalls.{ticket_above};
+ghost use Rattle.whole_laws.specs.attempts.EngineCalls.{ticket_above};
 ghost use Rattle.cluster_laws.specs.cluster_core.Settings.{Setting};
 ghost use Rattle.cluster_laws.specs.cluster_model.Clusters.{BaseView, Cluster};
 ghost use Rattle.cluster_laws.specs.cluster_model.Events.{Event};
 ghost use Rattle.cluster_laws.specs.cluster_model.Leading.{RecordIsDue};
-ghost use Rattle.cluster_records.specs.Recorded.{snapshot_due};
+ghost use Rattle.whole_laws.specs.cluster_records.Recorded.{snapshot_due};
 ghost use Rattle.graph_core.specs.DataGraph.{size};
 ghost use Rattle.store_format.specs.declared.header.Header.{Header};
 ghost use Rattle.store_format.specs.Bodies.{IsBody};
@@ -18,7 +18,7 @@ ghost use Rattle.store_format.specs.ReadBack.{NumbersFit};
 ghost use Rattle.store_format.specs.StoredOrders.{entry_rank, stored_order};
 ghost use Rattle.store_format.specs.Stores.{stored_in};
 ghost use Rattle.stored_records.specs.Keeping.{IsRecordBehind};
-ghost use Rattle.whole_calls.specs.Opened.{IsCourseOfCall};
+ghost use Rattle.whole_laws.specs.whole_calls.Opened.{IsCourseOfCall};
 
 /// The record of a snapshot that is due in the course of a call, with the restarts that a store lacks and with its entries in their turn, is in the form
 /// of a store of this graph on these machines. So it is while all tickets that the call may draw stay below the bound for the record's number.

@@ -7,38 +7,38 @@ use Rattle.gl_base.specs.declared.entries.Entry.TheVariants.{Go, Restart}
 use Rattle.gl_base.specs.declared.jobs.FailureAt.{FailureAt}
 use Rattle.graph_core.specs.DataGraph.{size}
 use Rattle.graph_core.proofs.HalvesLaws.{each-append, each-front, each-weaker}
-use Rattle.attempts.specs.EngineCalls.{EngineCall, first_ticket, made_of, ticket_above}
+use Rattle.whole_laws.specs.attempts.EngineCalls.{EngineCall, first_ticket, made_of, ticket_above}
 use Rattle.cluster_laws.specs.cluster_core.Messages.{Section}
 use Rattle.cluster_laws.specs.cluster_core.Recovering.{going_on}
 use Rattle.cluster_laws.specs.cluster_core.Replays.{ticket_of}
 use Rattle.cluster_laws.specs.cluster_core.Settings.{IsSetting, Setting}
 use Rattle.cluster_laws.specs.cluster_core.Worlds.{World}
 use Rattle.cluster_laws.proofs.cluster_cuts.MarkEvents.{all_known, section_come}
-use Rattle.cluster_ending.proofs.Courses.{setting_same}
+use Rattle.whole_laws.proofs.cluster_ending.Courses.{setting_same}
 use Rattle.cluster_laws.specs.cluster_model.ByTicket.{StandByTicket}
 use Rattle.cluster_laws.specs.cluster_model.Clusters.{BaseView, Cluster}
 use Rattle.cluster_laws.specs.cluster_model.Events.{Event, IsCourse, MayDo, Recover, Update, after_event, entries_below, recovers, setting_after}
 use Rattle.cluster_laws.specs.cluster_model.Leading.{RecordIsDue}
-use Rattle.cluster_records.specs.Bases.{IsBased}
-use Rattle.cluster_records.specs.Listed.{is_first_in}
-use Rattle.cluster_records.specs.Recorded.{IsAccounted, IsOwnUpdate, snapshot_due}
-use Rattle.cluster_records.proofs.Courses.{courses_go, event_goes}
-use Rattle.cluster_records.proofs.Filtering.{passing, passing-cons_in, passing-cons_out}
-use Rattle.cluster_records.proofs.Numbering.{all_own}
-use Rattle.cluster_records.proofs.Recording.{come_section, due_updates, next_number}
-use Rattle.cluster_whole.specs.Logged.{Logged, all_entries}
-use Rattle.cluster_whole.specs.Views.{world_of}
-use Rattle.cluster_whole.specs.Whole.{IsNoRecovery, IsWhole, setting_behind}
-use Rattle.cluster_whole.proofs.Joining.{event_leads}
-use Rattle.cluster_whole.proofs.Wholeness.{is_exclusive, may_record}
+use Rattle.whole_laws.specs.cluster_records.Bases.{IsBased}
+use Rattle.whole_laws.specs.cluster_records.Listed.{is_first_in}
+use Rattle.whole_laws.specs.cluster_records.Recorded.{IsAccounted, IsOwnUpdate, snapshot_due}
+use Rattle.whole_laws.proofs.cluster_records.Courses.{courses_go, event_goes}
+use Rattle.whole_laws.proofs.cluster_records.Filtering.{passing, passing-cons_in, passing-cons_out}
+use Rattle.whole_laws.proofs.cluster_records.Numbering.{all_own}
+use Rattle.whole_laws.proofs.cluster_records.Recording.{come_section, due_updates, next_number}
+use Rattle.whole_laws.specs.cluster_whole.Logged.{Logged, all_entries}
+use Rattle.whole_laws.specs.cluster_whole.Views.{world_of}
+use Rattle.whole_laws.specs.cluster_whole.Whole.{IsNoRecovery, IsWhole, setting_behind}
+use Rattle.whole_laws.proofs.cluster_whole.Joining.{event_leads}
+use Rattle.whole_laws.proofs.cluster_whole.Wholeness.{is_exclusive, may_record}
 use Rattle.single_saves.proofs.OnlyOnce.{SavesRight, move_right}
-use Rattle.whole_calls.specs.Called.{IsCallOf}
-use Rattle.whole_calls.specs.Opened.{IsCourseOfCall}
-use Rattle.whole_calls.specs.Telling.{TellsOfCall}
-use Rattle.whole_calls.proofs.Calling.{the_call}
-use Rattle.whole_calls.proofs.EventKinds.{by_kind}
-use Rattle.whole_calls.proofs.Going.{IsInCall}
-use Rattle.whole_calls.proofs.Leading.{behind_since, opened_at, opened_in, since}
+use Rattle.whole_laws.specs.whole_calls.Called.{IsCallOf}
+use Rattle.whole_laws.specs.whole_calls.Opened.{IsCourseOfCall}
+use Rattle.whole_laws.specs.whole_calls.Telling.{TellsOfCall}
+use Rattle.whole_laws.proofs.whole_calls.Calling.{the_call}
+use Rattle.whole_laws.proofs.whole_calls.EventKinds.{by_kind}
+use Rattle.whole_laws.proofs.whole_calls.Going.{IsInCall}
+use Rattle.whole_laws.proofs.whole_calls.Leading.{behind_since, opened_at, opened_in, since}
 
 none_some : (x : ℕ) → None ≡ Some x → ⊥
 none_some x is = cc

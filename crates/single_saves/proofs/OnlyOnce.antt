@@ -22,7 +22,7 @@ use Rattle.cluster_laws.proofs.cluster_core.Nearness.{near_within}
 use Rattle.cluster_laws.proofs.cluster_numbers.Keeping.{marks_is, updates_is}
 use Rattle.cluster_laws.proofs.cluster_numbers.Quiet.{IsQuiet, admitted-quiet, goes_on-quiet, granted-quiet}
 use Rattle.cluster_laws.proofs.cluster_cuts.MarkMade.{home_low, home_newest, home_unmarked, left_low}
-use Rattle.cluster_whole.specs.Views.{IsMove, IsTurned, MayTurn}
+use Rattle.whole_laws.specs.cluster_whole.Views.{IsMove, IsTurned, MayTurn}
 
 -- no edge is saved by two machines that know one snapshot
 abbrev pub SavesOnce : Setting → World → Type 0

@@ -11,17 +11,17 @@ use Rattle.seq_run.specs.Examples.{edge}
 use Rattle.cluster_laws.specs.cluster_core.Ranges.{all_passing, first_passing}
 use Rattle.cluster_laws.specs.cluster_core.Scopes.{is_scope}
 use Rattle.cluster_laws.specs.cluster_core.Settings.{IsSetting}
-use Rattle.cluster_ending.specs.FourWaves.{first_base, fresh_cluster, started_from}
+use Rattle.whole_laws.specs.cluster_ending.FourWaves.{first_base, fresh_cluster, started_from}
 use Rattle.cluster_laws.specs.cluster_model.Clusters.{Cluster}
 use Rattle.cluster_laws.specs.cluster_model.Events.{IsCourse, Section, after_event, entries_below}
 use Rattle.cluster_laws.specs.cluster_model.Leading.{Come, RecordIsDue}
 use Rattle.cluster_laws.specs.cluster_model.Totals.{total_from}
-use Rattle.cluster_records.specs.Recorded.{snapshot_due}
-use Rattle.cluster_whole.specs.Windows.{scope_at}
+use Rattle.whole_laws.specs.cluster_records.Recorded.{snapshot_due}
+use Rattle.whole_laws.specs.cluster_whole.Windows.{scope_at}
 use Rattle.single_saves.specs.EdgeSaved.{both_come, both_marked, first_marked, first_marks, one_wants, pair_saves_once, pair_with_store, second_marks, sections_go, one_wanted}
-use Rattle.whole_calls.specs.Following.{FollowJob}
-use Rattle.whole_calls.specs.Opened.{IsCourseOfCall, IsOpened}
-use Rattle.whole_calls.proofs.WorkedPair.{course_append}
+use Rattle.whole_laws.specs.whole_calls.Following.{FollowJob}
+use Rattle.whole_laws.specs.whole_calls.Opened.{IsCourseOfCall, IsOpened}
+use Rattle.whole_laws.proofs.whole_calls.WorkedPair.{course_append}
 
 low_one : 0 < 1
 low_one = omega arith

@@ -1,10 +1,10 @@
 -- Two machines with a vertex each and an edge between them, up to where a record is due.
 use Rattle.std.specs.Prelude.{List, [], true, ◌++◌, ◌∷◌}
 use Rattle.cluster_laws.specs.cluster_core.Settings.{Setting}
-use Rattle.cluster_ending.specs.FourWaves.{first_vertex, hop, led_through, on_a_pair, started_from}
+use Rattle.whole_laws.specs.cluster_ending.FourWaves.{first_vertex, hop, led_through, on_a_pair, started_from}
 use Rattle.cluster_laws.specs.cluster_model.Clusters.{Cluster}
 use Rattle.cluster_laws.specs.cluster_model.Events.{Admit, DeliverCall, DeliverReport, Event, Grant, Mark, PutBegin, Section, SendCall, SendReport}
-use Rattle.cluster_whole.specs.Windows.{scope_at}
+use Rattle.whole_laws.specs.cluster_whole.Windows.{scope_at}
 
 -- with a store and a window of 1
 abbrev pub pair_with_store : Setting

@@ -1,12 +1,12 @@
 //! A worked example. It is the contract of a function that does nothing.
 ghost use Rattle.std.specs.Prelude.{None, Some, [], false, ◌+◌, ◌∷◌, ◌≡◌};
 ghost use Rattle.gl_base.specs.declared.entries.Entry.TheVariants.{Go};
-ghost use Rattle.cluster_ending.specs.FourWaves.{first_base, fresh_cluster};
+ghost use Rattle.whole_laws.specs.cluster_ending.FourWaves.{first_base, fresh_cluster};
 ghost use Rattle.cluster_laws.specs.cluster_model.Events.{entries_below};
 ghost use Rattle.cluster_laws.specs.cluster_model.Leading.{RecordIsDue};
-ghost use Rattle.cluster_records.specs.Recorded.{snapshot_due};
+ghost use Rattle.whole_laws.specs.cluster_records.Recorded.{snapshot_due};
 ghost use Rattle.single_saves.specs.EdgeSaved.{both_come, pair_saves_once, pair_with_store};
-ghost use Rattle.whole_calls.specs.Opened.{IsCourseOfCall};
+ghost use Rattle.whole_laws.specs.whole_calls.Opened.{IsCourseOfCall};
 
 /// Two machines with a vertex each and an edge between them, with a window of 1. The first vertex is updated, its machine asks for a snapshot, and
 /// both vertices are marked, the first one first. The premises of the laws are met: a record is due. Machine 0 saved the edge, and machine 1, to

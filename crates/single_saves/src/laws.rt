@@ -8,9 +8,9 @@ ghost use Rattle.cluster_laws.specs.cluster_core.Settings.{Setting};
 ghost use Rattle.cluster_laws.specs.cluster_model.Clusters.{BaseView, Cluster};
 ghost use Rattle.cluster_laws.specs.cluster_model.Events.{Event, entries_below};
 ghost use Rattle.cluster_laws.specs.cluster_model.Leading.{RecordIsDue};
-ghost use Rattle.cluster_records.specs.Recorded.{IsOwnUpdate, snapshot_due};
+ghost use Rattle.whole_laws.specs.cluster_records.Recorded.{IsOwnUpdate, snapshot_due};
 ghost use Rattle.graph_core.specs.DataGraph.{size};
-ghost use Rattle.whole_calls.specs.Opened.{IsCourseOfCall};
+ghost use Rattle.whole_laws.specs.whole_calls.Opened.{IsCourseOfCall};
 
 /// Where a record is due in the course of a call, it is that of the next snapshot behind the newest one that was acknowledged.
 pub fn due_snapshots_come_next()

@@ -11,7 +11,7 @@ use Rattle.gl_base.specs.declared.scopes.ScopeId.{ScopeId}
 use Rattle.cluster_laws.proofs.cluster_core.Basics.{set_at-same}
 use Rattle.cluster_laws.specs.cluster_model.Clusters.{with_machine}
 use Rattle.cluster_laws.specs.cluster_model.Events as law
-use Rattle.cluster_whole.specs.Whole.{IsNoRecovery}
+use Rattle.whole_laws.specs.cluster_whole.Whole.{IsNoRecovery}
 use Rattle.interior_scopes.proofs.Walking.{set_at-twice}
 use Rattle.snap_members.specs.AtOnce.{AreDone, CanNotUpdateAtOnce, CanUpdateAtOnce, HasUpdatedAtOnce, MayUpdateWithin, deeds_at_once, own_vertices}
 use Rattle.snap_members.specs.Promises.{Admit, Deed, Grant, MayBeDone, StandsStill, Update, does}

@@ -16,18 +16,18 @@ use Rattle.cluster_laws.specs.cluster_core.Ranges.{first_passing}
 use Rattle.cluster_laws.specs.cluster_core.Recovering.{going_on}
 use Rattle.cluster_laws.specs.cluster_core.Replays.{replay_of}
 use Rattle.cluster_laws.proofs.cluster_core.Basics.{first_passing-some}
-use Rattle.cluster_ending.proofs.Finding.{left_finished, no_task_left}
-use Rattle.cluster_ending.specs.Ends.{HasFinishedOrder}
+use Rattle.whole_laws.proofs.cluster_ending.Finding.{left_finished, no_task_left}
+use Rattle.whole_laws.specs.cluster_ending.Ends.{HasFinishedOrder}
 use Rattle.cluster_laws.specs.cluster_model.Events.{after_event, entries_below, entries_in_all, recovers, snapshot_numbers}
 use Rattle.cluster_laws.specs.cluster_model.Leading.{RecordIsDue, Snapshot, acknowledges, first_coordinator}
 use Rattle.cluster_laws.specs.cluster_model.Working.{or_zero}
-use Rattle.cluster_records.proofs.Gathering.{all_gathered}
-use Rattle.cluster_records.proofs.Numbering.{passing_own, replay-append, replayed_same, same_then, valid-append, valid_same}
-use Rattle.cluster_records.proofs.Recording.{all_new, due_good, one_recorded}
-use Rattle.cluster_records.specs.Recorded.{HaveSameNumbers, IsGoodSnapshot}
+use Rattle.whole_laws.proofs.cluster_records.Gathering.{all_gathered}
+use Rattle.whole_laws.proofs.cluster_records.Numbering.{passing_own, replay-append, replayed_same, same_then, valid-append, valid_same}
+use Rattle.whole_laws.proofs.cluster_records.Recording.{all_new, due_good, one_recorded}
+use Rattle.whole_laws.specs.cluster_records.Recorded.{HaveSameNumbers, IsGoodSnapshot}
 use Rattle.cluster_step.specs.Links.{link_between}
 use Rattle.cluster_step.proofs.LinkLemmas.{nothing_told}
-use Rattle.cluster_whole.specs.Logged.{entries_to, is_up_to}
+use Rattle.whole_laws.specs.cluster_whole.Logged.{entries_to, is_up_to}
 use Rattle.coord_core.specs.Calls.{IsDueOf, IsFirstWith, IsRecordDueOf, IsRecordFor, MayLeadRecord}
 use Rattle.coord_core.specs.declared.leading.Due.{Due}
 use Rattle.coord_core.specs.declared.leading.Due.TheVariants as due

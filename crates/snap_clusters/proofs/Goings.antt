@@ -5,14 +5,14 @@ use Rattle.cluster_laws.specs.cluster_core.Recovering.{going_on}
 use Rattle.cluster_laws.specs.cluster_core.Settings.{Chromatic, Engine, Locking, Setting}
 use Rattle.cluster_laws.specs.cluster_model.Clusters.{BaseView, Cluster}
 use Rattle.cluster_laws.specs.cluster_model.Events.{Event, IsCourse, MayOccur, after_event, recovers}
-use Rattle.cluster_ending.proofs.Courses.{courses_followed, setting_same}
-use Rattle.cluster_ending.proofs.Putting.{recovered_watched}
-use Rattle.cluster_ending.proofs.Reporting.{courses_informed, recovered_informed}
-use Rattle.cluster_ending.specs.Ends.{IsFollowed}
-use Rattle.cluster_ending.specs.Snapshotting.{HasNoSteps}
-use Rattle.cluster_ending.proofs.Stepless.{courses_without_steps}
-use Rattle.cluster_records.proofs.Accounts.{accounts_kept, begun_accounts}
-use Rattle.cluster_whole.specs.Whole.{IsNoRecovery}
+use Rattle.whole_laws.proofs.cluster_ending.Courses.{courses_followed, setting_same}
+use Rattle.whole_laws.proofs.cluster_ending.Putting.{recovered_watched}
+use Rattle.whole_laws.proofs.cluster_ending.Reporting.{courses_informed, recovered_informed}
+use Rattle.whole_laws.specs.cluster_ending.Ends.{IsFollowed}
+use Rattle.whole_laws.specs.cluster_ending.Snapshotting.{HasNoSteps}
+use Rattle.whole_laws.proofs.cluster_ending.Stepless.{courses_without_steps}
+use Rattle.whole_laws.proofs.cluster_records.Accounts.{accounts_kept, begun_accounts}
+use Rattle.whole_laws.specs.cluster_whole.Whole.{IsNoRecovery}
 use Rattle.snap_members.specs.Going.{IsGoing, IsSnapSetting, KnowsNoSteps}
 
 -- ---- steps

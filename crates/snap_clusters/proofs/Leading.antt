@@ -7,7 +7,7 @@ use Rattle.gl_base.specs.declared.numbers.MachineNo.{MachineNo}
 use Rattle.gl_base.specs.declared.refusals.Refused.{Refused}
 use Rattle.gl_base.specs.declared.refusals.Refused.TheVariants.{NoMemory, NotNow}
 use Rattle.gl_base.specs.declared.scopes.Counted.{Counted}
-use Rattle.cluster_ending.proofs.Coming.{may_be_counted}
+use Rattle.whole_laws.proofs.cluster_ending.Coming.{may_be_counted}
 use Rattle.cluster_laws.specs.cluster_model.Calls.{Begin, Call, Committed, Count, Report, Step, Wave}
 use Rattle.cluster_laws.specs.cluster_model.Clusters.{with_coordinator}
 use Rattle.cluster_laws.specs.cluster_model.Counting.{Counting, MayBeCounted}
@@ -16,7 +16,7 @@ use Rattle.cluster_laws.specs.cluster_model.Leading.{Coordinator}
 use Rattle.cluster_laws.specs.cluster_model.Working.{prompt, takes_call}
 use Rattle.cluster_step.specs.Inner.Writing.{behind_first}
 use Rattle.cluster_step.specs.Links.{LinkView}
-use Rattle.cluster_whole.specs.Whole.{IsNoRecovery}
+use Rattle.whole_laws.specs.cluster_whole.Whole.{IsNoRecovery}
 use Rattle.coord_core.specs.Calls.{HasHandedOver, HasTakenReport, IsHandedOver, MayLead, MayNotLead, MayReport, StaysCoordinator}
 use Rattle.coord_core.specs.Coordinators.{CoordinatorView, no_outbox}
 use Rattle.coord_core.proofs.LeadLemmas.{FirstCall, first_call}

@@ -19,7 +19,7 @@ use Rattle.cluster_laws.specs.cluster_model.Working.{fails, hands, hands_report,
 use Rattle.cluster_step.specs.Inner.Writing.{HasLinkBetween}
 use Rattle.cluster_step.specs.Links.{LinkView, message_read}
 use Rattle.cluster_step.proofs.WorldLemmas.{has_link}
-use Rattle.cluster_whole.specs.Whole.{IsNoRecovery}
+use Rattle.whole_laws.specs.cluster_whole.Whole.{IsNoRecovery}
 use Rattle.coord_core.specs.Calls.{IsHandedOver}
 use Rattle.coord_core.specs.Coordinators.{CoordinatorView, IsCoordinatorOf}
 use Rattle.coord_core.proofs.LeadLemmas.{calls_push}

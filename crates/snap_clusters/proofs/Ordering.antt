@@ -7,12 +7,12 @@ use Rattle.graph_core.specs.DataGraph.{size}
 use Rattle.cluster_laws.specs.cluster_core.Recovering.{going_on}
 use Rattle.cluster_laws.specs.cluster_core.Settings.{IsSetting}
 use Rattle.cluster_laws.specs.cluster_model.Events.{Event, IsCourse, recovers}
-use Rattle.cluster_records.proofs.Courses.{begun, courses_go}
-use Rattle.cluster_records.proofs.Numbering.{all_own, all_same, left_same, replay-append, tasks-append, valid-append, valid_same}
-use Rattle.cluster_records.specs.Bases.{IsBase, IsBased}
-use Rattle.cluster_records.specs.Recorded.{HaveSameNumbers, IsOwnUpdate}
-use Rattle.cluster_whole.specs.Logged.{Logged}
-use Rattle.cluster_whole.specs.Whole.{AreColoured, setting_behind}
+use Rattle.whole_laws.proofs.cluster_records.Courses.{begun, courses_go}
+use Rattle.whole_laws.proofs.cluster_records.Numbering.{all_own, all_same, left_same, replay-append, tasks-append, valid-append, valid_same}
+use Rattle.whole_laws.specs.cluster_records.Bases.{IsBase, IsBased}
+use Rattle.whole_laws.specs.cluster_records.Recorded.{HaveSameNumbers, IsOwnUpdate}
+use Rattle.whole_laws.specs.cluster_whole.Logged.{Logged}
+use Rattle.whole_laws.specs.cluster_whole.Whole.{AreColoured, setting_behind}
 use Rattle.seq_run.specs.Orders.{all_tasks, replay, tasks_after}
 use Rattle.seq_run.specs.States.{GraphState, start_state}
 use Rattle.snap_clusters.specs.Clusters.{BaseView, Cluster, IsGoing, IsSnapSetting, Setting}

@@ -1,5 +1,5 @@
 -- A snapshot is a cut.
-pub use Rattle.cluster_records.specs.Recorded.{snapshot_due}
+pub use Rattle.whole_laws.specs.cluster_records.Recorded.{snapshot_due}
 use Rattle.std.specs.List.Sorted.{IsPermutation}
 use Rattle.std.specs.Prelude.{List, is_some, slice_index_or, ℕ, ◌++◌}
 use Rattle.gl_base.specs.declared.entries.Entry.{Entry}
@@ -12,8 +12,8 @@ use Rattle.cluster_laws.specs.cluster_model.Clusters.{Cluster}
 use Rattle.cluster_laws.specs.cluster_model.Events.{entries_in_all, snapshot_numbers}
 use Rattle.cluster_laws.specs.cluster_model.Leading.{Snapshot}
 use Rattle.cluster_laws.specs.cluster_model.Working.{or_zero}
-use Rattle.cluster_records.specs.Bases.{IsOpening}
-use Rattle.cluster_records.specs.Recorded.{HaveSameNumbers}
+use Rattle.whole_laws.specs.cluster_records.Bases.{IsOpening}
+use Rattle.whole_laws.specs.cluster_records.Recorded.{HaveSameNumbers}
 use Rattle.coord_core.specs.Calls.{IsRecordFor}
 use Rattle.seq_run.specs.Orders.{IsValidFrom, IsValidOrder, all_tasks, replay}
 use Rattle.seq_run.specs.States.{GraphState}

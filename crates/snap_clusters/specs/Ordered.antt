@@ -4,7 +4,7 @@ use Rattle.gl_base.specs.declared.entries.Entry.{Entry}
 use Rattle.cluster_laws.specs.cluster_core.Replays.{IsReplay, tasks_of}
 use Rattle.cluster_laws.specs.cluster_core.Settings.{Setting}
 use Rattle.cluster_laws.specs.cluster_model.Clusters.{Cluster}
-use Rattle.cluster_whole.specs.Views.{world_of}
+use Rattle.whole_laws.specs.cluster_whole.Views.{world_of}
 use Rattle.graph_core.specs.DataGraph.{size}
 use Rattle.seq_run.specs.Orders.{IsValidOrder, replay, tasks_after}
 use Rattle.snap_clusters.specs.Cuts.{HasGoodBase}

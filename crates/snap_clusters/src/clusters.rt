@@ -2,7 +2,7 @@
 ghost use Rattle.std.specs.Prelude.{◌≡◌, ◌+◌, ◌^◌, ◌<◌, ◌≤◌, ◌↔◌, false, length, slice_get, slice_index_or, IfOk, IfSome, IfNone, IsErrOf, IsTrue, OnOk, OnErr, Some};
 ghost use Rattle.std.specs.List.{AllByRecursion};
 ghost use Rattle.cluster_laws.specs.cluster_core.Recovering.{going_on};
-ghost use Rattle.cluster_ending.specs.Ends.{HasFinishedOrder};
+ghost use Rattle.whole_laws.specs.cluster_ending.Ends.{HasFinishedOrder};
 ghost use Rattle.cluster_laws.specs.cluster_model.Events.{HasNext, recovers};
 ghost use Rattle.coord_core.specs.Calls.{IsDueOf};
 ghost use Rattle.coord_core.specs.Stores.{store_view};

@@ -4,8 +4,8 @@ ghost use Rattle.cluster_laws.specs.cluster_core.Recovering.{going_on};
 ghost use Rattle.cluster_laws.specs.cluster_core.Settings.{IsSetting, Setting};
 ghost use Rattle.cluster_laws.specs.cluster_model.Clusters.{BaseView, Cluster};
 ghost use Rattle.cluster_laws.specs.cluster_model.Events.{Event, IsCourse, recovers};
-ghost use Rattle.cluster_records.specs.Bases.{IsBase};
-ghost use Rattle.cluster_whole.specs.Whole.{AreColoured, setting_behind};
+ghost use Rattle.whole_laws.specs.cluster_records.Bases.{IsBase};
+ghost use Rattle.whole_laws.specs.cluster_whole.Whole.{AreColoured, setting_behind};
 ghost use Rattle.snap_clusters.specs.Cuts.{HasGoodBase};
 
 /// In a call that began with a good base each attempt goes on from a good one, whatever failures and recoveries are among its events. So

@@ -1,12 +1,12 @@
 -- A cluster of the law to which events have led.
 use Rattle.std.specs.Prelude.{List, true, ⊤, ◌≡◌}
 use Rattle.cluster_laws.specs.cluster_core.Settings.{Chromatic, Engine, IsSetting, Locking, Setting}
-use Rattle.cluster_ending.specs.Ends.{IsFollowed}
-use Rattle.cluster_ending.specs.Snapshotting.{AreInformed, HasNoSteps}
+use Rattle.whole_laws.specs.cluster_ending.Ends.{IsFollowed}
+use Rattle.whole_laws.specs.cluster_ending.Snapshotting.{AreInformed, HasNoSteps}
 use Rattle.cluster_laws.specs.cluster_model.Clusters.{Cluster}
-use Rattle.cluster_records.specs.Recorded.{IsAccounted}
-use Rattle.cluster_whole.specs.Logged.{Logged}
-use Rattle.cluster_whole.specs.Whole.{AreColoured}
+use Rattle.whole_laws.specs.cluster_records.Recorded.{IsAccounted}
+use Rattle.whole_laws.specs.cluster_whole.Logged.{Logged}
+use Rattle.whole_laws.specs.cluster_whole.Whole.{AreColoured}
 
 -- the cluster takes snapshots; and where vertices run by colours, neighbours have different ones
 pub record IsSnapSetting (st : Setting) : Type 0 where

@@ -20,8 +20,8 @@ use Rattle.cluster_laws.proofs.cluster_places.Fronts.{front}
 use Rattle.cluster_laws.proofs.cluster_places.Going.{asked_here, ready_here}
 use Rattle.cluster_laws.proofs.cluster_places.Seen.{asked_stage, done_stage, ready_stage, some_centre}
 use Rattle.cluster_laws.proofs.cluster_places.Standing.{shows_as, stage_as}
-use Rattle.cluster_whole.specs.Views.{world_of}
-use Rattle.cluster_whole.specs.Whole.{AreKeptApart}
+use Rattle.whole_laws.specs.cluster_whole.Views.{world_of}
+use Rattle.whole_laws.specs.cluster_whole.Whole.{AreKeptApart}
 use Rattle.machine_core.specs.declared.machine_parts.cores.Core.{Core}
 use Rattle.machine_core.specs.machine_parts.Parts.{number_of, part_of}
 use Rattle.machine_core.proofs.machine_scopes.LawLemmas.{ask_goes_on, ask_is_new, home_within, word_comes}

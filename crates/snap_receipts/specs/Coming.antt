@@ -9,7 +9,7 @@ pub use Rattle.snap_machines.specs.Keeping.{SnapView}
 pub use Rattle.snap_machines.specs.Learning.{CanLearnNews, news_of}
 use Rattle.std.specs.Prelude.{List, ℕ, ◌∷◌, ◌≡◌}
 use Rattle.cluster_laws.specs.cluster_core.Settings.{IsSetting}
-use Rattle.cluster_whole.specs.Whole.{IsWhole}
+use Rattle.whole_laws.specs.cluster_whole.Whole.{IsWhole}
 use Rattle.machine_core.specs.declared.machine_parts.cores.Core.{Core}
 use Rattle.machine_core.specs.machine_parts.Order.{IsOrderly}
 use Rattle.machine_core.specs.machine_parts.Settings.{IsPartOf}

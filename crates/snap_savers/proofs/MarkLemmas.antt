@@ -14,7 +14,7 @@ use Rattle.cluster_laws.specs.cluster_core.Ranges.{set_at}
 use Rattle.cluster_laws.specs.cluster_core.Settings.{IsSetting, is_near}
 use Rattle.cluster_laws.proofs.cluster_core.Basics.{first_passing-some, set_at-cases, set_at-other, set_at-same}
 use Rattle.cluster_laws.proofs.cluster_core.Nearness.{near_other}
-use Rattle.cluster_ending.proofs.Growing.{marked_longer}
+use Rattle.whole_laws.proofs.cluster_ending.Growing.{marked_longer}
 use Rattle.cluster_laws.specs.cluster_model.Calls.{Saved}
 use Rattle.cluster_laws.specs.cluster_model.Working.{makes_mark, prompt, sections}
 use Rattle.machine_numbers.specs.Views.{LocalView}

@@ -12,13 +12,13 @@ use Rattle.cluster_laws.specs.cluster_core.Effects.{applied, begins, datum_after
 use Rattle.cluster_laws.specs.cluster_core.Marks.{IsMarking, mark_of}
 use Rattle.cluster_laws.specs.cluster_core.Messages.{Ask, Done, Message, News, Ready}
 use Rattle.cluster_laws.specs.cluster_core.Parts.{Part}
-use Rattle.cluster_ending.proofs.Growing.{received_longer}
+use Rattle.whole_laws.proofs.cluster_ending.Growing.{received_longer}
 use Rattle.cluster_machines.specs.Told.{told_by}
 use Rattle.cluster_laws.specs.cluster_model.Clusters.{Cluster}
 use Rattle.cluster_laws.specs.cluster_model.Working.{prompt, receives, snapshot_in}
 use Rattle.cluster_moves.proofs.DueKept.{received_kept}
-use Rattle.cluster_whole.specs.Views.{world_of}
-use Rattle.cluster_whole.specs.Whole.{IsWhole}
+use Rattle.whole_laws.specs.cluster_whole.Views.{world_of}
+use Rattle.whole_laws.specs.cluster_whole.Whole.{IsWhole}
 use Rattle.machine_numbers.specs.Views.{LocalView}
 use Rattle.machine_core.specs.declared.machine_parts.cores.Core.{Core}
 use Rattle.machine_core.specs.machine_parts.Order.{IsOrderly}

@@ -11,7 +11,7 @@ use Rattle.cluster_laws.specs.cluster_core.Parts.{Part}
 use Rattle.cluster_laws.specs.cluster_core.Scopes.{is_scope, set_for}
 use Rattle.cluster_laws.specs.cluster_core.Settings.{Chromatic, Engine, Locking}
 use Rattle.cluster_laws.proofs.cluster_core.Basics.{scope_cases, set_for-other, set_for-same}
-use Rattle.cluster_ending.proofs.Growing.{admitted_longer, granted_longer}
+use Rattle.whole_laws.proofs.cluster_ending.Growing.{admitted_longer, granted_longer}
 use Rattle.cluster_laws.specs.cluster_model.Events.{MayAdmitNow}
 use Rattle.cluster_laws.specs.cluster_model.Working.{admits, grants, has_room}
 use Rattle.cluster_moves.proofs.DueKept.{IsKept, admitted_kept, first_granted_kept}

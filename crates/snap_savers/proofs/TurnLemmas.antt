@@ -17,7 +17,7 @@ use Rattle.cluster_laws.specs.cluster_core.Settings.{IsSetting, Locking, Setting
 use Rattle.cluster_laws.proofs.cluster_core.Basics.{set_at-same, set_for-same}
 use Rattle.cluster_laws.specs.cluster_model.Machines.{Machine, gained}
 use Rattle.cluster_laws.specs.cluster_model.Working.{asks, prompt, works_on}
-use Rattle.cluster_whole.proofs.Flows.{total_from-none}
+use Rattle.whole_laws.proofs.cluster_whole.Flows.{total_from-none}
 use Rattle.interior_scopes.specs.AtOnce.{MayUpdateAtOnce, at_once, entry_at_once}
 use Rattle.interior_scopes.proofs.Walking.{admitted_walks, claim_for, granted_walks, held_below, held_past, is_its, its, not_yet, updated_walks, walks}
 use Rattle.snap_members.specs.AtOnce.{AreDone, MayUpdateWithin, deeds_at_once}

@@ -15,7 +15,7 @@ use Rattle.cluster_laws.specs.cluster_core.Effects.{renewed, updated}
 use Rattle.cluster_laws.specs.cluster_core.Parts.{Part, lent}
 use Rattle.cluster_laws.specs.cluster_core.Scopes.{is_scope, set_for}
 use Rattle.cluster_laws.proofs.cluster_core.Basics.{same_scope, scope_cases, set_at-kept, set_for-other, set_for-same}
-use Rattle.cluster_ending.proofs.Growing.{updated_longer}
+use Rattle.whole_laws.proofs.cluster_ending.Growing.{updated_longer}
 use Rattle.cluster_laws.specs.cluster_model.Calls.{Report, Want}
 use Rattle.cluster_laws.specs.cluster_model.Machines.{outside}
 use Rattle.cluster_laws.specs.cluster_model.Working.{asks, asks_if, asks_more, half_window, makes_update, prompt, works_on}

@@ -4,7 +4,7 @@ use Rattle.std.specs.List.{AllByRecursion}
 use Rattle.std.proofs.lemmas.Bool.{and_parts, or_cases}
 use Rattle.gl_base.specs.declared.entries.Entry.{Entry}
 use Rattle.gl_base.specs.declared.entries.Entry.TheVariants.{Go, Restart}
-use Rattle.attempts.specs.EngineCalls.{IsOrderInTurn}
+use Rattle.whole_laws.specs.attempts.EngineCalls.{IsOrderInTurn}
 use Rattle.cluster_laws.specs.cluster_cuts.Goings.{IsByOwner}
 use Rattle.cluster_laws.specs.cluster_runs.Attempts.{Shared}
 use Rattle.graph_core.specs.DataGraph.{DataGraph, IsDataGraph, size}

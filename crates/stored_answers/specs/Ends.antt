@@ -2,7 +2,7 @@
 use Rattle.std.specs.List.Sorted.{IsPermutation}
 use Rattle.std.specs.Prelude.{List, [], false, filter, length, ⊤, ℕ, ◌*◌, ◌++◌, ◌+◌, ◌-◌, ◌/◌, ◌<◌, ◌≡◌, ◌≤◌, ◌⊎◌}
 use Rattle.gl_base.specs.declared.entries.Entry.{Entry}
-use Rattle.attempts.specs.Entries.{is_update}
+use Rattle.whole_laws.specs.attempts.Entries.{is_update}
 use Rattle.call_answers.specs.Answers.{RunLists, Shared, last_order, made_by}
 use Rattle.call_answers.specs.Ends.{FinishesRun, SpendsRun}
 use Rattle.graph_core.specs.DataGraph.{size}

@@ -5,10 +5,10 @@ use Rattle.std.specs.Result.{result_unwrap_or}
 use Rattle.std.proofs.lemmas.List.Elements.{filter-append}
 use Rattle.gl_base.specs.declared.entries.Entry.{Entry}
 use Rattle.gl_base.specs.declared.jobs.FailureAt.{FailureAt}
-use Rattle.attempts.proofs.Failing.{call_restarts}
-use Rattle.attempts.specs.Accounted.{AreRestarts}
-use Rattle.attempts.specs.Entries.{is_restart}
-use Rattle.attempts.specs.EngineCalls.{EngineCall, done_of, fired_of, struck_in}
+use Rattle.whole_laws.proofs.attempts.Failing.{call_restarts}
+use Rattle.whole_laws.specs.attempts.Accounted.{AreRestarts}
+use Rattle.whole_laws.specs.attempts.Entries.{is_restart}
+use Rattle.whole_laws.specs.attempts.EngineCalls.{EngineCall, done_of, fired_of, struck_in}
 use Rattle.call_courses.specs.Courses.{CallOpening, Cluster, CourseView, Machine, Setting}
 use Rattle.cluster_laws.specs.cluster_model.Clusters.{BaseView}
 use Rattle.cluster_laws.specs.cluster_model.Events.{Event, failures_in}
@@ -21,9 +21,9 @@ use Rattle.store_format.specs.Stores.{read_store}
 use Rattle.store_format.specs.declared.faults.StoreFault.{StoreFault}
 use Rattle.store_format.specs.declared.header.Header.{Header}
 use Rattle.stored_courses.specs.Stores.{IsKnownCourse, stored_order}
-use Rattle.whole_calls.proofs.Calling.{the_call}
-use Rattle.whole_calls.specs.Called.{IsCallOf}
-use Rattle.whole_calls.specs.Opened.{IsCourseOfCall}
+use Rattle.whole_laws.proofs.whole_calls.Calling.{the_call}
+use Rattle.whole_laws.specs.whole_calls.Called.{IsCallOf}
+use Rattle.whole_laws.specs.whole_calls.Opened.{IsCourseOfCall}
 
 -- ---- how many there are
 

@@ -4,7 +4,7 @@ use Rattle.std.proofs.lemmas.List.{append_cancel_left}
 use Rattle.std.specs.Prelude.{false, suc}
 use Rattle.gl_base.specs.declared.entries.Entry.{Entry}
 use Rattle.gl_base.specs.declared.jobs.FailureAt.{FailureAt}
-use Rattle.attempts.specs.Stores.{snapshots_of}
+use Rattle.whole_laws.specs.attempts.Stores.{snapshots_of}
 use Rattle.call_answers.specs.Answers.{IsRunWithFailures, KeepsToWindow, RunLists, Shared}
 use Rattle.call_answers.specs.Courses.{ListsOfCourse}
 use Rattle.stored_calls.specs.call_ends.Ends.{CallEndsSo, IsEndedRun}

@@ -3,7 +3,7 @@ use Rattle.std.proofs.Common.{◌≡◌, ◌≤◌, ◌<◌, ◌^◌, ◌*◌, �
 use Rattle.gl_base.specs.declared.entries.Entry.{Entry}
 use Rattle.gl_base.specs.declared.jobs.FailureAt.{FailureAt}
 use Rattle.gl_base.specs.declared.numbers.Vertex.{Vertex}
-use Rattle.attempts.specs.EngineCalls.{made_of}
+use Rattle.whole_laws.specs.attempts.EngineCalls.{made_of}
 use Rattle.call_budgets.proofs.Stretches.{made_fewer}
 use Rattle.call_courses.proofs.Calling.{makes_call}
 use Rattle.cluster_laws.specs.cluster_model.Working.{half_window}

@@ -4,10 +4,10 @@ use Rattle.std.specs.Prelude.{⊤}
 use Rattle.std.specs.Result.{result_unwrap_or}
 use Rattle.std.proofs.Math.Nat.{mul-le-mul_right, suc-mul, zero-mul}
 use Rattle.gl_base.specs.declared.entries.Entry.{Entry}
-use Rattle.attempts.specs.Beginnings.{unheld_updates}
-use Rattle.attempts.specs.EngineCalls.{EngineCall, call_order, last_beginning, made_of}
-use Rattle.attempts.specs.Entries.{is_restart}
-use Rattle.attempts.specs.Stores.{last_order, snapshots_of}
+use Rattle.whole_laws.specs.attempts.Beginnings.{unheld_updates}
+use Rattle.whole_laws.specs.attempts.EngineCalls.{EngineCall, call_order, last_beginning, made_of}
+use Rattle.whole_laws.specs.attempts.Entries.{is_restart}
+use Rattle.whole_laws.specs.attempts.Stores.{last_order, snapshots_of}
 use Rattle.call_budgets.proofs.Outside.{outside_few}
 use Rattle.call_budgets.proofs.Stretches.{order_few}
 use Rattle.call_courses.specs.Calls.{MakesCall}
@@ -30,8 +30,8 @@ use Rattle.store_format.specs.declared.header.Header.{Header}
 use Rattle.stored_calls.proofs.Bounds.{parted}
 use Rattle.stored_courses.specs.Stores.{IsKnownCourse, fronts_in, recorded_in, stored_order}
 use Rattle.stored_records.specs.Keeping.{AreNextOrders}
-use Rattle.whole_calls.proofs.Fronting.{next_once}
-use Rattle.whole_calls.specs.Telling.{NeedsMoreStore}
+use Rattle.whole_laws.proofs.whole_calls.Fronting.{next_once}
+use Rattle.whole_laws.specs.whole_calls.Telling.{NeedsMoreStore}
 
 -- ---- bodies that were read
 

@@ -9,7 +9,7 @@ pub use Rattle.stored_answers.specs.Ends.{half_of}
 pub use Rattle.stored_answers.specs.declared.runs.StoredPlan.{StoredPlan}
 pub use Rattle.stored_answers.specs.Images.{HoldsGood, IsGoodStore, KeepsGood, stored_order}
 pub use Rattle.stored_answers.specs.Runs.{IsStoredRun, Shared}
-pub use Rattle.whole_calls.specs.Following.{AreJobFailures}
+pub use Rattle.whole_laws.specs.whole_calls.Following.{AreJobFailures}
 use Rattle.std.specs.Prelude.{Bool, Err, List, Ok, Result, length, suc, true, ⊤, ℕ, ◌*◌, ◌++◌, ◌+◌, ◌/◌, ◌<◌, ◌^◌, ◌≡◌, ◌≤◌, ◌⊎◌}
 use Rattle.gl_base.specs.declared.entries.Entry.{Entry}
 use Rattle.gl_base.specs.declared.jobs.FailureAt.{FailureAt}

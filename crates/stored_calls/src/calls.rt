@@ -1,9 +1,9 @@
 //! A call that goes on.
 use call_courses::Course;
 use call_returns::Restarts;
-use placed_savers::engine_savers::EngineSaver;
 use gl_base::Entry;
 use placed_savers::Places;
+use placed_savers::engine_savers::EngineSaver;
 use stored_answers::SnapLine;
 use update_api::Program;
 

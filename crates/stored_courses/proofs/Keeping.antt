@@ -10,7 +10,7 @@ use Rattle.cluster_laws.specs.cluster_core.Recovering.{going_on}
 use Rattle.cluster_laws.specs.cluster_model.Clusters.{BaseView}
 use Rattle.cluster_laws.specs.cluster_model.Events as law
 use Rattle.cluster_laws.specs.cluster_model.Leading.{RecordIsDue, Snapshot}
-use Rattle.cluster_records.specs.Recorded.{snapshot_due}
+use Rattle.whole_laws.specs.cluster_records.Recorded.{snapshot_due}
 use Rattle.cluster_laws.specs.cluster_runs.Recorded.{shared_of}
 use Rattle.recovery.specs.Journals.{NumbersFit, RecordFits, body_bytes}
 use Rattle.snap_clusters.specs.Clusters.{IsSavingClusterOf}
@@ -20,8 +20,8 @@ use Rattle.snap_clusters.specs.declared.parts.Parts.{Parts}
 use Rattle.std.specs.Prelude.{slice_index_or}
 use Rattle.stored_courses.specs.Stores.{CallOpening, Cluster, CourseGoesOn, CourseView, Header, IsCourseNow, IsGoodStore, IsKnownCourse, IsRecordBehind, IsRememberedAt, IsStoredCourse, KeepsUp, Machine, Setting, as_since, first_cluster, first_setting, fronts_in, recorded_in, stored_order}
 use Rattle.call_courses.specs.Courses.{Engine, GoesBackWith, HasGoneBack, StoreView, newest_setting}
-use Rattle.whole_calls.specs.Lost.{TakesAway}
-use Rattle.whole_calls.specs.Opened.{IsCourseOfCall}
+use Rattle.whole_laws.specs.whole_calls.Lost.{TakesAway}
+use Rattle.whole_laws.specs.whole_calls.Opened.{IsCourseOfCall}
 use Rattle.stored_courses.proofs.Staying.{IsStill, course_behind, still_course}
 
 -- what the laws of stores say

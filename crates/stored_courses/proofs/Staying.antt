@@ -4,7 +4,7 @@ use Rattle.call_courses.specs.Courses.{ArePassing, Cluster, IsPassing, Setting}
 use Rattle.cluster_laws.specs.cluster_core.Messages.{Message}
 use Rattle.cluster_laws.specs.cluster_model.Calls.{Call, Count, Report, Saved, Want}
 use Rattle.cluster_laws.specs.cluster_model.Events as law
-use Rattle.cluster_whole.specs.Whole.{setting_behind}
+use Rattle.whole_laws.specs.cluster_whole.Whole.{setting_behind}
 use Rattle.gl_base.specs.declared.scopes.ScopeId.{ScopeId}
 
 -- The attempt is the same, and the coordinator knows the same of the store.

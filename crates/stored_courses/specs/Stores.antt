@@ -4,11 +4,11 @@ pub use Rattle.stored_records.specs.Keeping.{IsGoodStore, IsRecordBehind, KeepsU
 pub use Rattle.store_format.specs.declared.header.Header.{Header}
 use Rattle.std.specs.Prelude.{List, filter, length, ℕ, ◌*◌, ◌+◌, ◌≡◌}
 use Rattle.gl_base.specs.declared.entries.Entry.{Entry}
-use Rattle.attempts.specs.Entries.{is_restart}
+use Rattle.whole_laws.specs.attempts.Entries.{is_restart}
 use Rattle.cluster_laws.specs.cluster_model.Events as law
 use Rattle.graph_core.specs.DataGraph.{size}
 use Rattle.recovery.specs.Journals.{records_size}
-use Rattle.whole_calls.specs.Lost.{AreLostIn}
+use Rattle.whole_laws.specs.whole_calls.Lost.{AreLostIn}
 
 -- From this opening events have led to where the cluster is. With these the store, which had these snapshots as the call opened, has kept
 -- up; and their recoveries took these updates away.

@@ -4,12 +4,12 @@ ghost use Rattle.gl_base.specs.declared.entries.Entry.{Entry};
 ghost use Rattle.gl_base.specs.declared.snapshots.Record.{Record};
 ghost use Rattle.call_courses.specs.Courses.{BaseView, Engine, GoesBackWith, HasGoneBack, StoreView, newest_setting};
 ghost use Rattle.call_courses.specs.Events.{HappensInCall};
-ghost use Rattle.cluster_records.specs.Recorded.{snapshot_due};
+ghost use Rattle.whole_laws.specs.cluster_records.Recorded.{snapshot_due};
 ghost use Rattle.cluster_laws.specs.cluster_runs.Recorded.{shared_of};
 ghost use Rattle.recovery.specs.Journals.{NumbersFit, RecordFits, body_bytes};
 ghost use Rattle.snap_clusters.specs.declared.events.Event.TheVariants as event;
 ghost use Rattle.snap_clusters.specs.declared.events.Lead.TheVariants as lead;
-ghost use Rattle.whole_calls.specs.Lost.{TakesAway};
+ghost use Rattle.whole_laws.specs.whole_calls.Lost.{TakesAway};
 ghost use Rattle.stored_courses.specs.Stores.{CallOpening, CourseGoesOn, CourseView, Header, IsCourseNow, IsGoodStore, IsKnownCourse, IsRecordBehind, IsRememberedAt, IsStoredCourse, Setting, as_since, first_cluster, stored_order};
 
 use call_courses::SavingMachine;

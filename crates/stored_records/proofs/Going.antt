@@ -9,21 +9,21 @@ use Rattle.gl_base.specs.declared.entries.Entry.TheVariants.{Go, Restart}
 use Rattle.gl_base.specs.declared.jobs.FailureAt.{FailureAt}
 use Rattle.gl_base.specs.declared.snapshots.Record.{Record}
 use Rattle.graph_core.specs.DataGraph.{size}
-use Rattle.attempts.specs.Beginnings.{snapshot_order}
-use Rattle.attempts.specs.EngineCalls.{EngineCall, IsEngineCall, IsOrderInTurn, last_beginning, opening}
-use Rattle.attempts.proofs.Opening.{last_begins, opening_begins}
-use Rattle.attempts.specs.Entries.{is_restart, is_update}
-use Rattle.attempts.specs.Stores.{AreGoodOrders, last_order, snapshots_of}
-use Rattle.attempts.proofs.Standing.{all_back}
-use Rattle.attempts.proofs.Storing.{images_good, last_in_turn, pending_good}
+use Rattle.whole_laws.specs.attempts.Beginnings.{snapshot_order}
+use Rattle.whole_laws.specs.attempts.EngineCalls.{EngineCall, IsEngineCall, IsOrderInTurn, last_beginning, opening}
+use Rattle.whole_laws.proofs.attempts.Opening.{last_begins, opening_begins}
+use Rattle.whole_laws.specs.attempts.Entries.{is_restart, is_update}
+use Rattle.whole_laws.specs.attempts.Stores.{AreGoodOrders, last_order, snapshots_of}
+use Rattle.whole_laws.proofs.attempts.Standing.{all_back}
+use Rattle.whole_laws.proofs.attempts.Storing.{images_good, last_in_turn, pending_good}
 use Rattle.cluster_laws.specs.cluster_core.Recovering.{going_on}
 use Rattle.cluster_laws.specs.cluster_core.Settings.{Setting}
 use Rattle.cluster_laws.specs.cluster_model.Clusters.{BaseView, Cluster}
 use Rattle.cluster_laws.specs.cluster_model.ByTicket.{restarts}
 use Rattle.cluster_laws.specs.cluster_model.Events.{Event, GoesBackTo, entries_below, failures_in, recovers}
 use Rattle.cluster_laws.specs.cluster_model.Leading.{RecordIsDue, Snapshot}
-use Rattle.cluster_records.specs.Recorded.{HaveSameNumbers, snapshot_due}
-use Rattle.cluster_whole.specs.Whole.{setting_behind}
+use Rattle.whole_laws.specs.cluster_records.Recorded.{HaveSameNumbers, snapshot_due}
+use Rattle.whole_laws.specs.cluster_whole.Whole.{setting_behind}
 use Rattle.cluster_laws.specs.cluster_runs.Attempts.{Shared}
 use Rattle.cluster_laws.specs.cluster_runs.Recorded.{shared_of}
 use Rattle.merged_logs.proofs.SameLemmas.{HaveSame, same_from}
@@ -36,14 +36,14 @@ use Rattle.store_format.proofs.ReadBackLemmas.{entries_of_record}
 use Rattle.stored_records.specs.Keeping.{AreNextOrders, GoesWith, IsGoodStore, IsNextOrder, IsRecordBehind, KeepsUp, fronts_in, orders_behind, recorded_in, stored_order, with_entries}
 use Rattle.stored_records.proofs.Saying.{edge_is, vertex_is}
 use Rattle.stored_records.proofs.Sorting.{put_is}
-use Rattle.whole_calls.specs.Opened.{IsCourseOfCall}
-use Rattle.whole_calls.specs.Saved.{IsSnapshotOf, MayFollow, SaysOnce}
-use Rattle.whole_calls.proofs.Calling.{the_call, the_return}
-use Rattle.whole_calls.proofs.Fronting.{attempt_restarts, filtered, next_once, without}
-use Rattle.whole_calls.specs.Called.{IsCallOf}
-use Rattle.whole_calls.specs.Following.{has_reached}
-use Rattle.whole_calls.specs.Opened.{IsCourseOfCall}
-use Rattle.whole_calls.specs.Saved.{IsSnapshotOf, MayFollow, SaysOnce}
+use Rattle.whole_laws.specs.whole_calls.Opened.{IsCourseOfCall}
+use Rattle.whole_laws.specs.whole_calls.Saved.{IsSnapshotOf, MayFollow, SaysOnce}
+use Rattle.whole_laws.proofs.whole_calls.Calling.{the_call, the_return}
+use Rattle.whole_laws.proofs.whole_calls.Fronting.{attempt_restarts, filtered, next_once, without}
+use Rattle.whole_laws.specs.whole_calls.Called.{IsCallOf}
+use Rattle.whole_laws.specs.whole_calls.Following.{has_reached}
+use Rattle.whole_laws.specs.whole_calls.Opened.{IsCourseOfCall}
+use Rattle.whole_laws.specs.whole_calls.Saved.{IsSnapshotOf, MayFollow, SaysOnce}
 use Rattle.seq_run.specs.Orders.{replay}
 
 -- ---- stores

@@ -15,7 +15,7 @@ use Rattle.snap_update.specs.Holding.{last_of_edge, last_of_vertex, later_number
 use Rattle.store_format.specs.ReadBack.{edge_pair, part_edges, part_vertices, record_edges, record_vertices, vertex_pair}
 use Rattle.store_format.specs.StoredNumbers.{saved_or}
 use Rattle.stored_records.specs.Keeping.{IsRecordBehind}
-use Rattle.whole_calls.specs.Saved.{SaysOnce}
+use Rattle.whole_laws.specs.whole_calls.Saved.{SaysOnce}
 use Rattle.std.specs.Prelude.{List}
 use Rattle.gl_base.specs.declared.entries.Entry.{Entry}
 

@@ -2,7 +2,7 @@
 pub use Rattle.coord_core.specs.Calls.{IsSavedPart}
 pub use Rattle.recovery.specs.GoodStores.{GoesWith, IsGoodStore, orders_behind}
 pub use Rattle.recovery.specs.Journals.{stored_order, with_entries}
-pub use Rattle.whole_calls.specs.Saved.{AreNextOrders, IsNextOrder, fronts_in, recorded_in}
+pub use Rattle.whole_laws.specs.whole_calls.Saved.{AreNextOrders, IsNextOrder, fronts_in, recorded_in}
 use Rattle.std.specs.List.{AllByRecursion}
 use Rattle.std.specs.List.Sorted.{IsPermutation}
 use Rattle.std.specs.Prelude.{List, filter, length, slice_index_or, true, ℕ, ◌++◌, ◌<◌, ◌≡◌}
@@ -10,7 +10,7 @@ use Rattle.gl_base.specs.declared.entries.Entry.{Entry}
 use Rattle.gl_base.specs.declared.jobs.FailureAt.{FailureAt}
 use Rattle.gl_base.specs.declared.snapshots.Record.{Record}
 use Rattle.gl_base.specs.declared.snapshots.SavedPart.{SavedPart}
-use Rattle.attempts.specs.Entries.{is_restart}
+use Rattle.whole_laws.specs.attempts.Entries.{is_restart}
 use Rattle.cluster_laws.specs.cluster_core.Settings.{Setting}
 use Rattle.cluster_laws.specs.cluster_model.Events.{entries_below}
 use Rattle.cluster_laws.specs.cluster_model.Leading.{Snapshot}

@@ -3,22 +3,22 @@ ghost use Rattle.std.specs.Prelude.{Bool, List, [], filter, length, true, â„•, â
 ghost use Rattle.gl_base.specs.declared.entries.Entry.{Entry};
 ghost use Rattle.gl_base.specs.declared.jobs.FailureAt.{FailureAt};
 ghost use Rattle.gl_base.specs.declared.snapshots.Record.{Record};
-ghost use Rattle.attempts.specs.Entries.{is_restart};
+ghost use Rattle.whole_laws.specs.attempts.Entries.{is_restart};
 ghost use Rattle.cluster_laws.specs.cluster_core.Recovering.{going_on};
 ghost use Rattle.cluster_laws.specs.cluster_core.Settings.{Setting};
 ghost use Rattle.cluster_laws.specs.cluster_model.Clusters.{BaseView, Cluster};
 ghost use Rattle.cluster_laws.specs.cluster_model.ByTicket.{restarts};
 ghost use Rattle.cluster_laws.specs.cluster_model.Events.{Event, GoesBackTo, failures_in, recovers};
 ghost use Rattle.cluster_laws.specs.cluster_model.Leading.{RecordIsDue};
-ghost use Rattle.cluster_records.specs.Recorded.{HaveSameNumbers, snapshot_due};
+ghost use Rattle.whole_laws.specs.cluster_records.Recorded.{HaveSameNumbers, snapshot_due};
 ghost use Rattle.cluster_laws.specs.cluster_runs.Recorded.{shared_of};
-ghost use Rattle.cluster_whole.specs.Whole.{setting_behind};
+ghost use Rattle.whole_laws.specs.cluster_whole.Whole.{setting_behind};
 ghost use Rattle.seq_run.specs.Orders.{replay};
-ghost use Rattle.whole_calls.specs.Following.{has_reached};
+ghost use Rattle.whole_laws.specs.whole_calls.Following.{has_reached};
 ghost use Rattle.recovery.specs.Journals.{IsBeforeOrAfter, NumbersFit, RecordFits, body_bytes, stored_in};
 ghost use Rattle.store_format.specs.declared.header.Header.{Header};
 ghost use Rattle.stored_records.specs.Keeping.{GoesWith, IsGoodStore, IsNextOrder, IsRecordBehind, KeepsUp, fronts_in, recorded_in, stored_order, with_entries};
-ghost use Rattle.whole_calls.specs.Opened.{IsCourseOfCall};
+ghost use Rattle.whole_laws.specs.whole_calls.Opened.{IsCourseOfCall};
 
 /// A good store keeps up as the call opens. Where a record is due and is added, it keeps up with that snapshot too.
 pub fn stores_keep_up()

@@ -3,7 +3,6 @@ use engine_cli::{Ended, engine};
 use gl_base::NoMemory;
 use gl_outside::{MemFiles, MemSink, OpenGate};
 use std::alloc::Global;
-use std::process::Abort;
 use std::sync::Wait;
 
 /// Files with these texts.
@@ -17,17 +16,15 @@ pub fn files_with(alloc: Global, texts: &[(&str, &str)]) -> Result<MemFiles, NoM
 }
 
 /// Makes a call with this verb of the job in the file `j`, and answers how it ended, and what `out` and `note` gained.
-pub fn call<R: Abort + Wait>(
+pub fn call<R: Wait>(
     rt: &R,
     alloc: Global,
     verb: &str,
     files: &mut MemFiles,
 ) -> Result<(Ended, MemSink, MemSink), NoMemory> {
     let mut words = Vec::new(alloc);
-    for word in [verb, "j"] {
-        words.push(String::from_str(alloc, word)?)?;
-    }
-    assert!(rt; words.len() < 4294967295);
+    words.push(String::from_str(alloc, verb)?)?;
+    words.push(String::from_str(alloc, "j")?)?;
     let mut out = MemSink::new(alloc, Vec::new(alloc), 1000);
     let mut note = MemSink::new(alloc, Vec::new(alloc), 1000);
     let ended = engine(rt, alloc, &words, files, &mut out, &mut note, &OpenGate);

@@ -1,5 +1,8 @@
 //! Want of memory.
 use crate::calls::{call, files_with};
+use gl_base::NoMemory;
+use std::alloc::Global;
+use std::sync::Wait;
 
 /// Levels from 1, where edges have no direction.
 const JOB: &str =
@@ -7,23 +10,16 @@ const JOB: &str =
 
 const ANSWER: &str = "1 0\n2 1\n3 2\n4 9223372036854775807\n";
 
-/// Where an allocation fails, `out` holds a front of the answer, and the status is 11, or 6 where it was a sink's own. `rt try
-/// --test --fail-alloc N` lets the N-th one fail; with none failing the whole answer is there.
-#[test]
-fn want_of_memory_leaves_a_front(rt: HostRuntime) {
-    let alloc = rt.alloc();
+/// Whether `out` holds the whole answer with status 0, or, where an allocation fails, a front of it with status 11, or nothing with
+/// status 6 where the allocation was a sink's own.
+pub fn want_of_memory_leaves_a_front<R: Wait>(rt: &R, alloc: Global) -> Result<bool, NoMemory> {
     let texts = [("j", JOB), ("g.v", "1\n2\n3\n4\n"), ("g.e", "1 2\n2 3\n")];
-    let Ok(mut files) = files_with(alloc, &texts) else {
-        return;
-    };
-    let Ok((ended, out, _note)) = call(&rt, alloc, "run", &mut files) else {
-        return;
-    };
+    let mut files = files_with(alloc, &texts)?;
+    let (ended, out, _note) = call(rt, alloc, "run", &mut files)?;
     let whole = ANSWER.as_bytes();
-    assert!(rt; whole.starts_with(out.bytes()));
-    match ended.status.number() {
-        0 => assert_eq!(rt; out.bytes(), whole),
-        6 => assert_eq!(rt; out.bytes(), b"".as_slice()),
-        number => assert_eq!(rt; number, 11),
-    }
+    Ok(match ended.status.number() {
+        0 => out.bytes() == whole,
+        6 => out.bytes().is_empty(),
+        number => number == 11 && whole.starts_with(out.bytes()),
+    })
 }

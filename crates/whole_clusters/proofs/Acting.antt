@@ -10,7 +10,7 @@ use Rattle.cluster_laws.proofs.cluster_core.Basics.{set_at-holds, set_at-other, 
 use Rattle.cluster_laws.specs.cluster_model.Calls.{Call, Report, Want}
 use Rattle.cluster_laws.specs.cluster_model.Machines.{Machine, gained, outside}
 use Rattle.cluster_laws.specs.cluster_model.Working.{admits, answers_if, asks_more, grants, half_window, hands, is_done, makes_update, prompt, receives, works_on}
-use Rattle.cluster_ending.proofs.Growing.{admitted_longer, granted_longer, received_longer, updated_longer}
+use Rattle.whole_laws.proofs.cluster_ending.Growing.{admitted_longer, granted_longer, received_longer, updated_longer}
 use Rattle.wave_counts.specs.Counts.{HasPutOut, IsCountOf, one_more}
 use Rattle.wave_counts.proofs.CountLemmas.{counts_put_out, counts_received, counts_sent}
 use Rattle.whole_clusters.specs.Seats.{IsSeatOf, Setting, seat_beside}

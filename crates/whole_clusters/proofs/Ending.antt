@@ -7,10 +7,10 @@ use Rattle.cluster_laws.specs.cluster_core.Ways.{vertex_woken}
 use Rattle.cluster_laws.specs.cluster_core.Worlds.{World, way}
 use Rattle.cluster_laws.specs.cluster_model.Clusters.{Cluster}
 use Rattle.cluster_laws.specs.cluster_model.Leading.{HasSeenTheEnd}
-use Rattle.cluster_whole.specs.Views.{world_of}
-use Rattle.cluster_ending.specs.Ends.{HasEnded}
-use Rattle.cluster_ending.proofs.Finding.{at_rest, no_task_left, rest_ends}
-use Rattle.cluster_ending.proofs.Leaving.{none_woken}
+use Rattle.whole_laws.specs.cluster_whole.Views.{world_of}
+use Rattle.whole_laws.specs.cluster_ending.Ends.{HasEnded}
+use Rattle.whole_laws.proofs.cluster_ending.Finding.{at_rest, no_task_left, rest_ends}
+use Rattle.whole_laws.proofs.cluster_ending.Leaving.{none_woken}
 use Rattle.whole_clusters.specs.Wholes.{IsAtEnd, IsClusterOf, IsOrderSince, Part, WholeView, size, tasks_of, world_now}
 
 module _ {M : Type 0} (part : M → Part) (st : Setting) (view : WholeView M) (c : Cluster) (of : IsClusterOf part st view c) (end : HasSeenTheEnd c.coordinator) where

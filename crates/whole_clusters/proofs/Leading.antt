@@ -12,11 +12,11 @@ use Rattle.cluster_laws.specs.cluster_model.Events as law
 use Rattle.cluster_laws.specs.cluster_model.Leading.{hands_call, takes_report}
 use Rattle.cluster_laws.specs.cluster_model.Machines.{Machine, is_idle}
 use Rattle.cluster_laws.specs.cluster_model.Working.{hands_report, is_done, prompt, takes_call}
-use Rattle.cluster_whole.specs.Whole.{IsNoRecovery}
-use Rattle.cluster_whole.specs.Steps.{Holds, IsCalled, Tells, Told as Has, Turn, calls_of, counts_in, reports_of}
-use Rattle.cluster_ending.specs.Ends.{IsFollowed}
-use Rattle.cluster_ending.specs.Watched.{waves_in}
-use Rattle.cluster_ending.proofs.Coming.{may_be_counted}
+use Rattle.whole_laws.specs.cluster_whole.Whole.{IsNoRecovery}
+use Rattle.whole_laws.specs.cluster_whole.Steps.{Holds, IsCalled, Tells, Told as Has, Turn, calls_of, counts_in, reports_of}
+use Rattle.whole_laws.specs.cluster_ending.Ends.{IsFollowed}
+use Rattle.whole_laws.specs.cluster_ending.Watched.{waves_in}
+use Rattle.whole_laws.proofs.cluster_ending.Coming.{may_be_counted}
 use Rattle.coord_core.specs.Calls.{HasHandedOver, HasPutWave, HasTakenReport, IsHandedOver}
 use Rattle.coord_core.specs.Coordinators.{CoordinatorView, MessageView, TellsCall, message_view}
 use Rattle.wire_msgs.specs.Views as wire

@@ -20,13 +20,13 @@ use Rattle.cluster_laws.specs.cluster_model.Leading.{first_coordinator}
 use Rattle.cluster_laws.specs.cluster_model.Machines.{Machine}
 use Rattle.cluster_laws.specs.cluster_model.Totals.{total}
 use Rattle.cluster_laws.specs.cluster_model.TwoWaves.{IsIdleAnswer, TwoWaves, all_answered, no_counts, no_waves, turned}
-use Rattle.cluster_whole.specs.Steps.{Told, under_way}
-use Rattle.cluster_whole.specs.Whole.{AreKeptApart, IsWhole}
-use Rattle.cluster_whole.specs.Windows.{StaysWithin, one_where, plan_where, scope_at, sum_below}
-use Rattle.cluster_whole.proofs.Flows.{total_from-none}
-use Rattle.cluster_whole.proofs.Telling.{turned_part, turned_whole}
-use Rattle.cluster_ending.specs.Ends.{IsFollowed}
-use Rattle.cluster_ending.specs.Watched.{AreWatched, HasTold, IsIdleWave, Watch}
+use Rattle.whole_laws.specs.cluster_whole.Steps.{Told, under_way}
+use Rattle.whole_laws.specs.cluster_whole.Whole.{AreKeptApart, IsWhole}
+use Rattle.whole_laws.specs.cluster_whole.Windows.{StaysWithin, one_where, plan_where, scope_at, sum_below}
+use Rattle.whole_laws.proofs.cluster_whole.Flows.{total_from-none}
+use Rattle.whole_laws.proofs.cluster_whole.Telling.{turned_part, turned_whole}
+use Rattle.whole_laws.specs.cluster_ending.Ends.{IsFollowed}
+use Rattle.whole_laws.specs.cluster_ending.Watched.{AreWatched, HasTold, IsIdleWave, Watch}
 use Rattle.coord_core.specs.Calls.{IsFirstOf}
 use Rattle.cluster_step.specs.Links.{told_on}
 use Rattle.cluster_step.specs.declared.parts.Parts.{Parts}

@@ -17,10 +17,10 @@ use Rattle.cluster_laws.specs.cluster_model.Events.{IsAwake, MayAdmitNow, MayDo,
 use Rattle.cluster_laws.specs.cluster_model.Events as law
 use Rattle.cluster_laws.specs.cluster_model.Machines.{Machine, outside}
 use Rattle.cluster_laws.specs.cluster_model.Working.{admits, grants, hands, has_room, makes_update, prompt, receives}
-use Rattle.cluster_ending.specs.Ends.{IsFollowed}
-use Rattle.cluster_ending.proofs.Courses.{event_kept}
-use Rattle.cluster_whole.specs.Whole.{IsNoRecovery}
-use Rattle.cluster_whole.proofs.Wholeness.{event_moved}
+use Rattle.whole_laws.specs.cluster_ending.Ends.{IsFollowed}
+use Rattle.whole_laws.proofs.cluster_ending.Courses.{event_kept}
+use Rattle.whole_laws.specs.cluster_whole.Whole.{IsNoRecovery}
+use Rattle.whole_laws.proofs.cluster_whole.Wholeness.{event_moved}
 use Rattle.cluster_step.specs.Events.{Happens, IsActionOf, MayComeAbout, NamesMachinesOf}
 use Rattle.cluster_step.specs.declared.events.Event.{Event}
 use Rattle.cluster_step.specs.declared.events.Event.TheVariants.{Admit, Deliver, Grant, Send, Update}

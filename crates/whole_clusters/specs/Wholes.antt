@@ -11,7 +11,7 @@ use Rattle.std.specs.Prelude.{Bool, List, None, [], false, ℕ, ◌<◌, ◌≡�
 use Rattle.gl_base.specs.declared.entries.Entry.{Entry}
 use Rattle.gl_base.specs.declared.scopes.ScopeId.{ScopeId}
 use Rattle.cluster_laws.specs.cluster_core.Settings.{Locking}
-use Rattle.cluster_ending.specs.Ends.{IsFollowed}
+use Rattle.whole_laws.specs.cluster_ending.Ends.{IsFollowed}
 use Rattle.cluster_step.specs.Links.{told_on}
 use Rattle.whole_clusters.specs.declared.seats.Seat.{Seat}
 

@@ -18,7 +18,7 @@ use Rattle.order_text.specs.Orders.{IsEntryOf}
 use Rattle.stored_answers.specs.declared.runs.StoredEnd.{StoredEnd}
 use Rattle.stored_answers.specs.declared.runs.StoredEnd.TheVariants as end
 use Rattle.stored_answers.specs.declared.runs.StoredRun.{StoredRun}
-use Rattle.whole_calls.specs.Following.{AreJobFailures}
+use Rattle.whole_laws.specs.whole_calls.Following.{AreJobFailures}
 use Rattle.engine_cli.specs.declared.running.Prepared.{Prepared}
 use Rattle.engine_cli.specs.declared.status.Status.{Status}
 use Rattle.engine_cli.specs.declared.status.Status.TheVariants.{BudgetSpent, DiskFault, SnapshotsFull}

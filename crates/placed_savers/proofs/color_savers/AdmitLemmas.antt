@@ -11,7 +11,7 @@ use Rattle.cluster_laws.specs.cluster_core.Effects.{admitted, admitted_by, in_fl
 use Rattle.cluster_laws.specs.cluster_core.Parts.{Part}
 use Rattle.cluster_laws.specs.cluster_core.Ranges.{first_passing}
 use Rattle.cluster_laws.specs.cluster_core.Settings.{Chromatic, Engine}
-use Rattle.cluster_ending.proofs.Growing.{admitted_longer}
+use Rattle.whole_laws.proofs.cluster_ending.Growing.{admitted_longer}
 use Rattle.cluster_laws.specs.cluster_model.Events.{MayAdmitNow}
 use Rattle.cluster_laws.specs.cluster_model.Working.{admits, has_room, is_done, is_offered}
 use Rattle.cluster_moves.proofs.DueKept.{IsKept, admitted_kept}

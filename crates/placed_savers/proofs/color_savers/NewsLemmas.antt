@@ -13,9 +13,9 @@ use Rattle.cluster_laws.specs.cluster_core.Ways.{IsNewsFor, IsToldTo}
 use Rattle.cluster_laws.proofs.cluster_core.Nearness.{near_within}
 use Rattle.cluster_laws.specs.cluster_model.Clusters.{Cluster}
 use Rattle.cluster_laws.specs.cluster_model.Working.{receives}
-use Rattle.cluster_whole.specs.Steps.{IsWordBetween}
-use Rattle.cluster_whole.proofs.Colours.{in_turn}
-use Rattle.cluster_whole.proofs.Stepping.{front_between}
+use Rattle.whole_laws.specs.cluster_whole.Steps.{IsWordBetween}
+use Rattle.whole_laws.proofs.cluster_whole.Colours.{in_turn}
+use Rattle.whole_laws.proofs.cluster_whole.Stepping.{front_between}
 use Rattle.color_snaps.specs.Machines.{IsInSameStep, with_locking}
 use Rattle.color_snaps.specs.Snapshots.{CanHearNews, HasHeardNews}
 use Rattle.machine_numbers.specs.Views.{is_named}

@@ -6,15 +6,15 @@ use Rattle.std.proofs.lemmas.List.FromFn.{fill_by_all}
 use Rattle.gl_base.specs.declared.entries.Entry.{Entry}
 use Rattle.gl_base.specs.declared.jobs.FailureAt.{FailureAt}
 use Rattle.gl_base.specs.declared.snapshots.Record.{Record}
-use Rattle.attempts.specs.EngineCalls.{EngineCall, ticket_above}
-use Rattle.attempts.specs.Entries.{is_restart}
+use Rattle.whole_laws.specs.attempts.EngineCalls.{EngineCall, ticket_above}
+use Rattle.whole_laws.specs.attempts.Entries.{is_restart}
 use Rattle.call_courses.proofs.Calling.{due_first}
 use Rattle.call_courses.specs.Courses.{IsCourseNow, newest_setting}
 use Rattle.call_courses.specs.Events.{CanHappenInCall, CanNotHappenInCall, HappensInCall, HasHappenedInCall, StaysThere}
 use Rattle.cluster_laws.specs.cluster_model.Events as law
 use Rattle.cluster_laws.specs.cluster_model.Leading.{HasStoreRoom, RecordIsDue, Snapshot, come_or, record_length}
 use Rattle.cluster_laws.specs.cluster_model.Totals.{total, total_from}
-use Rattle.cluster_records.specs.Recorded.{snapshot_due}
+use Rattle.whole_laws.specs.cluster_records.Recorded.{snapshot_due}
 use Rattle.cluster_laws.specs.cluster_runs.Recorded.{shared_of}
 use Rattle.coord_core.proofs.SavingLemmas.{total_last}
 use Rattle.coord_core.specs.Calls.{IsDueOf}
@@ -40,9 +40,9 @@ use Rattle.stored_courses.specs.Stores.{IsKnownCourse, KeepsUp, first_cluster, f
 use Rattle.stored_records.proofs.Going.{goes_with, grows_up, next_is}
 use Rattle.stored_records.specs.Keeping.{IsNextOrder}
 use Rattle.sync_folds.specs.Folds.{fold_of}
-use Rattle.whole_calls.proofs.Leading.{behind_since, since}
-use Rattle.whole_calls.specs.Following.{FollowsJob}
-use Rattle.whole_calls.specs.Telling.{NeedsMoreStore}
+use Rattle.whole_laws.proofs.whole_calls.Leading.{behind_since, since}
+use Rattle.whole_laws.specs.whole_calls.Following.{FollowsJob}
+use Rattle.whole_laws.specs.whole_calls.Telling.{NeedsMoreStore}
 use Rattle.stored_calls.specs.call_appends.Appends.{CallOpening, Cluster, CourseView, Header, IsDueWith, IsGoodImage, IsInForm, IsNewestLine, IsRecordBehind, IsRecordWith, Machine, MakesCall, Restarts, Setting, SnapLine, fold_in, stored_order}
 use Rattle.stored_calls.specs.call_appends.Folds.{IsFoldOf}
 use Rattle.stored_calls.specs.call_appends.Inner.Storing.{IsWithRecord}

@@ -3,13 +3,13 @@ use Rattle.std.proofs.Common.{◌≡◌, ℕ, ◌+◌, ◌*◌, ◌<◌, ◌++�
 use Rattle.std.specs.Prelude.{slice_index_or}
 use Rattle.gl_base.specs.declared.entries.Entry.{Entry}
 use Rattle.gl_base.specs.declared.snapshots.Base.{Base}
-use Rattle.attempts.specs.Stores.{last_order}
+use Rattle.whole_laws.specs.attempts.Stores.{last_order}
 use Rattle.call_courses.proofs.Going.{setting_now}
 use Rattle.call_courses.specs.Courses.{IsSnapSetting, first_setting}
 use Rattle.cluster_laws.specs.cluster_model.Events as law
 use Rattle.cluster_laws.specs.cluster_model.Leading.{Snapshot}
 use Rattle.cluster_laws.specs.cluster_model.Totals.{total}
-use Rattle.cluster_records.specs.Recorded.{HaveSameNumbers}
+use Rattle.whole_laws.specs.cluster_records.Recorded.{HaveSameNumbers}
 use Rattle.cluster_laws.specs.cluster_runs.Attempts.{Shared}
 use Rattle.cluster_laws.specs.cluster_runs.Recorded.{shared_of}
 use Rattle.graph_core.specs.DataGraph.{DataGraph, IsDataGraph, size}
@@ -26,8 +26,8 @@ use Rattle.stored_calls.proofs.saver_courses.EngineLemmas.{led_by}
 use Rattle.stored_courses.specs.Stores.{first_cluster, fronts_in, recorded_in}
 use Rattle.stored_records.specs.Keeping.{AreNextOrders}
 use Rattle.update_api.specs.Updates.{Update}
-use Rattle.whole_calls.proofs.Calling.{the_return}
-use Rattle.whole_calls.proofs.Leading.{behind_since}
+use Rattle.whole_laws.proofs.whole_calls.Calling.{the_return}
+use Rattle.whole_laws.proofs.whole_calls.Leading.{behind_since}
 use Rattle.stored_calls.proofs.call_backs.Keepings.{machines_same}
 use Rattle.stored_calls.proofs.call_backs.Restarted.{AreRestarts, behind_before, lacks_so, one_more_each, order_append, same_numbers}
 use Rattle.stored_calls.specs.call_backs.Failing.{CallOpening, Cluster, CourseView, InEachCourse, IsCourseNow, Setting, newest_setting}

@@ -12,7 +12,7 @@ use Rattle.cluster_laws.specs.cluster_model.Working.{fails}
 use Rattle.call_courses.specs.Events.{CanNotHappenInCall, HappensInCall, StaysThere}
 use Rattle.snap_clusters.specs.declared.events.Event.TheVariants as event
 use Rattle.snap_clusters.specs.declared.events.Local.TheVariants as local
-use Rattle.whole_calls.specs.Following.{reaches}
+use Rattle.whole_laws.specs.whole_calls.Following.{reaches}
 use Rattle.stored_calls.specs.call_backs.Failing.{ArePassing, CallOpening, Cluster, CourseView, HaveFailedSince, InEachCourse, IsCourseNow, IsSameAttempt, IsSameButFailed, Machine, Setting, has_reached, newest_setting}
 
 pub same_then : {M : Type 0} (a b c : CourseView M) → IsSameAttempt a b → IsSameAttempt b c → IsSameAttempt a c

@@ -8,12 +8,12 @@ use Rattle.call_courses.proofs.Passing.{pass_fronts, pass_lost, pass_records, re
 use Rattle.cluster_laws.specs.cluster_model.Events as law
 use Rattle.cluster_laws.specs.cluster_model.Leading.{Coordinator, Snapshot}
 use Rattle.cluster_laws.specs.cluster_model.Totals.{total}
-use Rattle.cluster_whole.proofs.Flows.{total_from-all_none}
+use Rattle.whole_laws.proofs.cluster_whole.Flows.{total_from-all_none}
 use Rattle.recovery.specs.Journals.{records_size}
 use Rattle.stored_courses.specs.Stores.{KeepsUp, first_cluster, fronts_in, recorded_in}
 use Rattle.update_api.specs.Updates.{Update}
-use Rattle.whole_calls.proofs.Leading.{behind_since}
-use Rattle.whole_calls.specs.Lost.{AreLostIn}
+use Rattle.whole_laws.proofs.whole_calls.Leading.{behind_since}
+use Rattle.whole_laws.specs.whole_calls.Lost.{AreLostIn}
 use Rattle.stored_calls.specs.call_backs.Failing.{CallOpening, Cluster, CourseView, HaveFailedSince, Machine, Setting, has_reached, newest_setting}
 use Rattle.stored_calls.specs.call_backs.Returning.{BaseView, EngineSaver, GoesBackSo, HasFailures, HasReachedSome, Header, IsEngineSaverOf, IsKnownCourse, StoreView, is_restart}
 

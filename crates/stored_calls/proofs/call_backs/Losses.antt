@@ -9,8 +9,8 @@ use Rattle.gl_base.specs.declared.entries.Entry.{Entry}
 use Rattle.cluster_laws.specs.cluster_model.Clusters.{BaseView, Cluster}
 use Rattle.cluster_laws.specs.cluster_model.Events as law
 use Rattle.merged_logs.specs.Merges.{IsMerge, ticket_of}
-use Rattle.whole_calls.proofs.Calling.{the_losses}
-use Rattle.whole_calls.specs.Lost.{TakesAway, all_logged, is_lacking, machine_logs}
+use Rattle.whole_laws.proofs.whole_calls.Calling.{the_losses}
+use Rattle.whole_laws.specs.whole_calls.Lost.{TakesAway, all_logged, is_lacking, machine_logs}
 use Rattle.stored_calls.specs.call_backs.Failing.{CallOpening, CourseView, IsCourseNow, Machine, Setting, newest_setting}
 
 pub for_ok : {X E : Type 0} (r : Result X E) (P Q : X → Type 0) → ((x : X) → P x → Q x) → IfOk r P → IfOk r Q

@@ -4,11 +4,11 @@ use Rattle.std.specs.List.{range_with_len}
 use Rattle.std.specs.Prelude.{sum_by}
 use Rattle.gl_base.specs.Lists.{AreEach}
 use Rattle.gl_base.specs.declared.entries.Entry.{Entry}
-use Rattle.attempts.proofs.Opening.{last_begins, opening_begins}
-use Rattle.attempts.specs.EngineCalls.{EngineCall, IsEngineCall, call_order, done_of, last_beginning, lost_of, opening}
-use Rattle.attempts.specs.Stores.{last_order, snapshots_of}
+use Rattle.whole_laws.proofs.attempts.Opening.{last_begins, opening_begins}
+use Rattle.whole_laws.specs.attempts.EngineCalls.{EngineCall, IsEngineCall, call_order, done_of, last_beginning, lost_of, opening}
+use Rattle.whole_laws.specs.attempts.Stores.{last_order, snapshots_of}
 use Rattle.call_answers.proofs.Listing.{counts_sum, run_is, window_is}
-use Rattle.attempts.specs.Entries.{is_restart}
+use Rattle.whole_laws.specs.attempts.Entries.{is_restart}
 use Rattle.call_answers.specs.Answers.{IsRunWithFailures, KeepsToWindow}
 use Rattle.call_answers.specs.Courses.{IsMerge, ListsOfCourse, all_logged, machine_logs}
 use Rattle.call_courses.specs.Calls.{HasEndedCall, MakesCall}
@@ -24,11 +24,11 @@ use Rattle.recovery.proofs.Goodness.{last_behind}
 use Rattle.recovery.specs.Journals.{body_entries, order_behind, with_entries}
 use Rattle.seq_run.specs.Orders.{tasks_after}
 use Rattle.store_format.specs.declared.header.Header.{Header}
-use Rattle.whole_calls.proofs.Calling.{the_call}
-use Rattle.whole_calls.proofs.Fronting.{next_once}
-use Rattle.whole_calls.proofs.Leading.{behind_since}
-use Rattle.whole_calls.specs.Called.{IsCallOf}
-use Rattle.whole_calls.specs.Saved.{AreNextOrders, fronts_in, recorded_in}
+use Rattle.whole_laws.proofs.whole_calls.Calling.{the_call}
+use Rattle.whole_laws.proofs.whole_calls.Fronting.{next_once}
+use Rattle.whole_laws.proofs.whole_calls.Leading.{behind_since}
+use Rattle.whole_laws.specs.whole_calls.Called.{IsCallOf}
+use Rattle.whole_laws.specs.whole_calls.Saved.{AreNextOrders, fronts_in, recorded_in}
 
 sum_few : (n left budget : ℕ) → n + left ≡ budget → n ≤ budget
 sum_few n left budget all = omega arith

@@ -8,8 +8,8 @@ use Rattle.gl_base.specs.Lists.{AreEach}
 use Rattle.gl_base.specs.declared.entries.Entry.{Entry}
 use Rattle.gl_base.specs.declared.entries.Entry.TheVariants.{Go, Restart}
 use Rattle.gl_base.specs.declared.jobs.FailureAt.{FailureAt}
-use Rattle.attempts.proofs.Opening.{call_in_turn, last_begins, opening_begins}
-use Rattle.attempts.specs.EngineCalls.{EngineCall, IsEngineCall, call_order, last_beginning, opening}
+use Rattle.whole_laws.proofs.attempts.Opening.{call_in_turn, last_begins, opening_begins}
+use Rattle.whole_laws.specs.attempts.EngineCalls.{EngineCall, IsEngineCall, call_order, last_beginning, opening}
 use Rattle.call_courses.specs.Courses.{CallOpening, Cluster, CourseView, IsCourseNow, Machine, Setting, first_setting}
 use Rattle.stored_calls.specs.call_ends.Gathered.{AreNumbers, IsEntryOf, IsMerge, all_logged, machine_logs, reached_places}
 use Rattle.cluster_laws.specs.cluster_model.Events as law
@@ -22,9 +22,9 @@ use Rattle.seq_run.proofs.Waking.{wakes-within}
 use Rattle.seq_run.specs.Orders.{IsValidFrom, after_entry, all_tasks, replay, tasks_after_entry}
 use Rattle.seq_run.specs.States.{GraphState, start_state, wakes}
 use Rattle.update_api.specs.Updates.{Update}
-use Rattle.whole_calls.proofs.Calling.{the_call}
-use Rattle.whole_calls.proofs.Leading.{behind_since}
-use Rattle.whole_calls.specs.Called.{IsCallOf}
+use Rattle.whole_laws.proofs.whole_calls.Calling.{the_call}
+use Rattle.whole_laws.proofs.whole_calls.Leading.{behind_since}
+use Rattle.whole_laws.specs.whole_calls.Called.{IsCallOf}
 
 -- one more at its place
 all_more : (P : Entry → Type 0) (x : Entry) (xs : List Entry) → P x → All P xs → (i : ℕ) (d : Entry) → i < length (x ∷ xs) → P (get_or (x ∷ xs) i d)

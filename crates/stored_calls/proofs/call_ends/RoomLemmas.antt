@@ -6,16 +6,16 @@ use Rattle.std.proofs.lemmas.List.Sorted.{IsPermutation-append_right, length_per
 use Rattle.gl_base.specs.declared.entries.Entry.{Entry}
 use Rattle.gl_base.specs.declared.entries.Entry.TheVariants.{Go, Restart}
 use Rattle.gl_base.specs.declared.jobs.FailureAt.{FailureAt}
-use Rattle.attempts.proofs.Accounting.{filter_all, filter_none}
-use Rattle.attempts.proofs.Cutting.{all_cut, cut_and_left}
-use Rattle.attempts.proofs.Failing.{all_restarts, no_restart}
-use Rattle.attempts.proofs.Opening.{last_begins, opening_begins}
-use Rattle.attempts.proofs.Prefixes.{last_order_append}
-use Rattle.attempts.proofs.Storing.{call_back, goes_back}
-use Rattle.attempts.specs.Beginnings.{again, held_updates, last_of, nothing, unheld_updates}
-use Rattle.attempts.specs.EngineCalls.{EngineCall, IsEngineCall, call_order, last_beginning, opening}
-use Rattle.attempts.specs.Entries.{is_restart, is_update}
-use Rattle.attempts.specs.Stores.{ResumesFrom, attempted_snapshots, last_order, snapshot_orders, snapshots_of}
+use Rattle.whole_laws.proofs.attempts.Accounting.{filter_all, filter_none}
+use Rattle.whole_laws.proofs.attempts.Cutting.{all_cut, cut_and_left}
+use Rattle.whole_laws.proofs.attempts.Failing.{all_restarts, no_restart}
+use Rattle.whole_laws.proofs.attempts.Opening.{last_begins, opening_begins}
+use Rattle.whole_laws.proofs.attempts.Prefixes.{last_order_append}
+use Rattle.whole_laws.proofs.attempts.Storing.{call_back, goes_back}
+use Rattle.whole_laws.specs.attempts.Beginnings.{again, held_updates, last_of, nothing, unheld_updates}
+use Rattle.whole_laws.specs.attempts.EngineCalls.{EngineCall, IsEngineCall, call_order, last_beginning, opening}
+use Rattle.whole_laws.specs.attempts.Entries.{is_restart, is_update}
+use Rattle.whole_laws.specs.attempts.Stores.{ResumesFrom, attempted_snapshots, last_order, snapshot_orders, snapshots_of}
 use Rattle.cluster_laws.specs.cluster_runs.Recorded.{shared_of}
 use Rattle.recovery.specs.Journals.{stored_order}
 use Rattle.cluster_laws.specs.cluster_core.Settings.{Setting}
@@ -26,8 +26,8 @@ use Rattle.cluster_laws.specs.cluster_runs.Attempts.{Attempt, Beginning, IsAttem
 use Rattle.graph_core.specs.DataGraph.{size}
 use Rattle.seq_run.specs.Orders.{tasks_after}
 use Rattle.stored_answers.specs.Ends.{NeedsMoreRoom}
-use Rattle.whole_calls.specs.Called.{IsCallOf}
-use Rattle.whole_calls.specs.Telling.{NeedsMoreStore}
+use Rattle.whole_laws.specs.whole_calls.Called.{IsCallOf}
+use Rattle.whole_laws.specs.whole_calls.Telling.{NeedsMoreStore}
 
 -- ---- updates and restarts of an order
 

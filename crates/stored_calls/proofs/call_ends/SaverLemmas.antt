@@ -20,7 +20,7 @@ use Rattle.local_graph.specs.Locals.{machine_numbers}
 use Rattle.machine_numbers.specs.Views.{datum_here}
 use Rattle.machine_core.specs.machine_parts.Parts.{is_own, task_here}
 use Rattle.update_api.specs.Updates.{Update}
-use Rattle.whole_calls.proofs.Leading.{behind_since}
+use Rattle.whole_laws.proofs.whole_calls.Leading.{behind_since}
 
 -- The machine of the law has a part of the graph, and it looks like these parts.
 record HoldsPart (st : Setting) (a : ℕ) (m : Machine) (core : Core) : Type 0 where

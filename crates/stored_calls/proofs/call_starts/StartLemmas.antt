@@ -3,7 +3,7 @@ use Rattle.std.proofs.Common.{Bool, List, [], ap, append-nil, arith, filter, ifâ
 use Rattle.std.specs.declared.alloc.Global.{Global}
 use Rattle.std.specs.declared.vec.Vec.{Vec}
 use Rattle.std.proofs.lemmas.List.Elements.{filter-append}
-use Rattle.attempts.specs.Entries.{is_restart}
+use Rattle.whole_laws.specs.attempts.Entries.{is_restart}
 use Rattle.call_courses.specs.Courses.{CallOpening, CourseView, first_cluster}
 use Rattle.stored_calls.proofs.call_starts.TicketLemmas.{tickets_low}
 use Rattle.stored_calls.specs.call_starts.Inner.Openings.{CanOpenWith, IsOpeningOf, OpensWith, base_with}

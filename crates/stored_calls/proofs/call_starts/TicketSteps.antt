@@ -2,7 +2,7 @@
 use Rattle.std.proofs.Common.{◌≡◌, ℕ, suc, ◌+◌, ◌-◌, ◌^◌, ◌<◌, ◌∙◌, List, ap, arith, drop, get_or, length, max, min, sym}
 use Rattle.std.proofs.lemmas.List.{at_drop_more}
 use Rattle.std.proofs.Math.Seq.{drop-length}
-use Rattle.attempts.specs.EngineCalls.{ticket_above}
+use Rattle.whole_laws.specs.attempts.EngineCalls.{ticket_above}
 use Rattle.cluster_laws.specs.cluster_core.Replays.{ticket_of}
 use Rattle.gl_base.specs.declared.entries.Entry.{Entry}
 

@@ -13,8 +13,8 @@ use Rattle.opened_bases.proofs.OpenLemmas.{opens_from}
 use Rattle.placed_savers.specs.declared.savers.SavingRun.{SavingRun}
 use Rattle.update_api.specs.Updates.{Update}
 use Rattle.wave_counts.proofs.CountLemmas.{total_from-nothing}
-use Rattle.whole_calls.specs.Following.{AreJobFailures, has_reached}
-use Rattle.whole_calls.proofs.Leading.{behind_since}
+use Rattle.whole_laws.specs.whole_calls.Following.{AreJobFailures, has_reached}
+use Rattle.whole_laws.proofs.whole_calls.Leading.{behind_since}
 use Rattle.stored_calls.specs.saver_courses.Beginning.{AreSaversOf, BaseView, CallOpening, Cluster, CourseView, Engine, EngineSaver, GoesBackWith, IsCourseNow, IsEngineOf, IsEngineSaverOf, IsGoodBase, IsSavingRunOf, IsSnapSetting, RunsBy, Setting, StartsCall, StoreView, base_opened, cluster_before, newest_setting, opening_from, shared_of, store_from, ticket_above}
 
 none_more : (n failed : ℕ) → failed ≡ 0 → n + 16 * failed ≡ n

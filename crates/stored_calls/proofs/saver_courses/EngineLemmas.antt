@@ -1,7 +1,7 @@
 -- The engine of a run, and that of the law.
 use Rattle.std.proofs.Common.{All, List, subst, sym, ℕ, ◌≡◌, ◌≢◌}
 use Rattle.std.specs.Prelude.{slice_index_or}
-use Rattle.cluster_whole.specs.Whole.{AreColoured}
+use Rattle.whole_laws.specs.cluster_whole.Whole.{AreColoured}
 use Rattle.coord_core.specs.declared.steps.Engine.TheVariants.{Chromatic, Locking}
 use Rattle.graph_core.specs.DataGraph.{DataGraph}
 use Rattle.placed_savers.proofs.RunLemmas.{engine_of}

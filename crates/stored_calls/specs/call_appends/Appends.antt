@@ -13,13 +13,13 @@ use Rattle.std.specs.Prelude.{List, [], false, filter, length, true, ℕ, ◌++�
 use Rattle.gl_base.specs.declared.entries.Entry.{Entry}
 use Rattle.gl_base.specs.declared.jobs.FailureAt.{FailureAt}
 use Rattle.gl_base.specs.declared.snapshots.Record.{Record}
-use Rattle.attempts.specs.Entries.{is_restart}
+use Rattle.whole_laws.specs.attempts.Entries.{is_restart}
 use Rattle.stored_calls.specs.declared.call_appends.faults.AppendFault.TheVariants.{DiskFault, Full, NoMemory, NotInForm}
-use Rattle.attempts.specs.EngineCalls.{EngineCall}
+use Rattle.whole_laws.specs.attempts.EngineCalls.{EngineCall}
 use Rattle.call_courses.specs.Courses.{InEachCourse, IsCourseNow}
 use Rattle.call_courses.specs.Events.{CanNotHappenInCall}
 use Rattle.cluster_laws.specs.cluster_model.Events as law
-use Rattle.cluster_records.specs.Recorded.{snapshot_due}
+use Rattle.whole_laws.specs.cluster_records.Recorded.{snapshot_due}
 use Rattle.cluster_laws.specs.cluster_runs.Attempts.{Shared}
 use Rattle.cluster_laws.specs.cluster_runs.Recorded.{shared_of}
 use Rattle.recovery.specs.Journals.{RecordFits, body_bytes}
@@ -29,7 +29,7 @@ use Rattle.snap_journal.specs.Answers.{IsFullFor}
 use Rattle.snap_journal.specs.Disks.{Rose}
 use Rattle.snap_journal.specs.Formats.{IsBody, StandsFor}
 use Rattle.store_format.specs.StoredOrders.{entry_rank}
-use Rattle.whole_calls.specs.Telling.{NeedsMoreStore}
+use Rattle.whole_laws.specs.whole_calls.Telling.{NeedsMoreStore}
 
 -- ---- the record
 

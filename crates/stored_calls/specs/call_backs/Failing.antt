@@ -1,6 +1,6 @@
 -- Machines that have reached the count of a failure fail.
 pub use Rattle.call_courses.specs.Courses.{ArePassing, CallOpening, Cluster, CourseView, InEachCourse, IsCourseNow, IsSameAttempt, Machine, Setting, newest_setting}
-pub use Rattle.whole_calls.specs.Following.{has_reached}
+pub use Rattle.whole_laws.specs.whole_calls.Following.{has_reached}
 use Rattle.std.specs.Prelude.{List, false, true, ℕ, ◌++◌, ◌≡◌}
 use Rattle.gl_base.specs.declared.jobs.FailureAt.{FailureAt}
 use Rattle.cluster_laws.specs.cluster_model.Events as law

@@ -4,7 +4,7 @@ pub use Rattle.call_courses.specs.Courses.{BaseView, CallOpening, GoesBackWith, 
 pub use Rattle.call_returns.specs.Missing.{Begins, is_restart, restarts}
 pub use Rattle.placed_savers.specs.Beginning.{ArePlacesOf, EngineSaver, IsBaseFor, IsEngineSaverOf, IsRunAt}
 pub use Rattle.stored_courses.specs.Stores.{Header, IsKnownCourse, stored_order}
-pub use Rattle.whole_calls.specs.Lost.{TakesAway}
+pub use Rattle.whole_laws.specs.whole_calls.Lost.{TakesAway}
 use Rattle.std.specs.Prelude.{Bool, List, false, filter, length, true, ℕ, ◌+◌, ◌++◌, ◌<◌, ◌≡◌}
 use Rattle.gl_base.specs.declared.entries.Entry.{Entry}
 use Rattle.gl_base.specs.declared.snapshots.Base.{Base}

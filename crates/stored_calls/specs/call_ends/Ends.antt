@@ -7,10 +7,10 @@ pub use Rattle.recovery.specs.GoodStores.{orders_behind}
 pub use Rattle.recovery.specs.Journals.{records_size, stored_order}
 pub use Rattle.stored_answers.specs.Ends.{RunEndsSo}
 pub use Rattle.stored_courses.specs.Stores.{Header, IsKnownCourse}
-pub use Rattle.whole_calls.specs.Telling.{NeedsMoreStore}
+pub use Rattle.whole_laws.specs.whole_calls.Telling.{NeedsMoreStore}
 use Rattle.std.specs.Prelude.{List, length, sum_by, ℕ, ◌+◌, ◌++◌, ◌≡◌, ◌≤◌}
-use Rattle.attempts.specs.EngineCalls.{EngineCall}
-use Rattle.attempts.specs.Stores.{snapshots_of}
+use Rattle.whole_laws.specs.attempts.EngineCalls.{EngineCall}
+use Rattle.whole_laws.specs.attempts.Stores.{snapshots_of}
 use Rattle.stored_calls.specs.call_ends.Gathered.{CallOpening, Cluster, CourseView, Event, IsTaskIn, Machine, RunLists, Setting}
 use Rattle.call_rounds.specs.declared.pauses.Pause.TheVariants as pause
 use Rattle.gl_base.specs.declared.numbers.Vertex.{Vertex}

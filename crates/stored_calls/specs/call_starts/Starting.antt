@@ -10,7 +10,7 @@ pub use Rattle.recovery.specs.Recovered.{IsHeaderOf}
 pub use Rattle.stored_calls.specs.saver_courses.Beginning.{opening_from, shared_of}
 pub use Rattle.snap_journal.specs.Journals.{JournalState, snapshots_in}
 pub use Rattle.stored_courses.specs.Stores.{IsKnownCourse}
-pub use Rattle.whole_calls.specs.Following.{AreJobFailures}
+pub use Rattle.whole_laws.specs.whole_calls.Following.{AreJobFailures}
 use Rattle.std.specs.Prelude.{All, Bool, List, [], false, if◌then◌else◌, length, true, ℕ, ◌+◌, ◌≡◌, ◌≤◌}
 use Rattle.stored_calls.specs.declared.call_starts.starting.Started.{Started}
 use Rattle.cluster_laws.specs.cluster_runs.Attempts.{Shared}

@@ -5,7 +5,7 @@ ghost use Rattle.cluster_laws.specs.cluster_model.Events.{GoesBackTo};
 ghost use Rattle.cluster_laws.specs.cluster_core.Replays.{ticket_of};
 ghost use Rattle.merged_logs.specs.Merges.{IsMerge};
 ghost use Rattle.stored_calls.specs.call_backs.Failing.{InEachCourse, newest_setting};
-ghost use Rattle.whole_calls.specs.Lost.{TakesAway, all_logged, machine_logs};
+ghost use Rattle.whole_laws.specs.whole_calls.Lost.{TakesAway, all_logged, machine_logs};
 
 use call_courses::{Course, SavingMachine};
 use gl_base::{Entry, MachineNo, NoMemory};

@@ -2,8 +2,8 @@
 ghost use Rattle.std.specs.Prelude.{◌≡◌};
 ghost use Rattle.stored_calls.specs.call_ends.Inner.Cores.{IsOrderly, KnowsPlaces, core_held};
 
-use placed_savers::engine_savers::EngineSaver;
 use machine_core::machine_parts::Core;
+use placed_savers::engine_savers::EngineSaver;
 use update_api::Program;
 
 /// The parts of the machine, which are in order.

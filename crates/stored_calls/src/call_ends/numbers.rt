@@ -5,10 +5,10 @@ ghost use Rattle.graph_core.specs.DataGraph.{size};
 
 use crate::call_ends::cores::core_of;
 use call_courses::Course;
-use placed_savers::engine_savers::EngineSaver;
 use gl_base::{NoMemory, Vertex};
 use graph_core::Graph;
 use placed_savers::Places;
+use placed_savers::engine_savers::EngineSaver;
 use std::alloc::Global;
 use update_api::Program;
 

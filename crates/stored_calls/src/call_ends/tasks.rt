@@ -5,8 +5,8 @@ ghost use Rattle.graph_core.specs.DataGraph.{size};
 
 use crate::call_ends::cores::core_of;
 use call_courses::Course;
-use placed_savers::engine_savers::EngineSaver;
 use gl_base::{MachineNo, Vertex};
+use placed_savers::engine_savers::EngineSaver;
 use update_api::Program;
 
 /// A vertex that is a task of the machine that owns it, and vertex 0 where no machine has a task.

@@ -1,6 +1,6 @@
 //! What the first attempt of a call begins with.
 ghost use Rattle.std.specs.Prelude.{◌≡◌, ◌+◌, ◌++◌, ◌∷◌, ◌≤◌, ◌<◌, ◌^◌, [], false, true, filter, if◌then◌else◌, IfErr, IfOk, OnOk};
-ghost use Rattle.attempts.specs.Entries.{is_restart};
+ghost use Rattle.whole_laws.specs.attempts.Entries.{is_restart};
 ghost use Rattle.gl_base.specs.declared.entries.Entry.TheVariants.{Restart};
 ghost use Rattle.stored_calls.specs.call_starts.Starting.{restart_room};
 ghost use Rattle.stored_calls.specs.call_starts.Inner.Openings.{IsBaseOpened, IsOpeningOf, IsWhyNoOpening};

@@ -1,6 +1,6 @@
 //! The tickets of a call.
 ghost use Rattle.std.specs.Prelude.{◌≡◌, ◌-◌, ◌^◌, ◌≤◌, ◌<◌, ◌+◌, min, suc};
-ghost use Rattle.attempts.specs.EngineCalls.{ticket_above};
+ghost use Rattle.whole_laws.specs.attempts.EngineCalls.{ticket_above};
 ghost use Rattle.cluster_laws.specs.cluster_core.Replays.{ticket_of};
 
 use gl_base::Entry;

@@ -6,7 +6,7 @@ ghost use Rattle.cluster_laws.specs.cluster_model.Events.{Event, GoesBackTo, rec
 ghost use Rattle.graph_core.specs.DataGraph.{DataGraph, size};
 ghost use Rattle.placed_savers.specs.declared.savers.SavingRun.{SavingRun};
 ghost use Rattle.update_api.specs.Updates.{Update};
-ghost use Rattle.whole_calls.specs.Following.{AreJobFailures, has_reached};
+ghost use Rattle.whole_laws.specs.whole_calls.Following.{AreJobFailures, has_reached};
 ghost use Rattle.stored_calls.specs.saver_courses.Beginning.{AreSaversOf, BaseView, CallOpening, Cluster, CourseView, Engine, EngineSaver, GoesBackWith, IsCourseNow, IsEngineOf, IsEngineSaverOf, IsGoodBase, IsSavingRunOf, IsSnapSetting, RunsBy, Setting, StartsCall, StoreView, base_opened, cluster_before, newest_setting, opening_from, shared_of, store_from, ticket_above};
 
 use update_api::Program;

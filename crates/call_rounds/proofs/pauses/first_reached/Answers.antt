@@ -1,6 +1,6 @@
 -- All machines so far have reached no count.
 use Rattle.std.proofs.Common.{◌≡◌, ℕ, ◌<◌, ◌∙◌, arith, false, length, sym}
-use Rattle.whole_calls.specs.Following.{has_reached}
+use Rattle.whole_laws.specs.whole_calls.Following.{has_reached}
 use Rattle.call_rounds.specs.Pauses.{InEachCourse}
 use Rattle.call_rounds.proofs.pauses.first_reached.Given as given
 use Rattle.call_rounds.proofs.pauses.first_reached.Goals as goal

@@ -1,6 +1,6 @@
 use Rattle.std.proofs.Common.{◌≡◌, ℕ, ◌<◌, false}
 use Rattle.call_rounds.specs.Pauses.{InEachCourse}
-use Rattle.whole_calls.specs.Following.{has_reached}
+use Rattle.whole_laws.specs.whole_calls.Following.{has_reached}
 use Rattle.call_rounds.proofs.pauses.first_reached.Given as goal
 
 abbrev pub invariant-loop-m : goal.invariant-loop-m

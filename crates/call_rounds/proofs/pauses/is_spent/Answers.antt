@@ -1,6 +1,6 @@
 -- The budget is the updates that were made and the tickets that are left.
 use Rattle.std.proofs.Common.{◌≡◌, ℕ, ◌+◌, ◌≤◌, arith, length}
-use Rattle.attempts.specs.EngineCalls.{made_of}
+use Rattle.whole_laws.specs.attempts.EngineCalls.{made_of}
 use Rattle.call_rounds.proofs.pauses.is_spent.Goals as goal
 
 all_made : (made left budget : ℕ) → made + left ≡ budget → left ≤ 0 → made ≡ budget

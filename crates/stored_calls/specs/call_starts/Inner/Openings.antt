@@ -2,7 +2,7 @@
 use Rattle.std.specs.Prelude.{Bool, List, [], false, filter, if◌then◌else◌, length, min, true, ⊤, ℕ, ◌+◌, ◌++◌, ◌-◌, ◌<◌, ◌^◌, ◌∷◌, ◌≡◌, ◌≤◌, ◌⊎◌}
 use Rattle.std.specs.declared.alloc.Global.{Global}
 use Rattle.std.specs.declared.vec.Vec.{Vec}
-use Rattle.attempts.specs.Entries.{is_restart}
+use Rattle.whole_laws.specs.attempts.Entries.{is_restart}
 use Rattle.stored_calls.specs.call_starts.Starting.{AreColoursFor, AreJobFailures, Base, CourseView, EngineSaver, IsCourseNow, IsEngineAsked, IsEngineSaverOf, OpensCall, Setting, first_cluster, opening_from, restart_room, shared_of}
 use Rattle.stored_calls.specs.declared.call_starts.openings.Opening.{Opening}
 use Rattle.coord_core.specs.declared.steps.Engine.{Engine}

@@ -1,7 +1,7 @@
 -- Whether a count is reached, by what the machine had completed and what it has logged.
 use Rattle.std.proofs.Common.{◌+◌, ◌<◌, ◌∙◌, ap, length, get_or, subst, sym}
 use Rattle.std.proofs.lemmas.Grind.{get_or_default_zero}
-use Rattle.whole_calls.specs.Following.{reaches}
+use Rattle.whole_laws.specs.whole_calls.Following.{reaches}
 use Rattle.call_courses.proofs.Calling.{reached_is}
 use Rattle.call_courses.proofs.courses.Course.has_reached.Given as given
 use Rattle.call_courses.proofs.courses.Course.has_reached.Goals as goal

@@ -5,7 +5,7 @@ use Rattle.call_courses.proofs.AtOnceGoing.{can_at_once, cannot_at_once, kept_at
 use Rattle.call_courses.proofs.Going.{attempt_seen}
 use Rattle.call_courses.proofs.courses.Course.update_at_once.Given as given
 use Rattle.call_courses.proofs.courses.Course.update_at_once.Goals as goal
-use Rattle.whole_calls.specs.Following.{has_reached}
+use Rattle.whole_laws.specs.whole_calls.Following.{has_reached}
 
 free : (g : given.Over) (c : goal.After-update_at_once g) → InEachCourse g.M.SavingMachine.stands c.args.self.now (λ st o events x. has_reached c.args.self.now.failures x c.args.at.0 ≡ false)
 free g c st o events x is = sym (c.has_reached.ensures st o events x is) ∙ c.if-has_reached.false

@@ -5,7 +5,7 @@ use Rattle.gl_base.specs.declared.entries.Entry.{Entry}
 use Rattle.call_returns.specs.Missing.{is_restart}
 use Rattle.std.specs.Prelude.{true, ◌++◌, filter}
 use Rattle.stored_calls.proofs.call_appends.Lacking.{begins_filtered, lacking}
-use Rattle.cluster_records.specs.Recorded.{snapshot_due}
+use Rattle.whole_laws.specs.cluster_records.Recorded.{snapshot_due}
 use Rattle.stored_calls.proofs.call_appends.adding.due_record.Goals as goal
 
 pub missing_restarts-requires : goal.missing_restarts-requires

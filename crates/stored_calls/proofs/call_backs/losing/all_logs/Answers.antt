@@ -1,6 +1,6 @@
 -- Log by log.
 use Rattle.std.proofs.Common.{◌≡◌, ℕ, ◌∙◌, ap, arith, length}
-use Rattle.whole_calls.specs.Lost.{all_logged, machine_logs}
+use Rattle.whole_laws.specs.whole_calls.Lost.{all_logged, machine_logs}
 use Rattle.stored_calls.proofs.call_backs.Keepings.{machines_same}
 use Rattle.stored_calls.proofs.call_backs.Losses.{logs_more}
 use Rattle.stored_calls.proofs.call_backs.losing.all_logs.Goals as goal

@@ -1,5 +1,5 @@
 use Rattle.std.proofs.Common.{◌≡◌}
-use Rattle.whole_calls.specs.Lost.{all_logged, machine_logs}
+use Rattle.whole_laws.specs.whole_calls.Lost.{all_logged, machine_logs}
 use Rattle.stored_calls.specs.call_backs.Failing.{InEachCourse}
 use Rattle.stored_calls.proofs.call_backs.losing.all_logs.Given as goal
 

@@ -1,6 +1,6 @@
 -- What the order lacks of the merged logs.
 use Rattle.std.proofs.Common.{◌∙◌, ap, filter}
-use Rattle.whole_calls.specs.Lost.{is_lacking}
+use Rattle.whole_laws.specs.whole_calls.Lost.{is_lacking}
 use Rattle.stored_calls.proofs.call_backs.Losses.{for_ok, takes_away}
 use Rattle.stored_calls.proofs.call_backs.losing.taken_away.Goals as goal
 

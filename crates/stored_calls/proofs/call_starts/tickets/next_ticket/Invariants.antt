@@ -1,5 +1,5 @@
 use Rattle.std.proofs.Common.{◌≡◌, ◌-◌, ◌^◌, drop, max, min}
-use Rattle.attempts.specs.EngineCalls.{ticket_above}
+use Rattle.whole_laws.specs.attempts.EngineCalls.{ticket_above}
 use Rattle.stored_calls.proofs.call_starts.tickets.next_ticket.Given as goal
 
 abbrev pub invariant-loop-entry : goal.invariant-loop-entry

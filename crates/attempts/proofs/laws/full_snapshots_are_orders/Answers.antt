@@ -1,6 +1,0 @@
--- What is held is all.
-use Rattle.attempts.proofs.Storing.{full_is}
-use Rattle.attempts.proofs.laws.full_snapshots_are_orders.Goals as goal
-
-pub returns : goal.returns
-returns c = λ shared call is some full. full_is shared call is some full

@@ -1,6 +1,0 @@
-//! What happens in a cluster in the course of a call are attempts of the call, one after another, with locks and with colours.
-#![tactic(auto)]
-
-mod laws;
-
-pub use laws::{courses_are_attempts, records_are_held};

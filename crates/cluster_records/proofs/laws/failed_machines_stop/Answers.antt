@@ -1,6 +1,0 @@
--- Each guard of what a machine does asks that it hasn't failed.
-use Rattle.cluster_records.proofs.Stopping.{course_stops}
-use Rattle.cluster_records.proofs.laws.failed_machines_stop.Goals as goal
-
-pub returns : goal.returns
-returns c = λ st events old new a none course failed. course_stops events st none old new a course failed

@@ -1,6 +1,0 @@
--- Each section that has come is such.
-use Rattle.cluster_records.proofs.Coming.{come_entries}
-use Rattle.cluster_records.proofs.laws.records_have_their_entries.Goals as goal
-
-pub returns : goal.returns
-returns c = λ st cluster whole a logged is account due low. come_entries st is cluster whole logged account.sections due a low

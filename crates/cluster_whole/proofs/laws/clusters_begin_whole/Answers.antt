@@ -1,6 +1,0 @@
--- No scope is in any place, and nothing is under way.
-use Rattle.cluster_whole.proofs.Wholeness.{recovered_whole}
-use Rattle.cluster_whole.proofs.laws.clusters_begin_whole.Goals as goal
-
-pub returns : goal.returns
-returns c = λ st base cluster is coloured. recovered_whole st is coloured base cluster

@@ -1,9 +1,0 @@
--- All that was sent was received when the last wave was answered, and who has answered sends nothing.
-use Rattle.cluster_whole.proofs.Colours.{in_turn}
-use Rattle.cluster_whole.proofs.Due.{due_closed, due_free, due_ways}
-use Rattle.cluster_whole.proofs.laws.due_steps_are_over.Goals as goal
-
-pub returns : goal.returns
-returns c = λ st colour colours cluster whole chromatic due.
-    let t = in_turn st colour colours cluster whole chromatic in
-    (λ p q. due_ways st colour cluster t due p q, λ a. due_closed st colour cluster t due a, λ s. due_free st colour cluster t due s)

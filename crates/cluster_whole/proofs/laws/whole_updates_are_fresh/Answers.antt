@@ -1,8 +1,0 @@
--- No news of a neighbour are on the way.
-use Rattle.cluster_laws.proofs.cluster_numbers.Keeping.{update_fresh}
-use Rattle.cluster_whole.specs.Views.{world_of}
-use Rattle.cluster_whole.proofs.Wholeness.{is_exclusive}
-use Rattle.cluster_whole.proofs.laws.whole_updates_are_fresh.Goals as goal
-
-pub returns : goal.returns
-returns c = λ st cluster whole s may is. update_fresh st is (world_of cluster) whole.consistent.order whole.consistent.copies whole.consistent.replay (is_exclusive st is cluster whole) s may

@@ -1,8 +1,0 @@
-//! What a cluster does from the opening of a call on: the call's attempts, their windows, their snapshots and their end.
-#![tactic(auto)]
-
-mod examples;
-mod laws;
-
-pub use examples::{a_call_that_goes_back, a_snapshot_for_the_end};
-pub use laws::{courses_are_calls, losses_are_lacking, orders_are_one, recoveries_may_come};

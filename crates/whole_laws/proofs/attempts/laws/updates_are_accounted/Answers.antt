@@ -1,0 +1,10 @@
+-- Attempt after attempt, what was held and what was not.
+use Rattle.whole_laws.proofs.attempts.Accounting.{call_accounted}
+use Rattle.whole_laws.proofs.attempts.Pieces.{call_between}
+use Rattle.whole_laws.proofs.attempts.laws.updates_are_accounted.Goals as goal
+
+pub returns-clause-together : goal.returns-clause-together
+returns-clause-together c = λ shared call is. call_accounted shared call is
+
+pub returns-clause-between : goal.returns-clause-between
+returns-clause-between c = λ shared call is. call_between shared call is

@@ -1,0 +1,12 @@
+-- Event by event.
+use Rattle.whole_laws.proofs.cluster_ending.Reporting.{courses_informed, informed_kept, recovered_informed}
+use Rattle.whole_laws.proofs.cluster_ending.laws.events_keep_machines_informed.Goals as goal
+
+pub returns-clause-begins : goal.returns-clause-begins
+returns-clause-begins c = λ st base cluster. recovered_informed st base cluster
+
+pub returns-clause-goes_on : goal.returns-clause-goes_on
+returns-clause-goes_on c = λ st cluster event whole was may. informed_kept st cluster whole was event may
+
+pub returns-clause-course : goal.returns-clause-course
+returns-clause-course c = λ st events old new is whole was course. courses_informed st is events old new whole was course
