@@ -2,3 +2,4 @@ pub mod LockLemmas
 pub mod TableLemmas
 pub mod MakingLemmas
 pub mod ListedLemmas
+pub mod CountLemmas

@@ -6,7 +6,7 @@ ghost use Rattle.gl_base.specs.declared.scopes.Claim.{Claim};
 ghost use Rattle.scope_lists.specs.Scopes.{is_scope};
 ghost use Rattle.vertex_locks.specs.Locks.{LockView, has, mode_of, released, IsNext, IsFreeLock, WritesAlone, WaitOnce};
 ghost use Rattle.scope_lists.specs.Scopes.{GoTogether};
-ghost use Rattle.vertex_locks.specs.Inner.KeptLocks.{IsLock, requested, IsTaken, IsReleased, SameClaims};
+ghost use Rattle.vertex_locks.specs.Inner.KeptLocks.{IsLock, requested, IsTaken, IsReleased, SameClaims, claimed_once, one_where};
 
 use gl_base::{Claim, Mode, NoMemory, ScopeId};
 use scope_lists::is_scope;
@@ -56,15 +56,18 @@ impl Lock {
         Ok(())
     }
 
-    /// The claim waits behind the others.
+    /// The claim waits behind the others. Answers whether it is the only one.
     #[inline(always)]
-    pub fn request(&mut self, claim: Claim)
+    pub fn request(&mut self, claim: Claim) -> bool
         requires room { 0 < self.old.room }
         requires holds_not { has claim.scope self.old.holders ≡ false }
         requires waits_not { has claim.scope self.old.queue ≡ false }
-        ensures { self.new ≡ requested claim self.old }
+        ensures asked { self.new ≡ requested claim self.old }
+        ensures only { claimed_once self.new ≡ claimed_once self.old + one_where result }
     {
+        let only = self.claims.is_empty();
         self.claims.push_reserved(claim);
+        only
     }
 
     /// The claim holds the lock at once, where nobody claims it and there is room.
@@ -74,6 +77,7 @@ impl Lock {
         ensures taken { result ≡ true → IsTaken (requested claim self.old) self.new claim }
         ensures claimed { result ≡ false → IsFreeLock (mode_of self.old.holders) self.old.queue → self.old.room ≡ 0 }
         ensures same { result ≡ false → self.new ≡ self.old }
+        ensures only { claimed_once self.new ≡ claimed_once self.old + one_where result }
     {
         if !self.claims.is_empty() {
             return false;
@@ -104,21 +108,26 @@ impl Lock {
         ensures none { result ≡ None → (c : Claim) → IsNext (mode_of self.old.holders) self.old.queue c → ⊥ }
         ensures taken { IfSome result (λ c. IsTaken self.old self.new c) }
         ensures waiting { result ≡ None → self.new ≡ self.old }
+        ensures claimed { claimed_once self.new ≡ claimed_once self.old }
     {
         let claim = self.next()?;
         self.held += 1;
         Some(claim)
     }
 
-    /// The scope holds the lock no more. Where it doesn't hold it, also where it waits for it, nothing changes.
-    pub fn release(&mut self, scope: ScopeId)
+    /// The scope holds the lock no more. Where it doesn't hold it, also where it waits for it, nothing changes. Answers whether the
+    /// last claim went.
+    pub fn release(&mut self, scope: ScopeId) -> bool
         ensures gone { IsReleased self.old self.new scope }
         ensures exact { self.new ≡ released scope self.old }
+        ensures last { claimed_once self.new + one_where result ≡ claimed_once self.old }
     {
         if let Some(place) = place_of(&self.claims[..self.held], scope) {
             take_out(&mut self.claims, place);
             self.held -= 1;
+            return self.claims.is_empty();
         }
+        false
     }
 
     /// Whether the scope holds the lock.

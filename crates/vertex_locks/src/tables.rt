@@ -14,25 +14,27 @@ use vertex_queue::VertexQueue;
 
 /// A reader-writer lock for each vertex that a machine owns, with a queue of the claims that wait for it. Contracts see
 /// whether a vertex has a lock, how each scope holds it, who waits for it, and for how many more claims there is room. A vertex is
-/// listed where a claim came to its lock, or one went for which others wait, until a look finds that nothing would be granted there.
+/// listed where a claim came to its lock, or one went for which others wait, until a look finds that nothing would be granted there. How
+/// many locks somebody claims is counted.
 #[derive(Drop)]
 pub struct LockTable {
     places: Vec<u32>,
     locks: Vec<Lock>,
     listed: VertexQueue,
+    claimed: usize,
 }
 
 impl Model for LockTable {
     ghost use Rattle.std.specs.Prelude.{List, Option};
     ghost use Rattle.vertex_locks.specs.Locks.{LockView};
-    ghost use Rattle.vertex_locks.specs.Inner.KeptTables.{IsTable};
+    ghost use Rattle.vertex_locks.specs.Inner.KeptTables.{IsKept};
     ghost use Rattle.vertex_locks.specs.Tables.{table_of};
 
     ghost Value = { List (Option LockView) };
 
     ghost view = { λ t. table_of t.places.items t.locks.items };
 
-    ghost invariant = { λ t. IsTable t.places.items t.locks.items t.listed };
+    ghost invariant = { λ t. IsKept t.places.items t.locks.items t.listed t.claimed };
 }
 
 impl LockTable {
@@ -54,6 +56,7 @@ impl LockTable {
             places,
             locks,
             listed,
+            claimed: 0,
         })
     }
 
@@ -89,8 +92,9 @@ impl LockTable {
         ensures { HasAsked self.old self.new x.0 claim }
     {
         let place = self.places[x.0 as usize] as usize;
-        self.locks[place].request(claim);
+        let only = self.locks[place].request(claim);
         self.listed.add(x);
+        self.claimed += usize::from(only);
     }
 
     /// The claim holds the lock of x at once, where nobody claims it and there is room: as if it had asked and then been granted. Else
@@ -103,7 +107,9 @@ impl LockTable {
         ensures same { result ≡ false → self.new ≡ self.old }
     {
         let place = self.places[x.0 as usize] as usize;
-        self.locks[place].take(claim)
+        let only = self.locks[place].take(claim);
+        self.claimed += usize::from(only);
+        only
     }
 
     /// Whether the scope holds the lock of x.
@@ -122,6 +128,15 @@ impl LockTable {
     {
         let place = self.places[x.0 as usize] as usize;
         self.locks[place].waits(scope)
+    }
+
+    /// Whether nobody claims a lock. It looks at none.
+    #[inline(always)]
+    pub fn is_calm(&self) -> bool
+        ensures free { result ≡ true → IsUnclaimed self.now }
+        ensures claimed { result ≡ false → IsUnclaimed self.now → ⊥ }
+    {
+        self.claimed == 0
     }
 
     /// Whether nobody holds the lock of x, and nobody waits for it.
@@ -179,7 +194,8 @@ impl LockTable {
         ensures exact { self.new ≡ released_at self.old x.0 scope }
     {
         let place = self.places[x.0 as usize] as usize;
-        self.locks[place].release(scope);
+        let last = self.locks[place].release(scope);
+        self.claimed -= usize::from(last);
         list_waiting(&mut self.listed, &self.locks[place], x);
     }
 
@@ -190,6 +206,7 @@ impl LockTable {
         ensures room { (y : ℕ) → room_at self.old y ≤ room_at self.new y }
     {
         reset_all(&mut self.locks);
+        self.claimed = 0;
     }
 }
 

@@ -1,6 +1,6 @@
 -- How a lock is kept, and what each call makes of it.
 pub use Rattle.vertex_locks.specs.Locks.{requested}
-use Rattle.std.specs.Prelude.{◌≡◌, ℕ, ◌≤◌, Some, None, List, length, take, drop, if◌then◌else◌}
+use Rattle.std.specs.Prelude.{◌≡◌, ℕ, ◌+◌, ◌≤◌, Bool, Some, None, List, length, nat_lt, take, drop, if◌then◌else◌}
 use Rattle.std.specs.List.{AllPairs}
 use Rattle.gl_base.specs.declared.scopes.Claim.{Claim}
 use Rattle.gl_base.specs.declared.scopes.ScopeId.{ScopeId}
@@ -32,3 +32,13 @@ pub record IsReleased (old new : LockView) (s : ScopeId) : Type 0 where
 pub record SameClaims (old new : LockView) : Type 0 where
   pub holders : new.holders ≡ old.holders
   pub queue : new.queue ≡ old.queue
+
+-- ---- counting
+
+-- one where it is so, and else none
+abbrev pub one_where : Bool → ℕ
+one_where b = if b then 1 else 0
+
+-- one where somebody claims the lock
+abbrev pub claimed_once : LockView → ℕ
+claimed_once l = one_where (nat_lt 0 (length l.holders + length l.queue))

@@ -1,10 +1,12 @@
 -- How a table is kept.
 pub use Rattle.vertex_locks.specs.Tables.{table_of}
 use Rattle.std.specs.Prelude.{◌≡◌, ℕ, ◌<◌, Bool, true, Option, List, [], length, slice_index, slice_set, nat_lt, if◌then◌else◌}
+use Rattle.std.specs.List.{sum_by}
 use Rattle.vertex_queue.specs.Flags.{is_flagged}
 use Rattle.gl_base.specs.declared.scopes.Claim.{Claim}
 use Rattle.vertex_locks.specs.Locks.{LockView, IsNext}
-use Rattle.vertex_locks.specs.Tables.{is_owned, holder_at, queue_at}
+use Rattle.vertex_locks.specs.Inner.KeptLocks.{claimed_once}
+use Rattle.vertex_locks.specs.Tables.{is_owned, holder_at, lock_or, queue_at}
 
 -- nobody claims this lock
 abbrev pub IsFree : LockView → Type 0
@@ -24,6 +26,15 @@ pub record IsTable (places : List ℕ) (locks : List LockView) (flags : List Boo
   pub apart : ArePlacesApart places (length locks)
   pub many : length flags ≡ length places
   pub listed : ListsGrantable (table_of places locks) flags
+
+-- how many locks of the table somebody claims
+abbrev pub count_claimed : List (Option LockView) → ℕ
+count_claimed table = sum_by (λ o. claimed_once (lock_or o)) table
+
+-- such a table, of whose locks so many are claimed
+pub record IsKept (places : List ℕ) (locks : List LockView) (flags : List Bool) (claimed : ℕ) : Type 0 where
+  pub table : IsTable places locks flags
+  pub counted : claimed ≡ count_claimed (table_of places locks)
 
 -- x is listed where somebody waits, and else the list stays
 abbrev pub IsListedAgain : List Claim → List Bool → ℕ → List Bool → Type 0

@@ -7,8 +7,9 @@ use Rattle.vertex_locks.specs.Inner.KeptLocks.{IsReleased}
 use Rattle.vertex_locks.specs.Locks.{LockView, claimant, released, view_of}
 use Rattle.vertex_locks.proofs.LockLemmas.{IsPlace, is_place, not_found, release_keeps, release_lists, release_shows, unheld_shows, unheld_lists}
 use Rattle.vertex_locks.proofs.locks.Lock.release.Goals as goal
+use Rattle.vertex_locks.proofs.locks.Lock.release.Goals.{In_default}
 
-there : (c : goal.After-self-1) → IsPlace c.self.inside.claims.items c.self.inside.held c.args.scope c.in-Some.place
+there : (c : goal.After-is_empty) → IsPlace c.self.inside.claims.items c.self.inside.held c.args.scope c.in-Some.place
 there c =
     let claims = c.self.inside.claims.items in
     let held = c.self.inside.held in
@@ -19,7 +20,7 @@ there c =
 pub invariant_of-self : goal.invariant_of-self
 invariant_of-self c = rw c.take_out.ensures.items (release_keeps c.args.scope c.self.inside.claims.items c.self.inside.held c.in-Some.place c.self.invariant (there c))
 
-more_room : (c : goal.After-self-1) → (c.take_out.new.claims.cap - c.take_out.new.claims.len) ≡ (c.self.inside.claims.cap - c.self.inside.claims.len) + 1
+more_room : (c : goal.After-is_empty) → (c.take_out.new.claims.cap - c.take_out.new.claims.len) ≡ (c.self.inside.claims.cap - c.self.inside.claims.len) + 1
 more_room c =
     let old = c.self.inside.claims in
     let long = old.ok in
@@ -44,7 +45,7 @@ returns-in-Some-clause-exact c =
     ∙ ap (released c.args.scope) c.self.view_is
 
 -- no holder is the scope
-none : (c : goal.In_default) → by_scope claimant c.args.self.now.holders c.args.scope ≡ None
+none : (c : In_default) → by_scope claimant c.args.self.now.holders c.args.scope ≡ None
 none c =
     let claims = c.self.inside.claims.items in
     let held = c.self.inside.held in
@@ -52,8 +53,8 @@ none c =
     let at : position (λ (x : Claim). is_scope x.scope s) (take held claims) ≡ None = sym (ap (λ (xs : List Claim). position (λ (x : Claim). is_scope x.scope s) (take held xs)) c.deref.ensures.value) ∙ (sym c.place_of.ensures ∙ c.in_default.is) in
     ap (λ (v : LockView). by_scope claimant v.holders s) (sym c.self.view_is) ∙ not_found s (take held claims) at
 
-pub returns-in_default-clause-gone : goal.returns-in_default-clause-gone
-returns-in_default-clause-gone c = unheld_shows c.args.scope c.args.self.now (none c)
+pub returns-clause-gone : goal.returns-clause-gone
+returns-clause-gone c = unheld_shows c.args.scope c.args.self.now (none c)
 
-pub returns-in_default-clause-exact : goal.returns-in_default-clause-exact
-returns-in_default-clause-exact c = unheld_lists c.args.scope c.args.self.now (none c)
+pub returns-clause-exact : goal.returns-clause-exact
+returns-clause-exact c = unheld_lists c.args.scope c.args.self.now (none c)

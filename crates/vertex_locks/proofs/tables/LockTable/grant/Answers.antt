@@ -4,12 +4,13 @@ use Rattle.vertex_locks.specs.Locks.{LockView, mode_of, IsNext}
 use Rattle.vertex_locks.specs.Tables.{HasTaken}
 use Rattle.vertex_locks.proofs.TableLemmas.{IsWritten, is_written, with_lock-same, has_taken}
 use Rattle.std.proofs.Math.ListN.{length-set}
+use Rattle.vertex_locks.proofs.CountLemmas.{counted_same}
 use Rattle.vertex_locks.proofs.ListedLemmas.{table_granted}
 use Rattle.vertex_locks.proofs.tables.LockTable.grant.Goals as goal
 use Rattle.vertex_locks.proofs.tables.LockTable.grant.Goals.{in-Some, in-None}
 
 written : (c : goal.Joined-grant) → IsWritten c.self.inside.places.items c.args.self.now c.args.x.0 c.index_mut.result.now (slice_set c.self.inside.locks.items c.index.result.now c.grant.new.self) c.grant.new.self
-written c = is_written c.self.inside.places.items c.self.inside.locks.items c.args.self.now c.args.x.0 c.index.result.now c.index_mut.result.now c.grant.new.self c.self.view_is c.requires c.self.invariant.apart c.index.ensures c.index_mut.ensures.value
+written c = is_written c.self.inside.places.items c.self.inside.locks.items c.args.self.now c.args.x.0 c.index.result.now c.index_mut.result.now c.grant.new.self c.self.view_is c.requires c.self.invariant.table.apart c.index.ensures c.index_mut.ensures.value
 
 pub returns-clause-turn : goal.returns-clause-turn
 returns-clause-turn c =
@@ -35,4 +36,8 @@ returns-clause-change c =
     ]
 
 pub invariant_of-self : goal.invariant_of-self
-invariant_of-self c = table_granted c.self.inside.places.items c.self.inside.locks.items (slice_set c.self.inside.locks.items c.index.result.now c.grant.new.self) c.args.self.now c.self.inside.listed c.self.view_is (length-set c.self.inside.locks.items c.index.result.now c.grant.new.self) c.self.invariant c.args.x.0 c.match-grant.result (returns-clause-turn c) (returns-clause-change c)
+invariant_of-self c = record {
+  table = table_granted c.self.inside.places.items c.self.inside.locks.items (slice_set c.self.inside.locks.items c.index.result.now c.grant.new.self) c.args.self.now c.self.inside.listed c.self.view_is (length-set c.self.inside.locks.items c.index.result.now c.grant.new.self) c.self.invariant.table c.args.x.0 c.match-grant.result (returns-clause-turn c) (returns-clause-change c);
+  counted = counted_same c.self.inside.places.items c.self.inside.locks.items (slice_set c.self.inside.locks.items c.index.result.now c.grant.new.self) c.args.self.now c.self.view_is c.args.x.0 c.index_mut.result.now c.grant.new.self (written c)
+      c.self.inside.claimed c.self.invariant.counted c.grant.ensures.claimed;
+}

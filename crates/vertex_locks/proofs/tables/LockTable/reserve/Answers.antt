@@ -5,11 +5,12 @@ use Rattle.vertex_locks.specs.Locks.{LockView}
 use Rattle.vertex_locks.specs.Tables.{lock_at, room_at, HasRoomFor}
 use Rattle.vertex_locks.proofs.TableLemmas.{IsWritten, is_written, lock-here, has_room}
 use Rattle.std.proofs.Math.ListN.{length-set}
+use Rattle.vertex_locks.proofs.CountLemmas.{claims_same, counted_same}
 use Rattle.vertex_locks.proofs.ListedLemmas.{table_room}
 use Rattle.vertex_locks.proofs.tables.LockTable.reserve.Goals as goal
 
 written : (c : goal.After-self-1) → IsWritten c.self.inside.places.items c.args.self.now c.args.x.0 c.index_mut.result.now (slice_set c.self.inside.locks.items c.index.result.now c.reserve.new.self) c.reserve.new.self
-written c = is_written c.self.inside.places.items c.self.inside.locks.items c.args.self.now c.args.x.0 c.index.result.now c.index_mut.result.now c.reserve.new.self c.self.view_is c.requires c.self.invariant.apart c.index.ensures c.index_mut.ensures.value
+written c = is_written c.self.inside.places.items c.self.inside.locks.items c.args.self.now c.args.x.0 c.index.result.now c.index_mut.result.now c.reserve.new.self c.self.view_is c.requires c.self.invariant.table.apart c.index.ensures c.index_mut.ensures.value
 
 pub returns-clause-room : goal.returns-clause-room
 returns-clause-room c =
@@ -32,4 +33,8 @@ returns-clause-same c =
     subst (λ (t : List (Option LockView)). HasRoomFor table t x) (sym w.new) (has_room table x c.reserve.new.self w.owned more same)
 
 pub invariant_of-self : goal.invariant_of-self
-invariant_of-self c = table_room c.self.inside.places.items c.self.inside.locks.items (slice_set c.self.inside.locks.items c.index.result.now c.reserve.new.self) c.args.self.now c.self.inside.listed c.self.view_is (length-set c.self.inside.locks.items c.index.result.now c.reserve.new.self) c.self.invariant c.args.x.0 (returns-clause-same c)
+invariant_of-self c = record {
+  table = table_room c.self.inside.places.items c.self.inside.locks.items (slice_set c.self.inside.locks.items c.index.result.now c.reserve.new.self) c.args.self.now c.self.inside.listed c.self.view_is (length-set c.self.inside.locks.items c.index.result.now c.reserve.new.self) c.self.invariant.table c.args.x.0 (returns-clause-same c);
+  counted = counted_same c.self.inside.places.items c.self.inside.locks.items (slice_set c.self.inside.locks.items c.index.result.now c.reserve.new.self) c.args.self.now c.self.view_is c.args.x.0 c.index_mut.result.now c.reserve.new.self (written c)
+      c.self.inside.claimed c.self.invariant.counted (claims_same c.index_mut.result.now c.reserve.new.self c.reserve.ensures.same);
+}

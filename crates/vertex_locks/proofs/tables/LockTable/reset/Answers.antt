@@ -5,13 +5,14 @@ use Rattle.vertex_locks.specs.Locks.{LockView}
 use Rattle.vertex_locks.specs.Tables.{is_owned, room_at, table_of, IsUnclaimed, no_lock}
 use Rattle.vertex_locks.proofs.MakingLemmas.{owned_reset, room_reset, unclaimed}
 use Rattle.vertex_locks.specs.Inner.KeptTables.{IsTable}
+use Rattle.vertex_locks.proofs.CountLemmas.{count_free}
 use Rattle.vertex_locks.proofs.ListedLemmas.{table_reset}
 use Rattle.vertex_locks.proofs.tables.LockTable.reset.Goals as goal
 
-many : (c : goal.After-self-1) → length c.reset_all.new.locks ≡ length c.self.inside.locks.items
+many : (c : goal.After-self-2-1) → length c.reset_all.new.locks ≡ length c.self.inside.locks.items
 many c = let long = c.reset_all.auto.locks in let was = ap length c.deref_mut.ensures.value in omega arith
 
-items : (c : goal.After-self-1) → (with_items c.self.inside.locks c.reset_all.new.locks).items ≡ c.reset_all.new.locks
+items : (c : goal.After-self-2-1) → (with_items c.self.inside.locks c.reset_all.new.locks).items ≡ c.reset_all.new.locks
 items c = with_items_is c.self.inside.locks c.reset_all.new.locks (let long = many c in let ok = c.self.inside.locks.ok in omega arith)
 
 pub returns-clause-owned : goal.returns-clause-owned
@@ -35,6 +36,8 @@ returns-clause-room c = λ y.
     (room_reset c.self.inside.places.items old c.reset_all.new.locks more y))
 
 pub invariant_of-self : goal.invariant_of-self
-invariant_of-self c =
-    subst (λ (locks : List LockView). IsTable c.self.inside.places.items locks c.self.inside.listed) (sym (items c))
-    (table_reset c.self.inside.places.items c.self.inside.locks.items c.reset_all.new.locks c.args.self.now c.self.inside.listed c.self.view_is (many c) c.self.invariant c.reset_all.ensures.free)
+invariant_of-self c = record {
+  table = subst (λ (locks : List LockView). IsTable c.self.inside.places.items locks c.self.inside.listed) (sym (items c))
+      (table_reset c.self.inside.places.items c.self.inside.locks.items c.reset_all.new.locks c.args.self.now c.self.inside.listed c.self.view_is (many c) c.self.invariant.table c.reset_all.ensures.free);
+  counted = sym (count_free (table_of c.self.inside.places.items (with_items c.self.inside.locks c.reset_all.new.locks).items) (returns-clause-free c));
+}
