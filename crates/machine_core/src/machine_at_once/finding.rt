@@ -38,14 +38,16 @@ pub fn find(core: &Core) -> Option<Found>
     }
 }
 
-/// Whether the scope of an own vertex has this machine alone, and nobody holds or waits for a lock of it.
+/// Whether the scope of an own vertex has this machine alone, and nobody holds or waits for a lock of it. Where nobody claims a lock
+/// of the machine, none is looked at.
 fn is_free_scope(core: &Core, v: Vertex) -> bool
     requires orderly { IsOrderly core.now }
     requires own { is_own core.now.numbers.local v.0 ≡ true }
     ensures free { result ≡ true → IsFreeScope core.now v }
     ensures claimed { result ≡ false → IsFreeScope core.now v → ⊥ }
 {
-    core.numbers.local.parts(v).len() == 1 && are_free(&core.locks, core.numbers.local.part(v))
+    core.numbers.local.parts(v).len() == 1
+        && (core.locks.is_calm() || are_free(&core.locks, core.numbers.local.part(v)))
 }
 
 /// Whether nobody holds or waits for a lock of these vertices.
