@@ -5,16 +5,16 @@ use Rattle.std.proofs.lemmas.Option.{none-some}
 use Rattle.gl_base.specs.declared.scopes.Mode.{Mode}
 use Rattle.gl_base.specs.declared.scopes.ScopeId.{ScopeId}
 use Rattle.graph_core.specs.DataGraph.{size}
-use Rattle.cluster_laws.specs.cluster_core.Actions.{Grant, Update, MayGrant, MayUpdate, after, draws, updates}
-use Rattle.cluster_laws.specs.cluster_core.Effects.{granted, updated}
+use Rattle.cluster_laws.specs.cluster_core.Actions.{Admit, Grant, Update, MayGrant, MayUpdate, after, draws, updates}
+use Rattle.cluster_laws.specs.cluster_core.Effects.{granted, released, updated}
 use Rattle.cluster_laws.specs.cluster_core.Parts.{Part}
 use Rattle.cluster_laws.specs.cluster_core.Ranges.{all_passing, first_passing}
 use Rattle.cluster_laws.specs.cluster_core.Runs.{IsActionRun}
-use Rattle.cluster_laws.specs.cluster_core.Settings.{Locking, Setting, IsSetting, is_in_scope}
+use Rattle.cluster_laws.specs.cluster_core.Settings.{Chromatic, Engine, Locking, Setting, IsSetting, is_in_scope}
 use Rattle.cluster_laws.specs.cluster_core.Worlds.{World, with_part}
 use Rattle.cluster_laws.proofs.cluster_core.Basics.{set_at-same, set_for-same}
-use Rattle.interior_scopes.specs.AtOnce.{MayUpdateAtOnce, actions_at_once, after_at_once, entry_at_once}
-use Rattle.interior_scopes.proofs.Walking.{set_at-twice, its, is_its, held_below, claim_for, walks, admitted_walks, not_yet, held_past, granted_walks, updated_walks}
+use Rattle.interior_scopes.specs.AtOnce.{MayUpdateAtOnce, actions_at_once, after_at_once, entry_at_once, locks_by, own_vertices}
+use Rattle.interior_scopes.proofs.Walking.{set_at-twice, its, is_its, held_below, claim_for, walks, admitted_flies, admitted_walks, not_yet, held_past, granted_walks, released_all, released_none, updated_alone}
 
 -- ---- a machine's part inside a world
 
@@ -26,6 +26,45 @@ part_there w a one = set_at-same w.part a one
 
 pub granted_there : (st : Setting) (w : World) (a k : ℕ) (one : Part) → after st (with_part w a one) (Grant a k) ≡ with_part w a (granted st a k one)
 granted_there st w a k one = part_again w a one (granted st a k ((with_part w a one).part a)) ∙ ap (λ (p : Part). with_part w a (granted st a k p)) (part_there w a one)
+
+-- ---- the update, whatever locks are held
+
+module _ (st : Setting) (is : IsSetting st) (w : World) (a v : ℕ) (may : MayUpdateAtOnce st a v (w.part a) w.left) (holder : ℕ → ScopeId → Option Mode) where
+  abbrev old : Part
+  old = w.part a
+
+  abbrev scope : ScopeId
+  scope = its st a v old
+
+  abbrev ready : Part
+  ready = walks st a v old holder None
+
+  may_update : MayUpdate scope ready w.left
+  may_update =
+      record {
+        vertex = v;
+        flight = set_for-same old.flight scope (Some v);
+        ready = set_for-same old.ready scope true;
+        not_pending = may.not_pending;
+        task = may.task;
+        ticket = may.ticket;
+      }
+
+  ends : ((x : ℕ) (t : ScopeId) → released scope holder x t ≡ old.holder x t) → after_at_once st w a v ≡ after st (with_part w a ready) (Update scope)
+  ends free =
+      let here : World = with_part w a ready in
+      let there : here.part a ≡ ready = part_there w a ready in
+      let flies : (here.part a).flight scope ≡ Some v = ap (λ (p : Part). p.flight scope) there ∙ set_for-same old.flight scope (Some v) in
+      sym (
+      ap (updates st here scope) flies
+      ∙ ap (λ (p : Part). draws (with_part here a (updated st a scope v (entry_at_once a v w.next) p))) there
+      ∙ ap draws (part_again w a ready (updated st a scope v (entry_at_once a v w.next) ready))
+      ∙ ap (λ (p : Part). draws (with_part w a p)) (updated_alone st is a v old may.admit.vertex may.interior may.is_new holder free (entry_at_once a v w.next))
+      )
+
+  -- it is the end of a run
+  pub update_runs : ((x : ℕ) (t : ScopeId) → released scope holder x t ≡ old.holder x t) → IsActionRun st (with_part w a ready) (Update scope ∷ []) (after_at_once st w a v)
+  update_runs free = (subst (λ (p : Part). MayUpdate scope p w.left) (sym (part_there w a ready)) may_update, ends free)
 
 -- ---- lock after lock
 
@@ -55,37 +94,13 @@ module _ (st : Setting) (is : IsSetting st) (locking : st.engine ≡ Locking) (w
         claim = claim_for st a v part k;
         behind = [];
         first = set_at-same part.queue k (claim_for st a v part k ∷ []);
-        together = λ t mode holds. absurd (none-some mode (sym ((may.unclaimed k both.0).holder t) ∙ (sym (ap (λ (f : ScopeId → Option Mode). f t) (not_yet st is locking a v part w.left may k)) ∙ holds)));
+        together = λ t mode holds. absurd (none-some mode (sym ((may.unclaimed locking k both.0).holder t) ∙ (sym (ap (λ (f : ScopeId → Option Mode). f t) (not_yet st is locking a v part w.left may k)) ∙ holds)));
       }
-
-  may_update : (k : ℕ) → MayUpdate s (at k None) w.left
-  may_update k =
-      record {
-        vertex = v;
-        flight = set_for-same part.flight s (Some v);
-        ready = set_for-same part.ready s true;
-        not_pending = may.not_pending;
-        task = may.task;
-        ticket = may.ticket;
-      }
-
-  ends : (k : ℕ) → new ≡ after st (with_part w a (at k None)) (Update s)
-  ends k =
-      let here : World = with_part w a (at k None) in
-      let there : here.part a ≡ at k None = part_there w a (at k None) in
-      let flies : (here.part a).flight s ≡ Some v = ap (λ (p : Part). p.flight s) there ∙ set_for-same part.flight s (Some v) in
-      sym (
-      ap (updates st here s) flies
-      ∙ ap (λ (p : Part). draws (with_part here a (updated st a s v (entry_at_once a v w.next) p))) there
-      ∙ ap draws (part_again w a (at k None) (updated st a s v (entry_at_once a v w.next) (at k None)))
-      ∙ ap (λ (p : Part). draws (with_part w a p)) (updated_walks st is locking a v part w.left may k (entry_at_once a v w.next))
-      )
 
   runs : (many k : ℕ) → k + many ≡ size st.graph →
       IsActionRun st (with_part w a (at k (first_passing own k many))) (map (Grant a) (all_passing own k many) ++ Update s ∷ []) new
   unfolding first_passing all_passing
-  runs zero k all =
-      (subst (λ (p : Part). MayUpdate s p w.left) (sym (part_there w a (at k None))) (may_update k), ends k)
+  runs zero k all = update_runs st is w a v may (held_below st a v part k) (released_all st is locking a v part w.left may k)
   runs (suc many) k all = choose (runs many (suc k) (omega arith)) (own k) refl
     where
       choose : IsActionRun st (with_part w a (at (suc k) (first_passing own (suc k) many))) (map (Grant a) (all_passing own (suc k) many) ++ Update s ∷ []) new →
@@ -105,10 +120,36 @@ module _ (st : Setting) (is : IsSetting st) (locking : st.engine ≡ Locking) (w
           (sym (held_past st is locking a v part w.left may k not_own))
           later
 
-  pub at_once_runs : IsActionRun st w (actions_at_once st a v (w.part a)) new
-  at_once_runs = (
+  locked_runs : IsActionRun st w (Admit a v ∷ map (Grant a) (own_vertices st v a) ++ Update s ∷ []) new
+  locked_runs = (
     may.admit,
     subst (λ (p : Part). IsActionRun st (with_part w a p) (map (Grant a) (all_passing own 0 (size st.graph)) ++ Update s ∷ []) new)
         (sym (admitted_walks st is locking a v part w.left may))
         (runs (size st.graph) 0 (omega arith)),
   )
+
+-- ---- with either engine
+
+module _ (st : Setting) (is : IsSetting st) (w : World) (a v : ℕ) (may : MayUpdateAtOnce st a v (w.part a) w.left) where
+  abbrev old_part : Part
+  old_part = w.part a
+
+  abbrev next : ScopeId
+  next = its st a v old_part
+
+  stepped_runs : (colour : ℕ → ℕ) (colours : ℕ) → st.engine ≡ Chromatic colour colours → IsActionRun st w (Admit a v ∷ Update next ∷ []) (after_at_once st w a v)
+  stepped_runs colour colours steps = (
+    may.admit,
+    subst (λ (p : Part). IsActionRun st (with_part w a p) (Update next ∷ []) (after_at_once st w a v))
+        (sym (admitted_flies st colour colours steps a v old_part))
+        (update_runs st is w a v may old_part.holder (released_none st is a v old_part may.admit.vertex may.interior may.is_new)),
+  )
+
+  pub at_once_runs : IsActionRun st w (actions_at_once st a v (w.part a)) (after_at_once st w a v)
+  at_once_runs = by st.engine refl
+    where
+      by : (e : Engine) → st.engine ≡ e → IsActionRun st w (actions_at_once st a v (w.part a)) (after_at_once st w a v)
+      by Locking locking =
+          subst (λ (e : Engine). IsActionRun st w (Admit a v ∷ map (Grant a) (locks_by e st v a) ++ Update next ∷ []) (after_at_once st w a v)) (sym locking) (locked_runs st is locking w a v may)
+      by (Chromatic colour colours) steps =
+          subst (λ (e : Engine). IsActionRun st w (Admit a v ∷ map (Grant a) (locks_by e st v a) ++ Update next ∷ []) (after_at_once st w a v)) (sym steps) (stepped_runs colour colours steps)

@@ -8,13 +8,13 @@ use Rattle.gl_base.specs.declared.scopes.ScopeId.{ScopeId}
 use Rattle.graph_core.specs.DataGraph.{size}
 use Rattle.cluster_laws.specs.cluster_core.Parts.{Part, Stand}
 use Rattle.cluster_laws.specs.cluster_core.Ranges.{all_passing, first_passing, set_at}
-use Rattle.cluster_laws.specs.cluster_core.Settings.{Engine, Locking, Setting, IsSetting, is_in_scope}
+use Rattle.cluster_laws.specs.cluster_core.Settings.{Chromatic, Engine, Locking, Setting, IsSetting, is_in_scope}
 use Rattle.cluster_laws.specs.cluster_core.Scopes.{is_scope, set_for, mode_at, own_from, is_found, takes_part, machines_from}
 use Rattle.cluster_laws.specs.cluster_core.Effects.{next_scope, in_flight, admitted, admitted_by, sets_out, asks_for, moves_on, takes_lock, first_granted, granted, released, tell, news_for, updated}
 use Rattle.cluster_laws.specs.cluster_core.Messages.{Done, News}
 use Rattle.cluster_laws.proofs.cluster_core.Basics.{set_at-same, set_at-other, set_for-same, set_for-other, scope_cases, first_passing-some}
 use Rattle.cluster_laws.proofs.cluster_core.Nearness.{is_own, owner_takes_part, part_low, scoped_itself}
-use Rattle.interior_scopes.specs.AtOnce.{IsInterior, MayUpdateAtOnce, at_once}
+use Rattle.interior_scopes.specs.AtOnce.{IsInterior, IsUnseen, MayUpdateAtOnce, at_once}
 
 -- ---- functions that are changed twice at one place, or back
 
@@ -123,6 +123,37 @@ module _ (st : Setting) (a v : ℕ) (part : Part) where
   abbrev pub between : (ℕ → ScopeId → Option Mode) → (ScopeId → Option Stand) → (ℕ → List Claim) → Part
   between holder stand queue = record (in_flight a v part) { holder = holder; stand = stand; queue = queue }
 
+-- ---- its update is made
+
+module _ (st : Setting) (is : IsSetting st) (a v : ℕ) (part : Part) (within : v < size st.graph) (interior : IsInterior st a v) (is_new : IsUnseen part (its st a v part)) where
+  none_sent : (news : ℕ → News) (q : ℕ) → tell st a v (its st a v part) news part.out q ≡ part.out q
+  none_sent news q = ap (λ (b : Bool). if b then part.out q ++ Done (its st a v part) (news q) ∷ [] else part.out q) (none_told st is a v within interior q)
+
+  -- whatever locks it holds, where nobody else's are let go with them
+  pub updated_alone : (holder : ℕ → ScopeId → Option Mode) → ((x : ℕ) (t : ScopeId) → released (its st a v part) holder x t ≡ part.holder x t) → (entry : Entry) →
+      updated st a (its st a v part) v entry (walks st a v part holder None) ≡ at_once st a v entry part
+  updated_alone holder free entry =
+      let s = its st a v part in
+      let flown : (t : ScopeId) → set_for (set_for part.flight s (Some v)) s None t ≡ part.flight t = λ t. set_for-twice part.flight s (Some v) None t ∙ set_for-back part.flight s None is_new.flight t in
+      let was_ready : (t : ScopeId) → set_for (set_for part.ready s true) s false t ≡ part.ready t = λ t. set_for-twice part.ready s true false t ∙ set_for-back part.ready s false is_new.ready t in
+      λ i. record (at_once st a v entry part) {
+        flight = λ t. flown t i;
+        ready = λ t. was_ready t i;
+        holder = λ x t. free x t i;
+        out = λ q. none_sent (news_for st (walks st a v part holder None) v) q i;
+      }
+
+  -- it holds none
+  pub released_none : (x : ℕ) (t : ScopeId) → released (its st a v part) part.holder x t ≡ part.holder x t
+  released_none x t = set_for-back (part.holder x) (its st a v part) None (is_new.holder x) t
+
+-- ---- where scopes take no locks
+
+pub admitted_flies : (st : Setting) (colour : ℕ → ℕ) (colours : ℕ) → st.engine ≡ Chromatic colour colours → (a v : ℕ) (part : Part) → admitted st a v part ≡ walks st a v part part.holder None
+admitted_flies st colour colours steps a v part = ap (λ (e : Engine). admitted_by e st a v part) steps
+
+-- ---- where they take locks
+
 module _ (st : Setting) (is : IsSetting st) (locking : st.engine ≡ Locking) (a v : ℕ) (part : Part) (left : ℕ) (may : MayUpdateAtOnce st a v part left) where
   abbrev s : ScopeId
   s = its st a v part
@@ -137,7 +168,7 @@ module _ (st : Setting) (is : IsSetting st) (locking : st.engine ≡ Locking) (a
   within = may.admit.vertex
 
   pub its_queue : (x : ℕ) → own x ≡ true → part.queue x ≡ []
-  its_queue x is_own = (may.unclaimed x (and_parts (is_in_scope st v x) (st.owner x == a) is_own).0).queue
+  its_queue x is_own = (may.unclaimed locking x (and_parts (is_in_scope st v x) (st.owner x == a) is_own).0).queue
 
   asks : (old new : ℕ → ScopeId → Option Mode) (stand : ScopeId → Option Stand) (queue : ℕ → List Claim) (first : Option ℕ) →
       ((x : ℕ) → old x ≡ new x) → ((o : Option Stand) (t : ScopeId) → set_for stand s o t ≡ set_for part.stand s o t) → ((x : ℕ) → queue x ≡ part.queue x) →
@@ -234,25 +265,14 @@ module _ (st : Setting) (is : IsSetting st) (locking : st.engine ≡ Locking) (a
       (λ x. set_at-twice part.queue k (claim_for st a v part k ∷ []) [] x ∙ set_at-back part.queue k [] (its_queue k is_own) x)
       (λ x found. first_queue (suc k) (size st.graph - suc k) x found)
 
-  -- ---- its update is made
+  -- ---- its locks are free again
 
-  released_all : (k x : ℕ) (t : ScopeId) → released s (held k) x t ≡ part.holder x t
+  pub released_all : (k x : ℕ) (t : ScopeId) → released s (held k) x t ≡ part.holder x t
   released_all k x t = by_test (own x && nat_lt x k)
     where
       by_test : (b : Bool) → set_for (if b then set_for (part.holder x) s (Some (mode_at v x)) else part.holder x) s None t ≡ part.holder x t
       by_test true = set_for-twice (part.holder x) s (Some (mode_at v x)) None t ∙ set_for-back (part.holder x) s None (may.is_new.holder x) t
       by_test false = set_for-back (part.holder x) s None (may.is_new.holder x) t
 
-  none_sent : (news : ℕ → News) (q : ℕ) → tell st a v s news part.out q ≡ part.out q
-  none_sent news q = ap (λ (b : Bool). if b then part.out q ++ Done s (news q) ∷ [] else part.out q) (none_told st is a v within may.interior q)
-
   pub updated_walks : (k : ℕ) (entry : Entry) → updated st a s v entry (at k None) ≡ at_once st a v entry part
-  updated_walks k entry =
-      let flown : (t : ScopeId) → set_for (set_for part.flight s (Some v)) s None t ≡ part.flight t = λ t. set_for-twice part.flight s (Some v) None t ∙ set_for-back part.flight s None may.is_new.flight t in
-      let was_ready : (t : ScopeId) → set_for (set_for part.ready s true) s false t ≡ part.ready t = λ t. set_for-twice part.ready s true false t ∙ set_for-back part.ready s false may.is_new.ready t in
-      λ i. record (at_once st a v entry part) {
-        flight = λ t. flown t i;
-        ready = λ t. was_ready t i;
-        holder = λ x t. released_all k x t i;
-        out = λ q. none_sent (news_for st (at k None) v) q i;
-      }
+  updated_walks k entry = updated_alone st is a v part within may.interior may.is_new (held k) (released_all k) entry

@@ -1,8 +1,8 @@
--- An update of a vertex whose scope lies on one machine, made at once: no lock is taken and no message is sent.
+-- An update of a vertex whose scope lies on one machine, made at once: no lock is taken, no scope is in flight, and no message is sent.
 pub use Rattle.cluster_laws.specs.cluster_core.Actions.{Action, Admit, Grant, Update, MayAdmit, draws}
 pub use Rattle.cluster_laws.specs.cluster_core.Effects.{next_scope, renewed}
 pub use Rattle.cluster_laws.specs.cluster_core.Parts.{Part, lent}
-pub use Rattle.cluster_laws.specs.cluster_core.Settings.{Setting, IsSetting, Locking, is_in_scope}
+pub use Rattle.cluster_laws.specs.cluster_core.Settings.{Chromatic, Engine, Setting, IsSetting, Locking, is_in_scope}
 pub use Rattle.cluster_laws.specs.cluster_core.Worlds.{World, with_part}
 use Rattle.std.specs.Prelude.{◌≡◌, ℕ, suc, ◌<◌, ◌==◌, ◌&&◌, ◌||◌, not, true, false, None, List, [], ◌∷◌, ◌++◌, map}
 use Rattle.gl_base.specs.declared.entries.Entry.{Entry}
@@ -30,15 +30,15 @@ pub record IsUnseen (part : Part) (s : ScopeId) : Type 0 where
   pub ready : part.ready s ≡ false
   pub holder : (x : ℕ) → part.holder x s ≡ None
 
--- Machine a may admit a scope of v for an update; that scope is new there, all its vertices are the machine's, nobody claims their
--- locks, and a ticket is left.
+-- Machine a may admit a scope of v for an update; that scope is new there, all its vertices are the machine's, and a ticket is left.
+-- Where scopes take locks, nobody claims theirs.
 pub record MayUpdateAtOnce (st : Setting) (a v : ℕ) (part : Part) (left : ℕ) : Type 0 where
   pub admit : MayAdmit st a v part
   pub task : part.task v ≡ true
   pub not_pending : part.pending v ≡ false
   pub is_new : IsUnseen part (next_scope a part)
   pub interior : IsInterior st a v
-  pub unclaimed : (x : ℕ) → is_in_scope st v x ≡ true → HasNoClaim part x
+  pub unclaimed : st.engine ≡ Locking → (x : ℕ) → is_in_scope st v x ≡ true → HasNoClaim part x
   pub ticket : 0 < left
 
 -- ---- what it does
@@ -68,6 +68,14 @@ after_at_once st w a v = draws (with_part w a (at_once st a v (entry_at_once a v
 abbrev pub own_vertices : Setting → ℕ → ℕ → List ℕ
 own_vertices st v a = all_passing (λ x. is_in_scope st v x && st.owner x == a) 0 (size st.graph)
 
+-- the locks that a scope of v takes at machine a: with colours none
+abbrev pub locks_by : Engine → Setting → ℕ → ℕ → List ℕ
+locks_by Locking st v a = own_vertices st v a
+locks_by (Chromatic colour colours) st v a = []
+
+abbrev pub locks_at_once : Setting → ℕ → ℕ → List ℕ
+locks_at_once st v a = locks_by st.engine st v a
+
 -- a scope of v is admitted, each of its locks is granted in turn, and its update is made
 abbrev pub actions_at_once : Setting → ℕ → ℕ → Part → List Action
-actions_at_once st a v part = Admit a v ∷ map (Grant a) (own_vertices st v a) ++ Update (next_scope a part) ∷ []
+actions_at_once st a v part = Admit a v ∷ map (Grant a) (locks_at_once st v a) ++ Update (next_scope a part) ∷ []
