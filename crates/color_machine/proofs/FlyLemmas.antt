@@ -216,9 +216,12 @@ module _ (m new : ColorCore) (place : Vertex) (is : IsInStepOrder m) (due : IsDu
       } in
       by_colours ∙ sym (ap (λ (e : Engine). admitted_by e st a v.0 old) part.engine.chromatic)
 
+  pub part_now : (st : Setting) → IsPartInSteps st m → part_in_steps new ≡ admitted st m.numbers.local.me.0 v.0 (part_in_steps m)
+  part_now st part = ap part_in_steps is_flown ∙ part_flown st part
+
   pub admitted_one : HasAdmittedOne m new
   admitted_one = record {
     can = can_one m is place due v flown.stands;
     numbers = ap (λ (c : ColorCore). c.numbers) flown.rest;
-    admitted = λ st part. ap part_in_steps is_flown ∙ part_flown st part;
+    admitted = part_now;
   }

@@ -9,3 +9,4 @@ pub mod MakeLemmas
 pub mod SameLemmas
 pub mod RowLemmas
 pub mod RunLemmas
+pub mod AtOnceLemmas

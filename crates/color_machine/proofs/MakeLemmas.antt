@@ -1,5 +1,5 @@
 -- An update that is made of a machine's numbers, from its start to what is told of it.
-use Rattle.std.proofs.Common.{◌≡◌, ℕ, ◌≤◌, ◌==◌, ◌&&◌, true, not, if◌then◌else◌, Some, List, length, map, sym, ap, ◌∙◌, subst}
+use Rattle.std.proofs.Common.{◌≡◌, ℕ, ◌≤◌, ◌==◌, ◌&&◌, true, false, not, if◌then◌else◌, Some, List, length, map, sym, ap, ◌∙◌, subst}
 use Rattle.std.specs.List.{list_any}
 use Rattle.std.proofs.lemmas.List.{length-map}
 use Rattle.gl_base.specs.declared.entries.Entry.{Entry}
@@ -20,14 +20,40 @@ use Rattle.machine_core.specs.machine_parts.Rooms.{HaveSameMessages}
 use Rattle.machine_core.specs.declared.machine_updates.reserving.Prepared.{Prepared}
 use Rattle.machine_core.specs.machine_updates.Committing.{after_told, done_told}
 use Rattle.machine_core.specs.machine_updates.Telling.{HasWord}
+use Rattle.machine_core.specs.machine_at_once.Picks.{HasRunAtOnce, is_flagged}
 use Rattle.machine_core.proofs.machine_updates.CommitLemmas.{outbox_told}
 use Rattle.machine_core.proofs.machine_updates.ToldLemmas.{told_many}
-use Rattle.machine_core.proofs.machine_at_once.Numbers.{graph_kept, is_outcome, out_is, updated_from}
+use Rattle.machine_core.proofs.machine_at_once.Numbers.{admitted_at, graph_kept, is_outcome, out_is, set_back, updated_from}
 use Rattle.machine_core.specs.machine_parts.Parts.{message_of}
 use Rattle.machine_core.specs.color_parts.Parts.{OutboxesView, Part, is_own, links_at, messages_for, parts_at, place_at, sides_at}
 use Rattle.color_machine.specs.Admitting.{Setting}
 use Rattle.color_machine.specs.Updating.{IsLocalOf, IsSetting}
-use Rattle.color_machine.specs.Inner.Making.{CanBeKeptAndTold, CanBeRun, HasMadeAndTold, HasRoomToRun, is_to_be_told}
+use Rattle.color_machine.specs.Inner.Making.{CanBeKeptAndTold, CanBeRun, HasEndedAt, HasMadeAndTold, HasRoomToRun, is_to_be_told}
+
+-- ---- the scope of the vertex at a place ends
+
+ended : (old new : TasksView) (k : ℕ) → HasRun old new k → HasEndedAt old new k
+ended old new k run = record {
+  rest = λ i. record new {
+    pending = ap (λ (t : TasksView). t.pending) run.rest i;
+    admitted = ap (λ (t : TasksView). t.admitted) run.rest i;
+    asked = ap (λ (t : TasksView). t.asked) run.rest i;
+    outside = ap (λ (t : TasksView). t.outside) run.rest i;
+    window = ap (λ (t : TasksView). t.window) run.rest i;
+  };
+}
+
+-- the same, where it was admitted for this update alone
+pub ended_at_once : (old new : TasksView) (k : ℕ) → is_flagged old.admitted k ≡ false → HasRunAtOnce old new → HasEndedAt (admitted_at old k) new k
+ended_at_once old new k clear run = record {
+  rest = λ i. record new {
+    pending = ap (λ (t : TasksView). t.pending) run.rest i;
+    admitted = (ap (λ (t : TasksView). t.admitted) run.rest ∙ sym (set_back old.admitted k clear)) i;
+    asked = ap (λ (t : TasksView). t.asked) run.rest i;
+    outside = ap (λ (t : TasksView). t.outside) run.rest i;
+    window = ap (λ (t : TasksView). t.window) run.rest i;
+  };
+}
 
 -- ---- with room, and while the row is out
 
@@ -135,8 +161,8 @@ module _ (n roomy tk : Numbers) (out boxes : OutboxesView) (s : ScopeId) (v : Ve
             ghosts = ghosts ∙ ap (λ (k : Numbers). k.ghosts) out_now;
             tasks = tasks;
             many = many_tasks ∙ ap (λ (k : Numbers). length k.tasks.task) out_now;
-            run = λ k at. subst (λ (t : TasksView). HasRun t new.tasks k) (ap (λ (j : Numbers). j.tasks) out_now)
-                (run k (ap (λ (j : Numbers). place_at j.local o.work.vertex.0) out_now ∙ ap (λ (u : Vertex). place_at n.local u.0) vertex_is ∙ at));
+            run = λ k at. ended n.tasks new.tasks k (subst (λ (t : TasksView). HasRun t new.tasks k) (ap (λ (j : Numbers). j.tasks) out_now)
+                (run k (ap (λ (j : Numbers). place_at j.local o.work.vertex.0) out_now ∙ ap (λ (u : Vertex). place_at n.local u.0) vertex_is ∙ at)));
             boxes = ap (λ (b : OutboxesView). length b.machines) told_now ∙ told_many (done_told n o) ps boxes ∙ silent.machines;
             told = told_as;
           }

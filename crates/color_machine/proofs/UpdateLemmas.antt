@@ -299,7 +299,7 @@ module _ (m : ColorCore) (n : Numbers) (lines : LinesView) (scopes : ScopesView)
   pending_kept : (u : ℕ) → pending_here n u ≡ pending_here m.numbers u
   pending_kept u = ap (flag_there n.tasks.pending) (place u) ∙ ap (λ (fs : List Bool). flag_there fs (place_at m.numbers.local u)) pendings
 
-  part_updated : (st : Setting) → IsSetting st → IsPartInSteps st m → st.program ≡ program
+  pub part_updated : (st : Setting) → IsSetting st → IsPartInSteps st m → st.program ≡ program
       → part_in_steps updated_core ≡ updated st m.numbers.local.me.0 s v.0 (Go s.home v ticket) (part_in_steps m)
   part_updated st setting part same =
       let old = part_in_steps m in

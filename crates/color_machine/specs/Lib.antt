@@ -3,4 +3,5 @@ pub mod Stepping
 pub mod Closing
 pub mod Hearing
 pub mod Updating
+pub mod AtOnce
 pub mod Inner

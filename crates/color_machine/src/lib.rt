@@ -2,6 +2,7 @@
 #![tactic(auto)]
 
 mod admitting;
+mod at_once;
 mod closing;
 mod hearing;
 mod making;
@@ -9,6 +10,7 @@ mod stepping;
 mod updating;
 
 pub use admitting::admit;
+pub use at_once::update_at_once;
 pub use closing::{close, next_ready};
 pub use hearing::receive_done;
 pub use stepping::step;

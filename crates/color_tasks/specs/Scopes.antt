@@ -1,5 +1,5 @@
 -- The scopes of a machine that takes no locks.
-use Rattle.std.specs.Prelude.{◌≡◌, ℕ, ◌+◌, ◌-◌, ◌==◌, Option, Some, None, List, length, nat_lt, slice_index_or, if◌then◌else◌}
+use Rattle.std.specs.Prelude.{◌≡◌, ℕ, ◌+◌, ◌-◌, ◌==◌, ◌++◌, ◌∷◌, [], Option, Some, None, List, length, nat_lt, slice_index_or, if◌then◌else◌}
 use Rattle.std.specs.List.{sum_by}
 use Rattle.gl_base.specs.declared.numbers.MachineNo.{MachineNo}
 use Rattle.gl_base.specs.declared.numbers.Vertex.{Vertex}
@@ -46,6 +46,10 @@ pub record HasFlownOff (old new : ScopesView) (v : Vertex) : Type 0 where
   pub serial : next_serial new ≡ next_serial old + 1
   pub count : flying_count new ≡ flying_count old + 1
   pub centre : (t : ScopeId) → centre_in_step new t ≡ set_for (centre_in_step old) (next_of_step old) (Some v) t
+
+-- behind the scopes of the step stands one more, whose centre is v
+abbrev pub with_one : ScopesView → Vertex → ScopesView
+with_one p v = record p { centres = p.centres ++ Some v ∷ [] }
 
 -- the scope is in flight no more
 pub record HasLeftStep (old new : ScopesView) (s : ScopeId) : Type 0 where

@@ -1,7 +1,7 @@
 //! Scopes that are ready as soon as they are admitted.
 ghost use Rattle.std.specs.Prelude.{◌≡◌, ◌↔◌, ℕ, ◌+◌, ◌<◌, ◌≤◌, [], true, Some, None, is_some, length, slice_get, slice_index_or, IfOk, IfSome, IfNone, OnErr, IsTrue};
 ghost use Rattle.gl_base.specs.declared.scopes.ScopeId.{ScopeId};
-ghost use Rattle.color_tasks.specs.Scopes.{ScopesView, centre_in_step, next_serial, next_of_step, flying_count, HasFlownOff, HasLeftStep, HasBegunAnew};
+ghost use Rattle.color_tasks.specs.Scopes.{ScopesView, centre_in_step, next_serial, next_of_step, flying_count, HasFlownOff, HasLeftStep, HasBegunAnew, with_one};
 ghost use Rattle.color_tasks.specs.Inner.Slots.{IsScopes};
 
 use gl_base::{MachineNo, NoMemory, ScopeId, Vertex};
@@ -64,10 +64,21 @@ impl StepScopes {
     pub fn admit(&mut self, v: Vertex) -> Result<(), NoMemory>
         requires { next_serial self.old < 18446744073709551615 }
         ensures admitted { IfOk result (λ _. HasFlownOff self.old self.new v) }
+        ensures last { IfOk result (λ _. self.new ≡ with_one self.old v) }
         ensures unchanged { OnErr result (self.new ≡ self.old) }
     {
         self.centres.push(Some(v))?;
         Ok(())
+    }
+
+    /// The scope that was admitted last is none of the step, as if it had not been admitted.
+    pub fn take_back(&mut self)
+        ensures { (before : ScopesView) (v : Vertex) → self.old ≡ with_one before v → self.new ≡ before }
+    {
+        let _last = self.centres.pop();
+        if self.low > self.centres.len() {
+            self.low = self.centres.len();
+        }
     }
 
     /// The centre of a scope of this home that is in flight, and `None` exactly where it is not.

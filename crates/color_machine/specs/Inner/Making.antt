@@ -6,7 +6,7 @@ pub use Rattle.machine_core.specs.machine_turns.Turns.{IsRowIn}
 pub use Rattle.machine_core.specs.machine_updates.Reserving.{CanTell, is_to_be_told}
 pub use Rattle.machine_core.specs.machine_updates.Committing.{after_told, done_told}
 pub use Rattle.machine_core.specs.machine_updates.Telling.{HasWord}
-use Rattle.std.specs.Prelude.{◌≡◌, ℕ, ◌<◌, ◌≤◌, ◌==◌, ◌&&◌, true, false, not, Some, List, length, vec_len, vec_capacity}
+use Rattle.std.specs.Prelude.{◌≡◌, ℕ, ◌<◌, ◌≤◌, ◌+◌, ◌==◌, ◌&&◌, true, false, not, Some, List, length, slice_set, vec_len, vec_capacity}
 use Rattle.std.specs.List.{All, list_any}
 use Rattle.gl_base.specs.declared.entries.Entry.{Entry}
 use Rattle.gl_base.specs.declared.numbers.Vertex.{Vertex}
@@ -16,7 +16,7 @@ use Rattle.update_api.specs.Updates.{Update}
 use Rattle.cluster_laws.specs.cluster_core.Effects.{news_for, tell}
 use Rattle.machine_numbers.specs.declared.keeping.Numbers.{Numbers}
 use Rattle.machine_numbers.specs.Settings.{IsOutcomeOf, with_numbers}
-use Rattle.machine_numbers.specs.Views.{AreTasksOf, task_here}
+use Rattle.machine_numbers.specs.Views.{AreTasksOf, TasksView, task_here}
 use Rattle.machine_core.specs.machine_parts.Order.{IsGraphInOrder}
 use Rattle.machine_core.specs.declared.machine_updates.reserving.Prepared.{Prepared}
 use Rattle.machine_core.specs.color_parts.Parts.{OutboxesView, Part, place_at, is_own, sides_at, parts_at, datum_here, admitted_here, pending_here, messages_for}
@@ -54,6 +54,16 @@ pub record CanBeKeptAndTold (n : Numbers) (out : OutboxesView) (o : Outcome) (ps
 
 -- ---- what is left
 
+-- the vertex at this place is admitted no more, and one update more is outside
+pub record HasEndedAt (old new : TasksView) (place : ℕ) : Type 0 where
+  pub rest : new ≡ record old {
+    task = new.task;
+    admitted = slice_set old.admitted place false;
+    planned = new.planned;
+    plans = new.plans;
+    outside = old.outside + 1;
+  }
+
 -- The update of v is kept: it is what the program makes of the numbers as they stood. Of the tasks those that it wakes and ends have
 -- changed, and v is not admitted any more. The other machines of the scope are told what the cluster's effect tells them.
 pub record HasMadeAndTold (program : Update) (old new : Numbers) (out out_new : OutboxesView) (s : ScopeId) (v : Vertex) (entry : Entry) : Type 0 where
@@ -65,7 +75,7 @@ pub record HasMadeAndTold (program : Update) (old new : Numbers) (out out_new : 
   pub ghosts : new.ghosts ≡ old.ghosts
   pub tasks : AreTasksOf new.local new.tasks
   pub many : length new.tasks.task ≡ length old.tasks.task
-  pub run : (k : ℕ) → place_at old.local v.0 ≡ Some k → HasRun old.tasks new.tasks k
+  pub run : (k : ℕ) → place_at old.local v.0 ≡ Some k → HasEndedAt old.tasks new.tasks k
   pub boxes : length out_new.machines ≡ length out.machines
   pub told : (st : Setting) (part : Part) → IsSetting st → IsLocalOf st old.local → st.program ≡ program → (q : ℕ) →
       messages_for out_new q ≡ tell st old.local.me.0 v.0 s (λ p. news_for st (with_numbers old part) v.0 p) (messages_for out) q

@@ -90,6 +90,20 @@ alone_is st setting v (n ∷ []) is one = (n, only)
         (cases_lt n b))
         (cases_lt b n)
 
+-- where the machine takes part alone in the scope of an own vertex, all its vertices are the machine's
+pub interior_alone : (st : Setting) → IsSetting st → (l : LocalView) → IsLocalOf st l → (v : ℕ) → is_own l v ≡ true → length (parts_at l v) ≡ 1 → IsInterior st l.me.0 v
+interior_alone st setting l local v mine one x scoped =
+    let own = own_in st l v local mine in
+    let alone = alone_is st setting v (machine_numbers (parts_at l v)) (sym (local.parts v mine)) (length-map (parts_at l v) (λ (a : MachineNo). a.0) ∙ one) in
+    let takes : takes_part st v l.me.0 ≡ true = subst (λ (b : ℕ). takes_part st v b ≡ true) own.1 (owner_takes_part st setting v v own.0 (scoped_itself st setting v)) in
+    alone.1 (st.owner x) (owner_takes_part st setting v x own.0 scoped) ∙ sym (alone.1 l.me.0 takes)
+
+-- and the other way round
+pub alone_where : (st : Setting) → IsSetting st → (l : LocalView) → IsLocalOf st l → (v : ℕ) → is_own l v ≡ true → IsInterior st l.me.0 v → length (parts_at l v) ≡ 1
+alone_where st setting l local v mine interior =
+    let own = own_in st l v local mine in
+    sym (length-map (parts_at l v) (λ (a : MachineNo). a.0)) ∙ ap length (local.parts v mine ∙ machines_alone st setting l.me.0 v own.0 interior)
+
 -- ---- the next scope of the machine
 
 ready_flies : (p : PipeView) (s : ScopeId) → is_ready p s ≡ true → is_some (flight_at p s) ≡ true
@@ -129,9 +143,7 @@ module _ (m : Core) (f : Found) (is : IsOrderly m) (found : IsFoundPick m f) whe
   may_here st setting part =
       let l = m.numbers.local in
       let own = own_in st l v part.local found.waits.own in
-      let alone = alone_is st setting v (machine_numbers (parts_at l v)) (sym (part.local.parts v found.waits.own)) (length-map (parts_at l v) (λ (a : MachineNo). a.0) ∙ found.scope.alone) in
-      let mine : takes_part st v l.me.0 ≡ true = subst (λ (b : ℕ). takes_part st v b ≡ true) own.1 (owner_takes_part st setting v v own.0 (scoped_itself st setting v)) in
-      let interior : IsInterior st l.me.0 v = λ x scoped. alone.1 (st.owner x) (owner_takes_part st setting v x own.0 scoped) ∙ sym (alone.1 l.me.0 mine) in
+      let interior : IsInterior st l.me.0 v = interior_alone st setting l part.local v found.waits.own found.scope.alone in
       record {
         admit = record {
           vertex = own.0;
@@ -144,7 +156,7 @@ module _ (m : Core) (f : Found) (is : IsOrderly m) (found : IsFoundPick m f) whe
         not_pending = ap (flag_there m.numbers.tasks.pending) found.waits.at ∙ found.waits.quiet;
         is_new = next_unseen m is;
         interior = interior;
-        unclaimed = λ x scoped.
+        unclaimed = λ locking x scoped.
             let there = stands st setting l v x part.local own.0 scoped (interior x scoped) in
             let free : IsFreeLock (holder_at m.locks x) (queue_at m.locks x) = all_at (λ (y : Vertex). IsFreeLock (holder_at m.locks y.0) (queue_at m.locks y.0)) (part_at l v) there.0 (record { 0 = x }) found.scope.free there.1 in
             record { holder = free.unheld; queue = free.none_waits };
@@ -160,13 +172,12 @@ pub claimed_not : (m : Core) (v : Vertex) → (IsFreeScope m v → ⊥) → is_o
 claimed_not m v not mine st setting part may =
     let l = m.numbers.local in
     let own = own_in st l v.0 part.local mine in
-    let machines = part.local.parts v.0 mine ∙ machines_alone st setting l.me.0 v.0 own.0 may.interior in
     not (record {
-      alone = sym (length-map (parts_at l v.0) (λ (a : MachineNo). a.0)) ∙ ap length machines;
+      alone = alone_where st setting l part.local v.0 mine may.interior;
       free = λ k d low.
           let x = get_or (part_at l v.0) k d in
           let scoped = part_is st l v.0 x.0 part.local own.0 (one_of (part_at l v.0) k x (slice_get-get_or (part_at l v.0) k d low)) in
-          let none : HasNoClaim (part_of m) x.0 = may.unclaimed x.0 scoped.0 in
+          let none : HasNoClaim (part_of m) x.0 = may.unclaimed part.engine x.0 scoped.0 in
           record { unheld = none.holder; none_waits = none.queue };
     })
 
