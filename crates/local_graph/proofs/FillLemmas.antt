@@ -20,7 +20,7 @@ pub record AreWritten (old now : List ℕ) (sides : List Side) (xs : List ℕ) (
   pub inside : i ≤ length sides
   pub each : (e : ℕ) → slice_index now e ≡ written (drop i sides) (drop i xs) (slice_index old) e
 
-abbrev no_side : Side
+abbrev pub no_side : Side
 no_side = record { edge = record { 0 = 0 }; other = record { 0 = 0 }; place = 0; owner = record { 0 = 0 } }
 
 pub written_none : (old : List ℕ) (sides : List Side) (xs : List ℕ) (i : ℕ) → i ≡ length sides → AreWritten old old sides xs i

@@ -1,4 +1,5 @@
 pub mod FillLemmas
+pub mod BlankLemmas
 pub mod PlaceLemmas
 pub mod RowLemmas
 pub mod EndLemmas

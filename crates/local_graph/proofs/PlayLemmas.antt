@@ -63,7 +63,7 @@ joined me owned places lists beside =
       sides = lists.sides;
       parts = lists.parts;
       part = lists.part;
-      numbers = beside.numbers.items;
+      numbers = beside.numbers;
     }
 
 pub joined_made : (me : MachineNo) (own : List VertexLine) (ghosts : List GhostLine) (outline : Outline) (halves : List (List Half)) (order : List VertexLine) (known owned : List Vertex) (places : List (Option ℕ)) (lists : ByPlace) (beside : Beside)

@@ -1,4 +1,5 @@
 -- What the type and the clauses of private functions cite.
+pub mod Blank
 pub mod Kept
 pub mod Views
 pub mod Ends

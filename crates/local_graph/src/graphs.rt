@@ -2,7 +2,7 @@
 ghost use Rattle.std.specs.Prelude.{◌≡◌, ℕ, ◌<◌, ◌≤◌, ◌==◌, true, None, Some, is_some, length, if◌then◌else◌, vec_capacity};
 ghost use Rattle.local_graph.specs.Locals.{place_at, is_placed, is_own, own_datum, id_at, links_at, sides_at, parts_at, part_at, edge_number_at, HasEdge, numbers_along, set_where, written};
 
-use crate::numbers::{fill_numbers, write_numbers};
+use crate::numbers::EdgeNumbers;
 use crate::{Row, Side};
 use gl_base::{Datum, EdgeNo, GhostLine, MachineNo, Vertex};
 use graph_core::Rows;
@@ -24,7 +24,7 @@ pub struct LocalGraph {
     pub(crate) sides: Rows<Side>,
     pub(crate) parts: Rows<MachineNo>,
     pub(crate) part: Rows<Vertex>,
-    pub(crate) numbers: Vec<u64>,
+    pub(crate) numbers: EdgeNumbers,
 }
 
 impl Model for LocalGraph {
@@ -151,7 +151,7 @@ impl LocalGraph {
     pub fn edge_count(&self) -> usize
         ensures { result ≡ length self.now.numbers }
     {
-        self.numbers.len()
+        self.numbers.count()
     }
 
     /// The number of an edge.
@@ -159,7 +159,7 @@ impl LocalGraph {
         requires { HasEdge self.now edge.0 }
         ensures { result ≡ edge_number_at self.now edge.0 }
     {
-        self.numbers[edge.0 as usize]
+        self.numbers.get(edge)
     }
 
     /// Writes the number of an edge.
@@ -170,7 +170,7 @@ impl LocalGraph {
         ensures many { length self.new.numbers ≡ length self.old.numbers }
         ensures rest { self.new ≡ record self.old { numbers = self.new.numbers } }
     {
-        self.numbers[edge.0 as usize] = number;
+        self.numbers.set(edge, number);
     }
 
     /// Whether v has a row here that is not out.
@@ -196,7 +196,7 @@ impl LocalGraph {
         let Some(place) = self.places.place(v) else {
             unreachable!();
         };
-        let numbers = fill_numbers(spare, self.sides.row(place), &self.numbers);
+        let numbers = self.numbers.lend(spare, self.sides.row(place));
         match self.rows[place].take() {
             Some(links) => Row { links, numbers },
             None => unreachable!(),
@@ -220,7 +220,7 @@ impl LocalGraph {
         let Some(place) = self.places.place(v) else {
             unreachable!();
         };
-        write_numbers(&mut self.numbers, self.sides.row(place), &numbers);
+        self.numbers.keep(self.sides.row(place), &numbers);
         self.rows[place] = Some(links);
         numbers
     }

@@ -1,12 +1,125 @@
 //! The numbers of edges.
-ghost use Rattle.std.specs.Prelude.{◌≡◌, ℕ, ◌<◌, ◌≤◌, length, slice_index, vec_capacity};
+ghost use Rattle.std.specs.Prelude.{◌≡◌, ℕ, ◌<◌, ◌≤◌, true, [], length, replicate, slice_index, slice_set, vec_capacity, IfOk};
 ghost use Rattle.std.specs.List.{All};
+ghost use Rattle.local_graph.specs.Inner.Blank.{AreBlank};
 ghost use Rattle.local_graph.specs.Locals.{numbers_along, written};
 
 use crate::Side;
+use gl_base::{EdgeNo, NoMemory};
+use std::alloc::Global;
+use std::marker::Model;
+
+/// The numbers of edges, by the number of the edge. While it is known that each is 0, none is looked at where they are lent and come
+/// back as they were. Contracts see the numbers.
+#[derive(Drop)]
+pub struct EdgeNumbers {
+    numbers: Vec<u64>,
+    blank: bool,
+}
+
+impl Model for EdgeNumbers {
+    ghost use Rattle.std.specs.Prelude.{◌≡◌, ℕ, List, true};
+    ghost use Rattle.local_graph.specs.Inner.Blank.{AreBlank};
+
+    ghost Value = { List ℕ };
+
+    ghost view = { λ n. n.numbers.items };
+
+    ghost invariant = { λ n. n.blank ≡ true → AreBlank n.numbers.items };
+}
+
+impl EdgeNumbers {
+    /// So many edges with the number 0.
+    pub fn blank(alloc: Global, count: usize) -> Result<EdgeNumbers, NoMemory>
+        ensures { IfOk result (λ numbers. numbers ≡ replicate count 0) }
+    {
+        Ok(EdgeNumbers {
+            numbers: Vec::from_elem(alloc, 0u64, count)?,
+            blank: true,
+        })
+    }
+
+    /// How many edges there are.
+    pub fn count(&self) -> usize
+        ensures { result ≡ length self.now }
+    {
+        self.numbers.len()
+    }
+
+    /// The number of an edge.
+    pub fn get(&self, edge: EdgeNo) -> u64
+        requires { edge.0 < length self.now }
+        ensures { result ≡ slice_index self.now edge.0 }
+    {
+        self.numbers[edge.0 as usize]
+    }
+
+    /// Writes the number of an edge.
+    pub fn set(&mut self, edge: EdgeNo, number: u64)
+        requires { edge.0 < length self.old }
+        ensures { self.new ≡ slice_set self.old edge.0 number }
+    {
+        self.blank = self.blank && number == 0;
+        self.numbers[edge.0 as usize] = number;
+    }
+
+    /// The numbers of the edges of these sides, in a list that has room for them.
+    #[inline]
+    pub fn lend(&self, spare: Vec<u64>, sides: &[Side]) -> Vec<u64>
+        requires room { length sides.now ≤ vec_capacity spare }
+        requires edges { All (λ s. s.edge.0 < length self.now) sides.now }
+        ensures { result.items ≡ numbers_along (slice_index self.now) sides.now }
+    {
+        if self.blank {
+            fill_blank(spare, sides)
+        } else {
+            fill_numbers(spare, sides, &self.numbers)
+        }
+    }
+
+    /// Writes the numbers of the edges of these sides.
+    #[inline]
+    pub fn keep(&mut self, sides: &[Side], new: &[u64])
+        requires many { length new.now ≡ length sides.now }
+        requires edges { All (λ s. s.edge.0 < length self.old) sides.now }
+        ensures written { (e : ℕ) → slice_index self.new e ≡ written sides.now new.now (slice_index self.old) e }
+        ensures many { length self.new ≡ length self.old }
+    {
+        if self.blank && are_blank(new) {
+            return;
+        }
+        self.blank = false;
+        write_numbers(&mut self.numbers, sides, new);
+    }
+}
+
+/// Whether each of these numbers is 0.
+fn are_blank(numbers: &[u64]) -> bool
+    ensures { result ≡ true → AreBlank numbers.now }
+{
+    for place in 0..numbers.len() {
+        if numbers[place] != 0 {
+            return false;
+        }
+    }
+    true
+}
+
+/// A 0 for each of these sides, in a list that has room for them.
+fn fill_blank(spare: Vec<u64>, sides: &[Side]) -> Vec<u64>
+    requires { length sides.now ≤ vec_capacity spare }
+    ensures { result.items ≡ numbers_along (slice_index []) sides.now }
+{
+    let mut filled = spare;
+    filled.clear();
+    for _side in sides {
+        filled.push_reserved(0);
+    }
+    filled
+}
 
 /// The numbers of the edges of these sides, in a list that has room for them.
-pub fn fill_numbers(spare: Vec<u64>, sides: &[Side], numbers: &[u64]) -> Vec<u64>
+fn fill_numbers(spare: Vec<u64>, sides: &[Side], numbers: &[u64]) -> Vec<u64>
     requires room { length sides.now ≤ vec_capacity spare }
     requires edges { All (λ s. s.edge.0 < length numbers.now) sides.now }
     ensures { result.items ≡ numbers_along (slice_index numbers.now) sides.now }
@@ -20,7 +133,7 @@ pub fn fill_numbers(spare: Vec<u64>, sides: &[Side], numbers: &[u64]) -> Vec<u64
 }
 
 /// Writes the numbers of the edges of these sides.
-pub fn write_numbers(numbers: &mut [u64], sides: &[Side], new: &[u64])
+fn write_numbers(numbers: &mut [u64], sides: &[Side], new: &[u64])
     requires many { length new.now ≡ length sides.now }
     requires edges { All (λ s. s.edge.0 < length numbers.old) sides.now }
     ensures { (e : ℕ) → slice_index numbers.new e ≡ written sides.now new.now (slice_index numbers.old) e }

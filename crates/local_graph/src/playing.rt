@@ -9,6 +9,7 @@ ghost use Rattle.local_graph.specs.Inner.ByPlace.{HaveEdgesBelow, IsPlayedBy};
 use crate::ends::{EndsOf, Standing};
 use crate::grouping::halves_by_vertex;
 use crate::making::{Sources, make_by_place};
+use crate::numbers::EdgeNumbers;
 use crate::order::{growth_order, list_known};
 use crate::scopes::are_plain;
 use crate::{LocalGraph, Outline};
@@ -146,7 +147,7 @@ struct Beside {
     ghosts: Vec<GhostLine>,
     ids: Vec<u64>,
     kept: Vec<Datum>,
-    numbers: Vec<u64>,
+    numbers: EdgeNumbers,
 }
 
 /// The ghosts, the identifiers of the own vertices in this order, and no number set, of these and of so many edges.
@@ -162,7 +163,7 @@ fn make_beside(
         ghosts: Vec::from_slice(alloc, ghosts)?,
         ids: list_ids(alloc, order)?,
         kept: Vec::from_elem(alloc, NO_DATUM, order.len())?,
-        numbers: Vec::from_elem(alloc, 0u64, edges as usize)?,
+        numbers: EdgeNumbers::blank(alloc, edges as usize)?,
     })
 }
 

@@ -10,4 +10,4 @@ pub record AreBeside (ghosts : List GhostLine) (order : List VertexLine) (edges 
   pub ghosts_are : b.ghosts.items ≡ ghosts
   pub ids : b.ids.items ≡ map (λ v. v.id) order
   pub kept : b.kept.items ≡ replicate (length order) no_datum
-  pub numbers : b.numbers.items ≡ replicate edges 0
+  pub numbers : b.numbers ≡ replicate edges 0

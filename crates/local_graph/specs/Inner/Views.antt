@@ -17,5 +17,5 @@ local_view_of g =
       sides = g.sides;
       parts = g.parts;
       part = g.part;
-      numbers = g.numbers.items;
+      numbers = g.numbers;
     }

@@ -2,8 +2,7 @@ use Rattle.std.proofs.Common.{◌≡◌, ℕ, ◌<◌, ◌==◌, true, None, Som
 use Rattle.std.specs.declared.vec.Vec.{Vec}
 use Rattle.std.specs.declared.alloc.Global.{Global}
 use Rattle.std.specs.Prelude.{Option, List, []}
-use Rattle.std.proofs.lemmas.List.{length-map, map-set, with_items_is}
-use Rattle.std.specs.Vec.{with_items}
+use Rattle.std.proofs.lemmas.List.{length-map, map-set}
 use Rattle.update_api.specs.declared.links.Link.{Link}
 use Rattle.local_graph.specs.Locals.{LocalView, links_at, sides_at, is_own, at_place, place_at, place_of_vertex, set_where}
 use Rattle.local_graph.specs.Inner.Kept.{IsWellKept, links_of}
@@ -21,10 +20,8 @@ invariant_of-self c =
     let as_many : length c.args.row.links.items ≡ length (sides_at (local_view_of g) v) = subst (λ (l : LocalView). length c.args.row.links.items ≡ length (sides_at l v)) (sym c.self.view_is) c.requires.links in
     let fits : length c.args.row.links.items ≡ length (get_or g.sides k []) = as_many ∙ ap (λ o. length (at_place g.sides o [])) at in
     let sound : IsWellKept (local_view_of g) = c.self.invariant in
-    let after = sound_after (local_view_of g) k (links_of row) c.write_numbers.new.numbers sound fits (omega arith) in
-    let is : (with_items g.numbers c.write_numbers.new.numbers).items ≡ c.write_numbers.new.numbers = with_items_is g.numbers c.write_numbers.new.numbers (omega arith) in
-    let whole = subst (λ (rows : List (Option (List Link))). IsWellKept (record (local_view_of g) { rows = rows; numbers = c.write_numbers.new.numbers })) (sym (map-set links_of g.rows.items k row)) after in
-    subst (λ (xs : List ℕ). IsWellKept (record (local_view_of g) { rows = map links_of (set g.rows.items k row); numbers = xs })) (sym is) whole
+    let after = sound_after (local_view_of g) k (links_of row) c.keep.new.self sound fits c.keep.ensures.many in
+    subst (λ (rows : List (Option (List Link))). IsWellKept (record (local_view_of g) { rows = rows; numbers = c.keep.new.self })) (sym (map-set links_of g.rows.items k row)) after
 
 pub returns-clause-back : goal.returns-clause-back
 returns-clause-back c =

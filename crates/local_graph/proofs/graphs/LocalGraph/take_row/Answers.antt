@@ -16,7 +16,7 @@ invariant_of-self c =
     let k = c.in-Some.place in
     let no : Option (Vec Link Global) = None in
     let sound : IsWellKept (local_view_of g) = c.self.invariant in
-    let after = sound_after (local_view_of g) k None g.numbers.items sound tt refl in
+    let after = sound_after (local_view_of g) k None g.numbers sound tt refl in
     subst (λ (rows : List (Option (List Link))). IsWellKept (record (local_view_of g) { rows = rows })) (sym (map-set links_of g.rows.items k no) ∙ ap (λ (o : Option (Vec Link Global)). map links_of (set g.rows.items k o)) (sym c.take.ensures.after)) after
 
 pub returns-clause-out : goal.returns-clause-out
