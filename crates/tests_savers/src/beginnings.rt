@@ -170,18 +170,25 @@ fn places_of<P: Program>(alloc: Global, beginning: &Beginning<'_, P>) -> Result<
     })
 }
 
-/// The machines that begin from this base, their engine, and the base's store, where each vertex has a machine, and each machine has admitted
-/// so many scopes.
-fn machines_of<P: Program>(
+/// The machines that begin an attempt, their engine, and the store of their base.
+#[derive(Drop)]
+struct Start<P: Program> {
+    machines: Vec<EngineSaver<P>>,
+    engine: Engine,
+    store: Store,
+}
+
+/// The start from this base, where each vertex has a machine, and each machine has admitted so many scopes.
+fn start_from<P: Program>(
     alloc: Global,
     beginning: &Beginning<'_, P>,
     base: &Base,
     serials: &[u64],
-) -> Result<(Vec<EngineSaver<P>>, Engine, Store), Trouble>
-    ensures start { IfOk result (λ made. (next left : ℕ) → (st : Setting) × (view : BaseView) × (before : Cluster) × StartsSaving (IsEngineSaverOf P.meaning) made.0.items made.1 (store_view made.2) next left st view before) }
-    ensures many { IfOk result (λ made. length made.0.items < 65535) }
-    ensures newest { IfOk result (λ made. made.2.newest + 1 < 2 ^ 32) }
-    ensures length { IfOk result (λ made. made.2.length < 2 ^ 32) }
+) -> Result<Start<P>, Trouble>
+    ensures start { IfOk result (λ start. (next left : ℕ) → (st : Setting) × (view : BaseView) × (before : Cluster) × StartsSaving (IsEngineSaverOf P.meaning) start.machines.items start.engine (store_view start.store) next left st view before) }
+    ensures many { IfOk result (λ start. length start.machines.items < 65535) }
+    ensures newest { IfOk result (λ start. start.store.newest + 1 < 2 ^ 32) }
+    ensures length { IfOk result (λ start. start.store.length < 2 ^ 32) }
 {
     let (graph, program) = (beginning.graph, beginning.program);
     let places = places_of(alloc, beginning)?;
@@ -197,7 +204,11 @@ fn machines_of<P: Program>(
         return Err(Trouble::Malformed("too great a store"));
     }
     let machines = placed_savers(alloc, graph, program, base, &places, serials)?;
-    Ok((machines, run.engine, store))
+    Ok(Start {
+        machines,
+        engine: run.engine,
+        store,
+    })
 }
 
 /// The cluster that begins from this base, with so many tickets.
@@ -211,8 +222,8 @@ pub fn begun<P: Program>(
         return Err(Trouble::Malformed("too many tickets"));
     }
     let serials = vec![in alloc; 0u64; beginning.machines as usize]?;
-    let (machines, engine, store) = machines_of(alloc, beginning, base, &serials)?;
-    Ok(SnapCluster::new(alloc, machines, engine, store, 0, tickets)?)
+    let start = start_from(alloc, beginning, base, &serials)?;
+    Ok(SnapCluster::new(alloc, start.machines, start.engine, start.store, 0, tickets)?)
 }
 
 /// All machines of the cluster go back to this base.
@@ -226,11 +237,11 @@ pub fn begin_again<P: Program>(
     for m in 0..whole.machines() {
         serials.push(whole.machine(MachineNo(m as u16)).serial())?;
     }
-    let (machines, engine, store) = machines_of(alloc, beginning, base, &serials)?;
-    if machines.len() != whole.machines() {
+    let start = start_from(alloc, beginning, base, &serials)?;
+    if start.machines.len() != whole.machines() {
         return Err(Trouble::Malformed("another count of machines"));
     }
-    Ok(whole.recover(alloc, machines, engine, store)?)
+    Ok(whole.recover(alloc, start.machines, start.engine, start.store)?)
 }
 
 /// The call that opens from this base, with so many tickets and these failures.
@@ -245,8 +256,16 @@ pub fn begin_call<P: Program>(
         return Err(Trouble::Malformed("too many tickets"));
     }
     let serials = vec![in alloc; 0u64; beginning.machines as usize]?;
-    let (machines, engine, store) = machines_of(alloc, beginning, base, &serials)?;
-    Ok(Course::open(alloc, machines, engine, store, 0, tickets, failures)?)
+    let start = start_from(alloc, beginning, base, &serials)?;
+    Ok(Course::open(
+        alloc,
+        start.machines,
+        start.engine,
+        start.store,
+        0,
+        tickets,
+        failures,
+    )?)
 }
 
 /// All machines of the call go back to this base.
@@ -260,9 +279,9 @@ pub fn call_again<P: Program>(
     for m in 0..course.machines() {
         serials.push(course.machine(MachineNo(m as u16)).serial())?;
     }
-    let (machines, engine, store) = machines_of(alloc, beginning, base, &serials)?;
-    if machines.len() != course.machines() {
+    let start = start_from(alloc, beginning, base, &serials)?;
+    if start.machines.len() != course.machines() {
         return Err(Trouble::Malformed("another count of machines"));
     }
-    Ok(course.recover(alloc, machines, engine, store)?)
+    Ok(course.recover(alloc, start.machines, start.engine, start.store)?)
 }

@@ -37,7 +37,7 @@ pub fn keep_record<P: Program>(
     let missing = missing_of(alloc, kept, 0, 0)?;
     let record = record_behind(alloc, record, &missing)?;
     look_at(alloc, beginning, kept, &record)?;
-    append(alloc, &mut kept.disk, &kept.header, &record)?;
+    append(alloc, &mut kept.store, &record)?;
     kept.entries = record.entries;
     kept.lacking.clear();
     Ok(())

@@ -3,7 +3,7 @@ use crate::beginnings::{Beginning, begin_again};
 use crate::replays::Numbers;
 use crate::restarts::missing_of;
 use crate::scenes::{Kept, Scene};
-use crate::stores::opened;
+use crate::stores::opened_again;
 use crate::trouble::Trouble;
 use call_returns::{base_behind, count_failed};
 use gl_base::{Base, MachineNo};
@@ -51,11 +51,11 @@ pub fn newest_base<P: Program>(
     beginning: &Beginning<'_, P>,
     kept: &mut Kept,
 ) -> Result<Base, Trouble> {
-    let mut journal = opened(alloc, &mut kept.disk, &kept.header)?;
-    let Ok(base) = recover(alloc, &mut journal, beginning.graph, &beginning.program) else {
+    let mut store = opened_again(alloc, &mut kept.store)?;
+    let Ok(base) = recover(alloc, &mut store, beginning.graph, &beginning.program) else {
         return Err(Trouble::Differs("the store tells no snapshot"));
     };
-    kept.disk = Some(journal.into_disk());
+    kept.store = Some(store);
     if base.order.as_slice() != kept.order.as_slice() {
         return Err(Trouble::Differs("the store has another order"));
     }

@@ -1,19 +1,16 @@
 //! A cluster as a scenario plays it, with the store beside it.
 use crate::beginnings::{Beginning, Whole, begun};
 use crate::replays::Numbers;
-use crate::stores::empty_store;
+use crate::stores::{Store, empty_store};
 use crate::trouble::Trouble;
 use gl_base::{Base, Entry};
-use gl_outside::MemDisk;
 use std::alloc::Global;
-use store_format::Header;
 use update_api::Program;
 
 /// What is known beside the cluster: its store, and what follows from the records so far.
 #[derive(Drop)]
 pub struct Kept {
-    pub header: Header,
-    pub disk: Option<MemDisk>,
+    pub store: Option<Store>,
     /// The numbers with which replays begin, and those of the newest snapshot.
     pub first: Numbers,
     pub newest: Numbers,
@@ -66,14 +63,13 @@ pub fn first_kept<P: Program>(
     beginning: &Beginning<'_, P>,
     base: &Base,
 ) -> Result<Kept, Trouble> {
-    let (disk, header) = empty_store(alloc, beginning.graph, beginning.machines)?;
+    let store = empty_store(alloc, beginning.graph, beginning.machines)?;
     let first = Numbers {
         values: Vec::from_slice(alloc, &base.values)?,
         edges: Vec::from_slice(alloc, &base.edges)?,
     };
     Ok(Kept {
-        header,
-        disk: Some(disk),
+        store: Some(store),
         newest: first.again(alloc)?,
         first,
         order: Vec::new(alloc),

@@ -7,12 +7,11 @@ use snap_journal::{Journal, init};
 use std::alloc::Global;
 use store_format::{Digest, Header, is_record};
 
-/// A store without snapshots, for so many machines and this graph, and what it is for.
-pub fn empty_store(
-    alloc: Global,
-    graph: &Graph,
-    machines: u16,
-) -> Result<(MemDisk, Header), Trouble> {
+/// A store in memory that is open.
+pub type Store = Journal<MemDisk>;
+
+/// A store without snapshots, for so many machines and this graph.
+pub fn empty_store(alloc: Global, graph: &Graph, machines: u16) -> Result<Store, Trouble> {
     if machines < 1 || machines > 16 {
         return Err(Trouble::Malformed("too many machines"));
     }
@@ -27,48 +26,43 @@ pub fn empty_store(
     };
     let mut disk = MemDisk::new(alloc, Vec::new(alloc), Vec::new(alloc), u64::MAX);
     match init(&mut disk, &header) {
-        Ok(()) => Ok((disk, header)),
+        Ok(()) => opened(alloc, disk, &header),
         Err(_) => Err(Trouble::Differs("no store is made")),
     }
 }
 
-/// The store, which is opened.
-pub fn opened(
-    alloc: Global,
-    disk: &mut Option<MemDisk>,
-    header: &Header,
-) -> Result<Journal<MemDisk>, Trouble> {
-    let Some(disk) = disk.take() else {
-        return Err(Trouble::Differs("the store is gone"));
-    };
+/// The store on the disk, which is opened.
+fn opened(alloc: Global, disk: MemDisk, header: &Header) -> Result<Store, Trouble> {
     match Journal::open(alloc, disk, header) {
-        Ok(journal) => Ok(journal),
+        Ok(store) => Ok(store),
         Err(_) => Err(Trouble::Differs("the store is not opened")),
     }
 }
 
-/// Adds a record to the store.
-pub fn append(
-    alloc: Global,
-    disk: &mut Option<MemDisk>,
-    header: &Header,
-    record: &Record,
-) -> Result<(), Trouble> {
-    let Some(bytes) = disk.take() else {
+/// The store, which is taken and opened again.
+pub fn opened_again(alloc: Global, store: &mut Option<Store>) -> Result<Store, Trouble> {
+    let Some(store) = store.take() else {
         return Err(Trouble::Differs("the store is gone"));
     };
-    let Ok(mut journal) = Journal::open(alloc, bytes, header) else {
-        return Err(Trouble::Differs("the store is not opened"));
+    let header = store.header();
+    opened(alloc, store.into_disk(), &header)
+}
+
+/// Adds a record to the store.
+pub fn append(alloc: Global, store: &mut Option<Store>, record: &Record) -> Result<(), Trouble> {
+    let Some(mut open) = store.take() else {
+        return Err(Trouble::Differs("the store is gone"));
     };
-    if journal.count() >= 4096 {
+    if open.count() >= 4096 {
         return Err(Trouble::Differs("the store is full"));
     }
-    if !is_record(alloc, header, 1 + journal.count(), record)? {
+    let header = open.header();
+    if !is_record(alloc, &header, 1 + open.count(), record)? {
         return Err(Trouble::Differs("the record is not in the form of a store"));
     }
-    if journal.append(alloc, record).is_err() {
+    if open.append(alloc, record).is_err() {
         return Err(Trouble::Differs("the record is not stored"));
     }
-    *disk = Some(journal.into_disk());
+    *store = Some(open);
     Ok(())
 }
