@@ -174,26 +174,21 @@ UpdatesNone part = (s : ScopeId) → ¬ MayUpdate s part 1
 
 -- ---- Update at once
 
--- scopes take locks, and v may be updated at once
+-- v may be updated at once
 abbrev pub UpdatesAtOnce : {M : Type 0} → (Setting → ℕ → M → Type 0) → (M → Part) → M → ℕ → Type 0
-UpdatesAtOnce belongs part m v = (st : Setting) (a : ℕ) → belongs st a m → (st.engine ≡ Locking) × MayUpdateAtOnce st a v (part m) 1
+UpdatesAtOnce belongs part m v = (st : Setting) (a : ℕ) → belongs st a m → MayUpdateAtOnce st a v (part m) 1
 
 -- v may be admitted, and may not be updated at once
 pub record IsInTheWay {M : Type 0} (belongs : Setting → ℕ → M → Type 0) (part : M → Part) (m : M) (v : ℕ) : Type 0 where
   pub may : (st : Setting) (a : ℕ) → belongs st a m → MayAdmit st a v (part m)
   pub not_at_once : (st : Setting) (a : ℕ) → belongs st a m → ¬ MayUpdateAtOnce st a v (part m) 1
 
--- the machine is of no cluster whose scopes take locks
-abbrev pub TakesNoLocks : {M : Type 0} → (Setting → ℕ → M → Type 0) → M → Type 0
-TakesNoLocks belongs m = (st : Setting) (a : ℕ) → belongs st a m → st.engine ≢ Locking
-
--- no vertex may be admitted, one that may be admitted may not be updated at once, or scopes take no locks
+-- no vertex may be admitted, or one that may be admitted may not be updated at once
 abbrev pub UpdatesNoneAtOnce : {M : Type 0} → (Setting → ℕ → M → Type 0) → (M → Part) → M → Type 0
-UpdatesNoneAtOnce belongs part m = AdmitsNone belongs part m ⊎ (((v : ℕ) × IsInTheWay belongs part m v) ⊎ TakesNoLocks belongs m)
+UpdatesNoneAtOnce belongs part m = AdmitsNone belongs part m ⊎ ((v : ℕ) × IsInTheWay belongs part m v)
 
--- scopes take locks, v might be updated at once, and is: the update is logged under this ticket
+-- v might be updated at once, and is: the update is logged under this ticket
 pub record IsUpdateAtOnce (st : Setting) (a : ℕ) (old : Part) (v ticket : ℕ) (new : Part) : Type 0 where
-  pub locks : st.engine ≡ Locking
   pub may : MayUpdateAtOnce st a v old 1
   pub after : new ≡ at_once st a v (entry_at_once a v ticket) old
 

@@ -83,9 +83,9 @@ pub trait ClusterMachine: Drop {
         ensures none { IfNone result (UpdatesNone (part self.now)) };
 
     /// Makes the update of a vertex that is a task and not pending, all of whose scope is this machine's, and of whose scope nobody holds
-    /// or waits for a lock: as if a scope of it were admitted, took each lock in turn and made its update. It is logged under the
-    /// ticket. Of the vertices that may be admitted the machine looks at one of its choice. A machine whose scopes take no locks makes
-    /// none.
+    /// or waits for a lock: as if a scope of it were admitted, took each lock in turn and made its update. Where scopes take no locks,
+    /// as if one were admitted and made its update. It is logged under the ticket. Of the vertices that may be admitted the machine
+    /// looks at one of its choice.
     fn update_at_once(&mut self, ticket: u64) -> Result<Vertex, Refused>
         ensures updated { IfOk result (λ v. MakesUpdateAtOnce belongs part self.old v.0 ticket self.new) }
         ensures not_now { IsErrOf result Refused.NotNow → UpdatesNoneAtOnce belongs part self.old }

@@ -3,7 +3,7 @@ ghost use Rattle.std.specs.Prelude.{◌≡◌, ◌^◌, ◌<◌, length, IfOk};
 ghost use Rattle.cluster_rounds.specs.Ends.{EndsSo, IsSameRun};
 
 use crate::ends::{End, end_of};
-use crate::happenings::happens;
+use crate::happenings::{happens, is_made_at_once};
 use crate::turns::tell;
 use cluster_step::{Cluster, Event, StepMachine};
 use gl_base::{MachineNo, NoMemory};
@@ -95,11 +95,15 @@ fn run_tasks<M: StepMachine>(cluster: &mut Cluster<M>, at: MachineNo) -> Result<
     Ok(true)
 }
 
-/// A scope of the step's colour is admitted, and its update made. Says whether there was one.
+/// A vertex of the step's colour is updated at once, or where the machine's next one may not be a scope of it is admitted and its
+/// update made. Says whether there was one.
 fn run_task<M: StepMachine>(cluster: &mut Cluster<M>, at: MachineNo) -> Result<bool, NoMemory>
     requires { at.0 < length cluster.old.now.machines.items }
     ensures { IsSameRun cluster.old cluster.new }
 {
+    if is_made_at_once(cluster, at)? {
+        return Ok(true);
+    }
     happens(cluster, Event::Admit(at))?;
     match cluster.next_ready(at) {
         Some(scope) => happens(cluster, Event::Update(scope)),

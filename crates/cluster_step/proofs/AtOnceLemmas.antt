@@ -12,7 +12,7 @@ use Rattle.cluster_laws.specs.cluster_core.Parts.{Part}
 use Rattle.cluster_laws.specs.cluster_core.Replays.{IsFresh, replay_of}
 use Rattle.cluster_laws.specs.cluster_core.Settings.{Setting}
 use Rattle.cluster_laws.specs.cluster_core.Worlds.{World, with_part}
-use Rattle.interior_scopes.specs.AtOnce.{at_once, entry_at_once, own_vertices}
+use Rattle.interior_scopes.specs.AtOnce.{at_once, entry_at_once, locks_at_once}
 use Rattle.interior_scopes.proofs.Running.{at_once_runs}
 use Rattle.cluster_machines.specs.Promises.{IsUpdateAtOnce, MakesUpdateAtOnce, UpdatesAtOnce, UpdatesNoneAtOnce}
 use Rattle.cluster_step.specs.AtOnce.{CanMoveAtOnce, CanNotMoveAtOnce, IsMovedAtOnce, IsActionRun, IsBlocked, MayAdmit, MayUpdateAtOnce, MovesAtOnce, actions_at_once}
@@ -50,20 +50,18 @@ module _ {M : Type 0} (belongs : Setting → ℕ → M → Type 0) (part : M →
       let written : world_of_parts part st (with_one old a new) ≡ with_part (world_of_parts part st old) a (made_of (part_of_machine part st old.machines.items a)) =
       world_one belongs part earlier old a m low is st new (made_of (part_of_machine part st old.machines.items a)) (one.after ∙ ap made_of (sym (at_here st))) in
       record {
-        locks = one.locks;
         may = may_left st v some one.may;
         after = draws_one belongs part earlier old a m low is st new ∙ ap draws written;
       }
 
   pub at_once_can : 0 < old.left → (v : ℕ) × UpdatesAtOnce belongs part m v → CanMoveAtOnce (CanGoOn belongs part old) part old a
-  at_once_can some can = (can.0, λ st go. let one = can.1 st a (here_belongs belongs part earlier old a m low is st go) in (one.0, may_left st can.0 some one.1))
+  at_once_can some can = (can.0, λ st go. may_left st can.0 some (can.1 st a (here_belongs belongs part earlier old a m low is st go)))
 
   pub at_once_cannot : (at : MachineNo) → at.0 ≡ a → UpdatesNoneAtOnce belongs part m → CanNotMoveAtOnce (CanGoOn belongs part old) part old at
   at_once_cannot at named (inl none) = inr (inl (admit_cannot belongs part earlier old a m low is at named none))
-  at_once_cannot at named (inr (inr no_locks)) = inr (inr (inr (λ st go locks. no_locks st a (here_belongs belongs part earlier old a m low is st go) locks)))
-  at_once_cannot at named (inr (inl one)) =
+  at_once_cannot at named (inr one) =
       let v = one.0 in
-      inr (inr (inl (
+      inr (inr (
         v,
         λ st go.
             let member = here_belongs belongs part earlier old a m low is st go in
@@ -73,7 +71,7 @@ module _ {M : Type 0} (belongs : Setting → ℕ → M → Type 0) (part : M →
                   (subst (λ (p : Part). MayUpdateAtOnce st a v p 1) (at_here st) (with_tickets st a v (part_of_machine part st old.machines.items a) old.left 1 (lit< tt) may));
             } in
             subst (λ (k : ℕ). IsBlocked st (world_of_parts part st old) k v) (sym named) blocked,
-      )))
+      ))
 
 -- ---- what the cluster keeps
 
@@ -84,21 +82,21 @@ module _ {M : Type 0} (belongs : Setting → ℕ → M → Type 0) (part : M →
     runs_at v new made st begin =
         let one : IsMovedAtOnce st (world_of_parts part st old) a v (world_of_parts part st new) = made st (can_go belongs part earlier start old kept st begin) in
         subst (IsActionRun st (world_of_parts part st old) (actions_at_once st a v ((world_of_parts part st old).part a))) (sym one.after)
-        (at_once_runs st begin.setting one.locks (world_of_parts part st old) a v one.may)
+        (at_once_runs st begin.setting (world_of_parts part st old) a v one.may)
 
     pub kept_at_once : (r : Result Vertex Refused) (new : Parts M) → IfOk r (λ v. MovesAtOnce (CanGoOn belongs part old) part old a v.0 new) → OnErr r (HoldTheSame part old new) →
         IsSameCluster belongs earlier old new → IsKept belongs part earlier start new
     kept_at_once (Ok v) new made same_world same =
         next_kept belongs part earlier start old kept new same (λ st begin.
         let w : World = world_of_parts part st old in
-        at_once_goes st begin.setting (world_of_parts part st start) a v.0 (next_scope a (w.part a)) (own_vertices st v.0 a) w (world_of_parts part st new) (kept.going st begin)
+        at_once_goes st begin.setting (world_of_parts part st start) a v.0 (next_scope a (w.part a)) (locks_at_once st v.0 a) w (world_of_parts part st new) (kept.going st begin)
         (runs_at v.0 new made st begin))
     kept_at_once (Err refused) new made same_world same = kept_same belongs part earlier start old kept new same_world same
 
     fresh_at : (v : ℕ) (new : Parts M) → MovesAtOnce (CanGoOn belongs part old) part old a v new → (st : Setting) → StartIn belongs part start.machines.items st →
         (order : List Entry) → IsOrderSince part st start old order → IsFresh st (replay_of st order) ((world_of_parts part st old).part a) v
     fresh_at v new made st begin order since =
-        at_once_fresh st begin.setting (world_of_parts part st start) a v (made st (can_go belongs part earlier start old kept st begin)).locks order (own_vertices st v a) (world_of_parts part st old) (world_of_parts part st new) (kept.going st begin)
+        at_once_fresh st begin.setting (world_of_parts part st start) a v order (locks_at_once st v a) (world_of_parts part st old) (world_of_parts part st new) (kept.going st begin)
         (replay_from_since belongs part earlier start old kept st order since) (runs_at v new made st begin)
 
   -- ---- the same, as the cluster is seen
@@ -133,8 +131,7 @@ module _ {M : Type 0} (belongs : Setting → ℕ → M → Type 0) (part : M →
         by : CanNotMoveAtOnce (CanGoOn belongs part old) part old at → CanNotMoveAtOnce (StartIn belongs part start.machines.items) part old at
         by (inl none) = inl none
         by (inr (inl admits)) = inr (inl (cannot_from belongs part earlier start old kept (Admit at) admits))
-        by (inr (inr (inl one))) = inr (inr (inl (one.0, λ st begin. one.1 st (can_go belongs part earlier start old kept st begin))))
-        by (inr (inr (inr no_locks))) = inr (inr (inr (λ st begin. no_locks st (can_go belongs part earlier start old kept st begin))))
+        by (inr (inr one)) = inr (inr (one.0, λ st begin. one.1 st (can_go belongs part earlier start old kept st begin)))
 
     pub held_seen : (r : Result Vertex Refused) (new : Parts M) → OnErr r (HoldTheSame part old new) → OnErr r (HoldTheSame part view.now new)
     held_seen (Ok v) new same = tt

@@ -16,7 +16,7 @@ use Rattle.cluster_laws.specs.cluster_core.Parts.{Part, Stand, lent}
 use Rattle.cluster_laws.specs.cluster_core.Replays.{IsFresh, IsReplay, replay_of}
 use Rattle.cluster_laws.specs.cluster_core.Runs.{IsActionRun}
 use Rattle.cluster_laws.specs.cluster_core.Scopes.{machines_from, own_from, set_for}
-use Rattle.cluster_laws.specs.cluster_core.Settings.{Engine, Locking, Setting, IsSetting}
+use Rattle.cluster_laws.specs.cluster_core.Settings.{Chromatic, Engine, Locking, Setting, IsSetting}
 use Rattle.cluster_laws.specs.cluster_core.Worlds.{World, with_part}
 use Rattle.cluster_laws.proofs.cluster_core.Basics.{set_at-same, set_for-same}
 use Rattle.cluster_laws.proofs.cluster_numbers.Quiet.{IsQuiet, admitted-quiet, granted-quiet}
@@ -59,11 +59,14 @@ granted_flight st a x part = by (part.queue x)
     by (c ∷ queue) = stood c (part.stand c.scope) (takes_lock x c queue part) refl
 
 -- what it admits is in flight, of this centre
-admitted_flight : (st : Setting) (a v : ℕ) (part : Part) → st.engine ≡ Locking → (admitted st a v part).flight (next_scope a part) ≡ Some v
-admitted_flight st a v part locking =
-    ap (λ (e : Engine). (admitted_by e st a v part).flight (next_scope a part)) locking
-    ∙ ap (λ (f : ScopeId → Option ℕ). f (next_scope a part)) (out_flight st a (next_scope a part) v (machines_from st v 0) (in_flight a v part))
-    ∙ set_for-same part.flight (next_scope a part) (Some v)
+admitted_flight : (st : Setting) (a v : ℕ) (part : Part) → (admitted st a v part).flight (next_scope a part) ≡ Some v
+admitted_flight st a v part = by st.engine
+  where
+    by : (e : Engine) → (admitted_by e st a v part).flight (next_scope a part) ≡ Some v
+    by Locking =
+        ap (λ (f : ScopeId → Option ℕ). f (next_scope a part)) (out_flight st a (next_scope a part) v (machines_from st v 0) (in_flight a v part))
+        ∙ set_for-same part.flight (next_scope a part) (Some v)
+    by (Chromatic colour colours) = set_for-same part.flight (next_scope a part) (Some v)
 
 -- ---- what is lent
 
@@ -122,9 +125,9 @@ module _ (st : Setting) (is : IsSetting st) (from : World) (a v : ℕ) where
         (ap lent there ∙ same_lent (now.part a) (granted st a k (now.part a)) quiet ∙ same)
         run.1
 
-  pub at_once_fresh : st.engine ≡ Locking → (order : List Entry) (locks_left : List ℕ) (now new : World) → IsGoingOn st from now → IsReplay st now order →
+  pub at_once_fresh : (order : List Entry) (locks_left : List ℕ) (now new : World) → IsGoingOn st from now → IsReplay st now order →
       IsActionRun st now (law.Admit a v ∷ map (law.Grant a) locks_left ++ law.Update (next_scope a (now.part a)) ∷ []) new → IsFresh st (replay_of st order) (now.part a) v
-  at_once_fresh locks order locks_left now new going replay run =
+  at_once_fresh order locks_left now new going replay run =
       let part = now.part a in
       let came : Part = admitted st a v part in
       let quiet = admitted-quiet st a v part in
@@ -132,6 +135,6 @@ module _ (st : Setting) (is : IsSetting st) (from : World) (a v : ℕ) where
       grants_fresh order part (next_scope a part) refl locks_left (with_part now a came) new
       (admit_goes now going run.0)
       (replay_quiet st now (with_part now a came) (part_quiet now a came quiet) order replay)
-      (ap (λ (p : Part). p.flight (next_scope a part)) there ∙ admitted_flight st a v part locks)
+      (ap (λ (p : Part). p.flight (next_scope a part)) there ∙ admitted_flight st a v part)
       (ap lent there ∙ same_lent part came quiet)
       run.1

@@ -2,17 +2,15 @@
 pub use Rattle.cluster_laws.specs.cluster_core.Actions.{MayAdmit}
 pub use Rattle.cluster_laws.specs.cluster_core.Runs.{IsActionRun}
 pub use Rattle.interior_scopes.specs.AtOnce.{MayUpdateAtOnce, actions_at_once, after_at_once}
-use Rattle.std.specs.Prelude.{ℕ, ◌≡◌, ◌≢◌, ◌⊎◌}
-use Rattle.cluster_laws.specs.cluster_core.Settings.{Locking}
+use Rattle.std.specs.Prelude.{ℕ, ◌≡◌, ◌⊎◌}
 use Rattle.gl_base.specs.declared.numbers.MachineNo.{MachineNo}
 use Rattle.cluster_step.specs.Events.{CanNotMakeEvent}
 use Rattle.cluster_step.specs.Worlds.{Part, Setting, World, world_of_parts}
 use Rattle.cluster_step.specs.declared.events.Event.TheVariants.{Admit}
 use Rattle.cluster_step.specs.declared.parts.Parts.{Parts}
 
--- scopes take locks, v might be updated at once on machine a, and this is the world after it: one ticket was drawn
+-- v might be updated at once on machine a, and this is the world after it: one ticket was drawn
 pub record IsMovedAtOnce (st : Setting) (old : World) (a v : ℕ) (new : World) : Type 0 where
-  pub locks : st.engine ≡ Locking
   pub may : MayUpdateAtOnce st a v (old.part a) old.left
   pub after : new ≡ after_at_once st old a v
 
@@ -26,14 +24,13 @@ pub record IsBlocked (st : Setting) (w : World) (a v : ℕ) : Type 0 where
 abbrev pub MovesAtOnce : {M : Type 0} → (Setting → Type 0) → (M → Part) → Parts M → ℕ → ℕ → Parts M → Type 0
 MovesAtOnce among part old a v new = (st : Setting) → among st → IsMovedAtOnce st (world_of_parts part st old) a v (world_of_parts part st new)
 
--- scopes take locks, and some vertex of machine a may be updated at once
+-- some vertex of machine a may be updated at once
 abbrev pub CanMoveAtOnce : {M : Type 0} → (Setting → Type 0) → (M → Part) → Parts M → ℕ → Type 0
-CanMoveAtOnce among part old a = (v : ℕ) × ((st : Setting) → among st → (st.engine ≡ Locking) × MayUpdateAtOnce st a v ((world_of_parts part st old).part a) old.left)
+CanMoveAtOnce among part old a = (v : ℕ) × ((st : Setting) → among st → MayUpdateAtOnce st a v ((world_of_parts part st old).part a) old.left)
 
--- no ticket is left, the machine may admit no vertex, it may admit one that may not be updated at once, or scopes take no locks
+-- no ticket is left, the machine may admit no vertex, or it may admit one that may not be updated at once
 abbrev pub CanNotMoveAtOnce : {M : Type 0} → (Setting → Type 0) → (M → Part) → Parts M → MachineNo → Type 0
 CanNotMoveAtOnce among part old at =
     (old.left ≡ 0)
     ⊎ (CanNotMakeEvent among part old (Admit at)
-    ⊎ (((v : ℕ) × ((st : Setting) → among st → IsBlocked st (world_of_parts part st old) at.0 v))
-    ⊎ ((st : Setting) → among st → st.engine ≢ Locking)))
+    ⊎ ((v : ℕ) × ((st : Setting) → among st → IsBlocked st (world_of_parts part st old) at.0 v)))

@@ -85,12 +85,12 @@ impl<M: ClusterMachine> Cluster<M> {
     }
 
     /// The machine updates a vertex at once, where no lock of its scope has to be waited for and all of it is the machine's: as if a
-    /// scope of it were admitted, took each lock in turn and made its update. It draws one ticket. Of the vertices that may be
-    /// admitted the machine looks at one of its choice.
+    /// scope of it were admitted, took each lock in turn and made its update. Where scopes take no locks, as if one were admitted and
+    /// made its update. It draws one ticket. Of the vertices that may be admitted the machine looks at one of its choice.
     pub fn update_at_once(&mut self, at: MachineNo) -> Result<Vertex, Refused>
         requires { at.0 < length self.old.now.machines.items }
         ensures made { IfOk result (λ v. MovesAtOnce (StartIn M.belongs M.part self.old.start.machines.items) M.part self.old.now at.0 v.0 self.new.now) }
-        // It is a run of actions of the law: the admission, the grant of each lock, and the update.
+        // It is a run of actions of the law: the admission, the grant of each lock where scopes take locks, and the update.
         ensures run { IfOk result (λ v. InEachSetting M.belongs M.part self.old (λ st.
             IsActionRun st (world_now M.part st self.old) (actions_at_once st at.0 v.0 (part_now M.part st self.old at.0)) (world_now M.part st self.new))) }
         ensures not_now { IsErrOf result Refused.NotNow → CanNotMoveAtOnce (StartIn M.belongs M.part self.old.start.machines.items) M.part self.old.now at }

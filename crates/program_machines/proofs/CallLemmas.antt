@@ -133,21 +133,21 @@ module _ {P : Type 0} (meaning : P → Update) where
       → IfOk r (λ v. MakesUpdateAtOnce belongs_to holds old v.0 ticket new)
   at_once_where old new ticket (Ok v) has = λ st a here.
       subst (λ (k : ℕ). IsUpdateAtOnce st k (part_of old.core) v.0 ticket (part_of new.core)) here.number
-      (record { locks = here.part.engine; may = has.may st here.setting here.part; after = has.after st here.setting here.part here.program })
+      (record { may = has.may st here.setting here.part; after = has.after st here.setting here.part here.program })
   at_once_where old new ticket (Err e) has = tt
 
   pub at_once_some : (m : ProgramMachineView P) → CanUpdatePick m.core → (v : ℕ) × UpdatesAtOnce belongs_to holds m v
-  at_once_some m can = (can.vertex.0, λ st a here. (here.part.engine, subst (λ (k : ℕ). MayUpdateAtOnce st k can.vertex.0 (part_of m.core) 1) here.number (can.may st here.setting here.part)))
+  at_once_some m can = (can.vertex.0, λ st a here. subst (λ (k : ℕ). MayUpdateAtOnce st k can.vertex.0 (part_of m.core) 1) here.number (can.may st here.setting here.part))
 
   pub at_once_none : (m : ProgramMachineView P) → HasNoneAtOnce m.core → UpdatesNoneAtOnce belongs_to holds m
   at_once_none m (inl none) = inl (admits_none m none)
-  at_once_none m (inr one) = inr (inl (
+  at_once_none m (inr one) = inr (
     one.0.0,
     record {
       may = λ st a here. subst (λ (k : ℕ). MayAdmit st k one.0.0 (part_of m.core)) here.number (one.1 st here.part);
       not_at_once = λ st a here may. one.2 st here.setting here.part (subst (λ (k : ℕ). MayUpdateAtOnce st k one.0.0 (part_of m.core) 1) (sym here.number) may);
     },
-  ))
+  )
 
 pub same_part : {X E : Type 0} (old new : Core) (r : Result X E) → OnErr r (IsAsBefore old new) → OnErr r (part_of new ≡ part_of old)
 same_part old new (Ok x) as_before = tt

@@ -102,7 +102,7 @@ may_with st a b v one other number same admit may =
       not_pending = sym (ap (λ (f : ℕ → Bool). f v) same.pending) ∙ may.not_pending;
       is_new = subst (IsUnseen other) (λ i. record { home = record { 0 = number i }; serial = same.serial i }) unseen;
       interior = subst (λ (k : ℕ). IsInterior st k v) number may.interior;
-      unclaimed = λ x scoped. let none = may.unclaimed x scoped in record {
+      unclaimed = λ locking x scoped. let none = may.unclaimed locking x scoped in record {
         holder = λ t. sym (ap (λ (f : ℕ → ScopeId → Option Mode). f x t) same.holder) ∙ none.holder t;
         queue = sym (ap (λ (f : ℕ → List Claim). f x) same.queue) ∙ none.queue;
       };

@@ -108,7 +108,7 @@ module _ (st : Setting) (a v ticket : ℕ) (m : Machine) where
           claim = claim_for st a v m.part k;
           behind = [];
           first = set_at-same m.part.queue k (claim_for st a v m.part k ∷ []);
-          together = λ t mode holds. absurd (none-some mode (sym ((may.unclaimed k both.0).holder t) ∙ (sym (ap (λ (f : ScopeId → Option Mode). f t) (not_yet st is locking a v m.part 1 may k)) ∙ holds)));
+          together = λ t mode holds. absurd (none-some mode (sym ((may.unclaimed locking k both.0).holder t) ∙ (sym (ap (λ (f : ScopeId → Option Mode). f t) (not_yet st is locking a v m.part 1 may k)) ∙ holds)));
         }
 
     -- ---- its update is made

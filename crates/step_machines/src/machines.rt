@@ -1,9 +1,9 @@
 //! A machine that goes by colours.
 ghost use Rattle.std.specs.Prelude.{◌≡◌, ℕ, true, false, None, IfOk, IfSome, IfNone, OnOk, OnErr, IsErrOf};
 ghost use Rattle.gl_base.specs.declared.scopes.ScopeId.{ScopeId};
-ghost use Rattle.step_machines.specs.Machines.{CanAdmitOne, CanHear, GoesOnHere, HasAdmittedOne, HasDoneItsShare, HasEachRow, HasHeardDone, HasUpdatedInStep, IsColorMachine, IsInStepOrder, IsSameColorMachine, MayAdmitNoOne, MayUpdate, closes, next_scope, part_in_steps, steps_to};
+ghost use Rattle.step_machines.specs.Machines.{CanAdmitOne, CanHear, CanUpdateOne, GoesOnHere, HasAdmittedOne, HasDoneItsShare, HasEachRow, HasHeardDone, HasNoneAtOnce, HasUpdatedInStep, HasUpdatedOne, IsColorMachine, IsInStepOrder, IsSameColorMachine, MayAdmitNoOne, MayUpdate, closes, next_scope, part_in_steps, steps_to};
 
-use gl_base::{NoMemory, Refused, ScopeId};
+use gl_base::{NoMemory, Refused, ScopeId, Vertex};
 use machine_core::color_parts::ColorCore;
 use machine_core::machine_updates::Spares;
 use std::alloc::Global;
@@ -130,6 +130,27 @@ impl<P: Program> ColorMachine<P> {
             &mut self.spares,
             &self.program,
             scope,
+            ticket,
+        )
+    }
+
+    /// Updates the first vertex in the line of the step's colour, where the step goes on here, the window has room, and the scope of the
+    /// vertex has this machine alone: as if a scope of it were admitted and made its update. It sends no message, and is logged under
+    /// the ticket. A log that holds as many updates as it may is want of memory too, and so is it that the version of the vertex can't
+    /// count one more, or that no serial is left.
+    pub fn update_at_once(&mut self, ticket: u64) -> Result<Vertex, Refused>
+        ensures same { IsSameColorMachine self.old self.new }
+        ensures updated { IfOk result (λ v. HasUpdatedOne (P.meaning self.old.program) self.old.core self.new.core v ticket) }
+        ensures not_now { IsErrOf result Refused.NotNow → HasNoneAtOnce self.old.core }
+        ensures no_memory { IsErrOf result Refused.NoMemory → CanUpdateOne self.old.core }
+        ensures untouched { IsErrOf result Refused.NotNow → self.new ≡ self.old }
+        ensures unchanged { OnErr result (part_in_steps self.new.core ≡ part_in_steps self.old.core) }
+    {
+        color_machine::update_at_once(
+            self.alloc,
+            &mut self.core,
+            &mut self.spares,
+            &self.program,
             ticket,
         )
     }

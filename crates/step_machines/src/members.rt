@@ -58,8 +58,8 @@ impl<P: Program> ClusterMachine for ColorMachine<P> {
         ColorMachine::next_ready(self)
     }
 
-    fn update_at_once(&mut self, _ticket: u64) -> Result<Vertex, Refused> {
-        Err(Refused::NotNow)
+    fn update_at_once(&mut self, ticket: u64) -> Result<Vertex, Refused> {
+        ColorMachine::update_at_once(self, ticket)
     }
 
     fn log(&self) -> &[Entry] {

@@ -20,7 +20,7 @@ fresh_may =
       not_pending = refl;
       is_new = record { flight = refl; stand = refl; ready = refl; holder = λ x. refl };
       interior = λ x scoped. refl;
-      unclaimed = λ x scoped. record { holder = λ s. refl; queue = refl };
+      unclaimed = λ locking x scoped. record { holder = λ s. refl; queue = refl };
       ticket = lit< tt;
     }
 
@@ -34,4 +34,4 @@ over_at_once entry =
 pub fresh_updates : (ticket : ℕ) (st : Setting) (a : ℕ) → IsHere st a → IsUpdateAtOnce st a untouched_part 0 ticket (over_part (Go (record { 0 = 0 }) (record { 0 = 0 }) ticket))
 fresh_updates ticket =
     there (λ st a. IsUpdateAtOnce st a untouched_part 0 ticket (over_part (Go (record { 0 = 0 }) (record { 0 = 0 }) ticket)))
-    (record { locks = refl; may = fresh_may; after = over_at_once (Go (record { 0 = 0 }) (record { 0 = 0 }) ticket) })
+    (record { may = fresh_may; after = over_at_once (Go (record { 0 = 0 }) (record { 0 = 0 }) ticket) })
