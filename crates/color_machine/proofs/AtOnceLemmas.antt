@@ -28,7 +28,7 @@ use Rattle.machine_core.specs.color_parts.Parts.{LinesView, Part, centre_in_step
 use Rattle.machine_core.specs.color_parts.Settings.{Setting, IsLocalOf, IsPartInSteps, StaysInSettings}
 use Rattle.machine_core.specs.machine_parts.Rooms.{HaveSameMessages}
 use Rattle.color_tasks.proofs.SlotLemmas.{next_is_new}
-use Rattle.color_machine.specs.AtOnce.{CanUpdateOne, HasNoneAtOnce, HasUpdatedOne, IsSetting, MayUpdateInStep}
+use Rattle.color_machine.specs.AtOnce.{CanUpdateOne, HasNoneInStep, HasUpdatedOne, IsSetting, MayUpdateInStep}
 use Rattle.color_machine.specs.Inner.Alone.{HasRunAlone, IsFoundAlone}
 use Rattle.color_machine.specs.Inner.Flying.{HasFlown, IsDueAt}
 use Rattle.color_machine.specs.Inner.Making.{HasEndedAt, HasMadeAndTold}
@@ -190,7 +190,7 @@ module _ (m : ColorCore) (f : Found) (is : IsInStepOrder m) (found : IsFoundAlon
 -- ---- none
 
 -- a vertex that may be admitted, and whose scope has another machine too
-pub not_alone : (m : ColorCore) (place v : Vertex) (is : IsInStepOrder m) → (due : IsDueAt m place) → slice_get m.by_place.items place.0 ≡ Some v → length (parts_at m.numbers.local v.0) ≢ 1 → HasNoneAtOnce m
+pub not_alone : (m : ColorCore) (place v : Vertex) (is : IsInStepOrder m) → (due : IsDueAt m place) → slice_get m.by_place.items place.0 ≡ Some v → length (parts_at m.numbers.local v.0) ≢ 1 → HasNoneInStep m
 not_alone m place v is due stands others =
     inr (
       can_one m is place due v stands,

@@ -22,8 +22,8 @@ pub record CanUpdateOne (m : ColorCore) : Type 0 where
   pub room : is_open m.numbers.tasks ≡ true
 
 -- of no vertex a scope may be admitted, or of one a scope may be admitted that may not be updated at once
-abbrev pub HasNoneAtOnce : ColorCore → Type 0
-HasNoneAtOnce m = MayAdmitNoOne m ⊎ ((can : CanAdmitOne m) × MayNotUpdateInStep m can.vertex)
+abbrev pub HasNoneInStep : ColorCore → Type 0
+HasNoneInStep m = MayAdmitNoOne m ⊎ ((can : CanAdmitOne m) × MayNotUpdateInStep m can.vertex)
 
 -- The vertex might be updated at once, and the window had room. For each setting of which the machine is a part, and whose program is this
 -- one, the part is what the law makes of it: the update is logged under this ticket.

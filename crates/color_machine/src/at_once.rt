@@ -2,7 +2,7 @@
 ghost use Rattle.std.specs.Prelude.{◌≡◌, ℕ, IfOk, IfSome, IfNone, OnOk, OnErr, IsErrOf};
 ghost use Rattle.machine_core.specs.color_parts.Parts.{links_at};
 ghost use Rattle.color_machine.specs.Admitting.{IsInStepOrder, StaysInSettings, part_in_steps};
-ghost use Rattle.color_machine.specs.AtOnce.{CanUpdateOne, HasNoneAtOnce, HasUpdatedOne};
+ghost use Rattle.color_machine.specs.AtOnce.{CanUpdateOne, HasNoneInStep, HasUpdatedOne};
 ghost use Rattle.color_machine.specs.Updating.{HasEachRow};
 ghost use Rattle.color_machine.specs.Inner.Alone.{HasRunAlone, IsFoundAlone};
 ghost use Rattle.color_machine.specs.Inner.Making.{HasSameNumbers};
@@ -29,7 +29,7 @@ pub fn update_at_once<P: Program>(
     requires orderly { IsInStepOrder core.old }
     requires rows { HasEachRow core.old.numbers.local }
     ensures updated { IfOk result (λ v. HasUpdatedOne (P.meaning program.now) core.old core.new v ticket) }
-    ensures not_now { IsErrOf result Refused.NotNow → HasNoneAtOnce core.old }
+    ensures not_now { IsErrOf result Refused.NotNow → HasNoneInStep core.old }
     ensures no_memory { IsErrOf result Refused.NoMemory → CanUpdateOne core.old }
     ensures same { IsErrOf result Refused.NotNow → core.new ≡ core.old }
     ensures unchanged { OnErr result (part_in_steps core.new ≡ part_in_steps core.old) }
@@ -56,7 +56,7 @@ pub fn update_at_once<P: Program>(
 fn find(core: &ColorCore) -> Option<Found>
     requires { IsInStepOrder core.now }
     ensures found { IfSome result (λ f. IsFoundAlone core.now f) }
-    ensures none { IfNone result (HasNoneAtOnce core.now) }
+    ensures none { IfNone result (HasNoneInStep core.now) }
 {
     let place = due(core)?;
     let vertex = core.by_place[place.0 as usize];

@@ -13,7 +13,7 @@ use Rattle.machine_core.specs.machine_parts.Settings.{window_of}
 use Rattle.task_sched.specs.Tasks.{is_below, is_open}
 use Rattle.cluster_machines.specs.Promises.{AdmitsNone, AdmitsSome, GrantsNone, GrantsNot, IsAdmission, IsSameMachine, IsUpdateAtOnce, MakesAdmission, MakesUpdate, MakesUpdateAtOnce, MayUpdateAtOnce, UpdatesAtOnce, UpdatesIt, UpdatesNoneAtOnce}
 use Rattle.machine_core.specs.declared.color_parts.cores.ColorCore.{ColorCore}
-use Rattle.step_machines.specs.Machines.{CanAdmitOne, CanUpdateOne, ColorMachineView, HasAdmittedOne, HasNoneAtOnce, HasUpdatedInStep, HasUpdatedOne, IsColorMachineOf, IsPartInSteps, IsSameColorMachine, MayAdmitNoOne, Setting, next_scope, part_in_steps}
+use Rattle.step_machines.specs.Machines.{CanAdmitOne, CanUpdateOne, ColorMachineView, HasAdmittedOne, HasNoneInStep, HasUpdatedInStep, HasUpdatedOne, IsColorMachineOf, IsPartInSteps, IsSameColorMachine, MayAdmitNoOne, Setting, next_scope, part_in_steps}
 
 open_where : (st : Setting) (m : ColorCore) → IsPartInSteps st m → st.stored ≡ false → is_open m.numbers.tasks ≡ true
 open_where st m part plain =
@@ -91,7 +91,7 @@ module _ {P : Type 0} (meaning : P → Update) where
   pub at_once_some : (m : ColorMachineView P) → CanUpdateOne m.core → (v : ℕ) × UpdatesAtOnce belongs_to holds m v
   at_once_some m can = (can.vertex.0, λ st a here. subst (λ (k : ℕ). MayUpdateAtOnce st k can.vertex.0 (part_in_steps m.core) 1) here.number (can.may st here.setting here.part))
 
-  pub at_once_none : (m : ColorMachineView P) → HasNoneAtOnce m.core → UpdatesNoneAtOnce belongs_to holds m
+  pub at_once_none : (m : ColorMachineView P) → HasNoneInStep m.core → UpdatesNoneAtOnce belongs_to holds m
   at_once_none m (inl none) = inl (admits_none m none)
   at_once_none m (inr one) = inr (
     one.0.vertex.0,

@@ -1,7 +1,7 @@
 -- A machine that goes by colours and its program, as contracts see them.
 pub use Rattle.cluster_laws.specs.cluster_core.Effects.{next_scope}
 pub use Rattle.color_machine.specs.Admitting.{CanAdmitOne, HasAdmittedOne, IsInStepOrder, IsPartInSteps, MayAdmitNoOne, Setting, StaysInSettings, part_in_steps}
-pub use Rattle.color_machine.specs.AtOnce.{CanUpdateOne, HasNoneAtOnce, HasUpdatedOne}
+pub use Rattle.color_machine.specs.AtOnce.{CanUpdateOne, HasNoneInStep, HasUpdatedOne}
 pub use Rattle.color_machine.specs.Closing.{GoesOnHere, HasDoneItsShare, MayUpdate, closes}
 pub use Rattle.color_machine.specs.Hearing.{CanHear, HasHeardDone}
 pub use Rattle.color_machine.specs.Stepping.{steps_to}

@@ -1,7 +1,7 @@
 //! A machine that goes by colours.
 ghost use Rattle.std.specs.Prelude.{◌≡◌, ℕ, true, false, None, IfOk, IfSome, IfNone, OnOk, OnErr, IsErrOf};
 ghost use Rattle.gl_base.specs.declared.scopes.ScopeId.{ScopeId};
-ghost use Rattle.step_machines.specs.Machines.{CanAdmitOne, CanHear, CanUpdateOne, GoesOnHere, HasAdmittedOne, HasDoneItsShare, HasEachRow, HasHeardDone, HasNoneAtOnce, HasUpdatedInStep, HasUpdatedOne, IsColorMachine, IsInStepOrder, IsSameColorMachine, MayAdmitNoOne, MayUpdate, closes, next_scope, part_in_steps, steps_to};
+ghost use Rattle.step_machines.specs.Machines.{CanAdmitOne, CanHear, CanUpdateOne, GoesOnHere, HasAdmittedOne, HasDoneItsShare, HasEachRow, HasHeardDone, HasNoneInStep, HasUpdatedInStep, HasUpdatedOne, IsColorMachine, IsInStepOrder, IsSameColorMachine, MayAdmitNoOne, MayUpdate, closes, next_scope, part_in_steps, steps_to};
 
 use gl_base::{NoMemory, Refused, ScopeId, Vertex};
 use machine_core::color_parts::ColorCore;
@@ -141,7 +141,7 @@ impl<P: Program> ColorMachine<P> {
     pub fn update_at_once(&mut self, ticket: u64) -> Result<Vertex, Refused>
         ensures same { IsSameColorMachine self.old self.new }
         ensures updated { IfOk result (λ v. HasUpdatedOne (P.meaning self.old.program) self.old.core self.new.core v ticket) }
-        ensures not_now { IsErrOf result Refused.NotNow → HasNoneAtOnce self.old.core }
+        ensures not_now { IsErrOf result Refused.NotNow → HasNoneInStep self.old.core }
         ensures no_memory { IsErrOf result Refused.NoMemory → CanUpdateOne self.old.core }
         ensures untouched { IsErrOf result Refused.NotNow → self.new ≡ self.old }
         ensures unchanged { OnErr result (part_in_steps self.new.core ≡ part_in_steps self.old.core) }

@@ -7,7 +7,7 @@ use Rattle.std.proofs.lemmas.Option.{none-some}
 use Rattle.std.proofs.lemmas.List.Sums.{sum_by-set, sum_by-le, get_or-le-sum_by}
 use Rattle.gl_base.specs.declared.scopes.Claim.{Claim}
 use Rattle.gl_base.specs.declared.scopes.ScopeId.{ScopeId}
-use Rattle.vertex_locks.specs.Inner.KeptLocks.{SameClaims, claimed_once, one_where}
+use Rattle.vertex_locks.specs.Inner.KeptLocks.{SameClaims, claimed_once, counted_if}
 use Rattle.vertex_locks.specs.Inner.KeptTables.{count_claimed}
 use Rattle.scope_lists.proofs.SameScope.{same_scope}
 use Rattle.vertex_locks.specs.Locks.{LockView, mode_of}
@@ -15,7 +15,7 @@ use Rattle.vertex_locks.specs.Tables.{lock_at, lock_or, is_owned, lock_there, ta
 use Rattle.vertex_locks.proofs.TableLemmas.{IsWritten, owned_inside, with_lock}
 
 -- what a truth is as a number
-pub number_of : (b : Bool) → from_bool b ≡ one_where b
+pub number_of : (b : Bool) → from_bool b ≡ counted_if b
 number_of true = refl
 number_of false = refl
 
@@ -47,7 +47,7 @@ module _ (places : List ℕ) (locks after : List LockView) (table : List (Option
   counted_less less is = let sum = written in let before = was_counted in omega arith
 
 -- a lock is counted once at most
-one_at_most : (b : Bool) → one_where b ≤ 1
+one_at_most : (b : Bool) → counted_if b ≤ 1
 one_at_most true = omega arith
 one_at_most false = omega arith
 
@@ -57,7 +57,7 @@ count_few table =
     let most = sum_by-le of_lock 1 table (λ k d inside. one_at_most (nat_lt 0 (length (lock_or (slice_index_or table k d)).holders + length (lock_or (slice_index_or table k d)).queue))) in
     omega arith
 
-pub count_fits : (places : List ℕ) (locks : List LockView) (more : Bool) → count_claimed (table_of places locks) + one_where more ≤ length places + 1
+pub count_fits : (places : List ℕ) (locks : List LockView) (more : Bool) → count_claimed (table_of places locks) + counted_if more ≤ length places + 1
 count_fits places locks more =
     let few = count_few (table_of places locks) in
     let long = length-map places (lock_there locks) in
@@ -76,7 +76,7 @@ free_once : (l : LockView) → ((s : ScopeId) → mode_of l.holders s ≡ None) 
 free_once l holders queue =
     let held = none_held l.holders holders in
     let waits : length l.queue ≡ 0 = ap length queue in
-    ap one_where (le-ltb 0 (length l.holders + length l.queue) (omega arith))
+    ap counted_if (le-ltb 0 (length l.holders + length l.queue) (omega arith))
 
 pub count_free : (table : List (Option LockView)) → IsUnclaimed table → count_claimed table ≡ 0
 unfolding of_lock
@@ -90,9 +90,9 @@ no_claim : (claims : List Claim) → length claims ≡ 0 → claims ≡ []
 no_claim [] none = refl
 no_claim (c ∷ claims) none = absurd (omega arith)
 
-once_none : (n : ℕ) → one_where (nat_lt 0 n) ≡ 0 → n ≡ 0
+once_none : (n : ℕ) → counted_if (nat_lt 0 n) ≡ 0 → n ≡ 0
 once_none n none = ⊎_elim
-    (λ (some : 0 < n). let one : one_where (nat_lt 0 n) ≡ 1 = ap one_where (lt-ltb 0 n some) in absurd (omega arith))
+    (λ (some : 0 < n). let one : counted_if (nat_lt 0 n) ≡ 1 = ap counted_if (lt-ltb 0 n some) in absurd (omega arith))
     (λ (past : n ≤ 0). omega arith)
     (cases_lt 0 n)
 
@@ -119,4 +119,4 @@ claims_same old new same =
     let held = ap length same.holders in
     let waits = ap length same.queue in
     let all : length new.holders + length new.queue ≡ length old.holders + length old.queue = omega arith in
-    ap (λ n. one_where (nat_lt 0 n)) all
+    ap (λ n. counted_if (nat_lt 0 n)) all

@@ -110,12 +110,12 @@ listed_free table flags free owned = record {
 
 -- ---- the list grows shorter
 
-one_where : Bool → ℕ
-one_where b = if b then 1 else 0
+counted_if : Bool → ℕ
+counted_if b = if b then 1 else 0
 
 -- how many are listed
 pub count_listed : List Bool → ℕ
-count_listed flags = sum_by one_where flags
+count_listed flags = sum_by counted_if flags
 
 pub listed_inside : (flags : List Bool) (x : ℕ) → is_flagged flags x ≡ true → x < length flags
 listed_inside [] x flagged = absurd (true≢false (sym flagged))
@@ -123,11 +123,11 @@ listed_inside (f ∷ flags) zero flagged = omega arith
 listed_inside (f ∷ flags) (suc x) flagged = let inside = listed_inside flags x flagged in omega arith
 
 pub fewer_listed : (flags : List Bool) (x : ℕ) → is_flagged flags x ≡ true → count_listed (slice_set flags x false) < count_listed flags
-unfolding count_listed one_where
+unfolding count_listed counted_if
 fewer_listed flags x flagged =
     let inside = listed_inside flags x flagged in
-    let was : one_where (slice_index_or flags x false) ≡ 1 = ap one_where flagged in
-    let sum = sum_by-set one_where flags x false false inside in
+    let was : counted_if (slice_index_or flags x false) ≡ 1 = ap counted_if flagged in
+    let sum = sum_by-set counted_if flags x false false inside in
     omega arith
 
 -- a vertex whose lock wouldn't be granted is listed no more

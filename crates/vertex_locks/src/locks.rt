@@ -6,7 +6,7 @@ ghost use Rattle.gl_base.specs.declared.scopes.Claim.{Claim};
 ghost use Rattle.scope_lists.specs.Scopes.{is_scope};
 ghost use Rattle.vertex_locks.specs.Locks.{LockView, has, mode_of, released, IsNext, IsFreeLock, WritesAlone, WaitOnce};
 ghost use Rattle.scope_lists.specs.Scopes.{GoTogether};
-ghost use Rattle.vertex_locks.specs.Inner.KeptLocks.{IsLock, requested, IsTaken, IsReleased, SameClaims, claimed_once, one_where};
+ghost use Rattle.vertex_locks.specs.Inner.KeptLocks.{IsLock, requested, IsTaken, IsReleased, SameClaims, claimed_once, counted_if};
 
 use gl_base::{Claim, Mode, NoMemory, ScopeId};
 use scope_lists::is_scope;
@@ -63,7 +63,7 @@ impl Lock {
         requires holds_not { has claim.scope self.old.holders ≡ false }
         requires waits_not { has claim.scope self.old.queue ≡ false }
         ensures asked { self.new ≡ requested claim self.old }
-        ensures only { claimed_once self.new ≡ claimed_once self.old + one_where result }
+        ensures only { claimed_once self.new ≡ claimed_once self.old + counted_if result }
     {
         let only = self.claims.is_empty();
         self.claims.push_reserved(claim);
@@ -77,7 +77,7 @@ impl Lock {
         ensures taken { result ≡ true → IsTaken (requested claim self.old) self.new claim }
         ensures claimed { result ≡ false → IsFreeLock (mode_of self.old.holders) self.old.queue → self.old.room ≡ 0 }
         ensures same { result ≡ false → self.new ≡ self.old }
-        ensures only { claimed_once self.new ≡ claimed_once self.old + one_where result }
+        ensures only { claimed_once self.new ≡ claimed_once self.old + counted_if result }
     {
         if !self.claims.is_empty() {
             return false;
@@ -120,7 +120,7 @@ impl Lock {
     pub fn release(&mut self, scope: ScopeId) -> bool
         ensures gone { IsReleased self.old self.new scope }
         ensures exact { self.new ≡ released scope self.old }
-        ensures last { claimed_once self.new + one_where result ≡ claimed_once self.old }
+        ensures last { claimed_once self.new + counted_if result ≡ claimed_once self.old }
     {
         if let Some(place) = place_of(&self.claims[..self.held], scope) {
             take_out(&mut self.claims, place);

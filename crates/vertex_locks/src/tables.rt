@@ -27,14 +27,14 @@ pub struct LockTable {
 impl Model for LockTable {
     ghost use Rattle.std.specs.Prelude.{List, Option};
     ghost use Rattle.vertex_locks.specs.Locks.{LockView};
-    ghost use Rattle.vertex_locks.specs.Inner.KeptTables.{IsKept};
+    ghost use Rattle.vertex_locks.specs.Inner.KeptTables.{IsCountedTable};
     ghost use Rattle.vertex_locks.specs.Tables.{table_of};
 
     ghost Value = { List (Option LockView) };
 
     ghost view = { λ t. table_of t.places.items t.locks.items };
 
-    ghost invariant = { λ t. IsKept t.places.items t.locks.items t.listed t.claimed };
+    ghost invariant = { λ t. IsCountedTable t.places.items t.locks.items t.listed t.claimed };
 }
 
 impl LockTable {

@@ -36,9 +36,9 @@ pub record SameClaims (old new : LockView) : Type 0 where
 -- ---- counting
 
 -- one where it is so, and else none
-abbrev pub one_where : Bool → ℕ
-one_where b = if b then 1 else 0
+abbrev pub counted_if : Bool → ℕ
+counted_if b = if b then 1 else 0
 
 -- one where somebody claims the lock
 abbrev pub claimed_once : LockView → ℕ
-claimed_once l = one_where (nat_lt 0 (length l.holders + length l.queue))
+claimed_once l = counted_if (nat_lt 0 (length l.holders + length l.queue))

@@ -32,7 +32,7 @@ abbrev pub count_claimed : List (Option LockView) → ℕ
 count_claimed table = sum_by (λ o. claimed_once (lock_or o)) table
 
 -- such a table, of whose locks so many are claimed
-pub record IsKept (places : List ℕ) (locks : List LockView) (flags : List Bool) (claimed : ℕ) : Type 0 where
+pub record IsCountedTable (places : List ℕ) (locks : List LockView) (flags : List Bool) (claimed : ℕ) : Type 0 where
   pub table : IsTable places locks flags
   pub counted : claimed ≡ count_claimed (table_of places locks)
 
