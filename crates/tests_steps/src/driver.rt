@@ -112,7 +112,14 @@ impl Driven {
     /// A machine updates a vertex at once; `false` where it may not.
     pub fn update_at_once(&mut self, at: u16) -> Result<bool, Trouble> {
         self.has(at)?;
-        happened(self.cluster.update_at_once(MachineNo(at)).map(|_| ()))
+        match self.cluster.update_at_once(MachineNo(at)) {
+            Ok(vertex) => {
+                self.order.push(vertex)?;
+                Ok(true)
+            }
+            Err(Refused::NotNow) => Ok(false),
+            Err(Refused::NoMemory) => Err(Trouble::NoMemory),
+        }
     }
 
     /// The number of a vertex at its owner.

@@ -27,24 +27,25 @@ pub fn path_by_steps(alloc: Global) -> Result<(), Trouble> {
     is_over(&driven, &[1, 1, 1, 1])
 }
 
-/// In the first step each machine offers one vertex. No lock is granted at any vertex, nothing is updated at once, and the step
-/// is not over while a scope is in flight or a message is under way.
+/// In the first step each machine has one vertex of the colour. The one machine updates its vertex at once, since it has the whole scope;
+/// the other one may not, and offers its vertex. No lock is granted at any vertex, and the step is not over while a scope is in flight or
+/// a message is under way.
 fn first_step(driven: &mut Driven) -> Result<(), Trouble> {
     no(driven.admit(0)?)?;
+    no(driven.update_at_once(0)?)?;
     yes(driven.step(1)?)?;
     no(driven.step(2)?)?;
+    yes(driven.update_at_once(0)?)?;
+    no(driven.update_at_once(1)?)?;
+    yes(driven.admit(1)?)?;
+    no(driven.close(1)?)?;
+    grants_none(driven)?;
+    yes(driven.update(1)?)?;
     for at in 0..2 {
         no(driven.update_at_once(at)?)?;
-        yes(driven.admit(at)?)?;
         no(driven.admit(at)?)?;
-        no(driven.close(at)?)?;
-    }
-    grants_none(driven)?;
-    for at in 0..2 {
-        yes(driven.update(at)?)?;
         no(driven.update(at)?)?;
         yes(driven.close(at)?)?;
-        no(driven.admit(at)?)?;
     }
     if driven.order() != [Vertex(0), Vertex(2)].as_slice() {
         return Err(Trouble::Differs);

@@ -142,7 +142,7 @@ fn one_event(
     }
     let at = chances.below(machines) as u16;
     let to = chances.below(machines) as u16;
-    match chances.below(4) {
+    match chances.below(5) {
         0 => {
             driven.admit(at)?;
         }
@@ -152,6 +152,11 @@ fn one_event(
             }
         }
         2 => {
+            if driven.update_at_once(at)? {
+                goes_alike(driven, replay)?;
+            }
+        }
+        3 => {
             driven.send(at, to)?;
         }
         _ => {
