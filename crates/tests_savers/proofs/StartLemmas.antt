@@ -7,7 +7,8 @@ use Rattle.coord_core.specs.Coordinators.{IsEngineOf, StoreView}
 use Rattle.coord_core.specs.declared.steps.Engine.{Engine}
 use Rattle.coord_core.specs.declared.steps.Engine.TheVariants.{Chromatic, Locking}
 use Rattle.machine_places.proofs.OwnerLemmas.{owner_low}
-use Rattle.placed_savers.specs.Beginning.{ArePlacesOf, AreSaversOf, BaseView, Cluster, EngineSaver, HaveAdmitted, IsBaseFor, IsBaseOf, IsEngineSaverOf, IsRunAt, RunsBy, Setting, placed_owner}
+use Rattle.placed_savers.specs.Beginning.{ArePlacesOf, AreSaversOf, BaseView, Cluster, HaveAdmitted, IsBaseFor, IsBaseOf, IsEngineSaverOf, IsRunAt, RunsBy, Setting, placed_owner}
+use Rattle.placed_savers.specs.declared.engine_savers.savers.EngineSaver.{EngineSaver}
 use Rattle.placed_savers.specs.declared.savers.Places.{Places}
 use Rattle.placed_savers.proofs.LawLemmas.{attempt_begins}
 use Rattle.snap_clusters.specs.Clusters.{StartsSaving}
