@@ -5,7 +5,8 @@ pub use Rattle.stored_calls.specs.call_ends.Gathered.{IsTaskIn}
 pub use Rattle.call_returns.specs.Missing.{Begins}
 pub use Rattle.call_rounds.specs.Pauses.{NoneReached, PausesSo}
 pub use Rattle.cluster_laws.specs.cluster_runs.Recorded.{shared_of}
-pub use Rattle.placed_savers.specs.Beginning.{ArePlacesOf, EngineSaver, IsEngineSaverOf, IsRunAt}
+pub use Rattle.placed_savers.specs.Beginning.{ArePlacesOf, IsEngineSaverOf, IsRunAt}
+pub use Rattle.placed_savers.specs.declared.engine_savers.savers.EngineSaver.{EngineSaver}
 pub use Rattle.recovery.specs.Recovered.{IsHeaderOf}
 pub use Rattle.snap_journal.specs.Disks.{DiskPast, IsImage, LeavesOnly}
 pub use Rattle.snap_journal.specs.Journals.{JournalState, snapshots_in}

@@ -2,7 +2,8 @@
 pub use Rattle.stored_calls.specs.call_backs.Failing.{Cluster, CourseView, InEachCourse, IsCourseNow, IsSameAttempt, Setting, has_reached, newest_setting}
 pub use Rattle.call_courses.specs.Courses.{BaseView, CallOpening, GoesBackWith, StartsSaving, StoreView}
 pub use Rattle.call_returns.specs.Missing.{Begins, is_restart, restarts}
-pub use Rattle.placed_savers.specs.Beginning.{ArePlacesOf, EngineSaver, IsBaseFor, IsEngineSaverOf, IsRunAt}
+pub use Rattle.placed_savers.specs.Beginning.{ArePlacesOf, IsBaseFor, IsEngineSaverOf, IsRunAt}
+pub use Rattle.placed_savers.specs.declared.engine_savers.savers.EngineSaver.{EngineSaver}
 pub use Rattle.stored_courses.specs.Stores.{Header, IsKnownCourse, stored_order}
 pub use Rattle.whole_laws.specs.whole_calls.Lost.{TakesAway}
 use Rattle.std.specs.Prelude.{Bool, List, false, filter, length, true, ℕ, ◌+◌, ◌++◌, ◌<◌, ◌≡◌}

@@ -4,7 +4,8 @@ pub use Rattle.call_returns.specs.Missing.{Begins}
 pub use Rattle.cluster_plays.specs.Plans.{IsInRange}
 pub use Rattle.gl_base.specs.declared.snapshots.Base.{Base}
 pub use Rattle.job_runs.specs.Plays.{IsPlacement}
-pub use Rattle.placed_savers.specs.Beginning.{AreColoursFor, ArePlacesOf, EngineSaver, IsBaseFor, IsEngineSaverOf, IsRunAt, placed_owner}
+pub use Rattle.placed_savers.specs.Beginning.{AreColoursFor, ArePlacesOf, IsBaseFor, IsEngineSaverOf, IsRunAt, placed_owner}
+pub use Rattle.placed_savers.specs.declared.engine_savers.savers.EngineSaver.{EngineSaver}
 pub use Rattle.recovery.specs.GoodStores.{IsGoodStore}
 pub use Rattle.recovery.specs.Recovered.{IsHeaderOf}
 pub use Rattle.stored_calls.specs.saver_courses.Beginning.{opening_from, shared_of}

@@ -3,7 +3,8 @@ pub use Rattle.call_courses.specs.Courses.{BaseView, CallOpening, Cluster, Cours
 pub use Rattle.opened_bases.specs.Opening.{IsGoodBase, base_opened, cluster_before, shared_of, ticket_above}
 pub use Rattle.coord_core.specs.Coordinators.{IsEngineOf}
 pub use Rattle.coord_core.specs.declared.steps.Engine.{Engine}
-pub use Rattle.placed_savers.specs.Beginning.{AreSaversOf, EngineSaver, IsEngineSaverOf, IsSavingRunOf, RunsBy}
+pub use Rattle.placed_savers.specs.Beginning.{AreSaversOf, IsEngineSaverOf, IsSavingRunOf, RunsBy}
+pub use Rattle.placed_savers.specs.declared.engine_savers.savers.EngineSaver.{EngineSaver}
 use Rattle.std.specs.Prelude.{Bool, length, ℕ}
 use Rattle.gl_base.specs.declared.snapshots.Base.{Base}
 use Rattle.graph_core.specs.DataGraph.{size}
