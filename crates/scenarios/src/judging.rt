@@ -25,6 +25,18 @@ pub struct Tally {
     pub failed: u64,
 }
 
+impl Tally {
+    /// One more that did what it had to, or did not.
+    pub fn count(&mut self, is_well: bool) {
+        let counted = if is_well {
+            &mut self.passed
+        } else {
+            &mut self.failed
+        };
+        *counted = counted.saturating_add(1);
+    }
+}
+
 impl Hope {
     /// What a word of the command line says of the files behind it.
     pub fn of_word(word: &str) -> Option<Hope> {
@@ -51,11 +63,7 @@ pub fn play_file<R: Files + Print + AllocGlobal + Wait>(
             let (line, name) = (scenario.line, scenario.name);
             println!(rt; "{file}:{line}: {name}: {complaint}")?;
         }
-        if complaints.is_empty() {
-            tally.passed = tally.passed.saturating_add(1);
-        } else {
-            tally.failed = tally.failed.saturating_add(1);
-        }
+        tally.count(complaints.is_empty());
     }
     Ok(())
 }

@@ -1,9 +1,10 @@
 //! Plays scenarios: calls of the engine over files in memory, and what each has to leave.
 //!
 //! Its words name files of scenarios. A scenario of a file behind `--wrong` has to fail in one part, and one behind
-//! `--malformed` has to be refused by the reader.
+//! `--malformed` has to be refused by the reader. What scenarios can't say is looked at last.
 #![tactic(auto)]
 
+mod beyond;
 mod comparing;
 mod escapes;
 mod judging;
@@ -14,6 +15,7 @@ mod scenario;
 mod sections;
 mod trouble;
 
+use beyond::look_beyond;
 use judging::{Hope, Tally, play_file};
 use std::process::ExitCode;
 use std::rt::{Env, Files};
@@ -21,7 +23,8 @@ use std::sync::Wait;
 use std::{env, io};
 
 fn main(rt: HostRuntime) -> io::Result<ExitCode> {
-    let tally = play_files(&rt)?;
+    let mut tally = play_files(&rt)?;
+    look_beyond(&rt, &mut tally)?;
     println!(rt; "{} passed, {} failed", tally.passed, tally.failed)?;
     Ok(if tally.failed == 0 {
         ExitCode::SUCCESS

@@ -1,5 +1,5 @@
 //! A store that has as many snapshots as it may have.
-use crate::calls::{call, files_with};
+use crate::beyond::calls::{call, files_with};
 use gl_base::NoMemory;
 use std::alloc::Global;
 use std::sync::Wait;
