@@ -1,4 +1,5 @@
 -- Runs of a job's algorithm on a graph.
+pub use Rattle.job_programs.specs.ProgramUpdates.{update_of_program}
 pub use Rattle.job_runs.specs.Plays.{CountsByMachine, IsPlay, IsSpent, RunsTo}
 use Rattle.gl_base.specs.Lists.{AreEach}
 use Rattle.std.specs.Prelude.{◌≡◌, ℕ, List, length, slice_index, Option, None, Some}
@@ -9,7 +10,8 @@ use Rattle.graph_core.specs.Colourings.{IsProperColouring}
 use Rattle.graph_core.specs.Components.{IsComponentLabel}
 use Rattle.graph_core.specs.DataGraph.{DataGraph, size}
 use Rattle.graph_core.specs.Levels.{IsDistanceOrInf, IsLevelOrInf}
-use Rattle.update_api.specs.Updates.{Update, update_of_colours, update_of_components, update_of_levels, update_of_paths}
+use Rattle.job_programs.specs.ProgramUpdates.{update_of_algorithm}
+use Rattle.update_api.specs.Updates.{Update}
 use Rattle.job_files.specs.JobTexts.{IsVertexOf}
 
 -- the source's identifier; INF is none
@@ -19,10 +21,7 @@ source_id (Some id) = id
 
 -- what an update of the algorithm does at a vertex
 abbrev pub update_of : Algorithm → Option ℕ → Update
-update_of Levels source = update_of_levels (source_id source)
-update_of Components source = update_of_components
-update_of Paths source = update_of_paths (source_id source)
-update_of Colours source = update_of_colours
+update_of algorithm source = update_of_algorithm algorithm (source_id source)
 
 -- this holds of the vertex that the source names
 abbrev pub FromSource : DataGraph → Option ℕ → (ℕ → Type 0) → Type 0

@@ -1,5 +1,5 @@
 //! Runs the job's algorithm on its graph, without a store.
-ghost use Rattle.std.specs.Prelude.{◌≡◌, [], IfOk, is_some, true};
+ghost use Rattle.std.specs.Prelude.{◌≡◌, [], IfOk};
 ghost use Rattle.graph_core.specs.DataGraph.{IsDataGraph};
 ghost use Rattle.job_config.specs.Ranges.{HasNumbers};
 ghost use Rattle.job_config.specs.Views.{job_view};
@@ -7,16 +7,14 @@ ghost use Rattle.job_files.specs.JobTexts.{HasStart};
 ghost use Rattle.order_text.specs.Orders.{IsEntryOf};
 ghost use Rattle.engine_cli.specs.JobRuns.{RunsAlone};
 ghost use Rattle.engine_cli.specs.Inner.Prepares.{IsPrintable, IsRunAlone};
-ghost use Rattle.engine_cli.specs.Plays.{CountsByMachine, RunsTo, source_id, update_of};
+ghost use Rattle.engine_cli.specs.Plays.{CountsByMachine, RunsTo, update_of_program, source_id, update_of};
 
 use cluster_plays::run_program;
 use color_plays::run_by_colours;
-use gl_base::{Algorithm, EngineKind, Job, NoMemory};
+use gl_base::{EngineKind, INF, Job, NoMemory};
 use graph_core::Graph;
+use job_programs::JobProgram;
 use job_runs::{Run, RunPlan};
-use prog_colours::Colours;
-use prog_labels::{Components, Levels};
-use prog_paths::Paths;
 use std::alloc::Global;
 use std::sync::Wait;
 use stored_answers::{StoredEnd, StoredRun};
@@ -60,23 +58,11 @@ fn without_store(alloc: Global, run: Run) -> StoredRun
 
 /// Runs the job's algorithm by its program.
 fn run_on<R: Wait>(rt: &R, alloc: Global, graph: &Graph, job: &Job) -> Result<Run, NoMemory>
-    requires start { HasStart job.now.algorithm job.now.source graph.now }
     requires numbers { HasNumbers (job_view job.now).fields }
     ensures run { IfOk result (λ run. RunsTo graph.now (update_of job.now.algorithm job.now.source) job.now.atoms job.now.machines job.now.budget run.order.items run.numbers.items run.left) }
     ensures done { IfOk result (λ run. CountsByMachine job.now.machines run.order.items run.done.items) }
 {
-    match job.algorithm {
-        Algorithm::Levels => {
-            let source = source_of(job);
-            run_by(rt, alloc, graph, Levels { source }, job)
-        }
-        Algorithm::Components => run_by(rt, alloc, graph, Components, job),
-        Algorithm::Paths => {
-            let source = source_of(job);
-            run_by(rt, alloc, graph, Paths { source }, job)
-        }
-        Algorithm::Colours => run_by(rt, alloc, graph, Colours, job),
-    }
+    run_by(rt, alloc, graph, program_of(job), job)
 }
 
 /// Runs a program by the numbers of the job, with locks or in steps of one colour as its engine is.
@@ -109,13 +95,16 @@ pub fn plan_of(job: &Job) -> RunPlan
     }
 }
 
-/// The identifier of the job's source.
-pub fn source_of(job: &Job) -> u64
-    requires { is_some job.now.source ≡ true }
+/// The program of the job's algorithm.
+pub fn program_of(job: &Job) -> JobProgram
+    ensures { update_of_program result ≡ update_of job.now.algorithm job.now.source }
+{
+    JobProgram::of(job.algorithm, source_of(job))
+}
+
+/// The identifier of the job's source, and the greatest number where it has none.
+fn source_of(job: &Job) -> u64
     ensures { result ≡ source_id job.now.source }
 {
-    let Some(source) = job.source else {
-        unreachable!()
-    };
-    source
+    job.source.unwrap_or(INF)
 }

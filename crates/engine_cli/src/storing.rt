@@ -16,15 +16,12 @@ ghost use Rattle.engine_cli.specs.Inner.Prepares.{IsPrintable, IsRunnable};
 ghost use Rattle.engine_cli.specs.Inner.Storing.{IsStoreRunFrom, IsRunIntoStore, IsWhyNoStoredRun, IsWhyNotOnDisk, IsWhyNotOnJournal, IsWhyNoneStored, no_store_of_open, no_store_of_journal};
 ghost use Rattle.engine_cli.specs.Plays.{update_of};
 
-use crate::playing::{plan_of, source_of};
-use gl_base::{Algorithm, Job};
+use crate::playing::{plan_of, program_of};
+use gl_base::Job;
 use gl_outside::{Disk, DiskOf, Files, OpenFault};
 use graph_core::Graph;
 use job_files::Input;
 use job_stores::{NoStore, header_of};
-use prog_colours::Colours;
-use prog_labels::{Components, Levels};
-use prog_paths::Paths;
 use snap_journal::{Journal, JournalFault};
 use std::alloc::Global;
 use std::sync::Wait;
@@ -162,24 +159,8 @@ pub fn run_stored_on<R: Wait, D: Disk>(
     ensures same { D.same journal.old.disk journal.new.disk }
     ensures later { D.faults journal.old.disk ≤ D.faults journal.new.disk }
 {
-    match job.algorithm {
-        Algorithm::Levels => {
-            let source = source_of(job);
-            let program = Levels { source };
-            run_stored_by(rt, alloc, graph, program, job, window, journal, resumed)
-        }
-        Algorithm::Components => {
-            run_stored_by(rt, alloc, graph, Components, job, window, journal, resumed)
-        }
-        Algorithm::Paths => {
-            let source = source_of(job);
-            let program = Paths { source };
-            run_stored_by(rt, alloc, graph, program, job, window, journal, resumed)
-        }
-        Algorithm::Colours => {
-            run_stored_by(rt, alloc, graph, Colours, job, window, journal, resumed)
-        }
-    }
+    let program = program_of(job);
+    run_stored_by(rt, alloc, graph, program, job, window, journal, resumed)
 }
 
 /// Runs a program by the numbers of the job and its failures, with snapshots as this window asks.

@@ -13,12 +13,10 @@ use crate::replays::is_replay;
 use crate::scenarios::{Line, Scenario};
 use crate::scenes::Scene;
 use crate::trouble::Trouble;
-use gl_base::{Algorithm, Vertex};
+use gl_base::Vertex;
 use graph_core::Graph;
+use job_programs::JobProgram;
 use placed_clusters::Run;
-use prog_colours::Colours;
-use prog_labels::{Components, Levels};
-use prog_paths::Paths;
 use std::alloc::{AllocError, Global};
 use update_api::Program;
 
@@ -58,7 +56,7 @@ fn play_all(alloc: Global, scenario: &Scenario<'_>, outcome: &mut Outcome) -> Re
     let place = take_lines(alloc, &mut plan, &scenario.lines, outcome)?;
     let lines = scenario.lines.get(place..).unwrap_or(&[]);
     let graph = graph_of(alloc, &plan)?;
-    play_by(alloc, &graph, &plan, lines, outcome)
+    play_on(alloc, &graph, &plan, lines, outcome)
 }
 
 /// Takes the lines that say of what the cluster is made, and tells how many there are.
@@ -85,38 +83,21 @@ fn graph_of(alloc: Global, plan: &Plan) -> Result<Graph, Trouble> {
     built(alloc, ids, edges, plan.directed)
 }
 
-/// Plays the lines with the program of the plan.
-fn play_by(
-    alloc: Global,
-    graph: &Graph,
-    plan: &Plan,
-    lines: &[Line<'_>],
-    outcome: &mut Outcome,
-) -> Result<(), Trouble> {
-    let source = plan.source;
-    match plan.algorithm {
-        Algorithm::Levels => play_on(alloc, graph, Levels { source }, plan, lines, outcome),
-        Algorithm::Components => play_on(alloc, graph, Components, plan, lines, outcome),
-        Algorithm::Paths => play_on(alloc, graph, Paths { source }, plan, lines, outcome),
-        Algorithm::Colours => play_on(alloc, graph, Colours, plan, lines, outcome),
-    }
-}
-
 /// Whether the line says of what the cluster is made.
 fn taken(alloc: Global, plan: &mut Plan, text: &str) -> Result<bool, Trouble> {
     let fields = Fields::of(alloc, text)?;
     plan.take(alloc, &fields)
 }
 
-/// Plays the lines on a cluster of this program.
-fn play_on<P: Program>(
+/// Plays the lines on a cluster of the plan's program.
+fn play_on(
     alloc: Global,
     graph: &Graph,
-    program: P,
     plan: &Plan,
     lines: &[Line<'_>],
     outcome: &mut Outcome,
 ) -> Result<(), Trouble> {
+    let program = JobProgram::of(plan.algorithm, plan.source);
     let places = places_of(alloc, graph, plan)?;
     let base = base_of(alloc, graph, &program, plan)?;
     let beginning = Beginning {

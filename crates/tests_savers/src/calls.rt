@@ -15,10 +15,8 @@ use crate::trouble::Trouble;
 use call_courses::{Event, Local};
 use call_returns::count_failed;
 use call_rounds::{Pause, drive};
-use gl_base::{Algorithm, MachineNo, Refused};
-use graph_core::Graph;
-use prog_labels::{Components, Levels};
-use prog_paths::Paths;
+use gl_base::{MachineNo, Refused};
+use job_programs::JobProgram;
 use std::alloc::Global;
 use std::sync::Wait;
 use update_api::Program;
@@ -46,30 +44,13 @@ pub fn play_call<R: Wait + AllocGlobal>(
     let (plan, taken) = plan_of(alloc, scenario, at)?;
     let lines = scenario.lines.get(taken..).unwrap_or(&[]);
     let graph = graph_of(alloc, &plan)?;
-    let source = plan.source;
-    match plan.algorithm {
-        Algorithm::Levels => call_on(rt, &graph, Levels { source }, &plan, lines, at),
-        Algorithm::Components => call_on(rt, &graph, Components, &plan, lines, at),
-        Algorithm::Paths => call_on(rt, &graph, Paths { source }, &plan, lines, at),
-        Algorithm::Colours => Err(Trouble::Malformed("no such program")),
-    }
-}
-
-/// The same with this program.
-fn call_on<R: Wait + AllocGlobal, P: Program>(
-    rt: &R,
-    graph: &Graph,
-    program: P,
-    plan: &Plan,
-    lines: &[Line<'_>],
-    at: &mut usize,
-) -> Result<(), Trouble> {
-    let beginning = beginning_of(rt.alloc(), graph, program, plan)?;
-    let mut call = opened_call(rt.alloc(), &beginning, plan)?;
+    let program = JobProgram::of(plan.algorithm, plan.source);
+    let beginning = beginning_of(alloc, &graph, program, &plan)?;
+    let mut call = opened_call(alloc, &beginning, &plan)?;
     go_on(rt, &mut call)?;
     for line in lines {
         *at = line.number;
-        look(rt.alloc(), &call, line.text)?;
+        look(alloc, &call, line.text)?;
     }
     Ok(())
 }

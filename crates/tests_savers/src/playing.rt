@@ -11,10 +11,8 @@ use crate::plans::{Plan, plan_of};
 use crate::scenarios::{Line, Scenario};
 use crate::scenes::Scene;
 use crate::trouble::Trouble;
-use gl_base::Algorithm;
 use graph_core::Graph;
-use prog_labels::{Components, Levels};
-use prog_paths::Paths;
+use job_programs::JobProgram;
 use std::alloc::Global;
 use update_api::Program;
 
@@ -23,35 +21,18 @@ pub fn play(alloc: Global, scenario: &Scenario<'_>, at: &mut usize) -> Result<()
     let (plan, taken) = plan_of(alloc, scenario, at)?;
     let lines = scenario.lines.get(taken..).unwrap_or(&[]);
     let graph = graph_of(alloc, &plan)?;
-    play_by(alloc, &graph, &plan, lines, at)
+    play_on(alloc, &graph, &plan, lines, at)
 }
 
-/// Plays the lines with the program of the plan.
-fn play_by(
+/// Plays the lines on a cluster of the plan's program.
+fn play_on(
     alloc: Global,
     graph: &Graph,
     plan: &Plan,
     lines: &[Line<'_>],
     at: &mut usize,
 ) -> Result<(), Trouble> {
-    let source = plan.source;
-    match plan.algorithm {
-        Algorithm::Levels => play_on(alloc, graph, Levels { source }, plan, lines, at),
-        Algorithm::Components => play_on(alloc, graph, Components, plan, lines, at),
-        Algorithm::Paths => play_on(alloc, graph, Paths { source }, plan, lines, at),
-        Algorithm::Colours => Err(Trouble::Malformed("no such program")),
-    }
-}
-
-/// Plays the lines on a cluster of this program.
-fn play_on<P: Program>(
-    alloc: Global,
-    graph: &Graph,
-    program: P,
-    plan: &Plan,
-    lines: &[Line<'_>],
-    at: &mut usize,
-) -> Result<(), Trouble> {
+    let program = JobProgram::of(plan.algorithm, plan.source);
     let beginning = beginning_of(alloc, graph, program, plan)?;
     let base = base_of(alloc, graph, &program, plan)?;
     let mut scene = Scene::new(alloc, &beginning, &base, plan.tickets)?;

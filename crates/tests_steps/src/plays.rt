@@ -5,10 +5,8 @@ use color_plays::run_by_colours;
 use color_steps::greedy_colouring;
 use gl_base::{Algorithm, Entry, NoMemory};
 use graph_core::Graph;
+use job_programs::JobProgram;
 use job_runs::{Run, RunPlan};
-use prog_colours::Colours;
-use prog_labels::{Components, Levels};
-use prog_paths::Paths;
 use std::alloc::Global;
 use std::sync::Wait;
 
@@ -92,12 +90,8 @@ fn run_of<R: Wait>(rt: &R, alloc: Global, graph: &Graph, play: Play) -> Result<R
         pipeline: 2,
         budget: play.budget.min(1000),
     };
-    match play.algorithm {
-        Algorithm::Components => run_by_colours(rt, alloc, graph, Components, plan),
-        Algorithm::Levels => run_by_colours(rt, alloc, graph, Levels { source: 1 }, plan),
-        Algorithm::Paths => run_by_colours(rt, alloc, graph, Paths { source: 1 }, plan),
-        Algorithm::Colours => run_by_colours(rt, alloc, graph, Colours, plan),
-    }
+    let program = JobProgram::of(play.algorithm, 1);
+    run_by_colours(rt, alloc, graph, program, plan)
 }
 
 /// At first each vertex is a task, so the first updates, as many as there are vertices, are of colours that ascend.
