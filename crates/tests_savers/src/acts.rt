@@ -1,11 +1,11 @@
 //! The lines that say what happens.
-use crate::events::{both_happen, happens, happens_at_once, has_machine};
+use crate::events::{both_happen, happens, happens_at_once, next_scope};
 use crate::fields::Fields;
 use crate::records::take_record;
 use crate::recovering::go_back;
 use crate::scenes::Scene;
 use crate::trouble::Trouble;
-use gl_base::{MachineNo, ScopeId};
+use gl_base::ScopeId;
 use snap_clusters::{Event, Lead, Local, Passage};
 use std::alloc::Global;
 use update_api::Program;
@@ -97,23 +97,7 @@ fn scope_of<P: Program>(
         let serial = fields.number(1)?;
         return Ok(Some(ScopeId { home, serial }));
     }
-    ready(scene, home, is_mark)
-}
-
-/// The next scope of the machine that is ready for its update, or for its snapshot update.
-pub fn ready<P: Program>(
-    scene: &Scene<'_, P>,
-    home: MachineNo,
-    is_mark: bool,
-) -> Result<Option<ScopeId>, Trouble> {
-    if !has_machine(&scene.whole, home) {
-        return Err(Trouble::Malformed("no such machine"));
-    }
-    Ok(if is_mark {
-        scene.whole.next_mark(home)
-    } else {
-        scene.whole.next_update(home)
-    })
+    next_scope(&scene.whole, home, is_mark)
 }
 
 /// What goes onto a link, or comes, or what the coordinator does.

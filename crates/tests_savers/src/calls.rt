@@ -12,7 +12,7 @@ use crate::recovering::{newest_base, with_restarts};
 use crate::scenarios::{Line, Scenario};
 use crate::scenes::{Kept, first_kept};
 use crate::trouble::Trouble;
-use call_courses::{Event, Local};
+use call_courses::{Course, Event, Local, SavingMachine};
 use call_returns::count_failed;
 use call_rounds::{Pause, drive};
 use gl_base::{MachineNo, Refused};
@@ -81,7 +81,9 @@ fn go_on<R: Wait + AllocGlobal, P: Program>(rt: &R, call: &mut Call<'_, P>) -> R
         call.pause = Some(pause);
         match pause {
             Pause::Ended | Pause::Spent => return Ok(()),
-            Pause::Record(_) => take_due(rt.alloc(), call)?,
+            Pause::Record(_) => {
+                take_due(rt.alloc(), call.beginning, &mut call.kept, &mut call.course)?;
+            }
             Pause::Reached(_) => go_back(rt.alloc(), call)?,
         }
     }
@@ -89,15 +91,20 @@ fn go_on<R: Wait + AllocGlobal, P: Program>(rt: &R, call: &mut Call<'_, P>) -> R
 }
 
 /// The record that is due is kept, and acknowledged.
-fn take_due<P: Program>(alloc: Global, call: &mut Call<'_, P>) -> Result<(), Trouble> {
-    let record = match call.course.record(alloc) {
+fn take_due<P: Program, M: SavingMachine>(
+    alloc: Global,
+    beginning: &Beginning<'_, P>,
+    kept: &mut Kept,
+    course: &mut Course<M>,
+) -> Result<(), Trouble> {
+    let record = match course.record(alloc) {
         Ok(record) => record,
         Err(Refused::NotNow) => return Err(Trouble::Differs("no record is due")),
         Err(Refused::NoMemory) => return Err(Trouble::NoMemory),
     };
     let number = record.number;
-    keep_record(alloc, call.beginning, &mut call.kept, record)?;
-    call.course.acknowledge(number);
+    keep_record(alloc, beginning, kept, record)?;
+    course.acknowledge(number);
     Ok(())
 }
 
@@ -116,7 +123,7 @@ fn go_back<P: Program>(alloc: Global, call: &mut Call<'_, P>) -> Result<(), Trou
 }
 
 /// Whether the call has this machine.
-fn has_machine<P: Program>(course: &InCourse<P>, at: MachineNo) -> bool
+fn has_machine<M: SavingMachine>(course: &Course<M>, at: MachineNo) -> bool
     ensures { IsTrue result → at.0 < length course.now.now.machines.items }
 {
     (at.0 as usize) < course.machines()
@@ -124,15 +131,12 @@ fn has_machine<P: Program>(course: &InCourse<P>, at: MachineNo) -> bool
 
 /// The machine fails, where it has reached the count of a failure, which makes no update any more; and no other may. Tells whether it has
 /// failed.
-fn fails<P: Program>(course: &mut InCourse<P>, at: MachineNo) -> Result<bool, Trouble> {
-    if !has_machine(course, at) {
-        return Err(Trouble::Malformed("no such machine"));
-    }
-    let reached = course.has_reached(at);
-    if reached && course.update_at_once(at).is_ok() {
+fn fails<M: SavingMachine>(course: &mut Course<M>, at: MachineNo) -> Result<bool, Trouble> {
+    let reached = has_machine(course, at) && course.has_reached(at);
+    if reached && is_updated(course, at) {
         return Err(Trouble::Differs("an update behind the count of a failure"));
     }
-    if course.apply(Event::Local(Local::Fail(at))).is_ok() != reached {
+    if is_let_fail(course, at) != reached {
         return Err(Trouble::Differs("a machine fails at another time"));
     }
     if has_machine(course, at) && course.has_failed(at) == reached {
@@ -140,6 +144,16 @@ fn fails<P: Program>(course: &mut InCourse<P>, at: MachineNo) -> Result<bool, Tr
     } else {
         Err(Trouble::Differs("a machine has failed at another time"))
     }
+}
+
+/// Whether the machine makes an update at once.
+fn is_updated<M: SavingMachine>(course: &mut Course<M>, at: MachineNo) -> bool {
+    has_machine(course, at) && course.update_at_once(at).is_ok()
+}
+
+/// Whether the machine fails now.
+fn is_let_fail<M: SavingMachine>(course: &mut Course<M>, at: MachineNo) -> bool {
+    has_machine(course, at) && course.apply(Event::Local(Local::Fail(at))).is_ok()
 }
 
 /// Looks at what the line says.
@@ -165,7 +179,7 @@ fn seen<P: Program>(
         "recoveries" => number_text(alloc, call.recoveries),
         "stored" => number_text(alloc, call.course.coordinator().stored() as u64),
         "left" => number_text(alloc, call.course.left()),
-        "completed" => completed_text(alloc, call, fields.machine(0)?),
+        "completed" => completed_text(alloc, &call.course, fields.machine(0)?),
         _ => kept_text(alloc, call.beginning.graph, &call.kept, fields),
     }
 }
@@ -179,13 +193,13 @@ fn pause_text(alloc: Global, pause: Option<Pause>) -> Result<String, Trouble> {
 }
 
 /// How many updates the machine has completed in the call.
-fn completed_text<P: Program>(
+fn completed_text<M: SavingMachine>(
     alloc: Global,
-    call: &Call<'_, P>,
+    course: &Course<M>,
     at: MachineNo,
 ) -> Result<String, Trouble> {
-    if has_machine(&call.course, at) {
-        number_text(alloc, call.course.completed(at))
+    if has_machine(course, at) {
+        number_text(alloc, course.completed(at))
     } else {
         Err(Trouble::Malformed("no such machine"))
     }

@@ -1,10 +1,9 @@
 //! Lists of what happens that look random, the same ones in each run.
 ghost use Rattle.std.specs.Prelude.{◌<◌};
 
-use crate::acts::ready;
 use crate::answers::is_answer;
-use crate::driving::{drive, next_grant};
-use crate::events::{happens, happens_at_once};
+use crate::driving::drive;
+use crate::events::{happens, happens_at_once, next_grant, next_scope};
 use crate::records::take_record;
 use crate::recovering::go_back;
 use crate::scenes::Scene;
@@ -168,7 +167,7 @@ fn some_lock<P: Program>(
     at: MachineNo,
 ) -> Result<Vertex, Trouble> {
     if chances.below(8) > 0 {
-        if let Some(x) = next_grant(scene, at)? {
+        if let Some(x) = next_grant(&mut scene.whole, at)? {
             return Ok(x);
         }
     }
@@ -191,5 +190,5 @@ fn some_scope<P: Program>(
     if chances.below(8) == 0 {
         return Ok(any);
     }
-    Ok(ready(scene, home, is_mark)?.unwrap_or(any))
+    Ok(next_scope(&scene.whole, home, is_mark)?.unwrap_or(any))
 }

@@ -1,15 +1,17 @@
-//! What happens in the cluster, or may not happen now.
+//! What happens in a cluster, or may not happen now: of machines of any kind, of which nothing more need be known.
 ghost use Rattle.std.specs.Prelude.{◌≡◌, ◌<◌, true, IsTrue, length};
 ghost use Rattle.snap_clusters.specs.Events.{NamesItsMachines, NamesLocal, NamesPassage};
 
-use crate::beginnings::Whole;
 use crate::trouble::Trouble;
-use gl_base::{MachineNo, Refused};
-use snap_clusters::{Event, Local, Passage};
-use update_api::Program;
+use gl_base::{MachineNo, Record, Refused, ScopeId, Vertex};
+use snap_clusters::{Event, Local, Passage, SavingMachine, SnapCluster};
+use std::alloc::Global;
 
 /// The event happens, or is refused. Tells whether it has happened.
-pub fn happens<P: Program>(whole: &mut Whole<P>, event: Event) -> Result<bool, Trouble> {
+pub fn happens<M: SavingMachine>(
+    whole: &mut SnapCluster<M>,
+    event: Event,
+) -> Result<bool, Trouble> {
     if !is_within(whole.machines(), event) {
         return Err(Trouble::Malformed("no such machine"));
     }
@@ -21,7 +23,10 @@ pub fn happens<P: Program>(whole: &mut Whole<P>, event: Event) -> Result<bool, T
 }
 
 /// A vertex of the machine is updated at once, or none is. Tells whether one was.
-pub fn happens_at_once<P: Program>(whole: &mut Whole<P>, at: MachineNo) -> Result<bool, Trouble> {
+pub fn happens_at_once<M: SavingMachine>(
+    whole: &mut SnapCluster<M>,
+    at: MachineNo,
+) -> Result<bool, Trouble> {
     if !has_machine(whole, at) {
         return Err(Trouble::Malformed("no such machine"));
     }
@@ -33,8 +38,8 @@ pub fn happens_at_once<P: Program>(whole: &mut Whole<P>, at: MachineNo) -> Resul
 }
 
 /// The one event happens, and then the other, or neither.
-pub fn both_happen<P: Program>(
-    whole: &mut Whole<P>,
+pub fn both_happen<M: SavingMachine>(
+    whole: &mut SnapCluster<M>,
     first: Event,
     second: Event,
 ) -> Result<bool, Trouble> {
@@ -48,8 +53,47 @@ pub fn both_happen<P: Program>(
     }
 }
 
+/// The record that is due, if one is.
+pub fn due_record<M: SavingMachine>(
+    alloc: Global,
+    whole: &mut SnapCluster<M>,
+) -> Result<Option<Record>, Trouble> {
+    match whole.record(alloc) {
+        Ok(record) => Ok(Some(record)),
+        Err(Refused::NotNow) => Ok(None),
+        Err(Refused::NoMemory) => Err(Trouble::NoMemory),
+    }
+}
+
+/// A lock of the machine that may be granted.
+pub fn next_grant<M: SavingMachine>(
+    whole: &mut SnapCluster<M>,
+    at: MachineNo,
+) -> Result<Option<Vertex>, Trouble> {
+    if !has_machine(whole, at) {
+        return Err(Trouble::Malformed("no such machine"));
+    }
+    Ok(whole.next_grant(at))
+}
+
+/// The next scope of the machine that is ready for its update, or for its snapshot update.
+pub fn next_scope<M: SavingMachine>(
+    whole: &SnapCluster<M>,
+    home: MachineNo,
+    is_mark: bool,
+) -> Result<Option<ScopeId>, Trouble> {
+    if !has_machine(whole, home) {
+        return Err(Trouble::Malformed("no such machine"));
+    }
+    Ok(if is_mark {
+        whole.next_mark(home)
+    } else {
+        whole.next_update(home)
+    })
+}
+
 /// Whether the cluster has this machine.
-pub fn has_machine<P: Program>(whole: &Whole<P>, at: MachineNo) -> bool
+pub fn has_machine<M: SavingMachine>(whole: &SnapCluster<M>, at: MachineNo) -> bool
     ensures { IsTrue result → at.0 < length whole.now.machines.items }
 {
     (at.0 as usize) < whole.machines()

@@ -1,12 +1,11 @@
 //! The lines that say what is to be seen.
-use crate::driving::next_grant;
-use crate::events::has_machine;
+use crate::events::{has_machine, next_grant};
 use crate::fields::Fields;
 use crate::scenes::{Kept, Scene};
 use crate::trouble::Trouble;
 use gl_base::{Entry, Vertex};
 use graph_core::Graph;
-use snap_clusters::Due;
+use snap_clusters::{Due, SavingMachine, SnapCluster};
 use std::alloc::Global;
 use update_api::Program;
 
@@ -16,14 +15,28 @@ pub fn seen<P: Program>(
     scene: &mut Scene<'_, P>,
     fields: &Fields<'_>,
 ) -> Result<String, Trouble> {
+    let graph = scene.beginning.graph;
     match fields.first() {
-        "stored" => number_text(alloc, scene.whole.stored() as u64),
-        "next" => number_text(alloc, scene.whole.next()),
-        "left" => number_text(alloc, scene.whole.left()),
-        "due" => due_text(alloc, scene.whole.due()),
-        "grant" | "log" | "failed" => seen_at(alloc, scene, fields),
-        "link" | "call-link" | "report-link" | "call-waits" => on_way_text(alloc, scene, fields),
-        _ => kept_text(alloc, scene.beginning.graph, &scene.kept, fields),
+        "stored" | "next" | "left" | "due" => whole_text(alloc, &scene.whole, fields),
+        "grant" | "log" | "failed" => seen_at(alloc, graph, &mut scene.whole, fields),
+        "link" | "call-link" | "report-link" | "call-waits" => {
+            on_way_text(alloc, &scene.whole, fields)
+        }
+        _ => kept_text(alloc, graph, &scene.kept, fields),
+    }
+}
+
+/// What is to be seen of the whole cluster.
+fn whole_text<M: SavingMachine>(
+    alloc: Global,
+    whole: &SnapCluster<M>,
+    fields: &Fields<'_>,
+) -> Result<String, Trouble> {
+    match fields.first() {
+        "stored" => number_text(alloc, whole.stored() as u64),
+        "next" => number_text(alloc, whole.next()),
+        "left" => number_text(alloc, whole.left()),
+        _ => due_text(alloc, whole.due()),
     }
 }
 
@@ -54,34 +67,34 @@ pub fn is_text(found: String, wanted: &str) -> Result<(), Trouble> {
 }
 
 /// What is to be seen of the machine that the line names.
-fn seen_at<P: Program>(
+fn seen_at<M: SavingMachine>(
     alloc: Global,
-    scene: &mut Scene<'_, P>,
+    graph: &Graph,
+    whole: &mut SnapCluster<M>,
     fields: &Fields<'_>,
 ) -> Result<String, Trouble> {
     let at = fields.machine(0)?;
     if fields.first() == "grant" {
-        return match next_grant(scene, at)? {
-            Some(x) => vertex_text(alloc, scene.beginning.graph, x),
+        return match next_grant(whole, at)? {
+            Some(x) => vertex_text(alloc, graph, x),
             None => word_text(alloc, "none"),
         };
     }
-    if !has_machine(&scene.whole, at) {
+    if !has_machine(whole, at) {
         return Err(Trouble::Malformed("no such machine"));
     }
     match fields.first() {
-        "log" => entries_text(alloc, scene.beginning.graph, scene.whole.log(at)),
-        _ => yes_or_no(alloc, scene.whole.has_failed(at)),
+        "log" => entries_text(alloc, graph, whole.log(at)),
+        _ => yes_or_no(alloc, whole.has_failed(at)),
     }
 }
 
 /// Whether something is on the link that the line names, or waits at the coordinator.
-fn on_way_text<P: Program>(
+fn on_way_text<M: SavingMachine>(
     alloc: Global,
-    scene: &Scene<'_, P>,
+    whole: &SnapCluster<M>,
     fields: &Fields<'_>,
 ) -> Result<String, Trouble> {
-    let whole = &scene.whole;
     let from = fields.machine(0)?;
     let to = if fields.first() == "link" {
         fields.machine(1)?

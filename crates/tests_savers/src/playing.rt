@@ -67,10 +67,10 @@ fn play_far<P: Program>(
 ) -> Result<(), Trouble> {
     match fields.first() {
         "settle" => {
-            settle(scene, fields.machine(0)?)?;
+            settle(&mut scene.whole, fields.machine(0)?)?;
             Ok(())
         }
-        "bring" => bring(scene),
+        "bring" => bring(&mut scene.whole, scene.beginning.machines),
         "drive" => drive(alloc, scene, false),
         "drive-to-record" => drive(alloc, scene, true),
         "answer" => is_answer(alloc, scene.beginning, &scene.kept),

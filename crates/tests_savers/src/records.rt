@@ -1,23 +1,21 @@
 //! Records that are taken, looked at, stored and acknowledged.
 use crate::beginnings::Beginning;
-use crate::events::happens;
+use crate::events::{due_record, happens};
 use crate::replays::{Numbers, replay};
 use crate::restarts::missing_of;
 use crate::scenes::{Kept, Scene};
 use crate::stores::append;
 use crate::trouble::Trouble;
 use call_returns::record_behind;
-use gl_base::{Entry, Record, Refused, SavedPart};
+use gl_base::{Entry, Record, SavedPart};
 use snap_clusters::{Event, Lead};
 use std::alloc::Global;
 use update_api::Program;
 
 /// The record that is due is kept and acknowledged, if one is. Tells whether one was.
 pub fn take_record<P: Program>(alloc: Global, scene: &mut Scene<'_, P>) -> Result<bool, Trouble> {
-    let record = match scene.whole.record(alloc) {
-        Ok(record) => record,
-        Err(Refused::NotNow) => return Ok(false),
-        Err(Refused::NoMemory) => return Err(Trouble::NoMemory),
+    let Some(record) = due_record(alloc, &mut scene.whole)? else {
+        return Ok(false);
     };
     keep_record(alloc, scene.beginning, &mut scene.kept, record)?;
     if happens(&mut scene.whole, Event::Lead(Lead::Record))? {

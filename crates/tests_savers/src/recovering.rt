@@ -8,6 +8,7 @@ use crate::trouble::Trouble;
 use call_returns::{base_behind, count_failed};
 use gl_base::{Base, MachineNo};
 use recovery::recover;
+use snap_clusters::{SavingMachine, SnapCluster};
 use std::alloc::Global;
 use update_api::Program;
 
@@ -18,7 +19,7 @@ pub fn go_back<P: Program>(
     scene: &mut Scene<'_, P>,
     values: Option<Vec<u64>>,
 ) -> Result<bool, Trouble> {
-    let failures = count_failed(&failed(alloc, scene)?);
+    let failures = count_failed(&failed(alloc, &scene.whole)?);
     if failures == 0 {
         return Ok(false);
     }
@@ -37,10 +38,10 @@ pub fn go_back<P: Program>(
 }
 
 /// Which machines have failed.
-fn failed<P: Program>(alloc: Global, scene: &Scene<'_, P>) -> Result<Vec<bool>, Trouble> {
+fn failed<M: SavingMachine>(alloc: Global, whole: &SnapCluster<M>) -> Result<Vec<bool>, Trouble> {
     let mut flags = Vec::new(alloc);
-    for m in 0..scene.whole.machines() {
-        flags.push(scene.whole.has_failed(MachineNo(m as u16)))?;
+    for m in 0..whole.machines() {
+        flags.push(whole.has_failed(MachineNo(m as u16)))?;
     }
     Ok(flags)
 }
