@@ -1,9 +1,15 @@
-//! Tests of graphs: worked rows, and which fault comes first.
+//! Tests of graphs, of their colourings, and of the files of their atoms: worked rows, and which fault comes first.
 #![tactic(auto)]
 
+#[cfg(test)]
+mod atoms;
 #[cfg(test)]
 mod build;
 #[cfg(test)]
 mod colouring;
 #[cfg(test)]
-mod tests;
+mod files;
+#[cfg(test)]
+mod graphs;
+#[cfg(test)]
+mod rows;

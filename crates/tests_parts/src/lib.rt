@@ -1,8 +1,11 @@
-//! Tests of the parts of a machine: each call where it has what it asks for, played from lists of calls.
+//! Tests of the parts of a machine: each call where it has what it asks for, played from lists of calls; of waves and the coordinator that
+//! puts them out; and of what a machine keeps for snapshots.
 #![tactic(auto)]
 
 #[cfg(test)]
 mod ghosts;
+#[cfg(test)]
+mod leading;
 #[cfg(test)]
 mod locks;
 #[cfg(test)]
@@ -10,4 +13,8 @@ mod messages;
 #[cfg(test)]
 mod pipes;
 #[cfg(test)]
+mod snaps;
+#[cfg(test)]
 mod tasks;
+#[cfg(test)]
+mod waves;

@@ -38,11 +38,16 @@ fn section(alloc: Global) -> Result<Message, NoMemory> {
     }))
 }
 
+/// Whether the message is copied.
+fn is_copied(alloc: Global, made: Result<Message, NoMemory>) -> Result<bool, NoMemory> {
+    Ok(made?.copy(alloc).is_ok())
+}
+
 #[test]
 fn copies(rt: HostRuntime) -> Result<(), Fail> {
     let alloc = rt.alloc();
-    assert!(rt; ask(alloc)?.copy(alloc).is_ok());
-    assert!(rt; done(alloc)?.copy(alloc).is_ok());
-    assert!(rt; section(alloc)?.copy(alloc).is_ok());
+    assert!(rt; is_copied(alloc, ask(alloc))?);
+    assert!(rt; is_copied(alloc, done(alloc))?);
+    assert!(rt; is_copied(alloc, section(alloc))?);
     Ok(())
 }

@@ -1,6 +1,7 @@
 //! The pipeline: who is in flight, and in which order a scope takes its locks.
-use gl_base::{MachineNo, Mode, ScopeId, Vertex};
+use gl_base::{MachineNo, Mode, NoMemory, ScopeId, Vertex};
 use scope_pipe::{Next, ScopePipe};
+use std::alloc::Global;
 use std::test::Fail;
 
 /// Admits a scope of v, and tells whether it is in flight then and not ready.
@@ -57,22 +58,37 @@ fn leaves(pipe: &mut ScopePipe, id: ScopeId, centre: Vertex) -> bool {
     pipe.has_come(id) && pipe.leave(id).centre == centre
 }
 
+static WANTS: [Next; 4] = [
+    Next::Lock(Vertex(2), Mode::Reader),
+    Next::Lock(Vertex(5), Mode::Writer),
+    Next::Lock(Vertex(9), Mode::Reader),
+    Next::Forward(MachineNo(1)),
+];
+
+/// A scope of vertex 5 comes, takes its locks in the canonical order, and leaves.
+fn goes_in_order(pipe: &mut ScopePipe, alloc: Global) -> Result<bool, NoMemory> {
+    let part = Vec::from_slice(alloc, &[Vertex(2), Vertex(5), Vertex(9)])?;
+    let rest = Vec::from_slice(alloc, &[MachineNo(1), MachineNo(3)])?;
+    let id = pipe.next_id();
+    if pipe.has_come(id) || pipe.entered_count() > 0 {
+        return Ok(false);
+    }
+    pipe.enter(id, Vertex(5), part, rest);
+    Ok(wants_all(pipe, id) && pipe.entered_count() == 1 && leaves(pipe, id, Vertex(5)))
+}
+
+fn wants_all(pipe: &mut ScopePipe, id: ScopeId) -> bool {
+    for next in &WANTS {
+        if !wants(pipe, id, *next) {
+            return false;
+        }
+    }
+    true
+}
+
 #[test]
 fn in_canonical_order(rt: HostRuntime) -> Result<(), Fail> {
     let mut pipe = ScopePipe::new(rt.alloc(), MachineNo(0), 256)?;
-    let part = Vec::from_slice(rt.alloc(), &[Vertex(2), Vertex(5), Vertex(9)])?;
-    let rest = Vec::from_slice(rt.alloc(), &[MachineNo(1), MachineNo(3)])?;
-    let id = pipe.next_id();
-    pipe.enter(id, Vertex(5), part, rest);
-    for next in [
-        Next::Lock(Vertex(2), Mode::Reader),
-        Next::Lock(Vertex(5), Mode::Writer),
-        Next::Lock(Vertex(9), Mode::Reader),
-        Next::Forward(MachineNo(1)),
-    ] {
-        assert!(rt; wants(&mut pipe, id, next));
-    }
-    assert!(rt; pipe.entered_count() == 1);
-    assert!(rt; leaves(&mut pipe, id, Vertex(5)));
+    assert!(rt; goes_in_order(&mut pipe, rt.alloc())?);
     Ok(())
 }

@@ -87,7 +87,7 @@ fn acknowledged(set: &mut TaskSet, count: u64) -> bool {
 }
 
 // Updates within a window, snapshots first, and of tasks those with near keys first.
-const CALLS: [Call; 16] = [
+static CALLS: [Call; 16] = [
     Call::Update(0),
     Call::Nothing,
     Call::Ran(0),
@@ -107,7 +107,7 @@ const CALLS: [Call; 16] = [
 ];
 
 // Which task is next is told by no clause.
-const NEAR: [Call; 10] = [
+static NEAR: [Call; 10] = [
     Call::Nothing,
     Call::Wake(4, 100),
     Call::Wake(3, 90),
@@ -120,24 +120,39 @@ const NEAR: [Call; 10] = [
     Call::Nothing,
 ];
 
+/// Whether the calls in turn answer as they are to.
+fn play(set: &mut TaskSet, calls: &[Call]) -> bool {
+    for call in calls {
+        if !make(set, *call) {
+            return false;
+        }
+    }
+    true
+}
+
+fn keeps_to_window(set: &mut TaskSet) -> bool {
+    play(set, &CALLS) && set.some_task().is_some() && set.some_pending().is_none()
+}
+
 #[test]
 fn within_the_window(rt: HostRuntime) -> Result<(), Fail> {
     let mut set = TaskSet::new(rt.alloc(), 2, Some(1))?;
-    for call in CALLS {
-        assert!(rt; make(&mut set, call));
-    }
-    assert!(rt; set.some_task().is_some() && set.some_pending().is_none());
+    assert!(rt; keeps_to_window(&mut set));
     Ok(())
+}
+
+fn takes_near_ones_first(set: &mut TaskSet) -> bool {
+    for v in 0..5 {
+        if !make(set, Call::Update(v)) || !make(set, Call::Ran(v)) {
+            return false;
+        }
+    }
+    play(set, &NEAR)
 }
 
 #[test]
 fn near_ones_first(rt: HostRuntime) -> Result<(), Fail> {
     let mut set = TaskSet::new(rt.alloc(), 5, None)?;
-    for v in 0..5 {
-        assert!(rt; make(&mut set, Call::Update(v)) && make(&mut set, Call::Ran(v)));
-    }
-    for call in NEAR {
-        assert!(rt; make(&mut set, call));
-    }
+    assert!(rt; takes_near_ones_first(&mut set));
     Ok(())
 }

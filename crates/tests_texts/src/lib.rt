@@ -1,7 +1,20 @@
-//! Tests of folds and of the texts that tell how a run ended: worked rows.
+//! Tests of texts: what readers take and refuse, whatever the pieces, and where a call fails; made graphs; jobs that are right; and the
+//! texts that tell how a run ended.
 #![tactic(auto)]
 
 #[cfg(test)]
+mod answers;
+#[cfg(test)]
 mod build;
 #[cfg(test)]
-mod tests;
+mod jobs;
+#[cfg(test)]
+mod limits;
+#[cfg(test)]
+mod making;
+#[cfg(test)]
+mod pieces;
+#[cfg(test)]
+mod reads;
+#[cfg(test)]
+mod rows;

@@ -2,7 +2,7 @@ use Rattle.std.proofs.Common.{◌≤◌, ◌∷◌, [], arith}
 use Rattle.std.proofs.lemmas.List.Sorted.{IsNonDecreasingBy-push, IsNonDecreasingBy-short}
 use Rattle.gl_base.specs.declared.entries.Entry.{Entry}
 use Rattle.merged_logs.specs.Merges.{IsByTicket, ticket_of}
-use Rattle.tests_placed.proofs.tests.two_logs.Goals as goal
+use Rattle.tests_local.proofs.placed.two_logs.Goals as goal
 
 one_up : (a : Entry) → IsByTicket (a ∷ [])
 one_up a = IsNonDecreasingBy-short ticket_of (a ∷ []) (omega arith)

@@ -1,7 +1,7 @@
 use Rattle.std.proofs.Common.{refl}
 use Rattle.placed_graphs.specs.Placed.{placed_owner}
 use Rattle.placed_graphs.proofs.PartLemmas.{setting_with}
-use Rattle.tests_placed.proofs.tests.a_chain_on_two_machines.Goals as goal
+use Rattle.tests_local.proofs.placed.a_chain_on_two_machines.Goals as goal
 
 pub first_numbers_of_all-requires : goal.first_numbers_of_all-requires
 first_numbers_of_all-requires g c =

@@ -2,7 +2,7 @@ use Rattle.std.proofs.Common.{◌∷◌, List, [], Bor}
 use Rattle.std.proofs.lemmas.List.Elements.{All-cons, All-nil}
 use Rattle.gl_base.specs.declared.entries.Entry.{Entry}
 use Rattle.merged_logs.specs.Merges.{IsByTicket}
-use Rattle.tests_placed.proofs.tests.merge_both.Goals as goal
+use Rattle.tests_local.proofs.placed.merge_both.Goals as goal
 
 pub merge-requires : goal.merge-requires
 merge-requires c =
