@@ -4,25 +4,25 @@
 mod chances;
 mod driver;
 mod graphs;
-mod plays;
 mod rows;
 mod runs;
 mod trouble;
 
-use plays::all_plays;
-use rows::{by_chance, complete_of_four, no_vertex, path_by_steps, triangle};
+use rows::{Row, by_chance, goes};
 use std::io;
 use std::process::ExitCode;
 use trouble::Trouble;
 
 fn main(rt: HostRuntime) -> io::Result<ExitCode> {
     let alloc = rt.alloc();
-    println!(rt; "a path, step by step: {}", said(path_by_steps(alloc)))?;
-    println!(rt; "no vertex: {}", said(no_vertex(alloc)))?;
-    println!(rt; "a complete graph: {}", said(complete_of_four(alloc)))?;
-    println!(rt; "a triangle and a vertex alone: {}", said(triangle(alloc)))?;
+    println!(rt; "a path, step by step: {}", said(goes(alloc, Row::Path)))?;
+    println!(rt; "no vertex: {}", said(goes(alloc, Row::NoVertex)))?;
+    println!(rt; "a complete graph: {}", said(goes(alloc, Row::Complete)))?;
+    println!(rt;
+        "a triangle and a vertex alone: {}",
+        said(goes(alloc, Row::Triangle))
+    )?;
     println!(rt; "random events: {}", said(by_chance(alloc)))?;
-    println!(rt; "runs by a plan: {}", said(all_plays(&rt, alloc)))?;
     Ok(ExitCode::SUCCESS)
 }
 

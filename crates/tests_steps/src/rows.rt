@@ -9,22 +9,90 @@ use gl_base::Vertex;
 use graph_core::Graph;
 use std::alloc::Global;
 
-/// A path of four on two machines, by the colours 1, 2, 1, 2. In the first step just the first and the third vertex are offered. After
-/// each of five steps the labels are these, and then no task is left.
-pub fn path_by_steps(alloc: Global) -> Result<(), Trouble> {
-    let graph = path(alloc, 4)?;
-    has_colours(alloc, &graph, &[1, 2, 1, 2])?;
-    let mut driven = Driven::new(alloc, &graph, &[0, 0, 1, 1], 2)?;
-    first_step(&mut driven)?;
-    has_values(&driven, &[1, 2, 2, 4])?;
+/// A worked example.
+#[derive(Clone, Copy)]
+pub enum Row {
+    /// A path of four on two machines, by the colours 1, 2, 1, 2.
+    Path,
+    /// A graph without vertices or edges on two machines.
+    NoVertex,
+    /// A complete graph of four, in which each vertex has a colour of its own.
+    Complete,
+    /// A triangle and a vertex alone, whose colours are 1, 2, 3, 1.
+    Triangle,
+}
+
+/// The greedy colours of a graph, the machine of each vertex, and how many machines there are.
+#[derive(Clone, Copy)]
+struct Placing {
+    colours: &'static [u32],
+    owner: &'static [u16],
+    machines: u16,
+}
+
+impl Row {
+    fn graph(self, alloc: Global) -> Result<Graph, Trouble> {
+        match self {
+            Row::Path => path(alloc, 4),
+            Row::NoVertex => path(alloc, 0),
+            Row::Complete => complete(alloc, 4),
+            Row::Triangle => triangle_and_one(alloc),
+        }
+    }
+
+    fn placing(self) -> Placing {
+        let (colours, owner, machines): (&[u32], &[u16], u16) = match self {
+            Row::Path => (&[1, 2, 1, 2], &[0, 0, 1, 1], 2),
+            Row::NoVertex => (&[], &[], 2),
+            Row::Complete => (&[1, 2, 3, 4], &[0, 1, 0, 1], 2),
+            Row::Triangle => (&[1, 2, 3, 1], &[0, 1, 2, 2], 3),
+        };
+        Placing {
+            colours,
+            owner,
+            machines,
+        }
+    }
+}
+
+/// The example goes as it is worked out.
+pub fn goes(alloc: Global, row: Row) -> Result<(), Trouble> {
+    let graph = row.graph(alloc)?;
+    goes_on(alloc, &graph, row)
+}
+
+fn goes_on(alloc: Global, graph: &Graph, row: Row) -> Result<(), Trouble> {
+    let placing = row.placing();
+    has_colours(alloc, graph, placing.colours)?;
+    let mut driven = Driven::new(alloc, graph, placing.owner, placing.machines)?;
+    goes_by_steps(&mut driven, row)
+}
+
+fn goes_by_steps(driven: &mut Driven, row: Row) -> Result<(), Trouble> {
+    match row {
+        Row::Path => path_by_steps(driven),
+        Row::NoVertex => no_vertex(driven),
+        Row::Complete => complete_of_four(driven),
+        Row::Triangle => {
+            run_to_end(driven, 3)?;
+            is_over(driven, &[1, 1, 1, 4])
+        }
+    }
+}
+
+/// In the first step just the first and the third vertex are offered. After each of five steps the labels are these, and then no task is
+/// left.
+fn path_by_steps(driven: &mut Driven) -> Result<(), Trouble> {
+    first_step(driven)?;
+    has_values(driven, &[1, 2, 2, 4])?;
     let further = [
         (2, [1, 1, 2, 2]),
         (1, [1, 1, 1, 2]),
         (2, [1, 1, 1, 1]),
         (1, [1, 1, 1, 1]),
     ];
-    steps_alike(&mut driven, &further)?;
-    is_over(&driven, &[1, 1, 1, 1])
+    steps_alike(driven, &further)?;
+    is_over(driven, &[1, 1, 1, 1])
 }
 
 /// In the first step each machine has one vertex of the colour. The one machine updates its vertex at once, since it has the whole scope;
@@ -85,51 +153,44 @@ fn steps_alike(driven: &mut Driven, steps: &[(u32, [u64; 4])]) -> Result<(), Tro
     Ok(())
 }
 
-/// Two machines of a graph without vertices or edges have nothing to do.
-pub fn no_vertex(alloc: Global) -> Result<(), Trouble> {
-    let graph = path(alloc, 0)?;
-    has_colours(alloc, &graph, &[])?;
-    let mut driven = Driven::new(alloc, &graph, &[], 2)?;
-    if run_to_end(&mut driven, 0)? != 0 {
+/// Where there is no vertex there is nothing to do.
+fn no_vertex(driven: &mut Driven) -> Result<(), Trouble> {
+    if run_to_end(driven, 0)? != 0 {
         return Err(Trouble::Differs);
     }
-    whole_step(&mut driven, 1)?;
-    is_over(&driven, &[])
+    whole_step(driven, 1)?;
+    is_over(driven, &[])
 }
 
-/// In a complete graph each vertex has a colour of its own, and each step has one update at most.
-pub fn complete_of_four(alloc: Global) -> Result<(), Trouble> {
-    let graph = complete(alloc, 4)?;
-    has_colours(alloc, &graph, &[1, 2, 3, 4])?;
-    let mut driven = Driven::new(alloc, &graph, &[0, 1, 0, 1], 2)?;
-    steps_alike(&mut driven, &[(1, [1, 2, 3, 4]), (2, [1, 1, 3, 4])])?;
+/// Each step has one update at most.
+fn complete_of_four(driven: &mut Driven) -> Result<(), Trouble> {
+    steps_alike(driven, &[(1, [1, 2, 3, 4]), (2, [1, 1, 3, 4])])?;
     if driven.order() != [Vertex(0), Vertex(1)].as_slice() {
         return Err(Trouble::Differs);
     }
-    run_to_end(&mut driven, 4)?;
-    is_over(&driven, &[1, 1, 1, 1])
-}
-
-/// The colours of a triangle and a vertex alone are 1, 2, 3, 1.
-pub fn triangle(alloc: Global) -> Result<(), Trouble> {
-    let graph = triangle_and_one(alloc)?;
-    has_colours(alloc, &graph, &[1, 2, 3, 1])?;
-    let mut driven = Driven::new(alloc, &graph, &[0, 1, 2, 2], 3)?;
-    run_to_end(&mut driven, 3)?;
-    is_over(&driven, &[1, 1, 1, 4])
+    run_to_end(driven, 4)?;
+    is_over(driven, &[1, 1, 1, 1])
 }
 
 /// Random events on paths and complete graphs, on one machine to three.
 pub fn by_chance(alloc: Global) -> Result<(), Trouble> {
     for seed in 0..6 {
         let mut chances = Chances::new(seed);
-        let many = 2 + chances.below(5) as u64;
-        let long = path(alloc, many)?;
-        one_by_chance(alloc, &long, 2, &mut chances)?;
-        let dense = complete(alloc, many)?;
-        one_by_chance(alloc, &dense, many as u32, &mut chances)?;
+        let many = 2 + chances.below(5);
+        on_path_by_chance(alloc, many, &mut chances)?;
+        on_complete_by_chance(alloc, many, &mut chances)?;
     }
     Ok(())
+}
+
+fn on_path_by_chance(alloc: Global, many: u32, chances: &mut Chances) -> Result<(), Trouble> {
+    let graph = path(alloc, many as u64)?;
+    one_by_chance(alloc, &graph, 2, chances)
+}
+
+fn on_complete_by_chance(alloc: Global, many: u32, chances: &mut Chances) -> Result<(), Trouble> {
+    let graph = complete(alloc, many as u64)?;
+    one_by_chance(alloc, &graph, many, chances)
 }
 
 /// Random events on a graph whose vertices have random owners.

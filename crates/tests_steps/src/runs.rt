@@ -103,6 +103,15 @@ pub fn run_by_chance(
     chances: &mut Chances,
 ) -> Result<(), Trouble> {
     let mut replay = SeqRun::new(alloc, graph, Components)?;
+    run_beside(&mut replay, driven, greatest, chances)
+}
+
+fn run_beside(
+    replay: &mut SeqRun<'_, Components>,
+    driven: &mut Driven,
+    greatest: u32,
+    chances: &mut Chances,
+) -> Result<(), Trouble> {
     let mut steps: usize = 0;
     if !driven.step(colour_of(0, greatest))? {
         return Err(Trouble::Differs);
@@ -114,10 +123,10 @@ pub fn run_by_chance(
         {
             steps = steps.saturating_add(1);
             if rested {
-                return ends_alike(driven, &replay);
+                return ends_alike(driven, replay);
             }
         }
-        one_event(driven, &mut replay, chances)?;
+        one_event(driven, replay, chances)?;
     }
     Err(Trouble::Differs)
 }
