@@ -184,8 +184,12 @@ fn acknowledged(set: &mut TaskSet, count: u64) -> bool {
 /// Whether a task set answers as plain lists do, at 1,000 calls each of 8 seeds.
 pub fn tasks_are_alike(alloc: Global) -> Result<bool, NoMemory> {
     let mut set = TaskSet::new(alloc, COUNT, Some(WINDOW as u32))?;
+    is_alike(&mut set, alloc)
+}
+
+fn is_alike(set: &mut TaskSet, alloc: Global) -> Result<bool, NoMemory> {
     for seed in 0..8 {
-        if !play(&mut set, seed, alloc)? {
+        if !play(set, seed, alloc)? {
             return Ok(false);
         }
     }
