@@ -22,23 +22,24 @@ fn files(rt: HostRuntime) -> Result<(), Fail> {
     Ok(())
 }
 
+static CALLS: [Call; 7] = [
+    Call::Len,
+    Call::Write(0, "abc"),
+    Call::Write(1, "xy"),
+    Call::Sync,
+    Call::Len,
+    Call::Read(1),
+    Call::Read(9),
+];
+
 #[test]
 fn disks(rt: HostRuntime) -> Result<(), Fail> {
     let folder = env::temp_dir(&rt)?;
     let path = format!(in rt.alloc(); "{}/glab_tests_outside_disk", folder.as_str())?;
     let mut files = HostFiles::new(rt.alloc(), &rt);
     let mut seen = Vec::new(rt.alloc());
-    let calls = [
-        Call::Len,
-        Call::Write(0, "abc"),
-        Call::Write(1, "xy"),
-        Call::Sync,
-        Call::Len,
-        Call::Read(1),
-        Call::Read(9),
-    ];
-    play_by_name(&mut files, path.as_str(), &calls, &mut seen)?;
-    play_by_name(&mut files, path.as_str(), &calls[5..], &mut seen)?;
+    play_by_name(&mut files, path.as_str(), &CALLS, &mut seen)?;
+    play_by_name(&mut files, path.as_str(), &CALLS[5..], &mut seen)?;
     let held = fs::read(&rt, path.as_str())?;
     fs::remove_file(&rt, path.as_str())?;
     assert!(rt; seen.as_slice() == b"0 . . . 3 xy  xy  ".as_slice());
@@ -72,6 +73,11 @@ impl io::Write for Fake {
     }
 }
 
+// What a sink over such a writer answers.
+fn written(takes: Option<usize>, flushes: bool) -> Result<usize, Failed> {
+    OutSink::new(Fake { takes, flushes }).write(b"abc")
+}
+
 #[test]
 fn streams(rt: HostRuntime) -> Result<(), Fail> {
     let mut held = Vec::new(rt.alloc());
@@ -83,8 +89,7 @@ fn streams(rt: HostRuntime) -> Result<(), Fail> {
         (Some(3), false, Err(Failed)),
         (None, true, Err(Failed)),
     ] {
-        let mut sink = OutSink::new(Fake { takes, flushes });
-        assert!(rt; sink.write(b"abc") == want);
+        assert!(rt; written(takes, flushes) == want);
     }
     assert!(rt; NoteSink::new(rt.stderr()).write(b"") == Ok(0));
     Ok(())
