@@ -4,14 +4,14 @@ ghost use Rattle.atom_file.specs.Atoms.{IsAtom, atom_bytes};
 
 use crate::files::{COUNTLESS, EMPTY, FALLEN, FIRST, INDEX, SECOND, TWICE, UNKNOWN, WHOLE};
 use crate::graphs::graph_of;
-use atom_cut::{atoms_by_growth, cut};
+use atom_cut::{Atoms, atoms_by_growth, cut};
 use atom_file::{AtomFault, AtomView, write_atom};
 use atom_gather::check_index;
 use atom_place::place;
 use gl_base::{
     AtomNo, EdgeLine, EdgeNo, GhostLine, Lines, MachineNo, NoMemory, Vertex, VertexLine,
 };
-use graph_core::growth;
+use graph_core::{Graph, growth};
 use std::alloc::Global;
 use std::test::Fail;
 
@@ -220,20 +220,36 @@ fn are_lines(alloc: Global, lines: &Lines, file: &[u8]) -> bool {
     }
 }
 
+/// Whether each atom has the lines that its file tells.
+fn have_lines(alloc: Global, atoms: &[Lines], files: &[&[u8]]) -> bool {
+    for (lines, file) in atoms.iter().zip(files) {
+        if !are_lines(alloc, lines, file) {
+            return false;
+        }
+    }
+    atoms.len() == files.len()
+}
+
+/// Whether the path of four is cut so into two atoms.
+fn is_cut_in_two(alloc: Global, made: &Atoms) -> bool {
+    made.of.as_slice() == [0, 0, 1, 1].map(AtomNo).as_slice()
+        && made.index.as_slice() == INDEX.as_slice()
+        && have_lines(alloc, &made.lines, &[&FIRST, &SECOND])
+}
+
+/// Whether the path of four is cut so into one.
+fn is_whole(alloc: Global, made: &Atoms) -> bool {
+    made.index.len() == 64 && have_lines(alloc, &made.lines, &[&WHOLE])
+}
+
+fn is_cut(alloc: Global, graph: &Graph) -> Result<bool, NoMemory> {
+    Ok(is_cut_in_two(alloc, &cut(alloc, graph, 2)?) && is_whole(alloc, &cut(alloc, graph, 1)?))
+}
+
 #[test]
 fn a_cut_has_its_lines_and_its_index(rt: HostRuntime) -> Result<(), Fail> {
     let graph = graph_of(&rt, rt.alloc(), 1, 5, &[(1, 2), (2, 3)], false)?;
-    let made = cut(rt.alloc(), &graph, 2)?;
-    assert_eq!(rt; made.of.as_slice(), [0, 0, 1, 1].map(AtomNo).as_slice());
-    assert_eq!(rt; made.index.as_slice(), INDEX.as_slice());
-    assert!(rt; made.lines.len() == 2);
-    for (lines, file) in made.lines.iter().zip([&FIRST[..], &SECOND[..]]) {
-        assert!(rt; are_lines(rt.alloc(), lines, file));
-    }
-    let made = cut(rt.alloc(), &graph, 1)?;
-    assert!(rt; made.lines.len() == 1);
-    assert!(rt; are_lines(rt.alloc(), &made.lines[0], &WHOLE));
-    assert!(rt; made.index.len() == 64);
+    assert!(rt; is_cut(rt.alloc(), &graph)?);
     Ok(())
 }
 
