@@ -97,24 +97,40 @@ fn look(
     seen: &[Seen],
 ) -> Result<(), Fail> {
     let graph = graph_of(rt, alloc, 1, owners.len() as u64 + 1, pairs, directed)?;
-    let lines = lines_by_owner(rt, alloc, &graph, owners)?;
+    look_at(rt, alloc, &graph, owners, seen)
+}
+
+fn look_at(
+    rt: &impl Abort,
+    alloc: Global,
+    graph: &Graph,
+    owners: &[u16],
+    seen: &[Seen],
+) -> Result<(), Fail> {
+    let lines = lines_by_owner(rt, alloc, graph, owners)?;
     for each in seen {
-        let machine = each.0 as usize;
-        assert!(rt; machine < lines.len());
-        let local = played(
-            rt,
-            alloc,
-            MachineNo(each.0),
-            &lines[machine],
-            outline_of(&graph),
-        )?;
-        assert!(rt; tells(&local, each), "vertex {} at {}", each.1, each.0);
+        let told = is_told(rt, alloc, &lines, outline_of(graph), each)?;
+        assert!(rt; told, "vertex {} at {}", each.1, each.0);
     }
     Ok(())
 }
 
+/// Whether the machine tells this.
+fn is_told(
+    rt: &impl Abort,
+    alloc: Global,
+    lines: &[Lines],
+    outline: Outline,
+    seen: &Seen,
+) -> Result<bool, Fail> {
+    let machine = seen.0 as usize;
+    assert!(rt; machine < lines.len());
+    let local = played(rt, alloc, MachineNo(seen.0), &lines[machine], outline)?;
+    Ok(tells(&local, seen))
+}
+
 // Edges within a machine and between two, and a vertex without an edge.
-const PATH: [Seen; 4] = [
+static PATH: [Seen; 4] = [
     (0, 1, &[(0, 0, 0), (1, 2, 1)], &[0, 1], &[0, 1]),
     (0, 2, &[(1, 1, 0)], &[], &[1]),
     (1, 3, &[], &[1], &[3]),
@@ -122,14 +138,14 @@ const PATH: [Seen; 4] = [
 ];
 
 // The hub of a star on a machine that owns no leaf.
-const STAR: [Seen; 3] = [
+static STAR: [Seen; 3] = [
     (0, 0, &[(0, 1, 1), (1, 2, 2), (2, 3, 1)], &[0, 1, 2], &[0]),
     (1, 0, &[(0, 1, 1), (2, 3, 1)], &[], &[1, 3]),
     (2, 2, &[(1, 0, 0)], &[0, 2], &[2]),
 ];
 
 // An edge each way.
-const BOTH: [Seen; 1] = [(0, 0, &[(0, 1, 0), (1, 1, 0)], &[0], &[0, 1])];
+static BOTH: [Seen; 1] = [(0, 0, &[(0, 1, 0), (1, 1, 0)], &[0], &[0, 1])];
 
 #[test]
 fn small_graphs(rt: HostRuntime) -> Result<(), Fail> {

@@ -6,10 +6,11 @@ ghost use Rattle.tests_local.specs.Rows.{HasRow};
 
 use crate::graphs::graph_of;
 use crate::parts::{lines_by_owner, outline_of, played};
-use gl_base::{MachineNo, NoMemory, ScopeId, Vertex};
-use local_graph::{LocalGraph, Outcome, Row, Work};
+use gl_base::{Lines, MachineNo, NoMemory, ScopeId, Vertex};
+use local_graph::{LocalGraph, Outcome, Outline, Row, Work};
 use prog_labels::Components;
 use std::alloc::Global;
+use std::process::Abort;
 use std::test::Fail;
 
 /// The number of a vertex after its update, where it had 9 and its neighbours this one.
@@ -55,15 +56,27 @@ fn outcome(alloc: Global, work: Work) -> Result<Outcome, Work>
     Ok(made)
 }
 
+/// Whether the row of vertex 1 goes out of the part of these lines, and back.
+fn is_updated(
+    rt: &impl Abort,
+    alloc: Global,
+    lines: &Lines,
+    outline: Outline,
+) -> Result<bool, Fail> {
+    let v = Vertex(1);
+    let mut local = played(rt, alloc, MachineNo(0), lines, outline)?;
+    if !local.owns(v) {
+        return Ok(false);
+    }
+    Ok(update(alloc, &mut local, v, 4)? == 4)
+}
+
 #[test]
 fn a_row_goes_out_and_back(rt: HostRuntime) -> Result<(), Fail> {
     let alloc = rt.alloc();
     let graph = graph_of(&rt, alloc, 1, 4, &[(1, 2), (2, 3)], false)?;
     let lines = lines_by_owner(&rt, alloc, &graph, &[0, 0, 1])?;
-    let v = Vertex(1);
     assert!(rt; !lines.is_empty());
-    let mut local = played(&rt, alloc, MachineNo(0), &lines[0], outline_of(&graph))?;
-    assert!(rt; local.owns(v));
-    assert!(rt; update(alloc, &mut local, v, 4)? == 4);
+    assert!(rt; is_updated(&rt, alloc, &lines[0], outline_of(&graph))?);
     Ok(())
 }
