@@ -1,5 +1,5 @@
 //! The update of a vertex: its row is taken out, and put back with what the update made of its edges.
-ghost use Rattle.std.specs.Prelude.{◌≡◌, true, IfOk, length};
+ghost use Rattle.std.specs.Prelude.{◌≡◌, ℕ, true, IfOk, length};
 ghost use Rattle.local_graph.specs.Locals.{is_own};
 ghost use Rattle.local_graph.specs.Works.{IsRow};
 ghost use Rattle.tests_local.specs.Rows.{HasRow};
@@ -7,6 +7,7 @@ ghost use Rattle.tests_local.specs.Rows.{HasRow};
 use crate::graphs::graph_of;
 use crate::parts::{lines_by_owner, outline_of, played};
 use gl_base::{Lines, MachineNo, NoMemory, ScopeId, Vertex};
+use graph_core::Graph;
 use local_graph::{LocalGraph, Outcome, Outline, Row, Work};
 use prog_labels::Components;
 use std::alloc::Global;
@@ -56,6 +57,13 @@ fn outcome(alloc: Global, work: Work) -> Result<Outcome, Work>
     Ok(made)
 }
 
+/// Whether the vertex is an own one that gets this number, as its neighbours have it.
+fn gets(alloc: Global, local: &mut LocalGraph, v: Vertex, number: u64) -> Result<bool, NoMemory>
+    requires rows { (v : ℕ) → is_own local.old v ≡ true → HasRow local.old v }
+{
+    Ok(local.owns(v) && update(alloc, local, v, number)? == number)
+}
+
 /// Whether the row of vertex 1 goes out of the part of these lines, and back.
 fn is_updated(
     rt: &impl Abort,
@@ -63,20 +71,22 @@ fn is_updated(
     lines: &Lines,
     outline: Outline,
 ) -> Result<bool, Fail> {
-    let v = Vertex(1);
     let mut local = played(rt, alloc, MachineNo(0), lines, outline)?;
-    if !local.owns(v) {
-        return Ok(false);
+    Ok(gets(alloc, &mut local, Vertex(1), 4)?)
+}
+
+/// The same of the graph's vertex on the first of two machines.
+fn is_updated_in(rt: &impl Abort, alloc: Global, graph: &Graph) -> Result<bool, Fail> {
+    let lines = lines_by_owner(rt, alloc, graph, &[0, 0, 1])?;
+    match lines.first() {
+        Some(first) => is_updated(rt, alloc, first, outline_of(graph)),
+        None => Ok(false),
     }
-    Ok(update(alloc, &mut local, v, 4)? == 4)
 }
 
 #[test]
 fn a_row_goes_out_and_back(rt: HostRuntime) -> Result<(), Fail> {
-    let alloc = rt.alloc();
-    let graph = graph_of(&rt, alloc, 1, 4, &[(1, 2), (2, 3)], false)?;
-    let lines = lines_by_owner(&rt, alloc, &graph, &[0, 0, 1])?;
-    assert!(rt; !lines.is_empty());
-    assert!(rt; is_updated(&rt, alloc, &lines[0], outline_of(&graph))?);
+    let graph = graph_of(&rt, rt.alloc(), 1, 4, &[(1, 2), (2, 3)], false)?;
+    assert!(rt; is_updated_in(&rt, rt.alloc(), &graph)?);
     Ok(())
 }

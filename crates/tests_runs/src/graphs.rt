@@ -1,5 +1,5 @@
 //! Small graphs, and whole runs on them.
-use gl_base::{Entry, MAX_EDGES, MAX_ID, MAX_VERTICES, MachineNo};
+use gl_base::{Entry, MAX_EDGES, MAX_ID, MAX_VERTICES, MachineNo, Vertex};
 use graph_core::{EdgeIn, Graph, GraphFault};
 use seq_run::{Played, SeqRun};
 use std::alloc::{AllocError, Global};
@@ -35,6 +35,9 @@ fn edges_of(alloc: Global, list: &[(u64, u64, u32)]) -> Result<Vec<EdgeIn>, Allo
     Ok(edges)
 }
 
+/// A line from 1 to 3.
+pub static LINE: [(u64, u64, u32); 2] = [(1, 2, 1), (2, 3, 1)];
+
 /// What a run to the end leaves.
 pub fn played<P: Program>(alloc: Global, graph: &Graph, program: P) -> Result<Played, Fail> {
     let mut run = SeqRun::new(alloc, graph, program).ok().ok_or("new")?;
@@ -42,18 +45,17 @@ pub fn played<P: Program>(alloc: Global, graph: &Graph, program: P) -> Result<Pl
     Ok(run.finish())
 }
 
-/// The vertices of an order whose entries are updates by machine 0 with tickets from 0 on.
-pub fn updated(alloc: Global, order: &[Entry]) -> Result<Vec<u32>, Fail> {
-    let mut vertices = Vec::new(alloc);
-    for (place, entry) in order.iter().enumerate() {
-        match entry {
-            Entry::Go {
-                ticket,
-                machine,
-                vertex,
-            } if *ticket == place as u64 && *machine == MachineNo(0) => vertices.push(vertex.0)?,
-            _ => return Err("entry".into()),
+/// Whether the entries of an order are updates of these vertices by machine 0 with tickets from 0 on.
+pub fn are_updates(order: &[Entry], vertices: &[u32]) -> bool {
+    for (place, vertex) in vertices.iter().enumerate() {
+        let entry = Entry::Go {
+            ticket: place as u64,
+            machine: MachineNo(0),
+            vertex: Vertex(*vertex),
+        };
+        if order.get(place) != Some(&entry) {
+            return false;
         }
     }
-    Ok(vertices)
+    order.len() == vertices.len()
 }

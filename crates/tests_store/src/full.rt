@@ -89,6 +89,25 @@ fn refusal(
     Ok(journal.append(alloc, next).err())
 }
 
+/// Fills a store, which takes no snapshot then.
+fn fill(
+    alloc: Global,
+    journal: &mut Journal<MemDisk>,
+    header: &Header,
+    tally: &mut Tally,
+) -> Result<(), NoMemory>
+    requires { journal.old.header ≡ header.now }
+{
+    tally.count(taken(alloc, journal, header, MOST + 1)? == MOST);
+    let next = empty_record(alloc, MOST + 1)?;
+    let full = JournalFault::Full {
+        stored: MOST,
+        length: LENGTH,
+    };
+    tally.count(refusal(alloc, journal, header, &next)? == Some(full));
+    Ok(())
+}
+
 /// A store takes 4096 snapshots, is full then, and is read again.
 pub fn full_stores(alloc: Global) -> Result<Tally, NoMemory> {
     let mut tally = Tally::new("full stores");
@@ -96,13 +115,7 @@ pub fn full_stores(alloc: Global) -> Result<Tally, NoMemory> {
     let mut disk = quiet_disk(alloc, Vec::new(alloc));
     tally.count(init(&mut disk, &header).is_ok());
     if let Ok(mut journal) = Journal::open(alloc, disk, &header) {
-        tally.count(taken(alloc, &mut journal, &header, MOST + 1)? == MOST);
-        let next = empty_record(alloc, MOST + 1)?;
-        let full = JournalFault::Full {
-            stored: MOST,
-            length: LENGTH,
-        };
-        tally.count(refusal(alloc, &mut journal, &header, &next)? == Some(full));
+        fill(alloc, &mut journal, &header, &mut tally)?;
         let bytes = Vec::from_slice(alloc, journal.into_disk().bytes())?;
         tally.count(bytes.len() as u64 == LENGTH && has_all(alloc, bytes));
     }
@@ -127,12 +140,25 @@ pub fn failed_journals(alloc: Global) -> Result<Tally, NoMemory> {
     let mut disk = MemDisk::new(alloc, Vec::new(alloc), vec![in alloc; 9]?, u64::MAX);
     tally.count(init(&mut disk, &header).is_ok());
     if let Ok(mut journal) = Journal::open(alloc, disk, &header) {
-        let fault = refusal(alloc, &mut journal, &header, &first(alloc)?)?;
-        tally.count(fault == Some(JournalFault::DiskFault));
-        let fault = refusal(alloc, &mut journal, &header, &first(alloc)?)?;
-        tally.count(fault == Some(JournalFault::Failed));
-        let second = refusal(alloc, &mut journal, &header, &second(alloc)?)?;
-        tally.count(second.is_none());
+        fail(alloc, &mut journal, &header, &mut tally)?;
     }
     Ok(tally)
+}
+
+/// Adds records to a store whose disk fails at the first.
+fn fail(
+    alloc: Global,
+    journal: &mut Journal<MemDisk>,
+    header: &Header,
+    tally: &mut Tally,
+) -> Result<(), NoMemory>
+    requires { journal.old.header ≡ header.now }
+{
+    let (first, second) = (first(alloc)?, second(alloc)?);
+    let fault = refusal(alloc, journal, header, &first)?;
+    tally.count(fault == Some(JournalFault::DiskFault));
+    let fault = refusal(alloc, journal, header, &first)?;
+    tally.count(fault == Some(JournalFault::Failed));
+    tally.count(refusal(alloc, journal, header, &second)?.is_none());
+    Ok(())
 }

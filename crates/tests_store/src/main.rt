@@ -20,9 +20,10 @@ use std::process::ExitCode;
 use tally::Tally;
 
 fn main(rt: HostRuntime) -> io::Result<ExitCode> {
-    let Ok(tables) = all_tables(rt.alloc()) else {
+    let mut tables = Vec::new(rt.alloc());
+    if play_all(rt.alloc(), &mut tables).is_err() {
         return Ok(ExitCode::from(11));
-    };
+    }
     let mut wrong = false;
     for table in &tables {
         println!(rt;
@@ -38,9 +39,8 @@ fn main(rt: HostRuntime) -> io::Result<ExitCode> {
     })
 }
 
-/// Every table, played.
-fn all_tables(alloc: Global) -> Result<Vec<Tally>, NoMemory> {
-    let mut tables = Vec::new(alloc);
+/// Plays every table.
+fn play_all(alloc: Global, tables: &mut Vec<Tally>) -> Result<(), NoMemory> {
     tables.push(sizes::sizes(alloc)?)?;
     tables.push(starts::starts(alloc)?)?;
     tables.push(edits::cuts(alloc)?)?;
@@ -51,5 +51,5 @@ fn all_tables(alloc: Global) -> Result<Vec<Tally>, NoMemory> {
     tables.push(stops::stopped_calls(alloc)?)?;
     tables.push(full::full_stores(alloc)?)?;
     tables.push(full::failed_journals(alloc)?)?;
-    Ok(tables)
+    Ok(())
 }

@@ -1,6 +1,9 @@
 //! Worked rows. Digests are those of sha256sum.
 use crate::build::{answer_of, graph_of, order_of, report_of};
-use gl_base::{Algorithm, Entry, INF, MachineNo, Vertex};
+use gl_base::{Algorithm, Entry, INF, MachineNo, NoMemory, Vertex};
+use graph_core::Graph;
+use std::alloc::Global;
+use std::process::Abort;
 use std::test::Fail;
 use sync_folds::Fold;
 
@@ -104,26 +107,48 @@ fn orders(rt: HostRuntime) -> Result<(), Fail> {
     let graph = graph_of(&rt, rt.alloc(), &[30, 7, 100], &[(7, 30)])
         .ok()
         .ok_or("graph")?;
-    let go = |ticket: u64, machine: u16, vertex: u32| Entry::Go {
-        ticket,
-        machine: MachineNo(machine),
-        vertex: Vertex(vertex),
-    };
-    let order = [
-        go(0, 1, 2),
-        go(1, 0, 0),
-        Entry::Restart { ticket: 2 },
-        go(2, 15, 1),
-    ];
-    for (count, text) in [
-        (0, ""),
-        (1, "0 1 100\n"),
-        (2, "0 1 100\n1 0 7\n"),
-        (3, "0 1 100\n1 0 7\n2 restart\n"),
-        (4, "0 1 100\n1 0 7\n2 restart\n2 15 30\n"),
-    ] {
-        let bytes = order_of(&rt, rt.alloc(), &graph, &order[..count])?;
-        assert_eq!(rt; bytes.as_slice(), text.as_bytes());
+    for (count, text) in &FRONTS {
+        let front = ORDER.get(..*count).unwrap_or(&[]);
+        assert!(rt; is_order(&rt, rt.alloc(), &graph, front, text)?);
     }
     Ok(())
+}
+
+/// An order of the graph with the vertices 7, 30 and 100, how long a front of it is, and the front's text.
+static ORDER: [Entry; 4] = [
+    Entry::Go {
+        ticket: 0,
+        machine: MachineNo(1),
+        vertex: Vertex(2),
+    },
+    Entry::Go {
+        ticket: 1,
+        machine: MachineNo(0),
+        vertex: Vertex(0),
+    },
+    Entry::Restart { ticket: 2 },
+    Entry::Go {
+        ticket: 2,
+        machine: MachineNo(15),
+        vertex: Vertex(1),
+    },
+];
+
+static FRONTS: [(usize, &str); 5] = [
+    (0, ""),
+    (1, "0 1 100\n"),
+    (2, "0 1 100\n1 0 7\n"),
+    (3, "0 1 100\n1 0 7\n2 restart\n"),
+    (4, "0 1 100\n1 0 7\n2 restart\n2 15 30\n"),
+];
+
+fn is_order(
+    rt: &impl Abort,
+    alloc: Global,
+    graph: &Graph,
+    order: &[Entry],
+    text: &str,
+) -> Result<bool, NoMemory> {
+    let bytes = order_of(rt, alloc, graph, order)?;
+    Ok(bytes.as_slice() == text.as_bytes())
 }

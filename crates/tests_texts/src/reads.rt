@@ -1,8 +1,9 @@
 //! What is read of a text, as a text.
 use crate::pieces::in_pieces;
 use gl_base::Vertex;
+use gl_outside::Source;
 use graph_core::Graph;
-use graph_text::{Reading, read_edges, read_vertices};
+use graph_text::{Reading, VertexList, read_edges, read_vertices};
 use std::alloc::Global;
 use std::test::Fail;
 
@@ -25,19 +26,32 @@ pub fn said(
     failing: u64,
 ) -> Result<String, Fail> {
     let mut source = in_pieces(alloc, text, most, failing)?;
-    if form == Form::Vertices {
-        return match read_vertices(alloc, &mut source) {
-            Ok(list) => Ok(format!(in alloc; "{:?}", list.ids)?),
-            Err(fault) => told(alloc, fault),
-        };
+    match form {
+        Form::Vertices => vertices_said(alloc, &mut source),
+        _ => edges_said(alloc, &mut source, form),
     }
-    let mut ids = in_pieces(alloc, "1\n2\n3\n7", 1000, 0)?;
-    let list = read_vertices(alloc, &mut ids)?;
+}
+
+fn vertices_said<S: Source>(alloc: Global, source: &mut S) -> Result<String, Fail> {
+    match read_vertices(alloc, source) {
+        Ok(list) => Ok(format!(in alloc; "{:?}", list.ids)?),
+        Err(fault) => told(alloc, fault),
+    }
+}
+
+fn edges_said<S: Source>(alloc: Global, source: &mut S, form: Form) -> Result<String, Fail> {
     let (directed, weighted) = (form == Form::Directed, form == Form::Weighted);
-    match read_edges(alloc, &mut source, list, directed, weighted) {
+    let list = four(alloc)?;
+    match read_edges(alloc, source, list, directed, weighted) {
         Ok(graph) => edges_of(alloc, &graph),
         Err(fault) => told(alloc, fault),
     }
+}
+
+/// The vertices 1, 2, 3 and 7.
+fn four(alloc: Global) -> Result<VertexList, Fail> {
+    let mut ids = in_pieces(alloc, "1\n2\n3\n7", 1000, 0)?;
+    Ok(read_vertices(alloc, &mut ids)?)
 }
 
 /// Why a text was refused.

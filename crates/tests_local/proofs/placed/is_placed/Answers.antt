@@ -1,12 +1,12 @@
 use Rattle.std.proofs.Common.{refl}
 use Rattle.placed_graphs.specs.Placed.{placed_owner}
 use Rattle.placed_graphs.proofs.PartLemmas.{setting_with}
-use Rattle.tests_local.proofs.placed.a_chain_on_two_machines.Goals as goal
+use Rattle.tests_local.proofs.placed.is_placed.Goals as goal
 
 pub first_numbers_of_all-requires : goal.first_numbers_of_all-requires
 first_numbers_of_all-requires g c =
     let made = c.in_ok-made.made in
-    let st = setting_with c.in_ok-graph.graph 2 (placed_owner made.of.items made.owner.items) in
+    let st = setting_with c.args.graph.now 2 (placed_owner made.of.items made.owner.items) in
     record {
       st = st;
       graph = c.n.ensures.graph;
