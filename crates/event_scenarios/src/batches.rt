@@ -68,18 +68,35 @@ fn lone_machine<P: Program>(
     scene: &Scene<'_, P>,
     at: MachineNo,
 ) -> Result<Machine, Trouble> {
-    let mut machines = machines_of(alloc, scene.beginning)?;
-    if at.0 != 0 || machines.len() > 1 {
-        return Err(Trouble::Malformed("not the only machine"));
-    }
-    let Some(mut machine) = machines.pop() else {
-        return Err(Trouble::Malformed("not the only machine"));
-    };
-    let mut ticket = scene.beginning.run.next;
-    for happening in scene.past.iter() {
-        ticket = repeat(&mut machine, *happening, ticket)?;
-    }
+    let mut machine = only_machine(alloc, scene, at)?;
+    repeat_all(&mut machine, &scene.past, scene.beginning.run.next)?;
     Ok(machine.into_machine())
+}
+
+/// The machine as it began.
+fn only_machine<P: Program>(
+    alloc: Global,
+    scene: &Scene<'_, P>,
+    at: MachineNo,
+) -> Result<ProgramMachine<P>, Trouble> {
+    let mut machines = machines_of(alloc, scene.beginning)?;
+    match machines.pop() {
+        Some(machine) if at.0 == 0 && machines.is_empty() => Ok(machine),
+        _ => Err(Trouble::Malformed("not the only machine")),
+    }
+}
+
+/// All this happens to the machine in turn, whose next update has this ticket.
+fn repeat_all<P: Program>(
+    machine: &mut ProgramMachine<P>,
+    past: &[Happening],
+    ticket: u64,
+) -> Result<(), Trouble> {
+    let mut ticket = ticket;
+    for happening in past {
+        ticket = repeat(machine, *happening, ticket)?;
+    }
+    Ok(())
 }
 
 /// It happens to the machine. Tells the ticket of the next update.

@@ -1,6 +1,6 @@
 //! Whether scenarios pass.
 use crate::playing::{Outcome, play};
-use crate::scenarios::read_scenarios;
+use crate::scenarios::{Scenario, read_scenarios};
 use std::alloc::{AllocError, Global};
 use std::rt::Files;
 use std::{fs, io};
@@ -63,14 +63,35 @@ pub fn play_file<R: Files + Print + AllocGlobal>(
     tally: &mut Tally,
 ) -> io::Result<()> {
     let text = fs::read_to_string(rt, file)?;
-    for scenario in read_scenarios(rt.alloc(), text.as_str())?.iter() {
+    let scenarios = read_scenarios(rt.alloc(), text.as_str())?;
+    for scenario in scenarios.iter() {
         let outcome = play(rt.alloc(), scenario)?;
-        let complaints = complaints_of(rt.alloc(), &outcome, hope)?;
-        let (number, name) = (scenario.number, scenario.name);
-        print_all(rt, file, number, name, &complaints)?;
-        tally.add(complaints.is_empty(), outcome.second_tries);
+        let is_well = judge(rt, file, scenario, &outcome, hope)?;
+        tally.add(is_well, outcome.second_tries);
     }
     Ok(())
+}
+
+/// Whether the scenario did what it had to. Prints a line for whatever is not so.
+fn judge<R: Print + AllocGlobal>(
+    rt: &R,
+    file: &str,
+    scenario: &Scenario<'_>,
+    outcome: &Outcome,
+    hope: Hope,
+) -> io::Result<bool> {
+    let (number, name) = (scenario.number, scenario.name);
+    if matches!(hope, Hope::Passes) && outcome.refused.is_none() {
+        print_all(rt, file, number, name, &outcome.differences)?;
+        return Ok(outcome.differences.is_empty());
+    }
+    match complaint_of(rt.alloc(), outcome, hope)? {
+        Some(complaint) => {
+            println!(rt; "{file}:{number}: {name}: {}", complaint.as_str())?;
+            Ok(false)
+        }
+        None => Ok(true),
+    }
 }
 
 /// Prints what is not as it had to be, a line for each.
@@ -87,28 +108,20 @@ fn print_all<R: Print>(
     Ok(())
 }
 
-/// What is not as it had to be.
-fn complaints_of(alloc: Global, outcome: &Outcome, hope: Hope) -> Result<Vec<String>, AllocError> {
-    let mut complaints = Vec::new(alloc);
-    match (outcome.refused, hope) {
-        (Some(_), Hope::IsRefused) => {}
-        (Some((number, why)), _) => {
-            complaints.push(format!(in alloc; "line {number}: {why}")?)?;
-        }
-        (None, Hope::IsRefused) => {
-            complaints.push(String::from_str(alloc, "no line is refused")?)?;
-        }
-        (None, Hope::Passes) => {
-            for difference in outcome.differences.iter() {
-                complaints.push(difference.clone()?)?;
-            }
-        }
-        (None, Hope::Fails) => {
-            let count = outcome.differences.len();
-            if count != 1 {
-                complaints.push(format!(in alloc; "{count} differences in place of one")?)?;
-            }
-        }
-    }
-    Ok(complaints)
+/// What is not as it had to be, where a line is refused or has to be, or one has to differ.
+fn complaint_of(
+    alloc: Global,
+    outcome: &Outcome,
+    hope: Hope,
+) -> Result<Option<String>, AllocError> {
+    let complaint = match (outcome.refused, hope) {
+        (Some(_), Hope::IsRefused) => return Ok(None),
+        (Some((number, why)), _) => format!(in alloc; "line {number}: {why}")?,
+        (None, Hope::IsRefused) => String::from_str(alloc, "no line is refused")?,
+        (None, _) => match outcome.differences.len() {
+            1 => return Ok(None),
+            count => format!(in alloc; "{count} differences in place of one")?,
+        },
+    };
+    Ok(Some(complaint))
 }

@@ -100,19 +100,20 @@ fn play_on(
     let program = JobProgram::of(plan.algorithm, plan.source);
     let places = places_of(alloc, graph, plan)?;
     let base = base_of(alloc, graph, &program, plan)?;
+    let run = Run {
+        machines: places.machines,
+        pipeline: plan.pipeline,
+        first: Vertex(0),
+        next: plan.next,
+        left: plan.left,
+    };
     let beginning = Beginning {
         graph,
         algorithm: plan.algorithm,
         program,
         base: &base,
         places: &places,
-        run: Run {
-            machines: places.machines,
-            pipeline: plan.pipeline,
-            first: Vertex(0),
-            next: plan.next,
-            left: plan.left,
-        },
+        run,
     };
     play_lines(alloc, &beginning, lines, outcome)
 }

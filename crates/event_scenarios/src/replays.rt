@@ -52,18 +52,32 @@ pub fn is_replay<P: Program>(
     beginning: &Beginning<'_, P>,
     whole: &Whole<P>,
 ) -> Result<(), Trouble> {
-    let program = started_by(beginning)?;
     let run = gathered(alloc, whole)?;
-    let replay = replay_of(
-        alloc,
-        beginning.graph,
-        program,
-        &run.order,
-        beginning.run.next,
-    )?;
+    is_replay_of(alloc, beginning, whole, &run)
+}
+
+/// The same where this is gathered from the cluster.
+fn is_replay_of<P: Program>(
+    alloc: Global,
+    beginning: &Beginning<'_, P>,
+    whole: &Whole<P>,
+    run: &GatheredRun,
+) -> Result<(), Trouble> {
+    let (graph, next) = (beginning.graph, beginning.run.next);
+    let program = started_by(beginning)?;
+    let replay = replay_of(alloc, graph, program, &run.order, next)?;
     if replay.played.values.as_slice() != run.numbers.as_slice() {
         return Err(Trouble::Differs("the numbers are not the replay's"));
     }
+    agrees(beginning, whole, &replay)
+}
+
+/// Where no message is on its way, the cluster has the tasks of the replay, and its edges.
+fn agrees<P: Program>(
+    beginning: &Beginning<'_, P>,
+    whole: &Whole<P>,
+    replay: &Replayed,
+) -> Result<(), Trouble> {
     if !is_silent(whole) {
         return Ok(());
     }
@@ -101,12 +115,22 @@ fn replay_of<P: Program>(
     first: u64,
 ) -> Result<Replayed, Trouble> {
     let mut replay = SeqRun::new(alloc, graph, program)?;
-    for (place, entry) in order.iter().enumerate() {
-        replay_entry(&mut replay, *entry, first.saturating_add(place as u64))?;
-    }
+    replay_all(&mut replay, order, first)?;
     let has_task = replay.waiting().is_some();
     let played = replay.finish();
     Ok(Replayed { played, has_task })
+}
+
+/// The entries in turn, whose tickets follow one another from the first one on.
+fn replay_all<P: Program>(
+    replay: &mut SeqRun<'_, P>,
+    order: &[Entry],
+    first: u64,
+) -> Result<(), Trouble> {
+    for (place, entry) in order.iter().enumerate() {
+        replay_entry(replay, *entry, first.saturating_add(place as u64))?;
+    }
+    Ok(())
 }
 
 /// One entry more, which has this ticket.

@@ -2,6 +2,7 @@
 use crate::parts::{PARTS, Part};
 use crate::playing::{Left, Scene};
 use crate::scenario::{Want, Wanted, wanted_of};
+use engine_cli::Ended;
 use gl_base::Entry;
 use std::alloc::{AllocError, Global};
 
@@ -14,11 +15,33 @@ pub fn compare(
     wants: &[Want<'_>],
     differences: &mut Vec<String>,
 ) -> Result<(), AllocError> {
+    compare_parts(alloc, left, wants, differences)?;
+    compare_files(alloc, scene, left, wants, differences)?;
+    compare_disks(alloc, scene, left, wants, differences)
+}
+
+/// Compares all but files and disks.
+fn compare_parts(
+    alloc: Global,
+    left: &Left,
+    wants: &[Want<'_>],
+    differences: &mut Vec<String>,
+) -> Result<(), AllocError> {
     for (part, word) in PARTS.as_slice() {
-        let came = text_of(alloc, left, *part)?;
         let wanted = wanted_of(wants, *part).or(by_itself(*part));
+        let came = text_of(alloc, left, *part)?;
         add_difference(alloc, word, *part, wanted, Some(&came), differences)?;
     }
+    Ok(())
+}
+
+fn compare_files(
+    alloc: Global,
+    scene: &Scene<'_>,
+    left: &Left,
+    wants: &[Want<'_>],
+    differences: &mut Vec<String>,
+) -> Result<(), AllocError> {
     for name in scene.names {
         let part = Part::File(name);
         let before = match scene.bytes(name) {
@@ -26,15 +49,19 @@ pub fn compare(
             None => Wanted::Missing,
         };
         let wanted = wanted_of(wants, part).or(Some(before));
-        add_difference(
-            alloc,
-            name,
-            part,
-            wanted,
-            left.files.bytes(name),
-            differences,
-        )?;
+        let came = left.files.bytes(name);
+        add_difference(alloc, name, part, wanted, came, differences)?;
     }
+    Ok(())
+}
+
+fn compare_disks(
+    alloc: Global,
+    scene: &Scene<'_>,
+    left: &Left,
+    wants: &[Want<'_>],
+    differences: &mut Vec<String>,
+) -> Result<(), AllocError> {
     for name in scene.disks {
         let part = Part::Disk(name);
         let before = Wanted::Bytes(scene.disk_bytes(name));
@@ -92,33 +119,49 @@ fn agrees(part: Part<'_>, wanted: &[u8], came: &[u8]) -> bool {
 
 /// What a call left of a part, as a text.
 fn text_of(alloc: Global, left: &Left, part: Part<'_>) -> Result<Vec<u8>, AllocError> {
-    let ended = &left.ended;
-    let mut text = String::new(alloc);
     match part {
-        Part::Out => return Vec::from_slice(alloc, left.out.bytes()),
-        Part::Note => return Vec::from_slice(alloc, left.note.bytes()),
-        Part::Status => add_number(&mut text, u64::from(ended.status.number()))?,
-        Part::Cause => writeln!(text, "{:?}", ended.status)?,
-        Part::Order => add_entries(&mut text, &ended.order)?,
-        Part::Lost => add_entries(&mut text, &ended.lost)?,
-        Part::Done => {
-            for count in ended.done.iter() {
-                add_number(&mut text, *count)?;
-            }
+        Part::Out => Vec::from_slice(alloc, left.out.bytes()),
+        Part::Note => Vec::from_slice(alloc, left.note.bytes()),
+        _ => {
+            let mut text = String::new(alloc);
+            add_part(&mut text, &left.ended, part)?;
+            Ok(text.into_bytes())
         }
-        Part::Fired => {
-            for place in ended.fired.iter() {
-                add_number(&mut text, u64::from(*place))?;
-            }
-        }
-        Part::Snapshots => add_snapshots(&mut text, left)?,
-        Part::File(_) | Part::Disk(_) => {}
     }
-    Ok(text.into_bytes())
+}
+
+/// Adds what a call told of a part.
+fn add_part(text: &mut String, ended: &Ended, part: Part<'_>) -> Result<(), AllocError> {
+    match part {
+        Part::Status => add_number(text, u64::from(ended.status.number())),
+        Part::Cause => writeln!(text, "{:?}", ended.status),
+        Part::Order => add_entries(text, &ended.order),
+        Part::Lost => add_entries(text, &ended.lost),
+        Part::Done => add_done(text, &ended.done),
+        Part::Fired => add_fired(text, &ended.fired),
+        Part::Snapshots => add_snapshots(text, ended),
+        Part::Out | Part::Note | Part::File(_) | Part::Disk(_) => Ok(()),
+    }
 }
 
 fn add_number(text: &mut String, number: u64) -> Result<(), AllocError> {
     writeln!(text, "{number}")
+}
+
+/// Adds a line for each machine: how many updates it completed.
+fn add_done(text: &mut String, done: &[u64]) -> Result<(), AllocError> {
+    for count in done {
+        add_number(text, *count)?;
+    }
+    Ok(())
+}
+
+/// Adds a line for each failure that fired: its place in the job.
+fn add_fired(text: &mut String, fired: &[u16]) -> Result<(), AllocError> {
+    for place in fired {
+        add_number(text, u64::from(*place))?;
+    }
+    Ok(())
 }
 
 /// Adds a line for each entry: the vertex of an update by machine 0 whose ticket is its place, else `ticket:machine:vertex`,
@@ -145,8 +188,8 @@ fn add_entries(text: &mut String, entries: &[Entry]) -> Result<(), AllocError> {
 }
 
 /// Adds a line for each snapshot: its number, how many entries its order has, and what its numbers come to.
-fn add_snapshots(text: &mut String, left: &Left) -> Result<(), AllocError> {
-    for line in left.ended.snapshots.iter() {
+fn add_snapshots(text: &mut String, ended: &Ended) -> Result<(), AllocError> {
+    for line in ended.snapshots.iter() {
         let (number, entries) = (line.number, line.entries);
         let (reached, sum, max) = (line.reached, line.sum, line.max);
         writeln!(text, "{number} {entries} {reached} {sum} {max}")?;

@@ -57,13 +57,35 @@ pub fn play_file<R: Files + Print + AllocGlobal + Wait>(
 ) -> io::Result<()> {
     let text = fs::read_to_string(rt, file)?;
     let sections = read_sections(rt.alloc(), text.as_str())?;
-    for scenario in read_scenarios(rt.alloc(), &sections)?.iter() {
+    let scenarios = read_scenarios(rt.alloc(), &sections)?;
+    play_scenarios(rt, file, &scenarios, hope, tally)
+}
+
+fn play_scenarios<R: Print + AllocGlobal + Wait>(
+    rt: &R,
+    file: &str,
+    scenarios: &[Scenario<'_>],
+    hope: Hope,
+    tally: &mut Tally,
+) -> io::Result<()> {
+    for scenario in scenarios {
         let complaints = judge(rt, rt.alloc(), scenario, hope)?;
-        for complaint in complaints.iter() {
-            let (line, name) = (scenario.line, scenario.name);
-            println!(rt; "{file}:{line}: {name}: {complaint}")?;
-        }
         tally.count(complaints.is_empty());
+        print(rt, file, scenario, &complaints)?;
+    }
+    Ok(())
+}
+
+/// Prints a line for each complaint about a scenario.
+fn print<R: Print>(
+    rt: &R,
+    file: &str,
+    scenario: &Scenario<'_>,
+    complaints: &[String],
+) -> io::Result<()> {
+    let (line, name) = (scenario.line, scenario.name);
+    for complaint in complaints {
+        println!(rt; "{file}:{line}: {name}: {complaint}")?;
     }
     Ok(())
 }
@@ -75,23 +97,27 @@ fn judge<R: Wait>(
     scenario: &Scenario<'_>,
     hope: Hope,
 ) -> Result<Vec<String>, AllocError> {
-    let mut complaints = Vec::new(alloc);
     match (&scenario.wrong, hope) {
-        (Some(_), Hope::IsRefused) => {}
+        (Some(_), Hope::IsRefused) => Ok(Vec::new(alloc)),
         (Some(wrong), _) => {
             let (line, why) = (wrong.line, wrong.why);
-            complaints.push(format!(in alloc; "line {line}: {why}")?)?;
+            alone(alloc, format!(in alloc; "line {line}: {why}")?)
         }
-        (None, Hope::IsRefused) => {
-            complaints.push(String::from_str(alloc, "it is not refused")?)?;
-        }
-        (None, Hope::Passes) => complaints = play(rt, alloc, scenario)?,
-        (None, Hope::Fails) => {
-            let count = play(rt, alloc, scenario)?.len();
-            if count != 1 {
-                complaints.push(format!(in alloc; "{count} differences in place of one")?)?;
-            }
-        }
+        (None, Hope::IsRefused) => alone(alloc, String::from_str(alloc, "it is not refused")?),
+        (None, Hope::Passes) => play(rt, alloc, scenario),
+        (None, Hope::Fails) => match play(rt, alloc, scenario)?.len() {
+            1 => Ok(Vec::new(alloc)),
+            count => alone(
+                alloc,
+                format!(in alloc; "{count} differences in place of one")?,
+            ),
+        },
     }
+}
+
+/// A complaint, and no other.
+fn alone(alloc: Global, complaint: String) -> Result<Vec<String>, AllocError> {
+    let mut complaints = Vec::new(alloc);
+    complaints.push(complaint)?;
     Ok(complaints)
 }

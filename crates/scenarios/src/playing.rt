@@ -58,56 +58,85 @@ pub fn play<R: Wait>(
     alloc: Global,
     scenario: &Scenario<'_>,
 ) -> Result<Vec<String>, AllocError> {
+    let mut differences = Vec::new(alloc);
     let names = names_of(alloc, scenario)?;
     let disks = disks_of(alloc, scenario)?;
-    let mut differences = Vec::new(alloc);
-    let mut files = MemFiles::new(
-        alloc,
-        Vec::new(alloc),
-        Vec::new(alloc),
-        Vec::new(alloc),
-        u64::MAX,
-    );
-    for step in scenario.steps.iter() {
-        let scene = Scene {
-            step,
-            names: &names,
-            disks: &disks,
-            files: &files,
-        };
-        files = play_step(rt, alloc, &scene, &mut differences)?;
-    }
+    play_steps(rt, alloc, &scenario.steps, &names, &disks, &mut differences)?;
     Ok(differences)
+}
+
+/// Makes the calls of its steps, each over the files that the one before it left.
+fn play_steps<R: Wait>(
+    rt: &R,
+    alloc: Global,
+    steps: &[Step<'_>],
+    names: &[&str],
+    disks: &[&str],
+    differences: &mut Vec<String>,
+) -> Result<(), AllocError> {
+    let mut files = empty_files(alloc, &[])?;
+    for step in steps {
+        files = play_over(rt, alloc, step, (&*names, &*disks), &files, differences)?;
+    }
+    Ok(())
+}
+
+/// Makes the call of a step over these files, and answers those that it left.
+fn play_over<'a, R: Wait>(
+    rt: &R,
+    alloc: Global,
+    step: &'a Step<'a>,
+    (names, disks): (&'a [&'a str], &'a [&'a str]),
+    files: &'a MemFiles,
+    differences: &mut Vec<String>,
+) -> Result<MemFiles, AllocError> {
+    let scene = Scene {
+        step,
+        names,
+        disks,
+        files,
+    };
+    play_step(rt, alloc, &scene, differences)
 }
 
 /// The names of the files that a scenario speaks of.
 fn names_of<'a>(alloc: Global, scenario: &Scenario<'a>) -> Result<Vec<&'a str>, AllocError> {
     let mut names = Vec::new(alloc);
     for step in scenario.steps.iter() {
-        for put in step.puts.iter() {
-            add_name(&mut names, put.name)?;
-        }
-        add_names(&mut names, &step.wants)?;
-        if let Some(turns) = &step.turns {
-            add_names(&mut names, &turns.wants)?;
-        }
+        add_names_of(&mut names, step)?;
     }
     Ok(names)
+}
+
+fn add_names_of<'a>(names: &mut Vec<&'a str>, step: &Step<'a>) -> Result<(), AllocError> {
+    for put in step.puts.iter() {
+        add_name(names, put.name)?;
+    }
+    add_names(names, &step.wants)?;
+    match &step.turns {
+        Some(turns) => add_names(names, &turns.wants),
+        None => Ok(()),
+    }
 }
 
 /// The names of the disks that it speaks of.
 fn disks_of<'a>(alloc: Global, scenario: &Scenario<'a>) -> Result<Vec<&'a str>, AllocError> {
     let mut names = Vec::new(alloc);
     for step in scenario.steps.iter() {
-        for put in step.disks.iter() {
-            add_name(&mut names, put.name)?;
-        }
-        add_disks(&mut names, &step.wants)?;
-        if let Some(turns) = &step.turns {
-            add_disks(&mut names, &turns.wants)?;
-        }
+        add_disks_of(&mut names, step)?;
     }
     Ok(names)
+}
+
+fn add_disks_of<'a>(names: &mut Vec<&'a str>, step: &Step<'a>) -> Result<(), AllocError> {
+    for put in step.disks.iter() {
+        add_name(names, put.name)?;
+    }
+    add_disks(names, &step.wants)?;
+    match &step.turns {
+        Some(turns) => add_disks(names, &turns.wants),
+        None => Ok(()),
+    }
 }
 
 fn add_disks<'a>(names: &mut Vec<&'a str>, wants: &[Want<'a>]) -> Result<(), AllocError> {
@@ -157,6 +186,17 @@ fn play_step<R: Wait>(
         let number = turns.count.saturating_add(1);
         fault = Some(Fault { calls, number });
     }
+    play_call(rt, alloc, scene, fault, differences)
+}
+
+/// Makes its last call, where one more call may fail.
+fn play_call<R: Wait>(
+    rt: &R,
+    alloc: Global,
+    scene: &Scene<'_>,
+    fault: Option<Fault>,
+    differences: &mut Vec<String>,
+) -> Result<MemFiles, AllocError> {
     let left = make_call(rt, alloc, scene, &scene.step.words, fault)?;
     compare(alloc, scene, &left, &scene.step.wants, differences)?;
     let Left { files, .. } = left;
@@ -190,11 +230,11 @@ fn play_behind<R: Wait>(
     differences: &mut Vec<String>,
 ) -> Result<(), AllocError> {
     let step = Step::new(alloc, Vec::new(alloc), Vec::new(alloc));
-    play_over(rt, alloc, &step, scene, files, turns, differences)
+    play_then(rt, alloc, &step, scene, files, turns, differences)
 }
 
 /// Makes it in a step of its own.
-fn play_over<'a, R: Wait>(
+fn play_then<'a, R: Wait>(
     rt: &R,
     alloc: Global,
     step: &'a Step<'a>,
@@ -221,26 +261,33 @@ fn make_call<R: Wait>(
     words: &Option<Vec<String>>,
     fault: Option<Fault>,
 ) -> Result<Left, AllocError> {
-    let step = scene.step;
-    let mut faults = Vec::from_slice(alloc, &step.faults)?;
+    let mut faults = Vec::from_slice(alloc, &scene.step.faults)?;
     if let Some(fault) = fault {
         faults.push(fault)?;
     }
-    let mut files = files_of(alloc, scene, &faults)?;
-    let mut out = MemSink::new(
-        alloc,
-        numbers(alloc, &faults, Calls::Out)?,
-        step.room_of_out,
-    );
-    let mut note = MemSink::new(
-        alloc,
-        numbers(alloc, &faults, Calls::Note)?,
-        step.room_of_note,
-    );
     let words = match words {
-        Some(words) if words.len() < TOO_MANY_WORDS => words.as_slice(),
-        _ => &[],
+        Some(words) => words.as_slice(),
+        None => &[],
     };
+    call_engine(rt, alloc, scene, words, &faults)
+}
+
+/// Makes a call in which these calls fail.
+fn call_engine<R: Wait>(
+    rt: &R,
+    alloc: Global,
+    scene: &Scene<'_>,
+    words: &[String],
+    faults: &[Fault],
+) -> Result<Left, AllocError> {
+    let words = if words.len() < TOO_MANY_WORDS {
+        words
+    } else {
+        &[]
+    };
+    let mut files = files_of(alloc, scene, faults)?;
+    let mut out = sink_of(alloc, faults, Calls::Out, scene.step.room_of_out)?;
+    let mut note = sink_of(alloc, faults, Calls::Note, scene.step.room_of_note)?;
     let ended = engine(rt, alloc, words, &mut files, &mut out, &mut note, &OpenGate);
     Ok(Left {
         ended,
@@ -261,6 +308,17 @@ fn numbers(alloc: Global, faults: &[Fault], calls: Calls) -> Result<Vec<u64>, Al
     Ok(numbers)
 }
 
+/// A sink with so much room, on which these calls fail.
+fn sink_of(
+    alloc: Global,
+    faults: &[Fault],
+    calls: Calls,
+    room: u64,
+) -> Result<MemSink, AllocError> {
+    let numbers = numbers(alloc, faults, calls)?;
+    Ok(MemSink::new(alloc, numbers, room))
+}
+
 /// How many calls on disks are made before all fail.
 fn calls_before_stop(faults: &[Fault]) -> u64 {
     let mut least = u64::MAX;
@@ -274,19 +332,32 @@ fn calls_before_stop(faults: &[Fault]) -> u64 {
 
 /// The files and disks that are there.
 fn files_of(alloc: Global, scene: &Scene<'_>, faults: &[Fault]) -> Result<MemFiles, AllocError> {
+    let mut files = empty_files(alloc, faults)?;
+    put_files(alloc, scene, &mut files)?;
+    put_disks(alloc, scene, &mut files)?;
+    Ok(files)
+}
+
+/// No files yet, on which these calls fail.
+fn empty_files(alloc: Global, faults: &[Fault]) -> Result<MemFiles, AllocError> {
+    let stop = calls_before_stop(faults);
     let reads = numbers(alloc, faults, Calls::Reads)?;
     let writes = numbers(alloc, faults, Calls::Writes)?;
     let disks = numbers(alloc, faults, Calls::Disks)?;
-    let mut files = MemFiles::new(alloc, reads, writes, disks, calls_before_stop(faults));
+    Ok(MemFiles::new(alloc, reads, writes, disks, stop))
+}
+
+/// Puts the files that are there.
+fn put_files(alloc: Global, scene: &Scene<'_>, files: &mut MemFiles) -> Result<(), AllocError> {
     for name in scene.names {
         if let Some(bytes) = scene.bytes(name) {
-            let Ok(()) = files.put(name, Vec::from_slice(alloc, bytes)?) else {
+            let bytes = Vec::from_slice(alloc, bytes)?;
+            let Ok(()) = files.put(name, bytes) else {
                 return Err(AllocError);
             };
         }
     }
-    put_disks(alloc, scene, &mut files)?;
-    Ok(files)
+    Ok(())
 }
 
 /// Puts the disks that are there.

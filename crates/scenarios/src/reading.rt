@@ -14,58 +14,91 @@ struct Given<'a> {
     wrong: Option<Wrong>,
 }
 
+/// What was read of a file so far.
+#[derive(Drop)]
+struct Reading<'a> {
+    given: Given<'a>,
+    /// Whether no scenario has begun behind what is given.
+    is_given: bool,
+    scenarios: Vec<Scenario<'a>>,
+}
+
 /// The scenarios of a file, in order.
 pub fn read_scenarios<'a>(
     alloc: Global,
     sections: &'a [Section<'a>],
 ) -> Result<Vec<Scenario<'a>>, AllocError> {
-    let mut given = Given {
-        puts: Vec::new(alloc),
-        disks: Vec::new(alloc),
-        wrong: None,
-    };
-    let mut scenarios = Vec::new(alloc);
-    let mut is_given = true;
+    let mut reading = Reading::new(alloc);
     for section in sections {
-        match section.keyword {
-            "given" => {
-                is_given = true;
-                given.puts.clear();
-                given.disks.clear();
-                given.wrong = None;
-            }
-            "scenario" => {
-                is_given = false;
-                scenarios.push(begin(alloc, &given, section)?)?;
-            }
-            _ => {}
-        }
-        if is_given {
-            add_given(&mut given, section)?;
-        } else {
-            add_to_last(alloc, &mut scenarios, section)?;
-        }
+        reading.read(alloc, section)?;
     }
+    let Reading { mut scenarios, .. } = reading;
     look_over(&mut scenarios);
     Ok(scenarios)
 }
 
-/// A scenario that begins with this section.
-fn begin<'a>(
-    alloc: Global,
-    given: &Given<'a>,
-    section: &'a Section<'a>,
-) -> Result<Scenario<'a>, AllocError> {
-    let mut steps = Vec::new(alloc);
-    let puts = Vec::from_slice(alloc, &given.puts)?;
-    let disks = Vec::from_slice(alloc, &given.disks)?;
-    steps.push(Step::new(alloc, puts, disks))?;
-    Ok(Scenario {
-        name: section.said,
-        line: section.line,
-        steps,
-        wrong: given.wrong,
-    })
+impl<'a> Reading<'a> {
+    fn new(alloc: Global) -> Reading<'a> {
+        let given = Given {
+            puts: Vec::new(alloc),
+            disks: Vec::new(alloc),
+            wrong: None,
+        };
+        Reading {
+            given,
+            is_given: true,
+            scenarios: Vec::new(alloc),
+        }
+    }
+
+    /// Reads one more section.
+    fn read(&mut self, alloc: Global, section: &'a Section<'a>) -> Result<(), AllocError> {
+        match section.keyword {
+            "given" => {
+                self.is_given = true;
+                self.given.clear();
+            }
+            "scenario" => {
+                self.is_given = false;
+                self.begin(alloc, section)?;
+            }
+            _ => {}
+        }
+        if self.is_given {
+            add_given(&mut self.given, section)
+        } else {
+            add_to_last(alloc, &mut self.scenarios, section)
+        }
+    }
+
+    /// Begins a scenario with this section.
+    fn begin(&mut self, alloc: Global, section: &'a Section<'a>) -> Result<(), AllocError> {
+        let steps = self.given.first_steps(alloc)?;
+        self.scenarios.push(Scenario {
+            name: section.said,
+            line: section.line,
+            steps,
+            wrong: self.given.wrong,
+        })?;
+        Ok(())
+    }
+}
+
+impl<'a> Given<'a> {
+    fn clear(&mut self) {
+        self.puts.clear();
+        self.disks.clear();
+        self.wrong = None;
+    }
+
+    /// The steps that a scenario begins with: one, which puts what is given.
+    fn first_steps(&self, alloc: Global) -> Result<Vec<Step<'a>>, AllocError> {
+        let puts = Vec::from_slice(alloc, &self.puts)?;
+        let disks = Vec::from_slice(alloc, &self.disks)?;
+        let mut steps = Vec::new(alloc);
+        steps.push(Step::new(alloc, puts, disks))?;
+        Ok(steps)
+    }
 }
 
 /// Adds a section to the files that are given.
@@ -158,21 +191,23 @@ fn add_section<'a>(
             called(steps)?.turns = Some(turns);
             Ok(())
         }
-        "then" => {
-            no_text(section)?;
-            let words = words_of(alloc, section.said)?;
-            match &mut called(steps)?.turns {
-                Some(turns) => turns.then = Some(words),
-                None => return Err(Trouble::Malformed("no call fails in turn")),
-            }
-            Ok(())
-        }
+        "then" => add_then(alloc, called(steps)?, section),
         _ => {
             let want = want_of(section)?;
             called(steps)?.wants_mut().push(want)?;
             Ok(())
         }
     }
+}
+
+/// Adds the call that is made behind one that failed.
+fn add_then(alloc: Global, step: &mut Step<'_>, section: &Section<'_>) -> Result<(), Trouble> {
+    no_text(section)?;
+    match &mut step.turns {
+        Some(turns) => turns.then = Some(words_of(alloc, section.said)?),
+        None => return Err(Trouble::Malformed("no call fails in turn")),
+    }
+    Ok(())
 }
 
 /// Begins the next step where the last has its call.

@@ -5,7 +5,7 @@ use crate::records::take_record;
 use crate::recovering::go_back;
 use crate::scenes::Scene;
 use crate::trouble::Trouble;
-use gl_base::ScopeId;
+use gl_base::{MachineNo, ScopeId};
 use snap_clusters::{Event, Lead, Local, Passage};
 use std::alloc::Global;
 use update_api::Program;
@@ -68,58 +68,86 @@ fn event_of<P: Program>(
     scene: &Scene<'_, P>,
     fields: &Fields<'_>,
 ) -> Result<Option<Event>, Trouble> {
-    let local = match fields.first() {
-        "admit" => Local::Admit(fields.machine(0)?),
-        "grant" => Local::Grant(fields.machine(0)?, fields.vertex(scene.beginning.graph, 1)?),
-        "section" => Local::Section(fields.machine(0)?),
-        "fail" => Local::Fail(fields.machine(0)?),
-        "update" | "mark" => {
-            let is_mark = fields.first() == "mark";
-            return Ok(match scope_of(scene, fields, is_mark)? {
-                Some(scope) if is_mark => Some(Event::Local(Local::Mark(scope))),
-                Some(scope) => Some(Event::Local(Local::Update(scope))),
-                None => None,
-            });
+    let word = fields.first();
+    if let Some(lead) = lead_of(word) {
+        return Ok(Some(Event::Lead(lead)));
+    }
+    let at = fields.machine(0)?;
+    match word {
+        "grant" => {
+            let x = fields.vertex(scene.beginning.graph, 1)?;
+            Ok(Some(Event::Local(Local::Grant(at, x))))
         }
-        _ => return passage_of(fields),
-    };
-    Ok(Some(Event::Local(local)))
+        "update" | "mark" => scope_event(scene, fields, at),
+        "send" | "deliver" => {
+            let to = fields.machine(1)?;
+            Ok(Some(Event::Passage(link_of(word, at, to))))
+        }
+        _ => match event_at(word, at) {
+            Some(event) => Ok(Some(event)),
+            None => Err(Trouble::Malformed("no such word")),
+        },
+    }
+}
+
+/// What the coordinator does by itself.
+fn lead_of(word: &str) -> Option<Lead> {
+    match word {
+        "begin" => Some(Lead::Begin),
+        "step" => Some(Lead::Step),
+        "wave" => Some(Lead::Wave),
+        "stop" => Some(Lead::Stop),
+        _ => None,
+    }
+}
+
+/// What happens at one machine alone.
+fn event_at(word: &str, at: MachineNo) -> Option<Event> {
+    Some(match word {
+        "admit" => Event::Local(Local::Admit(at)),
+        "section" => Event::Local(Local::Section(at)),
+        "fail" => Event::Local(Local::Fail(at)),
+        "send-call" => Event::Passage(Passage::SendCall(at)),
+        "deliver-call" => Event::Passage(Passage::DeliverCall(at)),
+        "send-report" => Event::Passage(Passage::SendReport(at)),
+        "deliver-report" => Event::Passage(Passage::DeliverReport(at)),
+        _ => return None,
+    })
+}
+
+/// What goes onto the link between two machines, or comes.
+fn link_of(word: &str, from: MachineNo, to: MachineNo) -> Passage {
+    if word == "send" {
+        Passage::Send { from, to }
+    } else {
+        Passage::Deliver { from, to }
+    }
+}
+
+/// The update, or the snapshot update, of a scope; `None` where none is ready.
+fn scope_event<P: Program>(
+    scene: &Scene<'_, P>,
+    fields: &Fields<'_>,
+    home: MachineNo,
+) -> Result<Option<Event>, Trouble> {
+    let is_mark = fields.first() == "mark";
+    Ok(match scope_of(scene, fields, home, is_mark)? {
+        Some(scope) if is_mark => Some(Event::Local(Local::Mark(scope))),
+        Some(scope) => Some(Event::Local(Local::Update(scope))),
+        None => None,
+    })
 }
 
 /// The scope that the line names, or the next of the machine that is ready.
 fn scope_of<P: Program>(
     scene: &Scene<'_, P>,
     fields: &Fields<'_>,
+    home: MachineNo,
     is_mark: bool,
 ) -> Result<Option<ScopeId>, Trouble> {
-    let home = fields.machine(0)?;
     if fields.others().len() > 1 {
         let serial = fields.number(1)?;
         return Ok(Some(ScopeId { home, serial }));
     }
     next_scope(&scene.whole, home, is_mark)
-}
-
-/// What goes onto a link, or comes, or what the coordinator does.
-fn passage_of(fields: &Fields<'_>) -> Result<Option<Event>, Trouble> {
-    let event = match fields.first() {
-        "begin" => Event::Lead(Lead::Begin),
-        "step" => Event::Lead(Lead::Step),
-        "wave" => Event::Lead(Lead::Wave),
-        "stop" => Event::Lead(Lead::Stop),
-        "send-call" => Event::Passage(Passage::SendCall(fields.machine(0)?)),
-        "deliver-call" => Event::Passage(Passage::DeliverCall(fields.machine(0)?)),
-        "send-report" => Event::Passage(Passage::SendReport(fields.machine(0)?)),
-        "deliver-report" => Event::Passage(Passage::DeliverReport(fields.machine(0)?)),
-        "send" => {
-            let (from, to) = (fields.machine(0)?, fields.machine(1)?);
-            Event::Passage(Passage::Send { from, to })
-        }
-        "deliver" => {
-            let (from, to) = (fields.machine(0)?, fields.machine(1)?);
-            Event::Passage(Passage::Deliver { from, to })
-        }
-        _ => return Err(Trouble::Malformed("no such word")),
-    };
-    Ok(Some(event))
 }

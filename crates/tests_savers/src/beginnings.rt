@@ -52,20 +52,9 @@ pub fn beginning_of<'a, P: Program>(
     program: P,
     plan: &Plan,
 ) -> Result<Beginning<'a, P>, Trouble> {
-    let mut of = Vec::new(alloc);
-    let mut last = 0;
-    for number in plan.machines.iter() {
-        if *number >= 16 {
-            return Err(Trouble::Malformed("too many machines"));
-        }
-        last = last.max(*number as u16);
-        of.push(AtomNo(*number as u16))?;
-    }
-    let machines = last.saturating_add(1);
-    let mut owner = Vec::new(alloc);
-    for machine in 0..machines {
-        owner.push(MachineNo(machine))?;
-    }
+    let of = atoms_of(alloc, &plan.machines)?;
+    let machines = count_of(&of);
+    let owner = owners_of(alloc, machines)?;
     Ok(Beginning {
         graph,
         program,
@@ -76,6 +65,36 @@ pub fn beginning_of<'a, P: Program>(
         window: plan.window,
         engine: plan.engine,
     })
+}
+
+/// The atom of each vertex: the one of its machine's number.
+fn atoms_of(alloc: Global, numbers: &[u64]) -> Result<Vec<AtomNo>, Trouble> {
+    let mut of = Vec::new(alloc);
+    for number in numbers {
+        if *number >= 16 {
+            return Err(Trouble::Malformed("too many machines"));
+        }
+        of.push(AtomNo(*number as u16))?;
+    }
+    Ok(of)
+}
+
+/// How many machines there are, where the vertices are in these atoms.
+fn count_of(of: &[AtomNo]) -> u16 {
+    let mut last = 0;
+    for atom in of {
+        last = last.max(atom.0);
+    }
+    last.saturating_add(1)
+}
+
+/// The machine of each atom.
+fn owners_of(alloc: Global, machines: u16) -> Result<Vec<MachineNo>, Trouble> {
+    let mut owner = Vec::new(alloc);
+    for machine in 0..machines {
+        owner.push(MachineNo(machine))?;
+    }
+    Ok(owner)
 }
 
 /// The numbers with which the plan begins: those that it lists, or else those with which the program starts, and 0 for each edge.
@@ -190,8 +209,26 @@ fn start_from<P: Program>(
     ensures newest { IfOk result (λ start. start.store.newest + 1 < 2 ^ 32) }
     ensures length { IfOk result (λ start. start.store.length < 2 ^ 32) }
 {
-    let (graph, program) = (beginning.graph, beginning.program);
     let places = places_of(alloc, beginning)?;
+    start_at(alloc, beginning, base, &places, serials)
+}
+
+/// The same at these places.
+fn start_at<P: Program>(
+    alloc: Global,
+    beginning: &Beginning<'_, P>,
+    base: &Base,
+    places: &Places,
+    serials: &[u64],
+) -> Result<Start<P>, Trouble>
+    requires places { ArePlacesOf beginning.now.graph.now places.now.run.machines places.now }
+    requires graph { IsDataGraph beginning.now.graph.now }
+    ensures start { IfOk result (λ start. (next left : ℕ) → (st : Setting) × (view : BaseView) × (before : Cluster) × StartsSaving (IsEngineSaverOf P.meaning) start.machines.items start.engine (store_view start.store) next left st view before) }
+    ensures many { IfOk result (λ start. length start.machines.items < 65535) }
+    ensures newest { IfOk result (λ start. start.store.newest + 1 < 2 ^ 32) }
+    ensures length { IfOk result (λ start. start.store.length < 2 ^ 32) }
+{
+    let (graph, program) = (beginning.graph, beginning.program);
     let run = places.run;
     if serials.len() != run.machines as usize || run.machines == u16::MAX {
         return Err(Trouble::Malformed("another count of machines"));
@@ -203,7 +240,7 @@ fn start_from<P: Program>(
     if store.newest == u32::MAX || store.length > MOST_BYTES {
         return Err(Trouble::Malformed("too great a store"));
     }
-    let machines = placed_savers(alloc, graph, program, base, &places, serials)?;
+    let machines = placed_savers(alloc, graph, program, base, places, serials)?;
     Ok(Start {
         machines,
         engine: run.engine,
@@ -233,15 +270,30 @@ pub fn begin_again<P: Program>(
     base: &Base,
     whole: &mut Whole<P>,
 ) -> Result<(), Trouble> {
-    let mut serials = Vec::new(alloc);
-    for m in 0..whole.machines() {
-        serials.push(whole.machine(MachineNo(m as u16)).serial())?;
-    }
+    let serials = serials_of(alloc, whole)?;
     let start = start_from(alloc, beginning, base, &serials)?;
     if start.machines.len() != whole.machines() {
         return Err(Trouble::Malformed("another count of machines"));
     }
     Ok(whole.recover(alloc, start.machines, start.engine, start.store)?)
+}
+
+/// How many scopes each machine of the cluster has admitted.
+fn serials_of<P: Program>(alloc: Global, whole: &Whole<P>) -> Result<Vec<u64>, Trouble> {
+    let mut serials = Vec::new(alloc);
+    for m in 0..whole.machines() {
+        serials.push(whole.machine(MachineNo(m as u16)).serial())?;
+    }
+    Ok(serials)
+}
+
+/// The same of each machine of the call.
+fn serials_in<P: Program>(alloc: Global, course: &InCourse<P>) -> Result<Vec<u64>, Trouble> {
+    let mut serials = Vec::new(alloc);
+    for m in 0..course.machines() {
+        serials.push(course.machine(MachineNo(m as u16)).serial())?;
+    }
+    Ok(serials)
 }
 
 /// The call that opens from this base, with so many tickets and these failures.
@@ -275,10 +327,7 @@ pub fn call_again<P: Program>(
     base: &Base,
     course: &mut InCourse<P>,
 ) -> Result<(), Trouble> {
-    let mut serials = Vec::new(alloc);
-    for m in 0..course.machines() {
-        serials.push(course.machine(MachineNo(m as u16)).serial())?;
-    }
+    let serials = serials_in(alloc, course)?;
     let start = start_from(alloc, beginning, base, &serials)?;
     if start.machines.len() != course.machines() {
         return Err(Trouble::Malformed("another count of machines"));

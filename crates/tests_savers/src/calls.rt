@@ -5,17 +5,19 @@ use crate::answers::is_answer;
 use crate::beginnings::{Beginning, InCourse, base_of, begin_call, beginning_of, call_again};
 use crate::fields::Fields;
 use crate::graphs::graph_of;
-use crate::looks::{is_text, kept_text, number_text, word_text};
-use crate::plans::{Plan, plan_of};
+use crate::looks::{kept_text, number_text, word_text};
+use crate::plans::{Plan, take_lines};
 use crate::records::keep_record;
 use crate::recovering::{newest_base, with_restarts};
 use crate::scenarios::{Line, Scenario};
 use crate::scenes::{Kept, first_kept};
+use crate::spots::Spot;
 use crate::trouble::Trouble;
 use call_courses::{Course, Event, Local, SavingMachine};
 use call_returns::count_failed;
 use call_rounds::{Pause, drive};
 use gl_base::{MachineNo, Refused};
+use graph_core::Graph;
 use job_programs::JobProgram;
 use std::alloc::Global;
 use std::sync::Wait;
@@ -38,21 +40,28 @@ struct Call<'a, P: Program> {
 pub fn play_call<R: Wait + AllocGlobal>(
     rt: &R,
     scenario: &Scenario<'_>,
-    at: &mut usize,
+    at: &mut Spot,
 ) -> Result<(), Trouble> {
-    let alloc = rt.alloc();
-    let (plan, taken) = plan_of(alloc, scenario, at)?;
+    let mut plan = Plan::new(rt.alloc());
+    let taken = take_lines(rt.alloc(), &mut plan, &scenario.lines, at)?;
     let lines = scenario.lines.get(taken..).unwrap_or(&[]);
-    let graph = graph_of(alloc, &plan)?;
+    let graph = graph_of(rt.alloc(), &plan)?;
+    play_on(rt, &graph, &plan, lines, at)
+}
+
+/// Plays the lines on a call of the plan's program.
+fn play_on<R: Wait + AllocGlobal>(
+    rt: &R,
+    graph: &Graph,
+    plan: &Plan,
+    lines: &[Line<'_>],
+    at: &mut Spot,
+) -> Result<(), Trouble> {
     let program = JobProgram::of(plan.algorithm, plan.source);
-    let beginning = beginning_of(alloc, &graph, program, &plan)?;
-    let mut call = opened_call(alloc, &beginning, &plan)?;
+    let beginning = beginning_of(rt.alloc(), graph, program, plan)?;
+    let mut call = opened_call(rt.alloc(), &beginning, plan)?;
     go_on(rt, &mut call)?;
-    for line in lines {
-        *at = line.number;
-        look(alloc, &call, line.text)?;
-    }
-    Ok(())
+    look_on(rt.alloc(), &call, lines, at)
 }
 
 /// The call opens with a store without snapshots.
@@ -63,15 +72,26 @@ fn opened_call<'a, P: Program>(
 ) -> Result<Call<'a, P>, Trouble> {
     let base = base_of(alloc, beginning.graph, &beginning.program, plan)?;
     let mut kept = first_kept(alloc, beginning, &base)?;
-    let base = newest_base(alloc, beginning, &mut kept)?;
-    let failures = Vec::from_slice(alloc, &plan.failures)?;
+    let course = opened_course(alloc, beginning, &mut kept, plan)?;
     Ok(Call {
         beginning,
-        course: begin_call(alloc, beginning, &base, plan.tickets, failures)?,
+        course,
         kept,
         recoveries: 0,
         pause: None,
     })
+}
+
+/// The call opens from what the store tells.
+fn opened_course<P: Program>(
+    alloc: Global,
+    beginning: &Beginning<'_, P>,
+    kept: &mut Kept,
+    plan: &Plan,
+) -> Result<InCourse<P>, Trouble> {
+    let base = newest_base(alloc, beginning, kept)?;
+    let failures = Vec::from_slice(alloc, &plan.failures)?;
+    begin_call(alloc, beginning, &base, plan.tickets, failures)
 }
 
 /// Goes on from pause to pause until the call has ended, or its budget is spent.
@@ -110,16 +130,25 @@ fn take_due<P: Program, M: SavingMachine>(
 
 /// Each machine that has reached the count of a failure fails, and all go back to the newest snapshot.
 fn go_back<P: Program>(alloc: Global, call: &mut Call<'_, P>) -> Result<(), Trouble> {
-    let mut flags = Vec::new(alloc);
-    for m in 0..call.beginning.machines {
-        flags.push(fails(&mut call.course, MachineNo(m))?)?;
-    }
-    let failures = count_failed(&flags);
+    let failures = failures_of(alloc, &mut call.course, call.beginning.machines)?;
     let base = newest_base(alloc, call.beginning, &mut call.kept)?;
     let base = with_restarts(alloc, &mut call.kept, base, failures, call.course.next())?;
     call_again(alloc, call.beginning, &base, &mut call.course)?;
     call.recoveries = call.recoveries.saturating_add(1);
     Ok(())
+}
+
+/// Each machine that has reached the count of a failure fails. Tells how many do.
+fn failures_of<M: SavingMachine>(
+    alloc: Global,
+    course: &mut Course<M>,
+    machines: u16,
+) -> Result<usize, Trouble> {
+    let mut flags = Vec::new(alloc);
+    for m in 0..machines {
+        flags.push(fails(course, MachineNo(m))?)?;
+    }
+    Ok(count_failed(&flags))
 }
 
 /// Whether the call has this machine.
@@ -156,16 +185,35 @@ fn is_let_fail<M: SavingMachine>(course: &mut Course<M>, at: MachineNo) -> bool 
     has_machine(course, at) && course.apply(Event::Local(Local::Fail(at))).is_ok()
 }
 
+/// Looks at what the lines say.
+fn look_on<P: Program>(
+    alloc: Global,
+    call: &Call<'_, P>,
+    lines: &[Line<'_>],
+    at: &mut Spot,
+) -> Result<(), Trouble> {
+    for line in lines {
+        at.line = line.number;
+        look(alloc, call, line.text, at)?;
+    }
+    Ok(())
+}
+
 /// Looks at what the line says.
-fn look<P: Program>(alloc: Global, call: &Call<'_, P>, text: &str) -> Result<(), Trouble> {
+fn look<P: Program>(
+    alloc: Global,
+    call: &Call<'_, P>,
+    text: &str,
+    at: &mut Spot,
+) -> Result<(), Trouble> {
     if text == "answer" {
         return is_answer(alloc, call.beginning, &call.kept);
     }
     let Some((asked, wanted)) = text.split_once(" is ") else {
         return Err(Trouble::Malformed("no such word"));
     };
-    let found = seen(alloc, call, &Fields::of(alloc, asked)?)?;
-    is_text(found, wanted)
+    let fields = Fields::of(alloc, asked)?;
+    at.look(seen(alloc, call, &fields)?, wanted)
 }
 
 /// What is to be seen where the line asks for it.

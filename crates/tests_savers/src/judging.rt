@@ -2,6 +2,7 @@
 use crate::calls::play_call;
 use crate::playing::play;
 use crate::scenarios::{Scenario, read_scenarios};
+use crate::spots::Spot;
 use crate::trouble::Trouble;
 use std::alloc::AllocError;
 use std::rt::Files;
@@ -56,16 +57,27 @@ pub fn play_file<R: Files + Print + AllocGlobal + Wait>(
     tally: &mut Tally,
 ) -> io::Result<()> {
     let text = fs::read_to_string(rt, file)?;
-    for scenario in read_scenarios(rt.alloc(), text.as_str())?.iter() {
-        let found = wrong(rt, scenario, kind)?;
-        let are_wrong = matches!(kind, Kind::Wrong);
-        tally.add(found.is_some() == are_wrong);
-        let what = match &found {
-            Some(what) => what.as_str(),
-            None => "it passes",
+    let scenarios = read_scenarios(rt.alloc(), text.as_str())?;
+    play_scenarios(rt, file, &scenarios, kind, tally)
+}
+
+fn play_scenarios<R: Print + AllocGlobal + Wait>(
+    rt: &R,
+    file: &str,
+    scenarios: &[Scenario<'_>],
+    kind: Kind,
+    tally: &mut Tally,
+) -> io::Result<()> {
+    for scenario in scenarios {
+        let mut at = Spot {
+            line: scenario.number,
+            seen: None,
         };
-        if found.is_some() != are_wrong {
-            print_wrong(rt, file, scenario.number, scenario.name, what)?;
+        let wrong = wrong(rt, scenario, kind, &mut at)?;
+        let is_well = wrong.is_some() == matches!(kind, Kind::Wrong);
+        tally.add(is_well);
+        if !is_well {
+            print_wrong(rt, file, scenario, &at, wrong)?;
         }
     }
     Ok(())
@@ -75,32 +87,33 @@ pub fn play_file<R: Files + Print + AllocGlobal + Wait>(
 fn print_wrong<R: Print>(
     rt: &R,
     file: &str,
-    number: usize,
-    name: &str,
-    what: &str,
+    scenario: &Scenario<'_>,
+    at: &Spot,
+    wrong: Option<&'static str>,
 ) -> io::Result<()> {
-    println!(rt; "{file}:{number}: {name}: {what}")
+    let (number, name, line) = (scenario.number, scenario.name, at.line);
+    let (why, seen) = match (wrong, &at.seen) {
+        (None, _) => ("it passes", ""),
+        (Some(why), None) => (why, ""),
+        (Some(_), Some(text)) => ("it is ", text.as_str()),
+    };
+    println!(rt; "{file}:{number}: {name}: line {line}: {why}{seen}")
 }
 
-/// What is wrong with the first line that differs, or can't be understood.
+/// What is wrong with the first line that differs, or can't be understood, at which `at` stands then.
 fn wrong<R: AllocGlobal + Wait>(
     rt: &R,
     scenario: &Scenario<'_>,
     kind: Kind,
-) -> Result<Option<String>, AllocError> {
-    let mut at = scenario.number;
+    at: &mut Spot,
+) -> Result<Option<&'static str>, AllocError> {
     let played = match kind {
-        Kind::Calls => play_call(rt, scenario, &mut at),
-        _ => play(rt.alloc(), scenario, &mut at),
+        Kind::Calls => play_call(rt, scenario, at),
+        _ => play(rt.alloc(), scenario, at),
     };
     match played {
         Ok(()) => Ok(None),
         Err(Trouble::NoMemory) => Err(AllocError),
-        Err(Trouble::Malformed(what) | Trouble::Differs(what)) => {
-            Ok(Some(format!(in rt.alloc(); "line {at}: {what}")?))
-        }
-        Err(Trouble::Seen(text)) => {
-            Ok(Some(format!(in rt.alloc(); "line {at}: it is {}", text.as_str())?))
-        }
+        Err(Trouble::Malformed(what) | Trouble::Differs(what)) => Ok(Some(what)),
     }
 }

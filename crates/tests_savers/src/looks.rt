@@ -57,15 +57,6 @@ pub fn kept_text(
     }
 }
 
-/// Whether it is the text that is wanted.
-pub fn is_text(found: String, wanted: &str) -> Result<(), Trouble> {
-    if found.as_str() == wanted {
-        Ok(())
-    } else {
-        Err(Trouble::Seen(found))
-    }
-}
-
 /// What is to be seen of the machine that the line names.
 fn seen_at<M: SavingMachine>(
     alloc: Global,

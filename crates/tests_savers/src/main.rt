@@ -23,6 +23,7 @@ mod replays;
 mod restarts;
 mod scenarios;
 mod scenes;
+mod spots;
 mod stores;
 mod trouble;
 

@@ -1,7 +1,8 @@
 //! What a scenario's cluster is made of, as it is written.
 use crate::fields::{Fields, number_of};
 use crate::graphs::add_edges;
-use crate::scenarios::Scenario;
+use crate::scenarios::Line;
+use crate::spots::Spot;
 use crate::trouble::Trouble;
 use gl_base::{Algorithm, EngineKind, FailureAt, MachineNo};
 use graph_core::EdgeIn;
@@ -105,20 +106,26 @@ impl Plan {
     }
 }
 
-/// What the first lines of a scenario say, and how many these are. `at` follows the line.
-pub fn plan_of(
+/// Takes what the first lines of a scenario say, and tells how many these are. `at` follows the line.
+pub fn take_lines(
     alloc: Global,
-    scenario: &Scenario<'_>,
-    at: &mut usize,
-) -> Result<(Plan, usize), Trouble> {
-    let mut plan = Plan::new(alloc);
-    for (place, line) in scenario.lines.iter().enumerate() {
-        *at = line.number;
-        if !plan.take(alloc, &Fields::of(alloc, line.text)?)? {
-            return Ok((plan, place));
+    plan: &mut Plan,
+    lines: &[Line<'_>],
+    at: &mut Spot,
+) -> Result<usize, Trouble> {
+    for (place, line) in lines.iter().enumerate() {
+        at.line = line.number;
+        if !is_taken(alloc, plan, line.text)? {
+            return Ok(place);
         }
     }
-    Ok((plan, scenario.lines.len()))
+    Ok(lines.len())
+}
+
+/// Whether the line says something of the cluster, which the plan takes.
+fn is_taken(alloc: Global, plan: &mut Plan, text: &str) -> Result<bool, Trouble> {
+    let fields = Fields::of(alloc, text)?;
+    plan.take(alloc, &fields)
 }
 
 /// The window of this many updates.

@@ -6,10 +6,11 @@ use crate::chances::play_seeds;
 use crate::driving::{bring, drive, settle};
 use crate::fields::Fields;
 use crate::graphs::graph_of;
-use crate::looks::{is_text, seen};
-use crate::plans::{Plan, plan_of};
+use crate::looks::seen;
+use crate::plans::{Plan, take_lines};
 use crate::scenarios::{Line, Scenario};
 use crate::scenes::Scene;
+use crate::spots::Spot;
 use crate::trouble::Trouble;
 use graph_core::Graph;
 use job_programs::JobProgram;
@@ -17,8 +18,9 @@ use std::alloc::Global;
 use update_api::Program;
 
 /// Plays a scenario to its last line, or to the first that differs or can't be understood. `at` follows the line that is played.
-pub fn play(alloc: Global, scenario: &Scenario<'_>, at: &mut usize) -> Result<(), Trouble> {
-    let (plan, taken) = plan_of(alloc, scenario, at)?;
+pub fn play(alloc: Global, scenario: &Scenario<'_>, at: &mut Spot) -> Result<(), Trouble> {
+    let mut plan = Plan::new(alloc);
+    let taken = take_lines(alloc, &mut plan, &scenario.lines, at)?;
     let lines = scenario.lines.get(taken..).unwrap_or(&[]);
     let graph = graph_of(alloc, &plan)?;
     play_on(alloc, &graph, &plan, lines, at)
@@ -30,15 +32,25 @@ fn play_on(
     graph: &Graph,
     plan: &Plan,
     lines: &[Line<'_>],
-    at: &mut usize,
+    at: &mut Spot,
 ) -> Result<(), Trouble> {
     let program = JobProgram::of(plan.algorithm, plan.source);
     let beginning = beginning_of(alloc, graph, program, plan)?;
     let base = base_of(alloc, graph, &program, plan)?;
     let mut scene = Scene::new(alloc, &beginning, &base, plan.tickets)?;
+    play_lines(alloc, &mut scene, lines, at)
+}
+
+/// Plays the lines in turn.
+fn play_lines<P: Program>(
+    alloc: Global,
+    scene: &mut Scene<'_, P>,
+    lines: &[Line<'_>],
+    at: &mut Spot,
+) -> Result<(), Trouble> {
     for line in lines {
-        *at = line.number;
-        play_line(alloc, &mut scene, line.text)?;
+        at.line = line.number;
+        play_line(alloc, scene, line.text, at)?;
     }
     Ok(())
 }
@@ -48,15 +60,18 @@ fn play_line<P: Program>(
     alloc: Global,
     scene: &mut Scene<'_, P>,
     text: &str,
+    at: &mut Spot,
 ) -> Result<(), Trouble> {
     if let Some((asked, wanted)) = text.split_once(" is ") {
-        let found = seen(alloc, scene, &Fields::of(alloc, asked)?)?;
-        return is_text(found, wanted);
+        let fields = Fields::of(alloc, asked)?;
+        return at.look(seen(alloc, scene, &fields)?, wanted);
     }
-    match text.strip_prefix("not-now ") {
-        Some(refused) => act(alloc, scene, &Fields::of(alloc, refused)?, false),
-        None => play_far(alloc, scene, &Fields::of(alloc, text)?),
+    if let Some(refused) = text.strip_prefix("not-now ") {
+        let fields = Fields::of(alloc, refused)?;
+        return act(alloc, scene, &fields, false);
     }
+    let fields = Fields::of(alloc, text)?;
+    play_far(alloc, scene, &fields)
 }
 
 /// Lets much happen, or looks over the whole, or lets one thing happen.

@@ -48,18 +48,14 @@ fn look_at<P: Program>(
     kept: &mut Kept,
     record: &Record,
 ) -> Result<(), Trouble> {
-    let mut order = Vec::from_slice(alloc, &kept.order)?;
-    order.extend_from_slice(&record.entries)?;
-    order.sort_unstable_by_key(|entry| rank(*entry));
-    let (graph, program) = (beginning.graph, beginning.program);
-    let numbers = replay(alloc, graph, program, &kept.first, &order)?;
     if record.sections.len() != beginning.machines as usize {
         return Err(Trouble::Differs("a section is missing"));
     }
-    has_numbers(alloc, record, &numbers)?;
-    kept.order = order;
-    kept.newest = numbers;
-    Ok(())
+    kept.order.extend_from_slice(&record.entries)?;
+    kept.order.sort_unstable_by_key(|entry| rank(*entry));
+    let (graph, program) = (beginning.graph, beginning.program);
+    kept.newest = replay(alloc, graph, program, &kept.first, &kept.order)?;
+    has_numbers(alloc, record, &kept.newest)
 }
 
 /// Where an entry stands in an order: by its ticket, and a restart before an update with the same.

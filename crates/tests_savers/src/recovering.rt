@@ -3,7 +3,7 @@ use crate::beginnings::{Beginning, begin_again};
 use crate::replays::Numbers;
 use crate::restarts::missing_of;
 use crate::scenes::{Kept, Scene};
-use crate::stores::opened_again;
+use crate::stores::{Store, opened_again};
 use crate::trouble::Trouble;
 use call_returns::{base_behind, count_failed};
 use gl_base::{Base, MachineNo};
@@ -52,11 +52,28 @@ pub fn newest_base<P: Program>(
     beginning: &Beginning<'_, P>,
     kept: &mut Kept,
 ) -> Result<Base, Trouble> {
-    let mut store = opened_again(alloc, &mut kept.store)?;
-    let Ok(base) = recover(alloc, &mut store, beginning.graph, &beginning.program) else {
-        return Err(Trouble::Differs("the store tells no snapshot"));
-    };
-    kept.store = Some(store);
+    let base = recovered(alloc, beginning, &mut kept.store)?;
+    is_newest(&base, kept)?;
+    Ok(base)
+}
+
+/// What the store tells, which is opened again.
+fn recovered<P: Program>(
+    alloc: Global,
+    beginning: &Beginning<'_, P>,
+    kept: &mut Option<Store>,
+) -> Result<Base, Trouble> {
+    let mut store = opened_again(alloc, kept)?;
+    let base = recover(alloc, &mut store, beginning.graph, &beginning.program);
+    *kept = Some(store);
+    match base {
+        Ok(base) => Ok(base),
+        Err(_) => Err(Trouble::Differs("the store tells no snapshot")),
+    }
+}
+
+/// It has the order and the numbers that are known of the newest snapshot.
+fn is_newest(base: &Base, kept: &Kept) -> Result<(), Trouble> {
     if base.order.as_slice() != kept.order.as_slice() {
         return Err(Trouble::Differs("the store has another order"));
     }
@@ -65,7 +82,7 @@ pub fn newest_base<P: Program>(
     {
         return Err(Trouble::Differs("the store has other numbers"));
     }
-    Ok(base)
+    Ok(())
 }
 
 /// The base, with the restarts that the store lacks behind its order, of which so many are for failures of this attempt.

@@ -18,31 +18,56 @@ pub struct Scenario<'a> {
 
 /// The scenarios of a file, in order. Empty lines and those that begin with `#` are passed over.
 pub fn read_scenarios<'a>(alloc: Global, file: &'a str) -> Result<Vec<Scenario<'a>>, AllocError> {
-    let mut given: Vec<Line<'a>> = Vec::new(alloc);
-    let mut scenarios: Vec<Scenario<'a>> = Vec::new(alloc);
-    let mut is_given = true;
+    let mut reading = Reading {
+        given: Vec::new(alloc),
+        is_given: true,
+        scenarios: Vec::new(alloc),
+    };
     for (place, text) in file.lines().enumerate() {
         let number = place.saturating_add(1);
-        let line = Line { number, text };
-        if text.is_empty() || text.starts_with('#') {
-            continue;
-        }
-        if text == "given" {
-            is_given = true;
-            given.clear();
-        } else if let Some(name) = text.strip_prefix("scenario ") {
-            is_given = false;
-            let lines = Vec::from_slice(alloc, &given)?;
-            scenarios.push(Scenario {
-                name,
-                number,
-                lines,
-            })?;
-        } else if is_given {
-            given.push(line)?;
-        } else if let Some(scenario) = scenarios.last_mut() {
-            scenario.lines.push(line)?;
+        if !text.is_empty() && !text.starts_with('#') {
+            reading.read(alloc, Line { number, text })?;
         }
     }
+    let Reading { scenarios, .. } = reading;
     Ok(scenarios)
+}
+
+/// What was read of a file so far.
+#[derive(Drop)]
+struct Reading<'a> {
+    /// The lines that each scenario begins with.
+    given: Vec<Line<'a>>,
+    /// Whether no scenario has begun behind what is given.
+    is_given: bool,
+    scenarios: Vec<Scenario<'a>>,
+}
+
+impl<'a> Reading<'a> {
+    /// Reads one more line.
+    fn read(&mut self, alloc: Global, line: Line<'a>) -> Result<(), AllocError> {
+        if line.text == "given" {
+            self.is_given = true;
+            self.given.clear();
+        } else if let Some(name) = line.text.strip_prefix("scenario ") {
+            self.is_given = false;
+            self.begin(alloc, name, line.number)?;
+        } else if self.is_given {
+            self.given.push(line)?;
+        } else if let Some(scenario) = self.scenarios.last_mut() {
+            scenario.lines.push(line)?;
+        }
+        Ok(())
+    }
+
+    /// Begins a scenario.
+    fn begin(&mut self, alloc: Global, name: &'a str, number: usize) -> Result<(), AllocError> {
+        let lines = Vec::from_slice(alloc, &self.given)?;
+        self.scenarios.push(Scenario {
+            name,
+            number,
+            lines,
+        })?;
+        Ok(())
+    }
 }

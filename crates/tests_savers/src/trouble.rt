@@ -3,14 +3,12 @@ use gl_base::NoMemory;
 use std::alloc::{AllocError, AllocFailed};
 
 /// What may go wrong with a line of a scenario.
-#[derive(Debug, Drop)]
+#[derive(Clone, Copy, Debug, PartialEq, Eq)]
 pub enum Trouble {
     /// The line can't be understood.
     Malformed(&'static str),
     /// What came is another thing than what is wanted.
     Differs(&'static str),
-    /// This is seen in place of what is wanted.
-    Seen(String),
     NoMemory,
 }
 

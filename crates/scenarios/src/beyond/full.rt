@@ -1,6 +1,7 @@
 //! A store that has as many snapshots as it may have.
-use crate::beyond::calls::{call, files_with};
+use crate::beyond::calls::{call, files_with, short_sink};
 use gl_base::NoMemory;
+use gl_outside::MemFiles;
 use std::alloc::Global;
 use std::sync::Wait;
 
@@ -9,7 +10,7 @@ const JOB: &str =
     "{\"vertices\":\"g.v\",\"edges\":\"g.e\",\"directed\":false,\"algorithm\":\"components\",\"store\":\"s\"}";
 
 /// The files of the job.
-const TEXTS: [(&str, &str); 3] = [("j", JOB), ("g.v", ""), ("g.e", "")];
+static TEXTS: [(&str, &str); 3] = [("j", JOB), ("g.v", ""), ("g.e", "")];
 
 /// As many snapshots a store takes.
 const MOST: u64 = 4096;
@@ -53,22 +54,40 @@ fn is_resumed_so<R: Wait>(
 ) -> Result<bool, NoMemory> {
     let mut files = files_with(alloc, &TEXTS)?;
     files.put_disk("s", store_of(alloc, header, snapshots)?)?;
-    let (ended, _out, note) = call(rt, alloc, "resume", &mut files)?;
+    let is_told = is_told_so(rt, alloc, &mut files, told)?;
     let full = store_of(alloc, header, MOST)?;
-    Ok((ended.status.number(), note.bytes()) == told && files.disk_bytes("s") == full.as_slice())
+    Ok(is_told && files.disk_bytes("s") == full.as_slice())
+}
+
+/// Whether the store is gone on from with this status and this text.
+fn is_told_so<R: Wait>(
+    rt: &R,
+    alloc: Global,
+    files: &mut MemFiles,
+    told: (u8, &[u8]),
+) -> Result<bool, NoMemory> {
+    let (mut out, mut note) = (short_sink(alloc), short_sink(alloc));
+    let status = call(rt, alloc, "resume", files, &mut out, &mut note)?;
+    Ok((status, note.bytes()) == told)
 }
 
 /// Whether a store of 4096 snapshots is told as full, with how many it has and how many bytes, and stays as it is, and one with one
 /// less is gone on from.
 pub fn a_full_store_takes_no_snapshot<R: Wait>(rt: &R, alloc: Global) -> Result<bool, NoMemory> {
     let mut files = files_with(alloc, &TEXTS)?;
-    let (ended, _out, _note) = call(rt, alloc, "init", &mut files)?;
+    let (mut out, mut note) = (short_sink(alloc), short_sink(alloc));
+    let status = call(rt, alloc, "init", &mut files, &mut out, &mut note)?;
     // The first gate stands behind the header.
-    let Some(header) = files.disk_bytes("s").get(..64) else {
-        return Ok(false);
-    };
+    match files.disk_bytes("s").get(..64) {
+        Some(header) if status == 0 => is_full_told(rt, alloc, header),
+        _ => Ok(false),
+    }
+}
+
+/// The same of stores with this header.
+fn is_full_told<R: Wait>(rt: &R, alloc: Global, header: &[u8]) -> Result<bool, NoMemory> {
     let told = b"snapshots full: 4096 stored, 167985 bytes\n".as_slice();
     let is_told_full = is_resumed_so(rt, alloc, header, MOST, (10, told))?;
     let is_gone_on_from = is_resumed_so(rt, alloc, header, MOST - 1, (0, b"".as_slice()))?;
-    Ok(ended.status.number() == 0 && is_told_full && is_gone_on_from)
+    Ok(is_told_full && is_gone_on_from)
 }
