@@ -1,4 +1,4 @@
-//! WritesNote on standard error why a call was refused.
+//! Writes on standard error why a call was refused.
 ghost use Rattle.std.specs.Prelude.{◌≡◌, ◌≤◌, [], ◌∷◌, codes, decimal, map};
 ghost use Rattle.gl_base.specs.declared.job_faults.JobFault.TheVariants.{OutOfRange};
 ghost use Rattle.store_format.specs.declared.faults.StoreFault.TheVariants.{Machines};
@@ -16,7 +16,7 @@ use store_format::StoreFault;
 const USAGE: &str =
     "usage: glab run|resume|init|cut JOB\nusage: glab make PREFIX --number N --vertices N --edges N [--weight N]\n";
 
-/// WritesNote why a call was refused, and hands on the status. A fault of `note` is passed over.
+/// Writes why a call was refused, and hands on the status. A fault of `note` is passed over.
 pub fn refuse<N: Sink>(note: &mut N, status: Status) -> Status
     ensures status { result ≡ status }
     ensures note { WritesNote (note_of result) (N.held note.old) (N.held note.new) (N.faults note.old) (N.faults note.new) }

@@ -21,7 +21,7 @@ use sync_folds::Fold;
 use whole_files::write_file;
 
 /// Writes the order of a run to the file that the job names for it, and then prints a line for each vertex: its identifier
-/// and the number at its place. What is to be report of the answer is handed back. All memory is taken before anything is
+/// and the number at its place. The report of the answer is handed back. All memory is taken before anything is
 /// written, so that want of it leaves files and `out` as they were.
 pub fn print_run<F: Files, K: Sink>(
     alloc: Global,
