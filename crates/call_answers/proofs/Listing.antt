@@ -5,14 +5,14 @@ use Rattle.std.proofs.lemmas.List.Sums.{sum_by-cons}
 use Rattle.gl_base.specs.Lists.{AreEach}
 use Rattle.gl_base.specs.declared.entries.Entry.{Entry}
 use Rattle.gl_base.specs.declared.jobs.FailureAt.{FailureAt}
-use Rattle.whole_laws.proofs.attempts.Accounting.{call_accounted}
+use Rattle.whole_laws.proofs.attempts.Accounting.{call_accounted, call_kept}
 use Rattle.whole_laws.proofs.attempts.Failing.{call_followed, call_restarts}
 use Rattle.whole_laws.proofs.attempts.Opening.{call_in_turn, last_begins, opening_begins}
 use Rattle.whole_laws.proofs.attempts.Pieces.{call_between}
 use Rattle.whole_laws.specs.attempts.Accounted.{AreAccounted, AreRestarts, AreValidBetween, IsFollowedByRestart}
 use Rattle.whole_laws.specs.attempts.EngineCalls.{EngineCall, IsEngineCall, IsOrderInTurn, call_order, done_of, fired_of, first_ticket, last_beginning, lost_of, made_of, opening, struck_in}
 use Rattle.whole_laws.specs.attempts.Stores.{IsWithinWindow, last_order, snapshots_of}
-use Rattle.call_answers.specs.Answers.{HasRestarts, IsRunWithFailures, KeepsToWindow, RunLists, Shared, is_restart, made_by, reached_places}
+use Rattle.call_answers.specs.Answers.{HasRestarts, IsRunWithFailures, KeepsToWindow, RunLists, Shared, is_restart, is_update_below, made_by, reached_places}
 use Rattle.call_answers.specs.Ends.{FinishesRun, SpendsRun}
 use Rattle.call_answers.specs.Courses.{IsMerge, ListsOfCourse, all_logged, machine_logs}
 use Rattle.cluster_laws.specs.cluster_core.Recovering.{going_on}
@@ -23,6 +23,7 @@ use Rattle.cluster_laws.specs.cluster_model.Events.{Event, recovers}
 use Rattle.cluster_laws.specs.cluster_model.Machines.{completed}
 use Rattle.cluster_laws.specs.cluster_model.Working.{half_window}
 use Rattle.cluster_laws.specs.cluster_runs.Recorded.{shared_of}
+use Rattle.whole_laws.specs.cluster_records.Few.{under_way}
 use Rattle.whole_laws.specs.cluster_whole.Views.{world_of}
 use Rattle.graph_core.specs.DataGraph.{size}
 use Rattle.seq_run.specs.Orders.{tasks_after}
@@ -103,6 +104,7 @@ module _ (shared : Shared) (call : EngineCall) (is : IsEngineCall shared call) (
       record {
         updates = made_of call;
         in_turn = subst (IsOrderInTurn shared) (sym order) (call_in_turn shared call is);
+        kept = ap (filter (is_update_below (first_ticket call))) order ∙ call_kept shared call is;
         accounted = subst (λ (o : List Entry). AreAccounted shared (first_ticket call) o lists.lost (made_of call)) (sym order)
             (subst (λ (l : List Entry). AreAccounted shared (first_ticket call) (call_order call) l (made_of call)) (sym lost) (call_accounted shared call is));
         between = subst (λ (o : List Entry). AreValidBetween shared (first_ticket call) o (made_of call)) (sym order) (call_between shared call is);
@@ -135,7 +137,7 @@ module _ (st : Setting) (failures : List FailureAt) (kept : List Entry) (resumed
       × (st.stored ≡ true → KeepsToWindow st.window kept (snapshots_of call) lists)
       × AreSnapshotsOf st base.number kept (recorded_in (going_on st base.numbers base.number) (recovers st base first) events) (snapshots_of call)
       × AreNextOrders st kept (fronts_in (going_on st base.numbers base.number) (recovers st base first) events) (recorded_in (going_on st base.numbers base.number) (recovers st base first) events) (snapshots_of call)
-      × (0 < half_window st → length (snapshots_of call) ≤ first.left / half_window st + 1)
+      × (0 < half_window st → length (snapshots_of call) + under_way c ≤ first.left / half_window st + 1)
       × (sum_by (λ count. count) lists.done + c.left ≡ first.left)
       × TellsOfCall st first.left c call
       × (st.stored ≡ true → HasSavedTheEnd st c.coordinator → FinishesRun (shared_of st failures) kept (snapshots_of call) call.last.struck lists)
@@ -168,6 +170,7 @@ module _ (st : Setting) (failures : List FailureAt) (kept : List Entry) (resumed
         λ stored end. record {
           finished = λ u low. ap (λ (es : List Entry). tasks_after st.graph st.program es u) order ∙ made.5.tasks end.end u low;
           answered = made.5.unharmed end.end;
+          some = made.5.some stored end;
           saved = ap (λ (ks : List Entry). last_order ks (snapshots_of call)) (sym of.base) ∙ made.5.saved stored end ∙ sym order;
         },
         λ left none unreached low task. record {

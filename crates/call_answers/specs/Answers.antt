@@ -1,7 +1,7 @@
 -- What is said of the lists that a run leaves in which machines may fail.
 pub use Rattle.whole_laws.specs.attempts.Accounted.{AreAccounted, AreValidBetween, IsFollowedByRestart}
 pub use Rattle.whole_laws.specs.attempts.EngineCalls.{IsOrderInTurn, ticket_above}
-pub use Rattle.whole_laws.specs.attempts.Entries.{is_restart}
+pub use Rattle.whole_laws.specs.attempts.Entries.{is_restart, is_update, is_update_below}
 pub use Rattle.whole_laws.specs.attempts.Stores.{AreGoodOrders, IsWithinWindow, last_order}
 pub use Rattle.cluster_laws.specs.cluster_runs.Attempts.{Shared, made_by}
 use Rattle.std.specs.List.{AllByRecursion}
@@ -33,12 +33,14 @@ pub record HasRestarts (base : List Entry) (resumed : Bool) (fired unanswered : 
   pub behind : filter is_restart order ≡ filter is_restart base ++ new
   pub many : length new + unanswered ≡ (if resumed then 1 else 0) + fired
 
--- What the lists of a run are that began with this base, resumed or not. The order is in turn. Its updates from the run's first ticket on and
--- the lost ones are together the updates that were made, and these are valid from each restart to the next. Each machine's count is its
--- updates among these, and all counts together are as many as they are. A failure fired exactly where its machine made as many as it names, and a restart follows before the machine's next one.
+-- What the lists of a run are that began with this base, resumed or not. The order is in turn. Its updates below the run's first ticket are
+-- those of the base. Its updates from that ticket on and the lost ones are together the updates that were made, and these are valid from each
+-- restart to the next. Each machine's count is its updates among these, and all counts together are as many as they are. A failure fired
+-- exactly if its machine made as many as it names, and a restart follows before the machine's next one.
 pub record IsRunWithFailures (shared : Shared) (machines : ℕ) (base : List Entry) (resumed : Bool) (unanswered : ℕ) (lists : RunLists) : Type 0 where
   pub updates : List Entry
   pub in_turn : IsOrderInTurn shared lists.order
+  pub kept : filter (is_update_below (ticket_above base)) lists.order ≡ filter is_update base
   pub accounted : AreAccounted shared (ticket_above base) lists.order lists.lost updates
   pub between : AreValidBetween shared (ticket_above base) lists.order updates
   pub counts : AreEach machines (λ m count. count ≡ made_by updates m) lists.done

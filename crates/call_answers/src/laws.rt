@@ -16,6 +16,7 @@ ghost use Rattle.cluster_laws.specs.cluster_model.Clusters.{BaseView, Cluster};
 ghost use Rattle.cluster_laws.specs.cluster_model.Events.{Event, recovers};
 ghost use Rattle.cluster_laws.specs.cluster_model.Working.{half_window};
 ghost use Rattle.cluster_laws.specs.cluster_runs.Recorded.{shared_of};
+ghost use Rattle.whole_laws.specs.cluster_records.Few.{under_way};
 ghost use Rattle.whole_laws.specs.cluster_whole.Views.{world_of};
 ghost use Rattle.graph_core.specs.DataGraph.{size};
 ghost use Rattle.merged_logs.specs.Merges.{IsByMachineBelow};
@@ -46,7 +47,7 @@ pub fn courses_are_runs()
         × (st.stored ≡ true → KeepsToWindow st.window kept (snapshots_of call) lists)
         × AreSnapshotsOf st base.number kept (recorded_in (going_on st base.numbers base.number) (recovers st base first) events) (snapshots_of call)
         × AreNextOrders st kept (fronts_in (going_on st base.numbers base.number) (recovers st base first) events) (recorded_in (going_on st base.numbers base.number) (recovers st base first) events) (snapshots_of call)
-        × (0 < half_window st → length (snapshots_of call) ≤ first.left / half_window st + 1)
+        × (0 < half_window st → length (snapshots_of call) + under_way c ≤ first.left / half_window st + 1)
         × (sum_by (λ count. count) lists.done + c.left ≡ first.left)
         × TellsOfCall st first.left c call
         × (st.stored ≡ true → HasSavedTheEnd st c.coordinator → FinishesRun (shared_of st failures) kept (snapshots_of call) call.last.struck lists)

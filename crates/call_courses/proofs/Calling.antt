@@ -131,7 +131,7 @@ module _ {M : Type 0} (stands : Setting → ℕ → Machine → M → Type 0) (v
     has_ended ended =
         let seen = (due.ended last c.coordinator is.code.coordinator).0 ended in
         let saved : HasSavedTheEnd st c.coordinator = saved_first (record { end = seen.2; none = seen.1; all = seen.0 }) in
-        record { tasks = makes.tells.tasks saved.end; unharmed = makes.tells.unharmed saved.end; saved = makes.tells.saved is.setting.stored saved }
+        record { tasks = makes.tells.tasks saved.end; unharmed = makes.tells.unharmed saved.end; some = makes.tells.some is.setting.stored saved; saved = makes.tells.saved is.setting.stored saved }
 
     pub may_follow : (k : ℕ) → answer ≡ what.Record k → MayFollow st c.coordinator call
     may_follow k is_record = makes.tells.pending (due_first ((due.saved last c.coordinator k is.code.coordinator).0 is_record).0)

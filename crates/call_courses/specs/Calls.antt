@@ -11,6 +11,7 @@ use Rattle.call_courses.specs.Courses.{CallOpening, Cluster, CourseView, InEachC
 use Rattle.graph_core.specs.DataGraph.{size}
 use Rattle.merged_logs.specs.Merges.{IsByMachineBelow}
 use Rattle.seq_run.specs.Orders.{tasks_after}
+use Rattle.whole_laws.specs.cluster_records.Few.{under_way}
 use Rattle.whole_laws.specs.whole_calls.Called.{IsCallOf, KeepsWindows}
 use Rattle.whole_laws.specs.whole_calls.Lost.{AreLostIn}
 use Rattle.whole_laws.specs.whole_calls.Saved.{AreNextOrders, AreSnapshotsOf, fronts_in, recorded_in}
@@ -22,7 +23,7 @@ pub record MakesCall (st : Setting) (failures : List FailureAt) (o : CallOpening
   pub is : IsCallOf st failures o.kept o.resumed c call
   pub windows : KeepsWindows st failures call
   pub snapshots : AreSnapshotsOf st o.base.number o.kept (recorded_in (first_setting st o) (first_cluster st o) events) (snapshots_of call)
-  pub few : 0 < half_window st → length (snapshots_of call) ≤ o.first.left / half_window st + 1
+  pub few : 0 < half_window st → length (snapshots_of call) + under_way c ≤ o.first.left / half_window st + 1
   pub tells : TellsOfCall st o.first.left c call
   -- what the recoveries took away is what it lost
   pub lost : (lost : List Entry) → AreLostIn (first_setting st o) (first_cluster st o) events lost → lost_of call ≡ lost
@@ -38,10 +39,12 @@ OfTheCall stands v holds = InEachCourse stands v (λ st o events c. (call : Engi
 abbrev pub HasCall : {M : Type 0} → (Setting → ℕ → Machine → M → Type 0) → CourseView M → Type 0
 HasCall stands v = InEachCourse stands v (λ st o events c. (call : EngineCall) × MakesCall st v.failures o events c call)
 
--- No task is left after the call's order, no failure was reached in its last attempt, and the last snapshot has the whole order.
+-- No task is left after the call's order, no failure was reached in its last attempt, and the call has a snapshot, of which the last has the
+-- whole order.
 pub record HasEndedCall (st : Setting) (call : EngineCall) : Type 0 where
   pub tasks : (u : ℕ) → u < size st.graph → tasks_after st.graph st.program (call_order call) u ≡ false
   pub unharmed : call.last.struck ≡ 0
+  pub some : 1 ≤ length (snapshots_of call)
   pub saved : last_order call.base (snapshots_of call) ≡ call_order call
 
 -- a task is left after the call's order

@@ -103,6 +103,7 @@ module _ (job : JobSayings) (g : DataGraph) (old mid new : DiskPast) (bodies : L
       record {
         stands = subst (λ (b : List (List ℕ)). StandsFor header b old.now.seen) same stands;
         fresh = subst (λ (b : List (List ℕ)). resumed ≡ false → length b ≡ 0) same fresh;
+        placed = from.placed;
         goes_on = λ owner placed front good.
             let shared = shared_by job g owner in
             let found = front-opened shared front good in

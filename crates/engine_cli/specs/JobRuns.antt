@@ -156,12 +156,13 @@ pub record GoesOnFrom (job : JobSayings) (shared : Shared) (resumed : Bool) (hea
 abbrev pub snapshots_on : JobSayings → DataGraph → DiskPast → List (List ℕ)
 snapshots_on job g past = stored_in (header_for job.fields g) past.now.seen
 
--- A run of the job on its store. The bytes are those of a store for it, and those of one without snapshots unless the run is resumed. Where
--- whatever a crash would have left as the call began is a good store, for the graph as it is placed, that begins with some snapshots, it is a run that
--- goes on from the store. If it ended as the store has no room, that has so many snapshots and bytes.
+-- A run of the job on its store, on a graph that is placed. The bytes are those of a store for it, and those of one without snapshots unless the
+-- run is resumed. If whatever a crash would have left as the call began is a good store, for the graph as it is placed, that begins with some
+-- snapshots, it is a run that goes on from the store. If it ended as the store has no room, that has so many snapshots and bytes.
 pub record RunsOnStore (resumed : Bool) (job : JobSayings) (g : DataGraph) (old new : DiskPast) (run : StoredRun) : Type 0 where
   pub stands : StandsFor (header_for job.fields g) (snapshots_on job g old) old.now.seen
   pub fresh : resumed ≡ false → length (snapshots_on job g old) ≡ 0
+  pub placed : (owner : ℕ → ℕ) × IsPlacement g job.fields.atoms job.fields.machines owner
   pub goes_on : (owner : ℕ → ℕ) → IsPlacement g job.fields.atoms job.fields.machines owner
       → (front : List (List ℕ)) → AreGoodImages (shared_by job g owner) (header_for job.fields g) front old
       → GoesOnFrom job (shared_by job g owner) resumed (header_for job.fields g) front (snapshots_on job g old) old new run

@@ -109,12 +109,12 @@ module _ {D P : Type 0} (meaning : P → Update) (past : D → DiskPast) (g : Da
         let graph_is : g ≡ st.graph = sym (has owner placement).runs.placed.graph in
         never_needs (IsEngineSaverOf meaning) e.paused after.header bodies (bodies ++ e.at.added) later.lost.items later.restarts.stored.items later.restarts.front.items later.order.items st o e.known (past after.disk).now.seen (e.at.stored well) makes.0 makes.1
         (subst (λ (h : ℕ). 0 < h) half room.half)
-        (subst (λ (n : ℕ). n + (o.first.left / half_window st + 1) < 4096) counts
-        (subst₂ (λ (b h : ℕ). journal.count + (b / h + 1) < 4096) budget half room.few))
-        (subst (λ (n : ℕ). n + 16 * (o.first.left + length e.paused.failures + 1) + (o.first.left / half_window st + 2) * (17 + 8 * st.machines + 12 * size st.graph + 12 * length st.graph.edges) ≤ 2 ^ 30) lasts
-        (subst₂ (λ (b h : ℕ). journal.length + 16 * (b + length e.paused.failures + 1) + (b / h + 2) * (17 + 8 * st.machines + 12 * size st.graph + 12 * length st.graph.edges) ≤ 2 ^ 30) budget half
-        (subst₂ (λ (f m : ℕ). journal.length + 16 * (plan.run.budget + f + 1) + (plan.run.budget / half_of plan.window + 2) * (17 + 8 * m + 12 * size st.graph + 12 * length st.graph.edges) ≤ 2 ^ 30) many machines
-        (subst (λ (k : DataGraph). journal.length + 16 * (plan.run.budget + length failures + 1) + (plan.run.budget / half_of plan.window + 2) * (17 + 8 * plan.run.machines + 12 * size k + 12 * length k.edges) ≤ 2 ^ 30) graph_is room.short))))
+        (subst (λ (n : ℕ). n + (o.first.left / half_window st + 1) ≤ 4096) counts
+        (subst₂ (λ (b h : ℕ). journal.count + (b / h + 1) ≤ 4096) budget half room.few))
+        (subst (λ (n : ℕ). n + 16 * (o.first.left + length e.paused.failures + 1) + (o.first.left / half_window st + 1) * (17 + 8 * st.machines + 12 * size st.graph + 12 * length st.graph.edges) ≤ 2 ^ 30) lasts
+        (subst₂ (λ (b h : ℕ). journal.length + 16 * (b + length e.paused.failures + 1) + (b / h + 1) * (17 + 8 * st.machines + 12 * size st.graph + 12 * length st.graph.edges) ≤ 2 ^ 30) budget half
+        (subst₂ (λ (f m : ℕ). journal.length + 16 * (plan.run.budget + f + 1) + (plan.run.budget / half_of plan.window + 1) * (17 + 8 * m + 12 * size st.graph + 12 * length st.graph.edges) ≤ 2 ^ 30) many machines
+        (subst (λ (k : DataGraph). journal.length + 16 * (plan.run.budget + length failures + 1) + (plan.run.budget / half_of plan.window + 1) * (17 + 8 * plan.run.machines + 12 * size k + 12 * length k.edges) ≤ 2 ^ 30) graph_is room.short))))
         (e.gives.3 e.known.was.events e.known.was.cluster e.known.was.now makes.0 makes.1 (e.now.code.stopped ∙ running))
 
     pub never_full_of : (how : StoredEnd) → EndsCall meaning past g program call mid later after how → HasRoomForRun g plan (length failures) journal.count journal.length → journal.count ≡ length bodies → journal.length ≡ 65 + records_size bodies → later.course.now.stopped ≡ false →

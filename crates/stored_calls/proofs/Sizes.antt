@@ -1,7 +1,8 @@
 -- How long a store is with the snapshots of a call, and that it has room for one more.
-use Rattle.std.proofs.Common.{◌≡◌, ◌∙◌, ℕ, zero, suc, ◌+◌, ◌*◌, ◌/◌, ◌<◌, ◌≤◌, ◌==◌, Bool, true, false, List, [], ◌∷◌, ◌++◌, Ok, Err, None, Option, Some, Result, ap, ap₂, arith, drop, filter, if◌then◌else◌, inl, inr, length, length-append, length-drop, refl, subst, sym, take}
+use Rattle.std.proofs.Common.{◌≡◌, ◌∙◌, ℕ, zero, suc, ◌+◌, ◌*◌, ◌/◌, ◌<◌, ◌≤◌, ◌==◌, Bool, true, false, List, [], ◌∷◌, ◌++◌, Ok, Err, None, Option, Some, Result, ap, ap₂, arith, drop, filter, if◌then◌else◌, inl, inr, nat_lt, length, length-append, length-drop, refl, subst, sym, take}
 use Rattle.std.specs.Prelude.{⊤}
 use Rattle.std.specs.Result.{result_unwrap_or}
+use Rattle.std.proofs.lemmas.Bool.{cond-true, lt-ltb}
 use Rattle.std.proofs.Math.Nat.{mul-le-mul_right, suc-mul, zero-mul}
 use Rattle.gl_base.specs.declared.entries.Entry.{Entry}
 use Rattle.whole_laws.specs.attempts.Beginnings.{unheld_updates}
@@ -31,7 +32,8 @@ use Rattle.stored_calls.proofs.Bounds.{parted}
 use Rattle.stored_courses.specs.Stores.{IsKnownCourse, fronts_in, recorded_in, stored_order}
 use Rattle.stored_records.specs.Keeping.{AreNextOrders}
 use Rattle.whole_laws.proofs.whole_calls.Fronting.{next_once}
-use Rattle.whole_laws.specs.whole_calls.Telling.{NeedsMoreStore}
+use Rattle.whole_laws.specs.cluster_records.Few.{under_way}
+use Rattle.whole_laws.specs.whole_calls.Telling.{LacksStoreRoom, NeedsMoreStore}
 
 -- ---- bodies that were read
 
@@ -131,7 +133,7 @@ orders_many order (body ∷ bodies) = ap (λ (n : ℕ). suc n) (orders_many (wit
 
 -- ---- that there is room
 
-not_many : (acknowledged bodies start added half : ℕ) → acknowledged ≡ bodies → bodies ≡ start + added → added ≤ half + 1 → start + (half + 1) < 4096 → 4096 ≤ acknowledged → ⊥
+not_many : (acknowledged bodies start added half : ℕ) → acknowledged ≡ bodies → bodies ≡ start + added → added ≤ half → start + (half + 1) ≤ 4096 → 4096 ≤ acknowledged → ⊥
 not_many acknowledged bodies start added half is parted_is low few many = omega arith
 
 not_long : (place stored whole front first grown each count newest kept unheld order base made failures budget all more : ℕ) →
@@ -139,13 +141,13 @@ not_long : (place stored whole front first grown each count newest kept unheld o
     each + more ≤ all → 65 + first + 16 * (budget + failures + 1) + all ≤ 1073741824 → 1073741824 < place + (16 * unheld + more) → ⊥
 not_long place stored whole front first grown each count newest kept unheld order base made failures budget all more at parted_is sized_is newest_is outside few base_is spent fits short over = omega arith
 
-each_more : (added half apart : ℕ) → added ≤ half + 1 → added * apart + apart ≤ (half + 2) * apart
+each_more : (added half apart : ℕ) → added ≤ half → added * apart + apart ≤ (half + 1) * apart
 each_more added half apart low =
     let more : suc added * apart ≡ added * apart + apart = suc-mul added apart in
-    let wider : suc added * apart ≤ (half + 2) * apart = mul-le-mul_right apart (next added half low) in
+    let wider : suc added * apart ≤ (half + 1) * apart = mul-le-mul_right apart (next added half low) in
     omega (arith, more, wider)
   where
-    next : (added half : ℕ) → added ≤ half + 1 → suc added ≤ half + 2
+    next : (added half : ℕ) → added ≤ half → suc added ≤ half + 1
     next added half low = omega arith
 
 lengths : (unheld ma n m : ℕ) → 8 + 16 * unheld + 8 * ma + 12 * n + 12 * m + 9 ≡ 16 * unheld + (17 + 8 * ma + 12 * n + 12 * m)
@@ -156,8 +158,8 @@ apart_is ma n m hm hn he ma_is n_is m_is = omega arith
 
 module _ {M : Type 0} (stands : Setting → ℕ → Machine → M → Type 0) (v : CourseView M) (header : Header) (start bodies : List (List ℕ)) (lost stored front order : List Entry) (st : Setting) (o : CallOpening)
     (k : IsKnownCourse stands v header start bodies lost stored front order st o) (bytes : List ℕ) (bodies_are : stored_in header bytes ≡ bodies) (call : EngineCall) (makes : MakesCall st v.failures o k.was.events k.was.cluster call)
-    (some : 0 < half_window st) (few : length start + (o.first.left / half_window st + 1) < 4096)
-    (short : 65 + records_size start + 16 * (o.first.left + length v.failures + 1) + (o.first.left / half_window st + 2) * (17 + 8 * st.machines + 12 * size st.graph + 12 * length st.graph.edges) ≤ 1073741824) where
+    (some : 0 < half_window st) (few : length start + (o.first.left / half_window st + 1) ≤ 4096)
+    (short : 65 + records_size start + 16 * (o.first.left + length v.failures + 1) + (o.first.left / half_window st + 1) * (17 + 8 * st.machines + 12 * size st.graph + 12 * length st.graph.edges) ≤ 1073741824) where
   abbrev added : List (List ℕ)
   added = k.was.keeps.added
 
@@ -171,8 +173,15 @@ module _ {M : Type 0} (stands : Setting → ℕ → Machine → M → Type 0) (v
       ap stored_order k.was.keeps.stored ∙ parted start added [] ∙ sym (last_behind (stored_order start) added)
       ∙ ap₂ last_order (sym k.kept ∙ sym makes.is.base) (sym orders_are)
 
-  added_few : length added ≤ o.first.left / half_window st + 1
-  added_few = subst (λ (n : ℕ). n ≤ o.first.left / half_window st + 1) (ap (length {A = List Entry}) orders_are ∙ orders_many (stored_order start) added) (makes.few some)
+  -- with the one that is under way
+  added_few : k.was.cluster.coordinator.acknowledged < k.was.cluster.coordinator.begun → length added ≤ o.first.left / half_window st
+  added_few under =
+      one_less (length added) (under_way k.was.cluster) (o.first.left / half_window st)
+      (cond-true (nat_lt k.was.cluster.coordinator.acknowledged k.was.cluster.coordinator.begun) 1 0 (lt-ltb k.was.cluster.coordinator.acknowledged k.was.cluster.coordinator.begun under))
+      (subst (λ (n : ℕ). n + under_way k.was.cluster ≤ o.first.left / half_window st + 1) (ap (length {A = List Entry}) orders_are ∙ orders_many (stored_order start) added) (makes.few some))
+    where
+      one_less : (added under half : ℕ) → under ≡ 1 → added + under ≤ half + 1 → added ≤ half
+      one_less added under half is few = omega arith
 
   abbrev apart : ℕ
   apart = 17 + 8 * st.machines + 12 * size st.graph + 12 * length st.graph.edges
@@ -204,12 +213,15 @@ module _ {M : Type 0} (stands : Setting → ℕ → Machine → M → Type 0) (v
   spent_low : (made left budget : ℕ) → made + left ≡ budget → made ≤ budget
   spent_low made left budget is = omega arith
 
-  pub never_needs : NeedsMoreStore st k.was.cluster.coordinator call → ⊥
-  never_needs (inl many) =
-      not_many k.was.cluster.coordinator.acknowledged (length bodies) (length start) (length added) (o.first.left / half_window st) k.count (ap (length {A = List ℕ}) k.was.keeps.stored ∙ length-append start added) added_few few many.0
-  never_needs (inr over) =
+  lacks_none : length added ≤ o.first.left / half_window st → LacksStoreRoom st k.was.cluster.coordinator call → ⊥
+  lacks_none low (inl many) =
+      not_many k.was.cluster.coordinator.acknowledged (length bodies) (length start) (length added) (o.first.left / half_window st) k.count (ap (length {A = List ℕ}) k.was.keeps.stored ∙ length-append start added) low few many.0
+  lacks_none low (inr over) =
       not_long k.was.cluster.coordinator.store_end (length stored) (records_size bodies) (length front) (records_size start) (records_size added) (length added * apart) (counted added) (length (stored_order bodies)) (length (stored_order start))
-      (length (unheld_updates call.last)) (length (call_order call)) (length call.base) (length (made_of call)) (length v.failures) o.first.left ((o.first.left / half_window st + 2) * apart) apart
+      (length (unheld_updates call.last)) (length (call_order call)) (length call.base) (length (made_of call)) (length v.failures) o.first.left ((o.first.left / half_window st + 1) * apart) apart
       k.place (ap records_size k.was.keeps.stored ∙ size_parted start added) grown_is newest_long outside_low (order_few (shared_of st v.failures) call makes.is.is) (ap (length {A = Entry}) (makes.is.base ∙ k.kept))
-      (spent_low (length (made_of call)) k.was.cluster.left o.first.left makes.tells.spent) (each_more (length added) (o.first.left / half_window st) apart added_few) short
+      (spent_low (length (made_of call)) k.was.cluster.left o.first.left makes.tells.spent) (each_more (length added) (o.first.left / half_window st) apart low) short
       (subst (λ (n : ℕ). 1073741824 < k.was.cluster.coordinator.store_end + n) (lengths (length (unheld_updates call.last)) st.machines (size st.graph) (length st.graph.edges)) over)
+
+  pub never_needs : NeedsMoreStore st k.was.cluster.coordinator call → ⊥
+  never_needs needs = lacks_none (added_few needs.0) needs.1

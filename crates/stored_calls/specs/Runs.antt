@@ -79,11 +79,11 @@ refused_by (fault.Full stored bytes) length = fault.BadStore (BadByte length)
 refused_by why length = why
 
 -- The store, which has so many snapshots and bytes, has room for a run with this plan and so many failures: for a snapshot for each half of the window
--- that goes into the budget, and for two more, with all updates and restarts that they may bring.
+-- that goes into the budget, and for one more, with all updates and restarts that they may bring.
 pub record HasRoomForRun (g : DataGraph) (plan : StoredPlan) (failures stored bytes : ℕ) : Type 0 where
   pub half : 0 < half_of plan.window
-  pub few : stored + (plan.run.budget / half_of plan.window + 1) < 4096
-  pub short : bytes + 16 * (plan.run.budget + failures + 1) + (plan.run.budget / half_of plan.window + 2) * (17 + 8 * plan.run.machines + 12 * size g + 12 * length g.edges) ≤ 2 ^ 30
+  pub few : stored + (plan.run.budget / half_of plan.window + 1) ≤ 4096
+  pub short : bytes + 16 * (plan.run.budget + failures + 1) + (plan.run.budget / half_of plan.window + 1) * (17 + 8 * plan.run.machines + 12 * size g + 12 * length g.edges) ≤ 2 ^ 30
 
 -- the run was made and has finished, or memory ran out
 abbrev pub IsFinishedOrNoMemory : Result StoredRun JournalFault → Type 0

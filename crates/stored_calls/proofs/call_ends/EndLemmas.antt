@@ -93,6 +93,7 @@ module _ {M : Type 0} (stands : Setting → ℕ → Machine → M → Type 0) (v
         finished = λ paused. let has : HasEndedCall st call = paused.1 st o known.was.events c now call makes in record {
           finished = λ u low. ap (λ (es : List Entry). tasks_after st.graph st.program es u) order_is ∙ has.tasks u low;
           answered = has.unharmed;
+          some = has.some;
           saved = ap (λ (ks : List Entry). last_order ks (snapshots_of call)) (sym of.base) ∙ has.saved ∙ sym order_is;
         };
         spent = λ paused left task. let spent = (paused.1 st o known.was.events c now call makes).0 in record {
@@ -106,6 +107,6 @@ module _ {M : Type 0} (stands : Setting → ℕ → Machine → M → Type 0) (v
           needs_room st v.failures o.kept o.resumed c call of (length bodies) (65 + records_size bodies) stored front bodies
               (ap (λ (ks : List Entry). last_order ks (snapshots_of call)) known.kept ∙ ap (last_order (stored_order start)) (sym once) ∙ last_behind (stored_order start) added
               ∙ behind_joined [] start added ∙ ap stored_order (sym known.was.keeps.stored))
-              known.stored_are (known.front_are ∙ ap (filter is_restart) (sym known.base)) known.count known.place lists.order order_is needs,
+              known.stored_are (known.front_are ∙ ap (filter is_restart) (sym known.base)) known.count known.place lists.order order_is needs.1,
         );
       }

@@ -27,7 +27,7 @@ use Rattle.graph_core.specs.DataGraph.{size}
 use Rattle.seq_run.specs.Orders.{tasks_after}
 use Rattle.stored_answers.specs.Ends.{NeedsMoreRoom}
 use Rattle.whole_laws.specs.whole_calls.Called.{IsCallOf}
-use Rattle.whole_laws.specs.whole_calls.Telling.{NeedsMoreStore}
+use Rattle.whole_laws.specs.whole_calls.Telling.{LacksStoreRoom}
 
 -- ---- updates and restarts of an order
 
@@ -124,7 +124,7 @@ shifted e u m n k = omega arith
 
 module _ (st : Setting) (failures : List FailureAt) (kept : List Entry) (resumed : Bool) (c : Cluster) (call : EngineCall) (of : IsCallOf st failures kept resumed c call) (count bytes : ℕ) (stored front : List Entry) (bodies : List (List ℕ)) where
   pub needs_room : last_order kept (snapshots_of call) ≡ stored_order bodies → stored ≡ filter is_restart (stored_order bodies) → front ≡ filter is_restart c.base.order → c.coordinator.acknowledged ≡ count →
-      c.coordinator.store_end + 16 * length stored ≡ bytes + 16 * length front → (order : List Entry) → order ≡ call_order call → NeedsMoreStore st c.coordinator call →
+      c.coordinator.store_end + 16 * length stored ≡ bytes + 16 * length front → (order : List Entry) → order ≡ call_order call → LacksStoreRoom st c.coordinator call →
       NeedsMoreRoom (shared_of st failures) st.machines st.window kept (snapshots_of call) count bytes order
   needs_room newest_is stored_are front_are count_is place order order_is (inl many) =
       inl (

@@ -1,7 +1,7 @@
 -- What is left of an order and what was lost are together all updates that were made.
-use Rattle.std.proofs.Common.{◌≡◌, ◌≤◌, ◌<◌, Bool, true, false, ℕ, zero, suc, ◌+◌, ◌==◌, ◌||◌, nat_le, List, [], ◌∷◌, ◌++◌, length, filter, IsPermutation, refl, sym, ap, ap₂, ◌∙◌, subst, le_refl, append_assoc, append-nil, arith}
+use Rattle.std.proofs.Common.{◌≡◌, ◌≤◌, ◌<◌, Bool, true, false, ℕ, zero, suc, ◌+◌, ◌==◌, ◌||◌, nat_le, nat_lt, if◌then◌else◌, List, [], ◌∷◌, ◌++◌, length, filter, IsPermutation, refl, sym, ap, ap₂, ◌∙◌, subst, le_refl, append_assoc, append-nil, arith}
 use Rattle.std.specs.List.{AllByRecursion, list_any}
-use Rattle.std.proofs.lemmas.Bool.{cond-false, cond-true, eq-eqb, false_from_ne_true, le-leb, leb-true}
+use Rattle.std.proofs.lemmas.Bool.{cond-false, cond-true, eq-eqb, false_from_ne_true, le-leb, le-ltb, leb-true, lt-ltb}
 use Rattle.std.proofs.lemmas.List.{length-append}
 use Rattle.std.proofs.lemmas.List.Elements.{filter-append}
 use Rattle.std.proofs.lemmas.List.Folds.{list_any-append}
@@ -16,7 +16,7 @@ use Rattle.whole_laws.specs.attempts.EngineCalls.{AreAttempts, EngineCall, IsEng
 use Rattle.cluster_laws.specs.cluster_cuts.Goings.{AreUpdatesFrom, IsByOwner}
 use Rattle.cluster_laws.specs.cluster_runs.Attempts.{Attempt, Beginning, Shared}
 use Rattle.cluster_laws.specs.cluster_model.ByTicket.{StandByTicket, restarts}
-use Rattle.whole_laws.specs.attempts.Entries.{is_restart_at, is_update_from}
+use Rattle.whole_laws.specs.attempts.Entries.{is_restart_at, is_update, is_update_below, is_update_from}
 use Rattle.cluster_laws.specs.cluster_core.Replays.{ticket_of}
 use Rattle.whole_laws.proofs.attempts.Cutting.{all_cut, all_left, cut_and_left, made_below, stand_left}
 use Rattle.whole_laws.proofs.attempts.Opening.{opening_begins}
@@ -61,6 +61,29 @@ none_from low (Restart t ∷ order) f stand = (refl, none_from t order f stand.1
 none_in_restarts : (f n ticket : ℕ) → filter (is_update_from f) (restarts n ticket) ≡ []
 none_in_restarts f zero ticket = refl
 none_in_restarts f (suc n) ticket = none_in_restarts f n ticket
+
+-- ---- which entries are updates below a ticket
+
+none_below : (f next : ℕ) (made : List Entry) → AreUpdatesFrom next made → f ≤ next → AllByRecursion (λ entry. is_update_below f entry ≡ false) made
+none_below f next [] tickets low = tt
+none_below f next (Restart ticket ∷ made) tickets low = absurd tickets
+none_below f next (Go m v t ∷ made) tickets low = (le-ltb t f (from_next f next t low tickets.0), none_below f (suc next) made tickets.1 (suc_up f next low))
+
+none_below_restarts : (f n ticket : ℕ) → filter (is_update_below f) (restarts n ticket) ≡ []
+none_below_restarts f zero ticket = refl
+none_below_restarts f (suc n) ticket = none_below_restarts f n ticket
+
+-- in an order that stands below the ticket all updates are below it
+all_below : (low : ℕ) (order : List Entry) (f : ℕ) → StandByTicket low order f → filter (is_update_below f) order ≡ filter is_update order
+all_below low [] f stand = refl
+all_below low (Go m v t ∷ order) f stand =
+    cond-true (nat_lt t f) (Go m v t ∷ filter (is_update_below f) order) (filter (is_update_below f) order) (lt-ltb t f (stand_within (suc t) order f stand.1))
+    ∙ ap (λ (es : List Entry). Go m v t ∷ es) (all_below (suc t) order f stand.1)
+all_below low (Restart t ∷ order) f stand = all_below t order f stand.1
+
+no_update : (resumed : Bool) (ticket : ℕ) → filter is_update (if resumed then Restart ticket ∷ [] else []) ≡ []
+no_update true ticket = refl
+no_update false ticket = refl
 
 -- ---- which restarts an order has
 
@@ -183,6 +206,34 @@ module _ (shared : Shared) where
       (all_weaker (λ (entry : Entry). ticket_of entry < next) (IsBelowRestart order) (λ entry low. (next, low, restart_behind b a failed last are.1)) (unheld_updates a)
       (all_left (λ (entry : Entry). ticket_of entry < next) (last_of nothing a.kept) a.made (made_below b.next a.made are.0.tickets)))
       (lost_below (again b a) failed last are.2)
+
+  -- no attempt has an update below the call's first ticket
+  pub kept_below : (f : ℕ) (b : Beginning) (failed : List Attempt) (last : Attempt) → f ≤ b.next → AreAttempts shared b failed last →
+      filter (is_update_below f) (order_after (begins_behind b failed) last) ≡ filter (is_update_below f) b.front
+  kept_below f b [] last low are =
+      let test : Entry → Bool = is_update_below f in
+      filter-append test b.front last.made
+      ∙ ap (λ (es : List Entry). filter test b.front ++ es) (filter_none test last.made (none_below f b.next last.made are.tickets low))
+      ∙ append-nil (filter test b.front)
+  kept_below f b (a ∷ failed) last low are =
+      let test : Entry → Bool = is_update_below f in
+      let new : List Entry = restarts a.struck (b.next + length a.made) in
+      let own : AllByRecursion (λ entry. test entry ≡ false) (held_updates a) = all_cut (λ entry. test entry ≡ false) (last_of nothing a.kept) a.made (none_below f b.next a.made are.0.tickets low) in
+      kept_below f (again b a) failed last (le_more f b.next (length a.made) low) are.2
+      ∙ filter-append test b.front (held_updates a ++ new)
+      ∙ ap (λ (es : List Entry). filter test b.front ++ es)
+      (filter-append test (held_updates a) new ∙ ap₂ (λ (xs ys : List Entry). xs ++ ys) (filter_none test (held_updates a) own) (none_below_restarts f a.struck (b.next + length a.made)))
+      ∙ append-nil (filter test b.front)
+
+  pub call_kept : (call : EngineCall) → IsEngineCall shared call → filter (is_update_below (first_ticket call)) (call_order call) ≡ filter is_update call.base
+  call_kept call is =
+      let b : Beginning = opening call in
+      let f : ℕ = first_ticket call in
+      kept_below f b call.failed call.last (le_refl f) is.attempts
+      ∙ all_below 0 b.front f (opening_begins shared call is).by_ticket
+      ∙ filter-append is_update call.base (if call.resumed then Restart f ∷ [] else [])
+      ∙ ap (λ (es : List Entry). filter is_update call.base ++ es) (no_update call.resumed f)
+      ∙ append-nil (filter is_update call.base)
 
   pub call_accounted : (call : EngineCall) → IsEngineCall shared call → AreAccounted shared (first_ticket call) (call_order call) (lost_of call) (made_of call)
   call_accounted call is =

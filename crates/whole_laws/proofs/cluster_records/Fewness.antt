@@ -14,7 +14,7 @@ use Rattle.cluster_laws.specs.cluster_model.Machines.{outside}
 use Rattle.cluster_laws.specs.cluster_model.Working.{half_window}
 use Rattle.whole_laws.specs.cluster_whole.Logged.{Logged, entries_to, is_up_to}
 use Rattle.whole_laws.specs.cluster_whole.Whole.{AreColoured, IsNoRecovery, IsWhole}
-use Rattle.whole_laws.specs.cluster_records.Few.{snapshot_at, snapshots_in_all, unasked_at, unasked_in}
+use Rattle.whole_laws.specs.cluster_records.Few.{snapshot_at, snapshots_in_all, unasked_at, unasked_in, under_way}
 use Rattle.whole_laws.specs.cluster_records.Recorded.{IsAccounted}
 use Rattle.whole_laws.specs.cluster_records.Wanting.{AreAsking, known_by_calls, is_outside, numbers_from, want_told}
 use Rattle.whole_laws.proofs.cluster_records.Accounts.{begun_accounts, quiet_kept, update_kept}
@@ -304,32 +304,41 @@ module _ (half first total : ℕ) (st : Setting) (is : IsSetting st) (same_half 
 regroup : (a b c : ℕ) → (a + b) + c ≡ b + (a + c)
 regroup a b c = omega arith
 
-last_few : (x pend earlier held long y next first : ℕ) → x + pend ≤ earlier + held + y → held ≤ long → next ≡ first + earlier + long → (left total : ℕ) → next + left ≡ total → (budget : ℕ) → first + budget ≡ total → x ≤ budget + y
+last_few : (x pend earlier held long y next first : ℕ) → x + pend ≤ earlier + held + y → held ≤ long → next ≡ first + earlier + long → (left total : ℕ) → next + left ≡ total → (budget : ℕ) → first + budget ≡ total → x + pend ≤ budget + y
 last_few x pend earlier held long y next first few all drawn left total tickets budget begun = omega arith
 
 plus_none : (n : ℕ) → n + 0 ≡ n
 plus_none n = omega arith
 
 courses_few : (half first budget : ℕ) (events : List Event) (st : Setting) → IsSetting st → half_window st ≡ half → (c new : Cluster) (has : HasAccounts st c) (stored unasked earlier : ℕ) →
-    HasFew half first (first + budget) c has.logged stored unasked earlier → IsCourse st c events new → half * (stored + snapshots_in_all events) ≤ budget + half * (unasked + unasked_in st c events)
+    HasFew half first (first + budget) c has.logged stored unasked earlier → IsCourse st c events new → half * (stored + snapshots_in_all events) + pending half new ≤ budget + half * (unasked + unasked_in st c events)
 courses_few half first budget [] st is same_half c new has stored unasked earlier tally course =
-    subst (λ (n : ℕ). half * n ≤ budget + half * (unasked + 0)) (sym (plus_none stored))
-    (subst (λ (n : ℕ). half * stored ≤ budget + half * n) (sym (plus_none unasked))
-    (last_few (half * stored) (pending half c) earlier (length (entries_to c.coordinator.begun has.logged)) (length has.logged) (half * unasked) c.next first tally.few (held_few c.coordinator.begun has.logged) tally.drawn c.left (first + budget) tally.tickets budget refl))
+    subst (λ (x : Cluster). half * (stored + 0) + pending half x ≤ budget + half * (unasked + 0)) (sym course)
+    (subst (λ (n : ℕ). half * n + pending half c ≤ budget + half * (unasked + 0)) (sym (plus_none stored))
+    (subst (λ (n : ℕ). half * stored + pending half c ≤ budget + half * n) (sym (plus_none unasked))
+    (last_few (half * stored) (pending half c) earlier (length (entries_to c.coordinator.begun has.logged)) (length has.logged) (half * unasked) c.next first tally.few (held_few c.coordinator.begun has.logged) tally.drawn c.left (first + budget) tally.tickets budget refl)))
 courses_few half first budget (event ∷ events) st is same_half c new has stored unasked earlier tally course =
     let next = event_few half first (first + budget) st is same_half c has stored unasked earlier tally event course.0.1 in
     let rest = courses_few half first budget events (setting_after st event) next.0 next.1 (after_event st c event) new next.2 (snapshot_at event + stored) (unasked_at c event + unasked) next.3 next.4 course.1 in
-    subst (λ (n : ℕ). half * n ≤ budget + half * (unasked + unasked_in st c (event ∷ events))) (regroup (snapshot_at event) stored (snapshots_in_all events))
-    (subst (λ (n : ℕ). half * ((snapshot_at event + stored) + snapshots_in_all events) ≤ budget + half * n) (regroup (unasked_at c event) unasked (unasked_in (setting_after st event) (after_event st c event) events)) rest)
+    subst (λ (n : ℕ). half * n + pending half new ≤ budget + half * (unasked + unasked_in st c (event ∷ events))) (regroup (snapshot_at event) stored (snapshots_in_all events))
+    (subst (λ (n : ℕ). half * ((snapshot_at event + stored) + snapshots_in_all events) + pending half new ≤ budget + half * n) (regroup (unasked_at c event) unasked (unasked_in (setting_after st event) (after_event st c event) events)) rest)
 
 first_few : (x y pend : ℕ) → x ≡ 0 → pend ≡ 0 → x + pend ≤ 0 + 0 + y
 first_few x y pend one two = omega arith
+
+-- one that is under way has half a window, too
+one_or_none : (half : ℕ) (b : Bool) → half * (if b then 1 else 0) ≡ (if b then half else 0)
+one_or_none half true = mul-one half
+one_or_none half false = mul-zero half
+
+with_pending : (half stored : ℕ) (c : Cluster) → half * (stored + under_way c) ≡ half * stored + pending half c
+with_pending half stored c = mul-add half stored (under_way c) ∙ ap (λ (n : ℕ). half * stored + n) (one_or_none half (nat_lt c.coordinator.acknowledged c.coordinator.begun))
 
 from_first : (n : ℕ) → n ≡ n + 0 + 0
 from_first n = omega arith
 
 pub attempts_few : (st : Setting) → IsSetting st → AreColoured st st.engine → (base : BaseView) (c : Cluster) (events : List Event) (new : Cluster) → IsCourse (going_on st base.numbers base.number) (recovers st base c) events new →
-    half_window st * snapshots_in_all events ≤ c.left + half_window st * unasked_in (going_on st base.numbers base.number) (recovers st base c) events
+    half_window st * (snapshots_in_all events + under_way new) ≤ c.left + half_window st * unasked_in (going_on st base.numbers base.number) (recovers st base c) events
 attempts_few st is coloured base c events new course =
     let start : Cluster = recovers st base c in
     let now : Setting = going_on st base.numbers base.number in
@@ -341,8 +350,9 @@ attempts_few st is coloured base c events new course =
       drawn = from_first c.next;
       tickets = refl;
     }) course in
-    subst (λ (n : ℕ). half * n ≤ c.left + half * unasked_in now start events) (zero-add (snapshots_in_all events))
-    (subst (λ (n : ℕ). half * (0 + snapshots_in_all events) ≤ c.left + half * n) (zero-add (unasked_in now start events)) rest)
+    subst (λ (n : ℕ). n ≤ c.left + half * unasked_in now start events) (sym (with_pending half (snapshots_in_all events) new))
+    (subst (λ (n : ℕ). half * n + pending half new ≤ c.left + half * unasked_in now start events) (zero-add (snapshots_in_all events))
+    (subst (λ (n : ℕ). half * (0 + snapshots_in_all events) + pending half new ≤ c.left + half * n) (zero-add (unasked_in now start events)) rest))
 
 -- ---- and so few in all
 

@@ -38,7 +38,7 @@ use Rattle.whole_laws.specs.cluster_whole.Views.{world_of}
 use Rattle.whole_laws.specs.cluster_whole.Whole.{setting_behind}
 use Rattle.whole_laws.proofs.cluster_whole.Flows.{total_from-none, total_from-same}
 use Rattle.whole_laws.specs.cluster_records.Recorded.{HaveSameNumbers, snapshot_due}
-use Rattle.whole_laws.specs.cluster_records.Few.{snapshot_at, snapshots_in_all, unasked_in}
+use Rattle.whole_laws.specs.cluster_records.Few.{snapshot_at, snapshots_in_all, unasked_in, under_way}
 use Rattle.whole_laws.proofs.cluster_records.Fewness.{attempts_few, by_half}
 use Rattle.whole_laws.proofs.cluster_records.Outside.{many_outside}
 use Rattle.seq_run.specs.Orders.{replay, tasks_after}
@@ -138,6 +138,16 @@ module _ (failures : List FailureAt) (kept : List Entry) (resumed : Bool) (numbe
       (subst (λ (n : ℕ). 1 ≤ n) (sym (kept_long c.coordinator.snapshots)) (some_kept stored ended c.coordinator.snapshots refl))
       (held_is st at.is c at.whole logged at.account failures behind at.so.tickets ∙ holds_only st at.is c at.whole logged at.account e.watch e.watched ended.end full)
 
+  some_saved : st.stored ≡ true → HasSavedTheEnd st c.coordinator → 1 ≤ length (snapshots_of made_call)
+  some_saved stored ended =
+      more_some (length (attempted_snapshots (opened_at kept resumed) failed)) (length c.coordinator.snapshots) (length (snapshots_of made_call))
+      (length-append (attempted_snapshots (opened_at kept resumed) failed) (snapshot_orders behind made_call.last)
+      ∙ ap (λ (n : ℕ). length (attempted_snapshots (opened_at kept resumed) failed) + n) (length-map (counts_of logged c.coordinator.snapshots) (snapshot_order behind made_call.last) ∙ kept_long c.coordinator.snapshots))
+      (some_kept stored ended c.coordinator.snapshots refl)
+    where
+      more_some : (before last all : ℕ) → all ≡ before + last → 1 ≤ last → 1 ≤ all
+      more_some before last all is some = omega arith
+
   -- ---- where the store takes no record more
 
   abbrev newest : List Entry
@@ -177,8 +187,9 @@ module _ (failures : List FailureAt) (kept : List Entry) (resumed : Bool) (numbe
       (newest_is newest behind made_call.last))
 
   needs_more : RecordIsDue st c.coordinator → (HasStoreRoom st c.coordinator → ⊥) → NeedsMoreStore st c.coordinator made_call
-  needs_more due refused =
-      ⊎_elim
+  needs_more due refused = (
+    due.under,
+    ⊎_elim
       (λ (many : 4096 ≤ c.coordinator.acknowledged).
       inl (
         many,
@@ -190,7 +201,8 @@ module _ (failures : List FailureAt) (kept : List Entry) (resumed : Bool) (numbe
             (e.reason due.under),
       ))
       (λ (long : 1073741824 < c.coordinator.store_end + length_with st (length (unheld_updates made_call.last))). inr long)
-      (refused_by st at.is c at.whole logged at.account failures behind at.so.tickets due refused)
+      (refused_by st at.is c at.whole logged at.account failures behind at.so.tickets due refused),
+  )
 
   tells : TellsOfCall st budget c made_call
   tells =
@@ -198,6 +210,7 @@ module _ (failures : List FailureAt) (kept : List Entry) (resumed : Bool) (numbe
         tasks = λ end. none_left (no_task_left st c e.watch e.watched end);
         unharmed = none_struck;
         told = λ end. told_many st at.is c at.whole logged at.account e.watch e.watched end ∙ sym (length-map logged (λ (l : Logged). l.entry));
+        some = some_saved;
         saved = saved_all;
         pending = λ due.
             let may = pending_is st at.is c at.whole logged at.account at.based failures behind at.so.front at.so.tickets newest e.resumes due in
@@ -303,7 +316,7 @@ module _ (st : Setting) (failures : List FailureAt) (kept : List Entry) (resumed
       × IsCallOf st failures kept resumed c one
       × (st.stored ≡ true → KeepsWindows st failures one)
       × AreSnapshotsOf st base.number kept (recorded_in (going_on st base.numbers base.number) (recovers st base first) events) (snapshots_of one)
-      × (0 < half_window st → length (snapshots_of one) ≤ first.left / half_window st + 1)
+      × (0 < half_window st → length (snapshots_of one) + under_way c ≤ first.left / half_window st + 1)
       × TellsOfCall st first.left c one
       × ((lost : List Entry) → AreLostIn (going_on st base.numbers base.number) (recovers st base first) events lost → lost_of one ≡ lost)
       × AreNextOrders st kept (fronts_in (going_on st base.numbers base.number) (recovers st base first) events)
@@ -328,11 +341,11 @@ module _ (st : Setting) (failures : List FailureAt) (kept : List Entry) (resumed
         λ stored. windows_then st last.start last.base failures one (windows_are failures kept resumed last_st c logged failed e.at in_turn begins stored),
         are,
         λ half.
-            subst (λ (n : ℕ). n ≤ first.left / half_window st + 1) (sym (snapshots_long st base.number kept taken (snapshots_of one) are ∙ recorded_many events now begun))
-            (one_at_most (unasked_in now begun events) (snapshots_in_all events) (first.left / half_window st)
-            (by_half (half_window st) (snapshots_in_all events) (unasked_in now begun events) first.left half (attempts_few st course.is course.coloured base first events c course.course))
+            subst (λ (n : ℕ). n + under_way c ≤ first.left / half_window st + 1) (sym (snapshots_long st base.number kept taken (snapshots_of one) are ∙ recorded_many events now begun))
+            (one_at_most (unasked_in now begun events) (snapshots_in_all events + under_way c) (first.left / half_window st)
+            (by_half (half_window st) (snapshots_in_all events + under_way c) (unasked_in now begun events) first.left half (attempts_few st course.is course.coloured base first events c course.course))
             (once_or last_st logged unasked e.once)),
-        record { tasks = told.tasks; unharmed = told.unharmed; told = told.told; saved = λ stored is. told.saved stored (saved_then last.start last.base is); pending = λ due. let p = told.pending (due_then last.start last.base due) in (p.0, p.1, p.2, p.3, record { updates = p.4.updates; some_vertex = p.4.some_vertex; some_edge = p.4.some_edge; vertices = p.4.vertices; edges = p.4.edges }); full = λ due refused. told.full (due_then last.start last.base due) (room_then last.start last.base refused); spent = told.spent },
+        record { tasks = told.tasks; unharmed = told.unharmed; told = told.told; some = λ stored is. told.some stored (saved_then last.start last.base is); saved = λ stored is. told.saved stored (saved_then last.start last.base is); pending = λ due. let p = told.pending (due_then last.start last.base due) in (p.0, p.1, p.2, p.3, record { updates = p.4.updates; some_vertex = p.4.some_vertex; some_edge = p.4.some_edge; vertices = p.4.vertices; edges = p.4.edges }); full = λ due refused. told.full (due_then last.start last.base due) (room_then last.start last.base refused); spent = told.spent },
         ended.3,
         next_orders (shared_of st failures) st base.number kept (fronts_in now begun events) taken (snapshots_of one) are
             (all_fronted failures (opened_at kept resumed) kept base.number (ticket_above kept + first.left) last_st c logged failed taken unasked e (fronts_in now begun events)

@@ -28,6 +28,11 @@ abbrev pub is_update_from : ℕ → Entry → Bool
 is_update_from r (Go machine vertex ticket) = nat_le r ticket
 is_update_from r (Restart ticket) = false
 
+-- an update with a ticket below r
+abbrev pub is_update_below : ℕ → Entry → Bool
+is_update_below r (Go machine vertex ticket) = nat_lt ticket r
+is_update_below r (Restart ticket) = false
+
 -- an update with a ticket from r on and below s
 abbrev pub is_update_within : ℕ → ℕ → Entry → Bool
 is_update_within r s (Go machine vertex ticket) = nat_le r ticket && nat_lt ticket s

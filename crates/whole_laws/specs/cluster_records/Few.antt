@@ -1,5 +1,5 @@
 -- How many snapshots a list of events stores.
-use Rattle.std.specs.Prelude.{List, [], if◌then◌else◌, ℕ, ◌+◌, ◌∷◌}
+use Rattle.std.specs.Prelude.{List, [], if◌then◌else◌, nat_lt, ℕ, ◌+◌, ◌∷◌}
 use Rattle.cluster_laws.specs.cluster_core.Settings.{Setting}
 use Rattle.cluster_laws.specs.cluster_model.Clusters.{Cluster}
 use Rattle.cluster_laws.specs.cluster_model.Events.{Event, PutBegin, Record, after_event, setting_after}
@@ -23,3 +23,7 @@ unasked_at c event = 0
 abbrev pub unasked_in : Setting → Cluster → List Event → ℕ
 unasked_in st c [] = 0
 unasked_in st c (event ∷ events) = unasked_at c event + unasked_in (setting_after st event) (after_event st c event) events
+
+-- 1 while a snapshot is under way: it has begun and is not acknowledged
+abbrev pub under_way : Cluster → ℕ
+under_way c = if nat_lt c.coordinator.acknowledged c.coordinator.begun then 1 else 0

@@ -36,10 +36,14 @@ LacksTheEnd st call =
 
 -- As many snapshots are stored as may be, and the window or the end asks for one more; or a record of all that is outside the last one
 -- would end too far.
-abbrev pub NeedsMoreStore : Setting → Coordinator → EngineCall → Type 0
-NeedsMoreStore st c call =
+abbrev pub LacksStoreRoom : Setting → Coordinator → EngineCall → Type 0
+LacksStoreRoom st c call =
     ((4096 ≤ c.acknowledged) × (HasHalfOutside st call.last ⊎ LacksTheEnd st call))
     ⊎ (1073741824 < c.store_end + length_with st (length (unheld_updates call.last)))
+
+-- a snapshot is under way, for which the store has no room
+abbrev pub NeedsMoreStore : Setting → Coordinator → EngineCall → Type 0
+NeedsMoreStore st c call = (c.acknowledged < c.begun) × LacksStoreRoom st c call
 
 -- ---- all of it
 
@@ -50,7 +54,8 @@ pub record TellsOfCall (st : Setting) (budget : ℕ) (c : Cluster) (call : Engin
   pub unharmed : HasSeenTheEnd c.coordinator → call.last.struck ≡ 0
   -- and all together told the updates that it made
   pub told : HasSeenTheEnd c.coordinator → sum_by updates_told c.coordinator.rounds.counting.waves.wave ≡ length call.last.made
-  -- where besides no snapshot is due, the order of the last one is the call's
+  -- where besides no snapshot is due, the call has one, and the order of the last one is the call's
+  pub some : st.stored ≡ true → HasSavedTheEnd st c.coordinator → 1 ≤ length (snapshots_of call)
   pub saved : st.stored ≡ true → HasSavedTheEnd st c.coordinator → last_order call.base (snapshots_of call) ≡ call_order call
   -- where a record is due, its snapshot may follow those of the call
   pub pending : RecordIsDue st c.coordinator → MayFollow st c.coordinator call

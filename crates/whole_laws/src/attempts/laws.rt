@@ -7,7 +7,7 @@ ghost use Rattle.whole_laws.specs.attempts.Beginnings.{IsBeginning, KeepsWindow,
 ghost use Rattle.whole_laws.specs.attempts.EngineCalls.{AreAttempts, EngineCall, HaveFailed, IsEngineCall, IsOrderInTurn, begins_behind, call_order, fired_of, first_ticket, last_beginning, lost_of, made_of, opening};
 ghost use Rattle.cluster_laws.specs.cluster_runs.Attempts.{Attempt, Beginning, IsAttempt, Shared, made_by};
 ghost use Rattle.cluster_laws.specs.cluster_core.Cuts.{cut_of};
-ghost use Rattle.whole_laws.specs.attempts.Entries.{is_restart};
+ghost use Rattle.whole_laws.specs.attempts.Entries.{is_restart, is_update, is_update_below};
 ghost use Rattle.cluster_laws.specs.cluster_model.ByTicket.{restarts};
 ghost use Rattle.whole_laws.specs.attempts.Stores.{AreGoodOrders, IsStoreImage, IsWithinWindow, ResumesFrom, last_order, snapshot_orders, attempted_snapshots, snapshots_of};
 ghost use Rattle.seq_run.specs.Orders.{IsValidFrom, IsValidOrder, all_tasks, replay, replay_from, tasks_after, tasks_from};
@@ -40,12 +40,14 @@ pub fn orders_are_in_turn()
 {}
 
 /// What the order has from the call's first ticket on and what was lost are together the updates of the call, each ticket once. From each
-/// bound to the next they are valid behind what the order has before.
+/// bound to the next they are valid behind what the order has before. The order's updates below the first ticket are those of the base.
 pub fn updates_are_accounted()
     ensures together { (shared : Shared) (call : EngineCall) → IsEngineCall shared call →
         AreAccounted shared (first_ticket call) (call_order call) (lost_of call) (made_of call) }
     ensures between { (shared : Shared) (call : EngineCall) → IsEngineCall shared call →
         AreValidBetween shared (first_ticket call) (call_order call) (made_of call) }
+    ensures kept { (shared : Shared) (call : EngineCall) → IsEngineCall shared call →
+        filter (is_update_below (first_ticket call)) (call_order call) ≡ filter is_update call.base }
 {}
 
 /// Where no more than the window is outside the last snapshot as an attempt fails, no more than that of each machine is lost for each

@@ -17,7 +17,7 @@ ghost use Rattle.cluster_laws.specs.cluster_model.Machines.{outside};
 ghost use Rattle.cluster_laws.specs.cluster_model.Totals.{total};
 ghost use Rattle.cluster_laws.specs.cluster_model.Working.{half_window};
 ghost use Rattle.whole_laws.specs.cluster_records.Bases.{IsBase, IsBased};
-ghost use Rattle.whole_laws.specs.cluster_records.Few.{snapshots_in_all, unasked_in};
+ghost use Rattle.whole_laws.specs.cluster_records.Few.{snapshots_in_all, unasked_in, under_way};
 ghost use Rattle.whole_laws.specs.cluster_records.Listed.{entries_at};
 ghost use Rattle.whole_laws.specs.cluster_records.Recorded.{HaveSameNumbers, IsAccounted, IsGoodSnapshot, snapshot_due};
 ghost use Rattle.whole_laws.specs.cluster_records.Wanting.{AreAsking, known_by_calls, entries_outside, want_told};
@@ -159,10 +159,10 @@ pub fn machines_ask_in_time()
 {}
 
 /// Whatever happens in a call, failures and recoveries among it: each snapshot that a machine asked for has at least half a window of
-/// updates more than the one before. So the snapshots that are stored are at most as many as halves of the window are in the tickets that
-/// are left at the beginning, and besides those that nobody asked for.
+/// updates more than the one before. So the snapshots that are stored, with one that is under way, are at most as many as halves of the
+/// window are in the tickets that are left at the beginning, and besides those that nobody asked for.
 pub fn snapshots_are_few()
     ensures { (st : Setting) (base : BaseView) (c : Cluster) (events : List Event) (new : Cluster) →
         IsSetting st → AreColoured st st.engine → 0 < half_window st → IsCourse (going_on st base.numbers base.number) (recovers st base c) events new →
-        snapshots_in_all events ≤ c.left / half_window st + unasked_in (going_on st base.numbers base.number) (recovers st base c) events }
+        snapshots_in_all events + under_way new ≤ c.left / half_window st + unasked_in (going_on st base.numbers base.number) (recovers st base c) events }
 {}

@@ -17,6 +17,7 @@ ghost use Rattle.whole_laws.specs.cluster_records.Recorded.{HaveSameNumbers};
 ghost use Rattle.whole_laws.specs.cluster_whole.Whole.{setting_behind};
 ghost use Rattle.merged_logs.specs.Merges.{IsByMachineBelow, IsMerge};
 ghost use Rattle.seq_run.specs.Orders.{replay};
+ghost use Rattle.whole_laws.specs.cluster_records.Few.{under_way};
 ghost use Rattle.whole_laws.specs.whole_calls.Called.{IsCallOf, KeepsWindows};
 ghost use Rattle.whole_laws.specs.whole_calls.Following.{has_reached};
 ghost use Rattle.whole_laws.specs.whole_calls.Lost.{AreLostIn, TakesAway, all_logged, is_lacking, machine_logs};
@@ -35,7 +36,7 @@ pub fn courses_are_calls()
         × IsCallOf st failures kept resumed c call
         × (st.stored ≡ true → KeepsWindows st failures call)
         × AreSnapshotsOf st base.number kept (recorded_in (going_on st base.numbers base.number) (recovers st base first) events) (snapshots_of call)
-        × (0 < half_window st → length (snapshots_of call) ≤ first.left / half_window st + 1)
+        × (0 < half_window st → length (snapshots_of call) + under_way c ≤ first.left / half_window st + 1)
         × TellsOfCall st first.left c call
         × ((lost : List Entry) → AreLostIn (going_on st base.numbers base.number) (recovers st base first) events lost → lost_of call ≡ lost)
         × AreNextOrders st kept (fronts_in (going_on st base.numbers base.number) (recovers st base first) events)

@@ -1,5 +1,5 @@
 -- Attempt after attempt, what was held and what was not.
-use Rattle.whole_laws.proofs.attempts.Accounting.{call_accounted}
+use Rattle.whole_laws.proofs.attempts.Accounting.{call_accounted, call_kept}
 use Rattle.whole_laws.proofs.attempts.Pieces.{call_between}
 use Rattle.whole_laws.proofs.attempts.laws.updates_are_accounted.Goals as goal
 
@@ -8,3 +8,6 @@ returns-clause-together c = λ shared call is. call_accounted shared call is
 
 pub returns-clause-between : goal.returns-clause-between
 returns-clause-between c = λ shared call is. call_between shared call is
+
+pub returns-clause-kept : goal.returns-clause-kept
+returns-clause-kept c = λ shared call is. call_kept shared call is
