@@ -14,7 +14,7 @@ use graph_core::Graph;
 use std::alloc::Global;
 
 /// The atom of each vertex, the lines of each atom, and the bytes of the index.
-#[derive(Debug, Drop)]
+#[derive(Drop)]
 pub struct Atoms {
     pub of: Vec<AtomNo>,
     pub lines: Vec<Lines>,

@@ -10,7 +10,7 @@ use graph_core::Graph;
 use std::alloc::Global;
 
 /// Two atoms, the lower one first, and how many edges are between them.
-#[derive(Clone, Copy, Debug, PartialEq, Eq, Hash)]
+#[derive(Clone, Copy)]
 pub struct MetaEdge {
     pub a: AtomNo,
     pub b: AtomNo,

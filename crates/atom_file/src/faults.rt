@@ -2,7 +2,7 @@
 use thiserror::Error;
 
 /// The first fault of a file that is read from front to back, with its place.
-#[derive(Clone, Copy, Debug, PartialEq, Eq, Hash, Error)]
+#[derive(Clone, Copy, Debug, PartialEq, Eq, Error)]
 pub enum AtomFault {
     /// A byte is missing. The place is that of the first missing byte: how many bytes there are.
     #[error("at byte {0}: a byte is missing")]

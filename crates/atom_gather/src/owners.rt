@@ -15,7 +15,7 @@ use gl_base::{AtomNo, AtomsFault, AtomsKind, MAX_ATOMS, NoMemory, Vertex};
 use std::alloc::Global;
 
 /// What is kept of the atoms that add a vertex: nobody adds it, or one atom, or more.
-#[derive(Clone, Copy, Debug, PartialEq, Eq)]
+#[derive(Clone, Copy)]
 enum Held {
     Nobody,
     By(AtomNo),
@@ -23,7 +23,7 @@ enum Held {
 }
 
 /// Which atoms add each vertex, as far as their files were read. The bytes of a file are not kept.
-#[derive(Debug, Drop)]
+#[derive(Drop)]
 pub struct Owners {
     held: Vec<Held>,
     beyond: bool,

@@ -6,7 +6,7 @@ use call_courses::{Course, Due, SavingMachine};
 use gl_base::MachineNo;
 
 /// Why the rounds of an attempt pause.
-#[derive(Clone, Copy, Debug, PartialEq, Eq)]
+#[derive(Clone, Copy)]
 pub enum Pause {
     /// The machine has reached the count of a failure.
     Reached(MachineNo),

@@ -2,7 +2,7 @@
 use gl_base::{MachineNo, ScopeId, Vertex};
 
 /// What may happen in a cluster.
-#[derive(Clone, Copy, Debug, PartialEq, Eq, Hash)]
+#[derive(Clone, Copy)]
 pub enum Event {
     /// The machine admits a scope of one of its vertices.
     Admit(MachineNo),

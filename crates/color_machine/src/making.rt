@@ -14,7 +14,7 @@ use std::alloc::Global;
 use update_api::Program;
 
 /// What is needed besides a machine's own numbers to make an update: the scope and its vertex, and the ticket.
-#[derive(Clone, Copy, Debug)]
+#[derive(Clone, Copy)]
 pub struct Ticketed {
     pub scope: ScopeId,
     pub vertex: Vertex,

@@ -9,7 +9,7 @@ use outboxes::Outboxes;
 use wire_msgs::Message;
 
 /// What the coordinator tells each machine.
-#[derive(Clone, Copy, Debug, PartialEq, Eq)]
+#[derive(Clone, Copy)]
 pub enum Word {
     /// The snapshot of this number begins.
     Begin(u32),

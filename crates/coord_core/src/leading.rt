@@ -19,7 +19,7 @@ use std::marker::Model;
 use wire_msgs::Message;
 
 /// What the coordinator is to do next.
-#[derive(Clone, Copy, Debug, PartialEq, Eq, Hash)]
+#[derive(Clone, Copy, Debug, PartialEq, Eq)]
 pub enum Due {
     /// All sections of the snapshot of this number have come: it is to be recorded.
     Record(u32),

@@ -5,7 +5,7 @@ ghost use Rattle.coord_core.specs.Steps.{HasColours, IsStepDue, colour_in_turn, 
 use std::marker::Model;
 
 /// How updates that run side by side are kept apart.
-#[derive(Clone, Copy, Debug, PartialEq, Eq, Hash)]
+#[derive(Clone, Copy)]
 pub enum Engine {
     /// By locks on each update's scope.
     Locking,

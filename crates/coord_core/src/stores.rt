@@ -8,7 +8,7 @@ use wire_msgs::Section;
 
 /// What is known of a store as an attempt begins: how many vertices and edges its graph has, the number of its newest snapshot, and
 /// how many bytes of its file are in use.
-#[derive(Clone, Copy, Debug, PartialEq, Eq)]
+#[derive(Clone, Copy)]
 pub struct Store {
     pub vertices: u32,
     pub edges: u32,

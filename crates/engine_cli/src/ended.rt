@@ -4,7 +4,7 @@ use gl_base::Entry;
 use stored_answers::SnapLine;
 
 /// How a call ended, and what it leaves of its run.
-#[derive(Debug, Drop)]
+#[derive(Drop)]
 pub struct Ended {
     pub status: Status,
     /// The updates that count, by ascending ticket, those of earlier runs of the store among them, and the restarts between them.

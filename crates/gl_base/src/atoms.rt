@@ -4,14 +4,14 @@ use std::fmt;
 use thiserror::Error;
 
 /// A vertex of an atom, with its identifier.
-#[derive(Clone, Copy, Debug, PartialEq, Eq, Hash)]
+#[derive(Clone, Copy, Debug, PartialEq, Eq)]
 pub struct VertexLine {
     pub vertex: Vertex,
     pub id: u64,
 }
 
 /// A vertex of another atom that an edge of this atom leads to, with its identifier and the atom that holds it.
-#[derive(Clone, Copy, Debug, PartialEq, Eq, Hash)]
+#[derive(Clone, Copy, Debug, PartialEq, Eq)]
 pub struct GhostLine {
     pub vertex: Vertex,
     pub id: u64,
@@ -19,7 +19,7 @@ pub struct GhostLine {
 }
 
 /// An edge of an atom. Of an edge without a direction `from` is the lower vertex.
-#[derive(Clone, Copy, Debug, PartialEq, Eq, Hash)]
+#[derive(Clone, Copy, Debug, PartialEq, Eq)]
 pub struct EdgeLine {
     pub edge: EdgeNo,
     pub from: Vertex,
@@ -29,7 +29,7 @@ pub struct EdgeLine {
 
 /// What an atom holds: its vertices, the other ends of its edges, and each edge with an end among its vertices. Each
 /// list ascends by the vertex or the edge.
-#[derive(Debug, Drop)]
+#[derive(Drop)]
 pub struct Lines {
     pub vertices: Vec<VertexLine>,
     pub ghosts: Vec<GhostLine>,
@@ -37,7 +37,7 @@ pub struct Lines {
 }
 
 /// What is wrong with the files of a cut.
-#[derive(Clone, Copy, Debug, PartialEq, Eq, Hash)]
+#[derive(Clone, Copy, Debug)]
 pub enum AtomsKind {
     /// A byte is missing.
     Torn,
@@ -71,7 +71,7 @@ impl fmt::Display for AtomsKind {
 
 /// The first fault of the files of a cut. File 0 is the index, and file `a + 1` is that of atom `a`. `at` is the place of a
 /// byte of that file, or for `Owner` a vertex.
-#[derive(Clone, Copy, Debug, PartialEq, Eq, Hash, Error)]
+#[derive(Clone, Copy, Debug, Error)]
 #[error("file {file} of the cut, at {at}: {kind}")]
 pub struct AtomsFault {
     pub file: u16,

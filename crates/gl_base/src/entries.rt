@@ -3,7 +3,7 @@ use crate::{MachineNo, Vertex};
 
 /// An entry of an order. Tickets tell in which order the updates count. The ticket stands last, where an entry takes 16
 /// bytes: an order may be long.
-#[derive(Clone, Copy, Debug, PartialEq, Eq, Hash)]
+#[derive(Clone, Copy, Debug, PartialEq, Eq)]
 pub enum Entry {
     /// An update of a vertex, by the machine that owns it.
     Go {

@@ -7,7 +7,7 @@ use std::fmt;
 use thiserror::Error;
 
 /// A key of a job, in the order in which keys are looked at.
-#[derive(Clone, Copy, Debug, PartialEq, Eq, Hash)]
+#[derive(Clone, Copy, Debug)]
 pub enum Key {
     Vertices,
     Edges,

@@ -2,7 +2,7 @@
 use crate::{MachineNo, Name};
 
 /// What is computed of each vertex.
-#[derive(Clone, Copy, Debug, PartialEq, Eq, Hash)]
+#[derive(Clone, Copy, Debug, PartialEq, Eq)]
 pub enum Algorithm {
     /// How many edges the vertex is away from the source.
     Levels,
@@ -15,7 +15,7 @@ pub enum Algorithm {
 }
 
 /// How updates that run side by side are kept apart.
-#[derive(Clone, Copy, Debug, PartialEq, Eq, Hash)]
+#[derive(Clone, Copy)]
 pub enum EngineKind {
     /// By reader-writer locks on each update's scope.
     Locking,
@@ -24,7 +24,7 @@ pub enum EngineKind {
 }
 
 /// A failure that is ordered: the machine stops when it has completed so many updates.
-#[derive(Clone, Copy, Debug, PartialEq, Eq, Hash)]
+#[derive(Clone, Copy, PartialEq, Eq)]
 pub struct FailureAt {
     pub machine: MachineNo,
     pub after: u64,
@@ -32,7 +32,7 @@ pub struct FailureAt {
 
 /// A job. A field that may be absent is `None` exactly where its key was, and each other field has its
 /// key's value or the default.
-#[derive(Debug, Drop)]
+#[derive(Drop)]
 pub struct Job {
     pub vertices: Name,
     pub edges: Name,
@@ -52,7 +52,7 @@ pub struct Job {
 }
 
 /// The graph that `make` writes.
-#[derive(Clone, Copy, Debug, PartialEq, Eq, Hash)]
+#[derive(Clone, Copy)]
 pub struct MakePlan {
     pub number: u32,
     pub vertices: u32,

@@ -6,7 +6,7 @@ use std::error::Error;
 use std::fmt;
 
 /// There was not enough memory.
-#[derive(Clone, Copy, Debug, PartialEq, Eq)]
+#[derive(Clone, Copy, Debug)]
 pub struct NoMemory;
 
 impl fmt::Display for NoMemory {
@@ -30,7 +30,7 @@ impl<T: Drop> From<AllocFailed<T>> for NoMemory {
 }
 
 /// A fault of what was asked, or want of memory for the answer.
-#[derive(Clone, Copy, Debug, PartialEq, Eq, Drop)]
+#[derive(Clone, Copy, Debug, Drop)]
 pub enum OrNoMemory<F> {
     /// What was asked has this fault.
     Fault(F),

@@ -2,14 +2,14 @@
 use crate::MachineNo;
 
 /// A scope: an update that was admitted at its home machine, the owner of its centre. Serials count from 0 at each home.
-#[derive(Clone, Copy, Debug, PartialEq, Eq, Hash)]
+#[derive(Clone, Copy, Debug, PartialEq, Eq)]
 pub struct ScopeId {
     pub home: MachineNo,
     pub serial: u64,
 }
 
 /// How a scope locks a vertex.
-#[derive(Clone, Copy, Debug, PartialEq, Eq, Hash)]
+#[derive(Clone, Copy, PartialEq, Eq)]
 pub enum Mode {
     /// Beside other readers: a neighbour of the centre.
     Reader,
@@ -18,7 +18,7 @@ pub enum Mode {
 }
 
 /// A scope's hold of the lock of a vertex, or its request for it.
-#[derive(Clone, Copy, Debug, PartialEq, Eq, Hash)]
+#[derive(Clone, Copy, PartialEq, Eq)]
 pub struct Claim {
     pub scope: ScopeId,
     pub mode: Mode,
@@ -26,7 +26,7 @@ pub struct Claim {
 
 /// What a machine keeps of a vertex, its own or a ghost: its number, how often number or mark changed, and the last snapshot
 /// that has saved it.
-#[derive(Clone, Copy, Debug, PartialEq, Eq, Hash)]
+#[derive(Clone, Copy, PartialEq, Eq)]
 pub struct Datum {
     pub value: u64,
     pub version: u32,
@@ -34,7 +34,7 @@ pub struct Datum {
 }
 
 /// An end of a link.
-#[derive(Clone, Copy, Debug, PartialEq, Eq, Hash)]
+#[derive(Clone, Copy)]
 pub enum Peer {
     Machine(MachineNo),
     Coordinator,
@@ -42,7 +42,7 @@ pub enum Peer {
 
 /// What a machine answers to a wave: how many messages it has sent to and received from other machines, how many updates it
 /// has completed in this attempt, and whether it has no task, no scope and no pending vertex.
-#[derive(Clone, Copy, Debug, PartialEq, Eq, Hash)]
+#[derive(Clone, Copy)]
 pub struct Counted {
     pub sent: u64,
     pub received: u64,

@@ -6,7 +6,7 @@ use std::fmt;
 use thiserror::Error;
 
 /// The texts that a graph is read from.
-#[derive(Clone, Copy, Debug, PartialEq, Eq, Hash)]
+#[derive(Clone, Copy, Debug)]
 pub enum TextFile {
     Vertices,
     Edges,
@@ -31,7 +31,7 @@ impl fmt::Display for TextFile {
 }
 
 /// What is wrong with a text.
-#[derive(Clone, Copy, Debug, PartialEq, Eq, Hash)]
+#[derive(Clone, Copy, Debug)]
 pub enum TextKind {
     /// A vertex line without exactly one field, or an edge line with fewer than two.
     Fields,
@@ -79,7 +79,7 @@ impl fmt::Display for TextKind {
 }
 
 /// The first fault of a text. Lines are counted from 1.
-#[derive(Clone, Copy, Debug, PartialEq, Eq, Hash, Error)]
+#[derive(Clone, Copy, Debug, Error)]
 #[error("the text of the {file}, line {line}: {kind}")]
 pub struct TextFault {
     pub file: TextFile,

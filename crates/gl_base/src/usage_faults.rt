@@ -4,7 +4,7 @@ use std::fmt;
 use thiserror::Error;
 
 /// An option of the command line that takes a number.
-#[derive(Clone, Copy, Debug, PartialEq, Eq, Hash)]
+#[derive(Clone, Copy, Debug)]
 pub enum Opt {
     Number,
     Vertices,
@@ -24,7 +24,7 @@ impl fmt::Display for Opt {
 }
 
 /// The first fault of the words.
-#[derive(Clone, Copy, Debug, PartialEq, Eq, Hash, Error)]
+#[derive(Clone, Copy, Debug, Error)]
 pub enum UsageFault {
     /// The word at this place, counted from 0, has not the form of a word.
     #[error("word {0} has not the form of a word")]

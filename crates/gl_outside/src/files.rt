@@ -11,11 +11,11 @@ use crate::Failed;
 use std::alloc::{AllocError, AllocFailed};
 
 /// A file that was opened. Those for reading, those for writing and disks are numbered apart.
-#[derive(Clone, Copy, Debug, PartialEq, Eq)]
+#[derive(Clone, Copy)]
 pub struct FileNo(pub u32);
 
 /// Why a file was not opened.
-#[derive(Clone, Copy, Debug, PartialEq, Eq)]
+#[derive(Clone, Copy)]
 pub enum OpenFault {
     Failed,
     NoMemory,

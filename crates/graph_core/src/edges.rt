@@ -3,7 +3,7 @@ use crate::sorting::HasKey;
 use gl_base::Vertex;
 
 /// An edge between vertex numbers. Where edges have no direction, `from` is the lower one.
-#[derive(Clone, Copy, Debug)]
+#[derive(Clone, Copy)]
 pub struct Edge {
     pub from: Vertex,
     pub to: Vertex,

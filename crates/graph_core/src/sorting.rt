@@ -34,7 +34,7 @@ impl HasKey for Vertex {
 }
 
 /// The key at this place stands before it too, and no earlier key does.
-#[derive(Clone, Copy, Debug, PartialEq, Eq)]
+#[derive(Clone, Copy)]
 pub struct DoubleAt(pub usize);
 
 /// The items by ascending keys. Items that are in order already stay where they are.

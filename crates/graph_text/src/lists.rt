@@ -9,14 +9,14 @@ use graph_lines::Unread;
 use thiserror::Error;
 
 /// The identifiers of the vertices, ascending.
-#[derive(Debug, Drop)]
+#[derive(Drop)]
 pub struct VertexList {
     pub ids: Vec<u64>,
     ghost are_ids: { AreIds ids.items },
 }
 
 /// Why a text was not read.
-#[derive(Clone, Copy, Debug, PartialEq, Eq, Error)]
+#[derive(Clone, Copy, Debug, Error)]
 pub enum Reading {
     /// The text is refused, for this fault.
     #[error("{0}")]

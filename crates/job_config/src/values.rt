@@ -8,7 +8,7 @@ use gl_base::{Algorithm, EngineKind, Key};
 use serde_json::Value;
 
 /// Why the value of a key was refused.
-#[derive(Clone, Copy, Debug, PartialEq, Eq)]
+#[derive(Clone, Copy)]
 pub enum KeyFault {
     /// The key is needed and absent.
     Missing(Key),

@@ -29,7 +29,7 @@ pub struct Input {
 }
 
 /// Why a job or its graph was not read.
-#[derive(Debug, Drop)]
+#[derive(Drop)]
 pub enum NoInput {
     /// The job is refused: its bytes are no job, it lacks a key that the verb needs, or its source is no vertex of the graph.
     BadJob(JobFault),

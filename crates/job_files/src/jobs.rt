@@ -14,7 +14,7 @@ use std::alloc::Global;
 use whole_files::{NotRead, front_of};
 
 /// A verb that reads a job.
-#[derive(Clone, Copy, Debug, PartialEq, Eq)]
+#[derive(Clone, Copy)]
 pub enum JobVerb {
     /// Runs the job's algorithm. It needs no key of its own.
     Run,
@@ -27,7 +27,7 @@ pub enum JobVerb {
 }
 
 /// Why there is no job.
-#[derive(Debug, Drop)]
+#[derive(Drop)]
 pub enum NoJob {
     /// The bytes are no job, or it lacks a key that the verb needs.
     Refused(JobFault),

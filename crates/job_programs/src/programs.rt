@@ -9,7 +9,7 @@ use prog_paths::Paths;
 use update_api::{Program, Scope, Woken};
 
 /// The program of one of the algorithms.
-#[derive(Clone, Copy, Debug, PartialEq, Eq)]
+#[derive(Clone, Copy)]
 pub enum JobProgram {
     Levels(Levels),
     Components(Components),

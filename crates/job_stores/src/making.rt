@@ -9,7 +9,7 @@ use snap_journal::{JournalFault, init};
 use store_format::{Header, StoreFault};
 
 /// Why there is no store.
-#[derive(Clone, Copy, Debug, PartialEq, Eq)]
+#[derive(Clone, Copy)]
 pub enum NoStore {
     /// The store is refused.
     BadStore(StoreFault),

@@ -11,7 +11,7 @@ use gl_base::{MakePlan, Name, OrNoMemory, UsageFault};
 use std::alloc::Global;
 
 /// A command line that was read.
-#[derive(Debug, Drop)]
+#[derive(Drop)]
 pub enum Words {
     /// Run the job in `file`, and tell how it went where `report` is set.
     Run { file: Name, report: bool },

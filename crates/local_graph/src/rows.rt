@@ -3,7 +3,7 @@ use update_api::Link;
 
 /// The edges at a vertex that was taken out: a link for each, in the order of edges, and their numbers. `near` and `edge` of
 /// a link are its own place.
-#[derive(Debug, Drop)]
+#[derive(Drop)]
 pub struct Row {
     pub links: Vec<Link>,
     pub numbers: Vec<u64>,

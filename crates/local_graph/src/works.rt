@@ -11,7 +11,7 @@ use update_api::{Link, Program, Scope, Woken};
 
 /// A ready scope moved out for its update: its vertex with identifier and number, the row, and the numbers at the other ends
 /// of the row's edges.
-#[derive(Debug, Drop)]
+#[derive(Drop)]
 pub struct Work {
     pub scope: ScopeId,
     pub vertex: Vertex,
@@ -22,14 +22,14 @@ pub struct Work {
 }
 
 /// Works of one machine.
-#[derive(Debug, Drop)]
+#[derive(Drop)]
 pub struct Batch {
     pub work: Vec<Work>,
 }
 
 /// A work as it was taken, and what its update makes of it: the new number of the vertex, those of the row's edges, and whom
 /// it wakes.
-#[derive(Debug, Drop)]
+#[derive(Drop)]
 pub struct Outcome {
     pub work: Work,
     pub value: u64,

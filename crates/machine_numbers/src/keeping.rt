@@ -20,14 +20,14 @@ pub struct Numbers {
 }
 
 /// Lists for the numbers of a work: of the edges at its vertex, and of their other ends.
-#[derive(Debug, Drop)]
+#[derive(Drop)]
 pub struct Spare {
     pub edges: Vec<u64>,
     pub near: Vec<u64>,
 }
 
 /// Lists that a work leaves behind whose update was kept: those of the work, and the one in which the new numbers of its edges stood.
-#[derive(Debug, Drop)]
+#[derive(Drop)]
 pub struct Spent {
     pub edges: Vec<u64>,
     pub near: Vec<u64>,

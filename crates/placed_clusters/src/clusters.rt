@@ -21,7 +21,7 @@ use update_api::Program;
 
 /// How a cluster runs: on so many machines, of which each has so many scopes in flight at most, and with its vertices in an order that
 /// begins at `first`, where it owns that. The first update gets the ticket `next`, and there are `left` tickets.
-#[derive(Clone, Copy, Debug, PartialEq, Eq)]
+#[derive(Clone, Copy)]
 pub struct Run {
     pub machines: u16,
     pub pipeline: u16,

@@ -18,7 +18,7 @@ use vertex_locks::LockTable;
 const SPARE_LISTS: usize = 4096;
 
 /// What a new machine goes by, how many machines and vertices there are, and the serial of the first scope that it admits.
-#[derive(Clone, Copy, Debug, PartialEq, Eq)]
+#[derive(Clone, Copy)]
 pub struct NewTerms {
     pub terms: Terms,
     pub machines: u16,

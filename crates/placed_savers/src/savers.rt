@@ -19,7 +19,7 @@ use update_api::Program;
 /// How an attempt that takes snapshots runs: on so many machines, of which each has so many scopes in flight at most, with its vertices in
 /// an order that begins at `first`, where it owns that; at most `window` updates of one machine are outside the last snapshot that was
 /// acknowledged; and so updates are kept apart.
-#[derive(Clone, Copy, Debug, PartialEq, Eq)]
+#[derive(Clone, Copy)]
 pub struct SavingRun {
     pub machines: u16,
     pub pipeline: u16,
@@ -30,7 +30,7 @@ pub struct SavingRun {
 
 /// Where the vertices of a graph are, and how each attempt runs: the atom of each vertex, the machine of each atom, and, where vertices run
 /// by colours, the colour of each.
-#[derive(Debug, Drop)]
+#[derive(Drop)]
 pub struct Places {
     pub of: Vec<AtomNo>,
     pub owner: Vec<MachineNo>,

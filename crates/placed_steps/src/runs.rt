@@ -15,7 +15,7 @@ use update_api::Program;
 
 /// How a cluster runs by colours: on so many machines, of which each has its vertices in an order that begins at `first`, where it
 /// owns that. The first update gets the ticket `next`, and there are `left` tickets.
-#[derive(Clone, Copy, Debug, PartialEq, Eq)]
+#[derive(Clone, Copy)]
 pub struct StepRun {
     pub machines: u16,
     pub first: Vertex,

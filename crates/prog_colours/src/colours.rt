@@ -8,7 +8,7 @@ ghost use Rattle.update_api.specs.Updates.{update_of_colours};
 use update_api::{Program, Scope, Woken};
 
 /// Each vertex gets a colour, from 1 on, that none of its neighbours has; 0 stands for none.
-#[derive(Clone, Copy, Debug, PartialEq, Eq)]
+#[derive(Clone, Copy)]
 pub struct Colours;
 
 impl Program for Colours {

@@ -6,7 +6,7 @@ ghost use Rattle.update_api.specs.Updates.{least, update_of_components};
 use update_api::{Program, Scope, Woken};
 
 /// Each vertex gets the least identifier in its weakly connected component.
-#[derive(Clone, Copy, Debug, PartialEq, Eq)]
+#[derive(Clone, Copy)]
 pub struct Components;
 
 impl Program for Components {

@@ -9,7 +9,7 @@ use update_api::{Program, Scope, Woken};
 
 /// Each vertex gets its level: how many edges a shortest walk from the source to it has, and `INF` where
 /// there is no walk.
-#[derive(Clone, Copy, Debug, PartialEq, Eq)]
+#[derive(Clone, Copy)]
 pub struct Levels {
     /// The identifier of the source.
     pub source: u64,

@@ -12,7 +12,7 @@ use update_api::{Direction, Program, Scope, Woken};
 /// Each vertex gets its distance: the least sum of weights along a walk from the source to it, and `INF`
 /// where there is no walk. Each edge gets 1 where it is tight, which is where a distance and the edge's
 /// weight make up the distance that it leads to, and 0 elsewhere.
-#[derive(Clone, Copy, Debug, PartialEq, Eq)]
+#[derive(Clone, Copy)]
 pub struct Paths {
     /// The identifier of the source.
     pub source: u64,

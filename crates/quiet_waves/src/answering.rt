@@ -8,7 +8,7 @@ use std::alloc::Global;
 use std::marker::Model;
 
 /// What the answers to a wave add up to.
-#[derive(Clone, Copy, Debug, PartialEq, Eq)]
+#[derive(Clone, Copy)]
 pub struct Sums {
     /// How many machines have not answered.
     pub missing: u32,
@@ -35,7 +35,7 @@ impl Sums {
 }
 
 /// What each machine has answered to a wave, where it has. Contracts see the list of the answers.
-#[derive(Debug, Drop)]
+#[derive(Drop)]
 pub struct Answers {
     counts: Vec<Option<Counted>>,
     sums: Sums,

@@ -9,7 +9,7 @@ use std::marker::Model;
 use std::mem;
 
 /// What the last two waves show.
-#[derive(Clone, Copy, Debug, PartialEq, Eq, Hash)]
+#[derive(Clone, Copy, PartialEq, Eq)]
 pub enum Verdict {
     /// The end.
     Quiet,
@@ -18,7 +18,7 @@ pub enum Verdict {
 }
 
 /// What each machine has answered to this wave and to the one before, where it has.
-#[derive(Debug, Drop)]
+#[derive(Drop)]
 pub struct Waves {
     before: Answers,
     wave: Answers,

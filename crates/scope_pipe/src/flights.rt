@@ -2,7 +2,7 @@
 use gl_base::{ScopeId, Vertex};
 
 /// A scope that was admitted here and is in flight.
-#[derive(Clone, Copy, Debug, PartialEq, Eq, Hash)]
+#[derive(Clone, Copy)]
 pub struct Flight {
     pub scope: ScopeId,
     pub centre: Vertex,

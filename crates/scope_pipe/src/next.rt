@@ -6,7 +6,7 @@ ghost use Rattle.scope_pipe.specs.Entered.{next_at};
 use gl_base::{MachineNo, Mode, Vertex};
 
 /// What a scope that has come to a machine wants next there.
-#[derive(Clone, Copy, Debug, PartialEq, Eq, Hash)]
+#[derive(Clone, Copy, PartialEq, Eq)]
 pub enum Next {
     /// The lock of a vertex.
     Lock(Vertex, Mode),

@@ -34,7 +34,7 @@ pub struct ScopePipe {
 }
 
 /// Why a scope was not admitted.
-#[derive(Clone, Copy, Debug, PartialEq, Eq, Hash)]
+#[derive(Clone, Copy, PartialEq, Eq)]
 pub enum PipeFault {
     /// The vertex has a scope in flight.
     InFlight,

@@ -5,7 +5,7 @@ ghost use Rattle.snap_clusters.specs.Events.{acting, acting_local, acting_passag
 use gl_base::{MachineNo, ScopeId, Vertex};
 
 /// What a machine does by itself.
-#[derive(Clone, Copy, Debug, PartialEq, Eq)]
+#[derive(Clone, Copy)]
 pub enum Local {
     /// It admits a scope of a vertex of its choice.
     Admit(MachineNo),
@@ -21,7 +21,7 @@ pub enum Local {
 }
 
 /// What the coordinator does by itself.
-#[derive(Clone, Copy, Debug, PartialEq, Eq)]
+#[derive(Clone, Copy)]
 pub enum Lead {
     /// The snapshot under way is acknowledged.
     Record,
@@ -36,7 +36,7 @@ pub enum Lead {
 }
 
 /// What goes onto a link, and what comes.
-#[derive(Clone, Copy, Debug, PartialEq, Eq)]
+#[derive(Clone, Copy)]
 pub enum Passage {
     /// The first message that waits at the one machine for the other goes onto the link, and comes.
     Send { from: MachineNo, to: MachineNo },
@@ -50,7 +50,7 @@ pub enum Passage {
 }
 
 /// What may happen in a cluster that takes snapshots.
-#[derive(Clone, Copy, Debug, PartialEq, Eq)]
+#[derive(Clone, Copy)]
 pub enum Event {
     Local(Local),
     Lead(Lead),

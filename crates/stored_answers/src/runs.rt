@@ -3,7 +3,7 @@ use gl_base::{EngineKind, Entry, Vertex};
 use job_runs::RunPlan;
 
 /// A snapshot that was acknowledged: its number, how many entries its order has, and what the numbers of its vertices come to.
-#[derive(Clone, Copy, Debug, PartialEq, Eq)]
+#[derive(Clone, Copy)]
 pub struct SnapLine {
     pub number: u32,
     pub entries: u64,
@@ -13,7 +13,7 @@ pub struct SnapLine {
 }
 
 /// How a run with a store ended.
-#[derive(Clone, Copy, Debug, PartialEq, Eq)]
+#[derive(Clone, Copy)]
 pub enum StoredEnd {
     /// No vertex is left to be updated, and the last snapshot is of the whole order.
     Finished,
@@ -27,7 +27,7 @@ pub enum StoredEnd {
 
 /// How a program is run with a store: how the graph is placed and the program run on it, how many updates of one machine may be outside the
 /// last snapshot that was acknowledged, and how updates are kept apart.
-#[derive(Clone, Copy, Debug, PartialEq, Eq)]
+#[derive(Clone, Copy)]
 pub struct StoredPlan {
     pub run: RunPlan,
     pub window: u32,

@@ -5,7 +5,7 @@ ghost use Rattle.sync_folds.specs.Folds.{fold_of, merged};
 use gl_base::INF;
 
 /// What a list of numbers of vertices comes to. A number is reached where it is not `INF`.
-#[derive(Clone, Copy, Debug, PartialEq, Eq, Hash)]
+#[derive(Clone, Copy, Debug, PartialEq, Eq)]
 pub struct Fold {
     /// How many numbers are reached.
     pub reached: u64,

@@ -12,7 +12,7 @@ use std::marker::Model;
 use vertex_queue::VertexLine;
 
 /// A vertex that is admitted, and whether for a snapshot update, else for an update.
-#[derive(Clone, Copy, Debug, PartialEq, Eq, Hash)]
+#[derive(Clone, Copy, PartialEq, Eq)]
 pub struct Pick {
     pub vertex: Vertex,
     pub snapshot: bool,

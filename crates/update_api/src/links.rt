@@ -3,7 +3,7 @@ ghost use Rattle.std.specs.Prelude.{◌≡◌};
 ghost use Rattle.update_api.specs.Directions.{leads_out, leads_into};
 
 /// How an edge leads, seen from the vertex in question.
-#[derive(Clone, Copy, Debug, PartialEq, Eq, Hash)]
+#[derive(Clone, Copy, PartialEq, Eq)]
 pub enum Direction {
     /// It leads out of the vertex alone.
     Out,
@@ -31,7 +31,7 @@ impl Direction {
 
 /// An edge at a vertex: the places of the other end's number and of the edge's own, its weight, and how
 /// it leads.
-#[derive(Clone, Copy, Debug, PartialEq, Eq, Hash)]
+#[derive(Clone, Copy)]
 pub struct Link {
     pub near: u32,
     pub edge: u32,

@@ -1,7 +1,7 @@
 //! Whom an update wakes.
 
 /// The vertices that are scheduled again after an update of a vertex.
-#[derive(Clone, Copy, Debug, PartialEq, Eq, Hash)]
+#[derive(Clone, Copy, Debug, PartialEq, Eq)]
 pub enum Woken {
     /// No vertex.
     Nobody,

@@ -2,7 +2,7 @@
 use gl_base::Claim;
 
 /// What `LockTable::grant` answers.
-#[derive(Clone, Copy, Debug, PartialEq, Eq, Hash)]
+#[derive(Clone, Copy, PartialEq, Eq)]
 pub enum Turn {
     /// The first that waited holds the lock.
     Granted(Claim),

@@ -9,7 +9,7 @@ use std::marker::Model;
 const SLACK: u64 = 65536;
 
 /// What a machine answers to a wave.
-#[derive(Clone, Copy, Debug, PartialEq, Eq)]
+#[derive(Clone, Copy)]
 pub struct WaveAnswer {
     pub wave: u64,
     pub counted: Counted,
@@ -17,7 +17,7 @@ pub struct WaveAnswer {
 
 /// How many messages to machines have left a machine's outboxes, how many of machines it received, and the wave that it has to
 /// answer still. A count stands still at the greatest number, and tells nothing then.
-#[derive(Debug, Drop)]
+#[derive(Drop)]
 pub struct WaveCounts {
     sent: u64,
     received: u64,

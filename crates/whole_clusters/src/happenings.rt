@@ -3,7 +3,7 @@ use cluster_step::Event;
 use gl_base::MachineNo;
 
 /// What may happen in a cluster with its coordinator.
-#[derive(Clone, Copy, Debug, PartialEq, Eq, Hash)]
+#[derive(Clone, Copy)]
 pub enum Happening {
     /// The event happens among the machines.
     Among(Event),

@@ -12,7 +12,7 @@ use wave_counts::{WaveAnswer, WaveCounts};
 
 /// What is kept beside a machine: what it counts, the wave on its way to it, and its answer as it waits and on its way to the
 /// coordinator. No more than one wave and one answer are on their way.
-#[derive(Debug, Drop)]
+#[derive(Drop)]
 pub struct Seat {
     pub counts: WaveCounts,
     pub call: Option<u64>,

@@ -6,7 +6,7 @@ use gl_base::{Counted, Datum, EdgeNo, Entry, MachineNo, NoMemory, ScopeId, Verte
 use std::alloc::Global;
 
 /// What one peer tells another.
-#[derive(Debug, Drop)]
+#[derive(Drop)]
 pub enum Message {
     /// The scope of this centre asks for its locks here, and then at the machines `rest` in turn. To a machine.
     Ask {
@@ -52,7 +52,7 @@ pub enum Message {
 /// What an update tells another machine of its scope: the centre's datum where it changed, the new numbers of the edges between
 /// the centre and that machine's vertices that changed, and which of that machine's vertices wake and become pending. `number`
 /// is that of the snapshot where some become pending, else 0.
-#[derive(Debug, Drop)]
+#[derive(Drop)]
 pub struct Done {
     pub scope: ScopeId,
     pub centre: Vertex,
@@ -64,7 +64,7 @@ pub struct Done {
 }
 
 /// What a machine saved for a snapshot, and the entries of its vertices that the snapshot has and the one before has not.
-#[derive(Debug, Drop)]
+#[derive(Drop)]
 pub struct Section {
     pub number: u32,
     pub vertices: Vec<(Vertex, u64)>,
@@ -73,7 +73,7 @@ pub struct Section {
 }
 
 /// A message that was not received for want of memory.
-#[derive(Debug, Drop)]
+#[derive(Drop)]
 pub struct Returned {
     pub message: Message,
 }

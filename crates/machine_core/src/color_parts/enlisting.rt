@@ -10,7 +10,7 @@ use machine_numbers::Numbers;
 use task_sched::TaskSet;
 
 /// A kind of vertices: which of them stand in line where they are not admitted.
-#[derive(Clone, Copy, Debug, PartialEq, Eq, Hash)]
+#[derive(Clone, Copy)]
 pub enum Which {
     /// The tasks.
     Tasks,

@@ -9,7 +9,7 @@ use gl_base::Vertex;
 use vertex_locks::LockTable;
 
 /// The vertex that is to be updated, and its place in the machine's own order.
-#[derive(Clone, Copy, Debug, PartialEq, Eq)]
+#[derive(Clone, Copy)]
 pub struct Found {
     pub place: Vertex,
     pub vertex: Vertex,

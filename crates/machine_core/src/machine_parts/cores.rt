@@ -8,7 +8,7 @@ use vertex_locks::LockTable;
 
 /// What a machine goes by through a run: how many of its scopes may be in flight, the number of the snapshot that the run
 /// began with, and whether scopes take locks; else vertices go by colours, and a scope is ready as soon as it is admitted.
-#[derive(Clone, Copy, Debug, PartialEq, Eq)]
+#[derive(Clone, Copy)]
 pub struct Terms {
     pub pipeline: u16,
     pub base: u32,

@@ -10,7 +10,7 @@ use scope_pipe::Next;
 use vertex_locks::Turn;
 
 /// A scope that got a lock, and what it went on to: the lock of another vertex here, the next machine, or home.
-#[derive(Clone, Copy, Debug, PartialEq, Eq)]
+#[derive(Clone, Copy)]
 pub struct Moved {
     pub scope: ScopeId,
     pub next: Next,

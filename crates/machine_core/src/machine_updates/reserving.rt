@@ -21,7 +21,7 @@ use wire_msgs::Done;
 const MAX_LOG: usize = 4294967295;
 
 /// What another machine of a scope will be told of its update, with room for it.
-#[derive(Debug, Drop)]
+#[derive(Drop)]
 pub struct Prepared {
     pub to: MachineNo,
     pub done: Done,

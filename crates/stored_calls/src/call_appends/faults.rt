@@ -5,7 +5,7 @@ use std::alloc::AllocError;
 use thiserror::Error;
 
 /// Why the snapshot that is due was not added to the store.
-#[derive(Clone, Copy, Debug, PartialEq, Eq, Error)]
+#[derive(Clone, Copy, Debug, Error)]
 pub enum AppendFault {
     /// The store takes no snapshot more, or not this one.
     #[error("the store is full: {stored} snapshots, {length} bytes")]

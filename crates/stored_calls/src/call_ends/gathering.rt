@@ -27,7 +27,7 @@ pub struct CallLists {
 }
 
 /// Why the lists of a call were not gathered.
-#[derive(Clone, Copy, Debug, PartialEq, Eq, Error)]
+#[derive(Clone, Copy, Debug, Error)]
 pub enum GatherFault {
     /// The order has an update of a vertex that the graph has not.
     #[error("the order is of another graph")]
