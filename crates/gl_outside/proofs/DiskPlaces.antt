@@ -1,5 +1,5 @@
 -- Disks in memory, by their names and places.
-use Rattle.std.proofs.Common.{◌≡◌, ◌≢◌, ◌⊎◌, inl, inr, ℕ, zero, suc, ◌<◌, List, [], ◌∷◌, ◌++◌, length, map, get_or, Option, Some, None, slice_set, refl, sym, ap, ◌∙◌, arith, length-append, length-set}
+use Rattle.std.proofs.Common.{◌≡◌, ◌≢◌, ◌⊎◌, inl, inr, ℕ, zero, suc, ◌<◌, ◌≤◌, List, [], ◌∷◌, ◌++◌, length, map, get_or, Option, Some, None, slice_set, refl, sym, ap, subst, ◌∙◌, arith, length-append, length-set}
 use Rattle.std.proofs.Math.Path.{fun_ext}
 use Rattle.std.specs.Prelude.{All, bytes_eq}
 use Rattle.std.proofs.lemmas.Bool.{cases_eq}
@@ -159,6 +159,13 @@ module _ (disks : List NamedDisk) (places : List ℕ) (file place : ℕ) (disk n
   pub apart_after : HaveOwnNames (slice_set disks place now)
   apart_after = apart_set disks place now at.inside named apart
 
+-- the disk at this place was put, of disks that became more
+pub put_inside : (disks more : List NamedDisk) (place : ℕ) (now : NamedDisk) (places : List ℕ) → length disks ≤ length more → All (λ p. p < length disks) places
+    → place < length more → now.name ≡ (disk_at more place).name → HaveOwnNames more → All (λ p. p < length (slice_set more place now)) places × HaveOwnNames (slice_set more place now)
+put_inside disks more place now places longer known inside named apart =
+    let long = length-set more place now in
+    (λ k d below. let small = known k d below in omega (arith, small, longer, long), apart_set more place now inside named apart)
+
 -- no disk has the name
 pub past_unknown : (disks : List NamedDisk) (name : List ℕ) → IsUnknown disks name → past_among disks name ≡ at_rest []
 past_unknown [] name unknown = refl
@@ -190,3 +197,7 @@ module _ (before store : DisksState) (is : before ≡ store) (known : All (λ p.
 
     pub names_changed : map (told_name (slice_set before.disks place now)) before.places ≡ map (told_name store.disks) store.places
     names_changed = names_after before.disks before.places file place disk now apart at kept ∙ ap (λ (s : DisksState). map (told_name s.disks) s.places) is
+
+    pub kept_inside : All (λ p. p < length (slice_set before.disks place now)) before.places × HaveOwnNames (slice_set before.disks place now)
+    kept_inside =
+        (subst (λ (n : ℕ). All (λ p. p < n) before.places) (sym (length-set before.disks place now)) known, apart_after before.disks before.places file place disk now apart at kept)

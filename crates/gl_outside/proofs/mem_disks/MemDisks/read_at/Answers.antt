@@ -9,3 +9,9 @@ pub returns-clause-bytes : goal.returns-clause-bytes
 returns-clause-bytes c =
     let found = past_of_open _ c.args.self.now c.self.view_is c.self.invariant.0 c.self.invariant.1 c.args.file.0 c.index.result.now c.index-disk.result.now c.requires c.index.ensures c.index-disk.ensures in
     subst (λ (p : DiskPast). ReadsSome p.now.seen c.args.at c.read.new.buf c.read.result) (ap (λ (d : NamedDisk). past_of d.kept) c.disk.view_is ∙ sym found) c.read.ensures
+
+pub invariant_of-self : goal.invariant_of-self
+invariant_of-self c = c.self.invariant
+
+pub invariant_of-self-2 : goal.invariant_of-self-2
+invariant_of-self-2 c = c.self.invariant

@@ -3,7 +3,7 @@ use Rattle.gl_outside.specs.Calls.{NextFails}
 use Rattle.gl_outside.specs.Frames.{OpensSink}
 use Rattle.gl_outside.specs.Store.{HasNoSinkNumber, StoreState, files_of_store}
 use Rattle.gl_outside.specs.Inner.OpenFiles.{left_in}
-use Rattle.gl_outside.proofs.MemOpens.{opened_kept, sink_gives, sink_opened}
+use Rattle.gl_outside.proofs.MemOpens.{open_after_make, opened_kept, sink_gives, sink_opened}
 use Rattle.gl_outside.proofs.mem_files.MemFilesFiles.open_sink.Goals as goal
 
 pub returns-clause-opens : goal.returns-clause-opens
@@ -28,3 +28,9 @@ returns-clause-only c = λ failed.
 
 pub returns-clause-gives : goal.returns-clause-gives
 returns-clause-gives c = sink_gives c.self.inside.files.items c.make_in-answer.new.files.items c.self.inside.sinks.items _ c.args.name.now c.make_in-answer.result c.make_in-answer.ensures.adds
+
+pub invariant_of-self : goal.invariant_of-self
+invariant_of-self c =
+    let was = c.self.inside in
+    let made = c.make_in-answer.new in
+    open_after_make was.files.items made.files.items was.sinks.items made.sinks.items c.args.name.now c.make_in-answer.result was.opened.items c.make_in-answer.ensures.adds c.self.invariant

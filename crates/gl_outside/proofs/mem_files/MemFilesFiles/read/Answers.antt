@@ -1,7 +1,8 @@
-use Rattle.std.proofs.Common.{◌≡◌, Some, slice_get, slice_set, ap, sym, ◌∙◌, rules}
-use Rattle.gl_outside.specs.Store.{StoreState}
-use Rattle.gl_outside.specs.Inner.OpenFiles.{left_in}
+use Rattle.std.proofs.Common.{◌≡◌, List, Some, slice_get, slice_set, ap, sym, subst, ◌∙◌, rules}
+use Rattle.gl_outside.specs.Store.{NamedBytes, StoreState}
+use Rattle.gl_outside.specs.Inner.OpenFiles.{left_in, IsOpenInside}
 use Rattle.gl_outside.proofs.StoredFiles.{left-seen, slice_get-map_read, slice_get-map_set, reads_next, reads_only, map-slice_set, number_inside, open_inside}
+use Rattle.std.proofs.lemmas.List.Elements.{All-set}
 use Rattle.gl_outside.proofs.mem_files.MemFilesFiles.read.Goals as goal
 
 pub returns-clause-bytes : goal.returns-clause-bytes
@@ -32,3 +33,13 @@ returns-clause-all c =
     let old : slice_get c.args.self.now.opened c.args.file.0 ≡ Some (left_in files c.index.result.now) =
     ap (λ (s : StoreState). slice_get s.opened c.args.file.0) (sym c.self.view_is) ∙ slice_get-map_read (left_in files) opened c.args.file.0 c.index.result.now inside c.index.ensures in
     rw (left-seen c.args.self.now.opened c.args.file.0 _ old) (search rules)
+
+pub invariant_of-self : goal.invariant_of-self
+invariant_of-self c = c.self.invariant
+
+pub invariant_of-self-2 : goal.invariant_of-self-2
+invariant_of-self-2 c =
+    let was = c.self.inside in
+    let next = c.read_on-count.result.1 in
+    let inside : IsOpenInside was.files.items next = subst (λ (files : List NamedBytes). IsOpenInside files next) c.deref.ensures.value c.read_on-count.ensures.inside in
+    (All-set (IsOpenInside was.files.items) was.opened.items c.args.file.0 next inside c.self.invariant.0, c.self.invariant.1)
