@@ -1,8 +1,9 @@
 -- How a table is made, one vertex after another, and made anew.
-use Rattle.std.proofs.Common.{◌≡◌, ℕ, ◌<◌, ◌≤◌, ◌==◌, Bool, true, false, Some, None, is_some, List, length, nat_lt, slice_index, slice_index_or, if◌then◌else◌, refl, sym, ◌∙◌, ap, subst, ⊎_elim, arith, eq-eqb}
+use Rattle.std.proofs.Common.{◌≡◌, ◌≢◌, ℕ, ◌+◌, ◌<◌, ◌≤◌, ◌==◌, ◌++◌, [], ◌∷◌, get_or, Bool, true, false, Some, None, is_some, List, length, nat_lt, slice_index, slice_index_or, slice_set, if◌then◌else◌, refl, sym, ◌∙◌, ap, subst, ⊎_elim, arith, eq-eqb}
 use Rattle.std.specs.List.{All, list_any}
-use Rattle.std.proofs.lemmas.Bool.{cases_lt, true≢false, lt-ltb, le-ltb, eqb-true, ltb-true}
-use Rattle.std.proofs.lemmas.List.{length-map, get_or-map, get_or_default, get_or_past}
+use Rattle.std.proofs.lemmas.Bool.{cases_eq, cases_lt, true≢false, lt-ltb, le-ltb, eqb-true, ltb-true}
+use Rattle.std.proofs.Math.ListN.{length-set}
+use Rattle.std.proofs.lemmas.List.{length-map, get_or-map, get_or_append_left, get_or_default, get_or_past, get_or_push, get_or-set_same, get_or-set_other, length_push}
 use Rattle.std.proofs.lemmas.List.Folds.{list_any-from_Any, Any-from_list_any}
 use Rattle.gl_base.specs.declared.numbers.Vertex.{Vertex}
 use Rattle.gl_base.specs.declared.scopes.Claim.{Claim}
@@ -76,6 +77,58 @@ pub record AreSet (owned : List Vertex) (count i : ℕ) (places : List ℕ) (loc
   pub there : (k : ℕ) (d : Vertex) → k < i → slice_index places (slice_index_or owned k d).0 < i
   pub none : (x : ℕ) → x < count → i ≤ slice_index places x → slice_index places x ≡ 4294967295
   pub free : (k : ℕ) → IsFree (slice_index_or locks k no_lock)
+
+-- one vertex more got its place, and a free lock there
+pub set_more : (owned : List Vertex) (count i : ℕ) (places : List ℕ) (locks : List LockView) (v : Vertex) (l : LockView) → AreSet owned count i places locks
+    → v ≡ get_or owned i v → i < length owned → length owned ≤ count → count < 4294967296 → v.0 < count → IsFree l → AreSet owned count (i + 1) (slice_set places v.0 i) (locks ++ l ∷ [])
+set_more owned count i places locks v l is read within few small below free =
+    let many = is.many in
+    let locks_many = is.locks_many in
+    let here : slice_index (slice_set places v.0 i) v.0 ≡ i = get_or-set_same places v.0 i 0 (omega arith) in
+    let there : (x : ℕ) → x ≢ v.0 → slice_index (slice_set places v.0 i) x ≡ slice_index places x = λ x other. get_or-set_other places v.0 x i 0 other in
+    let named : (d : Vertex) → (slice_index_or owned i d).0 ≡ v.0 = λ d. ap (λ (u : Vertex). u.0) (sym (read ∙ get_or_default owned i v d within)) in
+    record {
+      many = length-set places v.0 i ∙ many;
+      locks_many = length_push locks l ∙ ap (λ (n : ℕ). n + 1) locks_many;
+      back = λ x d early placed. ⊎_elim
+          (λ (same : x ≡ v.0).
+          let at : slice_index (slice_set places v.0 i) x ≡ i = ap (slice_index (slice_set places v.0 i)) same ∙ here in
+          ap (λ (k : ℕ). (slice_index_or owned k d).0) at ∙ (named d ∙ sym same))
+          (λ (other : x ≢ v.0).
+          let at = there x other in
+          let old : slice_index places x < i = ⊎_elim
+          (λ (lt : slice_index places x < i). lt)
+          (λ (le : i ≤ slice_index places x). let last = is.none x early le in absurd (omega (arith, last, placed, at, within, few, small)))
+          (cases_lt (slice_index places x) i) in
+          ap (λ (k : ℕ). (slice_index_or owned k d).0) at ∙ is.back x d early old)
+          (cases_eq x v.0);
+      there = λ k d before.
+          let x = (slice_index_or owned k d).0 in
+          ⊎_elim
+          (λ (same : x ≡ v.0). let at : slice_index (slice_set places v.0 i) x ≡ i = ap (slice_index (slice_set places v.0 i)) same ∙ here in omega arith)
+          (λ (other : x ≢ v.0).
+          let at = there x other in
+          let old : k < i = ⊎_elim
+          (λ (same : k ≡ i). absurd (other (ap (λ (j : ℕ). (slice_index_or owned j d).0) same ∙ named d)))
+          (λ (apart : k ≢ i). let lt : k < i = omega (arith, before, apart) in lt)
+          (cases_eq k i) in
+          let was = is.there k d old in
+          omega (arith, was, at))
+          (cases_eq x v.0);
+      none = λ x early past. ⊎_elim
+          (λ (same : x ≡ v.0). let at : slice_index (slice_set places v.0 i) x ≡ i = ap (slice_index (slice_set places v.0 i)) same ∙ here in absurd (omega (arith, at, past)))
+          (λ (other : x ≢ v.0).
+          let at = there x other in
+          at ∙ is.none x early (omega (arith, at, past)))
+          (cases_eq x v.0);
+      free = λ k. ⊎_elim
+          (λ (lt : k < length locks). subst IsFree (sym (get_or_append_left locks (l ∷ []) no_lock k lt)) (is.free k))
+          (λ (le : length locks ≤ k). ⊎_elim
+          (λ (same : k ≡ length locks). subst IsFree (sym (get_or_push locks l no_lock k (sym same))) free)
+          (λ (apart : k ≢ length locks). subst IsFree (sym (get_or_past (locks ++ l ∷ []) k no_lock (let long = length_push locks l in omega (arith, long, le, apart)))) (refl, refl))
+          (cases_eq k (length locks)))
+          (cases_lt k (length locks));
+    }
 
 pub made_apart : (owned : List Vertex) (count i : ℕ) (places : List ℕ) (locks : List LockView) → AreSet owned count i places locks → ArePlacesApart places (length locks)
 made_apart owned count i places locks is = λ x y below above early same.

@@ -1,6 +1,8 @@
-use Rattle.std.proofs.Common.{◌∙◌, sym, arith}
+use Rattle.std.proofs.Common.{◌∙◌, get_or, sym, arith}
+use Rattle.std.proofs.lemmas.List.{get_or_default}
+use Rattle.gl_base.specs.declared.numbers.Vertex.{Vertex}
 use Rattle.vertex_locks.specs.Tables.{table_of}
-use Rattle.vertex_locks.proofs.MakingLemmas.{made_apart, made_owned, unclaimed}
+use Rattle.vertex_locks.proofs.MakingLemmas.{made_apart, made_owned, set_more, unclaimed}
 use Rattle.vertex_locks.proofs.CountLemmas.{count_free}
 use Rattle.vertex_locks.proofs.ListedLemmas.{table_made}
 use Rattle.vertex_locks.proofs.tables.LockTable.new.Goals as goal
@@ -19,3 +21,14 @@ returns-clause-owned c = made_owned c.args.owned.now c.args.count c.loop-place.p
 
 pub returns-clause-free : goal.returns-clause-free
 returns-clause-free c = unclaimed c.loop-place.places.items c.loop-place.locks.items c.loop-place.invariant.made.free
+
+pub loop-place-preserved : goal.loop-place-preserved
+loop-place-preserved c =
+    let owned = c.args.owned.now in
+    let place = c.loop-place.place in
+    let zero : Vertex = record { 0 = 0 } in
+    let vertex = get_or owned place zero in
+    let within = c.loop-place-test.true in
+    let more = set_more owned c.args.count place c.loop-place.places.items c.loop-place.locks.items vertex c.free.result c.loop-place.invariant.made (get_or_default owned place zero vertex within) within c.requires.few
+    (omega (arith, c.ranges.count.fits)) (c.requires.below place zero within) (c.free.ensures.holders, c.free.ensures.queue) in
+    record { made = rw c.push_reserved.ensures.items more; room = omega (arith, c.loop-place.invariant.room, c.push_reserved.ensures.capacity) }
