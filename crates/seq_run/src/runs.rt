@@ -219,10 +219,12 @@ fn first_tasks(alloc: Global, graph: &Graph, values: &[u64]) -> Result<TaskQueue
 fn is_one_number(values: &[u64]) -> bool
     ensures { result ≡ list_all (λ x. x == slice_index values.now 0) values.now }
 {
-    match values.first() {
-        Some(first) => values.iter().all(|value| *value == *first),
-        None => true,
+    for value in values {
+        if *value != values[0] {
+            return false;
+        }
     }
+    true
 }
 
 /// The first of the vertices with the least start number, and vertex 0 where there is none.
