@@ -1,11 +1,21 @@
 -- Lists that grow item by item.
 use Rattle.std.proofs.Common.{◌≡◌, ℕ, zero, suc, ◌+◌, ◌<◌, ◌++◌, Bool, true, false, if◌then◌else◌, List, [], ◌∷◌, length, get_or, map, take, refl, sym, ap, ◌∙◌, arith}
 use Rattle.std.specs.List.{filter, range_with_len}
-use Rattle.std.proofs.lemmas.List.{append_assoc, map-append, take_more, length-take-le}
+use Rattle.std.proofs.lemmas.List.{append_assoc, map-append, map_more, take_more, length-take-le}
 use Rattle.std.proofs.lemmas.List.Elements.{filter-append}
 use Rattle.graph_core.specs.declared.halves.Half.{Half}
 use Rattle.update_api.specs.declared.links.Link.{Link}
 use Rattle.local_graph.specs.Lines.{link_of, links_from}
+
+-- one more item of a list that is mapped
+pub mapped_more : {X Y : Type 0} (f : X → Y) (xs : List X) (i : ℕ) (d : X) (old new : List Y) (y : Y) → i < length xs → new ≡ old ++ y ∷ [] → y ≡ f (get_or xs i d) → old ≡ map f (take i xs) → new ≡ map f (take (i + 1) xs)
+mapped_more {Y} f xs i d old new y inside grown is was =
+    grown ∙ ap (λ (ys : List Y). ys ++ y ∷ []) was ∙ ap (λ (z : Y). map f (take i xs) ++ z ∷ []) is ∙ sym (map_more f xs i d inside)
+
+-- the same behind other items
+pub mapped_more_behind : {X Y : Type 0} (f : X → Y) (front : List Y) (xs : List X) (i : ℕ) (d : X) (old new : List Y) (y : Y) → i < length xs → new ≡ old ++ y ∷ [] → y ≡ f (get_or xs i d) → old ≡ front ++ map f (take i xs) → new ≡ front ++ map f (take (i + 1) xs)
+mapped_more_behind {Y} f front xs i d old new y inside grown is was =
+    grown ∙ ap (λ (ys : List Y). ys ++ y ∷ []) was ∙ append_assoc front (map f (take i xs)) (y ∷ []) ∙ ap (λ (ys : List Y). front ++ ys) (mapped_more f xs i d (map f (take i xs)) (map f (take i xs) ++ y ∷ []) y inside refl is refl)
 
 -- one more number of a range
 range_push : (a n : ℕ) → range_with_len a (n + 1) ≡ range_with_len a n ++ (a + n) ∷ []

@@ -1,5 +1,5 @@
 -- The own vertices in the scope of a vertex, from its sides.
-use Rattle.std.proofs.Common.{◌≡◌, ℕ, ◌<◌, ◌==◌, ◌&&◌, ◌||◌, ◌++◌, Bool, true, false, nat_lt, min, Option, Some, None, List, [], ◌∷◌, length, map, get_or, AllPairs, All, refl, sym, ap, ◌∙◌, subst, arith, inl, inr}
+use Rattle.std.proofs.Common.{◌≡◌, ℕ, ◌+◌, ◌<◌, ◌==◌, ◌&&◌, ◌||◌, ◌++◌, Bool, true, false, nat_lt, if◌then◌else◌, min, Option, Some, None, List, [], ◌∷◌, length, map, get_or, AllPairs, All, refl, sym, ap, ◌∙◌, subst, arith, inl, inr}
 use Rattle.std.specs.List.{list_any}
 use Rattle.std.specs.List.Sorted.{IsPermutation}
 use Rattle.std.proofs.lemmas.Cmp.{nat_eq_equiv}
@@ -34,6 +34,16 @@ same_truth false false to back = refl
 none_or : (b : Bool) → (b || false) ≡ b
 none_or true = refl
 none_or false = refl
+
+-- a part more at the end of a choice
+pub part_more : (now before first some part more : Bool) → now ≡ (before || part) → before ≡ (first || some) → more ≡ (some || part) → now ≡ (first || more)
+part_more now before true some part more a b m = a ∙ ap (λ w. w || part) b
+part_more now before false some part more a b m = a ∙ ap (λ w. w || part) b ∙ sym m
+
+-- whoever waits takes one place
+pub waits_one : (waits : Bool) → (if waits then 2 else 1) ≡ (if waits then 1 else 0) + 1
+waits_one true = refl
+waits_one false = refl
 
 -- ---- plain vertices
 

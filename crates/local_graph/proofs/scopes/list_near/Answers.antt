@@ -1,13 +1,21 @@
 use Rattle.std.proofs.Common.{◌≡◌, ◌==◌, ◌&&◌, ◌||◌, List, nat_lt, take, sym, ap, ◌∙◌, arith}
 use Rattle.std.proofs.lemmas.List.{map_push, take_all}
+use Rattle.std.proofs.lemmas.List.Folds.{list_any_more}
 use Rattle.std.specs.List.{list_any}
 use Rattle.gl_base.specs.declared.numbers.Vertex.{Vertex}
 use Rattle.local_graph.specs.declared.sides.Side.{Side}
 use Rattle.local_graph.specs.Locals.{place_of_vertex}
 use Rattle.local_graph.specs.Played.{numbers_of}
 use Rattle.local_graph.specs.Inner.AtPlaces.{number_among, is_first_place}
-use Rattle.local_graph.proofs.ScopeLemmas.{last_put, none_waits}
+use Rattle.local_graph.proofs.ScopeLemmas.{part_more, waits_one, last_put, none_waits}
 use Rattle.local_graph.proofs.scopes.list_near.Goals as goal
+
+pub loop-side-preserved : goal.loop-side-preserved
+loop-side-preserved c = record {
+  has = λ x. part_more _ _ _ _ _ _ (c.push_end-waits.ensures.has x) (c.loop-side.invariant.has x) (list_any_more _ c.args.sides.now c.loop-side.side-index _ c.loop-side-test.true);
+  room = omega (arith, waits_one c.loop-side.waits);
+  enough = omega arith;
+}
 
 pub returns-then-waits : goal.returns-then-waits
 returns-then-waits c = λ x.
