@@ -1,6 +1,6 @@
 -- What may happen next, as a machine tells it, may take place in the cluster.
-use Rattle.std.proofs.Common.{◌≡◌, ℕ, ◌<◌, false, Bool, None, Option, Some, List, [], ◌∷◌, arith, get_or, length, map, refl, sym, ap, subst, ◌∙◌}
-use Rattle.std.specs.Prelude.{IfNone, IfSome, IsTrue, nat_lt, slice_index_or, ◌↔◌}
+use Rattle.std.proofs.Common.{◌≡◌, ℕ, ◌<◌, true, false, inl, inr, Bool, None, Option, Some, List, [], ◌∷◌, arith, get_or, length, map, refl, sym, ap, subst, ◌∙◌}
+use Rattle.std.specs.Prelude.{IfNone, IfSome, IsTrue, nat_lt, slice_index_or, ◌↔◌, ◌⊎◌}
 use Rattle.std.proofs.lemmas.Bool.{lt-ltb}
 use Rattle.gl_base.specs.declared.numbers.MachineNo.{MachineNo}
 use Rattle.gl_base.specs.declared.numbers.Vertex.{Vertex}
@@ -12,11 +12,12 @@ use Rattle.cluster_step.specs.Links.{message_read}
 use Rattle.coord_core.specs.Coordinators.{no_outbox}
 use Rattle.outboxes.specs.Outboxes.{has_waiting}
 use Rattle.snap_clusters.specs.Clusters.{AreCalls, AreReports, Cluster, InEachCluster, IsSavingClusterOf, IsSnapSetting, Machine, Parts, Setting, StandsForSaving, messages_on, told_on}
-use Rattle.snap_clusters.specs.Events.{CanNotTakePlace, CanTakePlace}
+use Rattle.snap_clusters.specs.Events.{CanNotTakePlace, CanTakePlace, acting, is_resting}
+use Rattle.snap_clusters.specs.declared.events.Event.{Event}
 use Rattle.snap_clusters.specs.declared.events.Event.TheVariants as event
 use Rattle.snap_clusters.specs.declared.events.Local.TheVariants as local
 use Rattle.snap_members.specs.Promises.{CanDo, CanGrantNone, CanMarkNone, CanNotDo, CanUpdate, CanUpdateNone, Grant, Mark, MayBeDone, MessageView, OfEach, Section, Update}
-use Rattle.snap_clusters.proofs.Answering.{deed_can, deed_cannot, going, never}
+use Rattle.snap_clusters.proofs.Answering.{deed_can, deed_cannot, going, never, rest_cannot, stopped_cannot}
 use Rattle.snap_clusters.proofs.Making.{is_awake, law_may, machine_here, own_may}
 
 pub some_then : {X : Type 0} {P Q : X → Type 0} (o : Option X) → ((x : X) → P x → Q x) → IfSome o P → IfSome o Q
@@ -29,6 +30,11 @@ none_then (Some x) then is = tt
 
 same_machine : (one other : MachineNo) → one.0 ≡ other.0 → one ≡ other
 same_machine one other is = λ i. record { 0 = is i }
+
+-- nothing takes place after the end, nor at a machine that has failed
+pub still_cannot : {M : Type 0} (stands : Setting → ℕ → Machine → M → Type 0) (old : Parts M) (what : Event) → (old.stopped ≡ true) ⊎ (is_resting old.failed.items (acting what) ≡ true) → CanNotTakePlace stands old what
+still_cannot stands old what (inl stopped) = stopped_cannot stands old what stopped
+still_cannot stands old what (inr rests) = rest_cannot stands old what rests
 
 -- ---- what a machine may do
 

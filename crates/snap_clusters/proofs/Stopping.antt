@@ -67,6 +67,10 @@ runs_on st c (event.Passage (passage.SendReport a)) none e is = ap (λ (x : law.
 runs_on st c (event.Passage (passage.DeliverReport a)) none e is = ap (λ (x : law.Event). (law.after_event st c x).stopped) is ∙ report_delivered c a.0 (c.reports a.0)
 
 module _ {M : Type 0} (stands : Setting → ℕ → Machine → M → Type 0) (old new : Parts M) (some : StandsForSaving stands old) where
+  -- a cluster for which they stand is one as before
+  pub some_same : StandsForSameSaving stands old new → StandsForSaving stands new
+  some_same same = (some.0, some.1, some.2, same some.0 some.1 some.2 some.3)
+
   -- as it was
   pub same_runs : StandsForSameSaving stands old new → new.stopped ≡ old.stopped
   same_runs same = sym (same some.0 some.1 some.2 some.3).stopped ∙ some.3.stopped

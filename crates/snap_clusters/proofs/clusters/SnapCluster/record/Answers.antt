@@ -4,8 +4,11 @@ use Rattle.std.specs.Prelude.{OnOk}
 use Rattle.snap_clusters.specs.Events.{CanTakePlace}
 use Rattle.snap_clusters.specs.declared.events.Event.TheVariants as event
 use Rattle.snap_clusters.specs.declared.events.Lead.TheVariants as lead
-use Rattle.snap_clusters.proofs.Stopping.{same_runs}
+use Rattle.snap_clusters.proofs.Stopping.{same_runs, some_same}
 use Rattle.snap_clusters.proofs.clusters.SnapCluster.record.Goals as goal
+
+pub invariant_of-self : goal.invariant_of-self
+invariant_of-self g c = some_same g.M.SavingMachine.stands c.self.inside.parts c.record.new.self c.self.invariant c.record.ensures.same
 
 pub returns-clause-due : goal.returns-clause-due
 returns-clause-due g c = subst (λ p. OnOk c.record.result (CanTakePlace g.M.SavingMachine.stands p (event.Lead lead.Record))) c.self.view_is c.record.ensures.due
