@@ -1,4 +1,5 @@
 -- The update is the law's, and leaves the machine in order.
+use Rattle.std.proofs.Common.{refl}
 use Rattle.machine_core.proofs.machine_at_once.Machines.{back_marks, back_orderly, back_part, back_places, back_settled, can_be_made, gone_orderly, gone_pipe, gone_places, gone_settled, gone_updated, made_marks, rows_kept}
 use Rattle.machine_core.proofs.machine_at_once.Scopes.{can_update}
 use Rattle.machine_core.proofs.machine_at_once.updating.update_at_once.Goals as goal
@@ -64,3 +65,90 @@ returns-in-Ok-clause-marks g c = made_marks (g.P.Program.meaning c.args.program.
 
 pub returns-in-Err-clause-marks : goal.returns-in-Err-clause-marks
 returns-in-Err-clause-marks g c = back_marks c.args.core.now.numbers c.make.new.numbers c.in-Err.ensures.same
+
+pub returns-in_default-clause-updated : goal.returns-in_default-clause-updated
+returns-in_default-clause-updated g c = tt
+
+pub returns-in_default-clause-run : goal.returns-in_default-clause-run
+returns-in_default-clause-run g c = tt
+
+pub returns-in_default-clause-same : goal.returns-in_default-clause-same
+returns-in_default-clause-same g c = λ refused. refl
+
+pub returns-in_default-clause-unchanged : goal.returns-in_default-clause-unchanged
+returns-in_default-clause-unchanged g c = refl
+
+pub returns-in_default-clause-tasks : goal.returns-in_default-clause-tasks
+returns-in_default-clause-tasks g c = refl
+
+pub returns-in_default-clause-rows : goal.returns-in_default-clause-rows
+returns-in_default-clause-rows g c = c.requires.rows
+
+pub returns-in_default-clause-own : goal.returns-in_default-clause-own
+returns-in_default-clause-own g c = λ x. refl
+
+pub returns-in_default-clause-marks : goal.returns-in_default-clause-marks
+returns-in_default-clause-marks g c = λ x. refl
+
+pub returns-in_default-clause-local : goal.returns-in_default-clause-local
+returns-in_default-clause-local g c = refl
+
+pub returns-in_default-clause-links : goal.returns-in_default-clause-links
+returns-in_default-clause-links g c = λ x. refl
+
+pub returns-in_default-clause-orderly : goal.returns-in_default-clause-orderly
+returns-in_default-clause-orderly g c = c.requires.orderly
+
+pub returns-in_default-clause-places : goal.returns-in_default-clause-places
+returns-in_default-clause-places g c = c.requires.places
+
+pub returns-in_default-clause-settings : goal.returns-in_default-clause-settings
+returns-in_default-clause-settings g c = λ st part. part
+
+pub returns-in_default-clause-pipe : goal.returns-in_default-clause-pipe
+returns-in_default-clause-pipe g c = refl
+
+pub returns-in_default-clause-rest : goal.returns-in_default-clause-rest
+returns-in_default-clause-rest g c = refl
+
+pub returns-then-not-has_serial-clause-updated : goal.returns-then-not-has_serial-clause-updated
+returns-then-not-has_serial-clause-updated g c = tt
+
+pub returns-then-not-has_serial-clause-run : goal.returns-then-not-has_serial-clause-run
+returns-then-not-has_serial-clause-run g c = tt
+
+pub returns-then-not-has_serial-clause-unchanged : goal.returns-then-not-has_serial-clause-unchanged
+returns-then-not-has_serial-clause-unchanged g c = refl
+
+pub returns-then-not-has_serial-clause-tasks : goal.returns-then-not-has_serial-clause-tasks
+returns-then-not-has_serial-clause-tasks g c = refl
+
+pub returns-then-not-has_serial-clause-rows : goal.returns-then-not-has_serial-clause-rows
+returns-then-not-has_serial-clause-rows g c = c.requires.rows
+
+pub returns-then-not-has_serial-clause-own : goal.returns-then-not-has_serial-clause-own
+returns-then-not-has_serial-clause-own g c = λ x. refl
+
+pub returns-then-not-has_serial-clause-marks : goal.returns-then-not-has_serial-clause-marks
+returns-then-not-has_serial-clause-marks g c = λ x. refl
+
+pub returns-then-not-has_serial-clause-local : goal.returns-then-not-has_serial-clause-local
+returns-then-not-has_serial-clause-local g c = refl
+
+pub returns-then-not-has_serial-clause-links : goal.returns-then-not-has_serial-clause-links
+returns-then-not-has_serial-clause-links g c = λ x. refl
+
+pub returns-then-not-has_serial-clause-orderly : goal.returns-then-not-has_serial-clause-orderly
+returns-then-not-has_serial-clause-orderly g c = c.requires.orderly
+
+pub returns-then-not-has_serial-clause-places : goal.returns-then-not-has_serial-clause-places
+returns-then-not-has_serial-clause-places g c = c.requires.places
+
+pub returns-then-not-has_serial-clause-settings : goal.returns-then-not-has_serial-clause-settings
+returns-then-not-has_serial-clause-settings g c = λ st part. part
+
+pub returns-then-not-has_serial-clause-pipe : goal.returns-then-not-has_serial-clause-pipe
+returns-then-not-has_serial-clause-pipe g c = refl
+
+pub returns-then-not-has_serial-clause-rest : goal.returns-then-not-has_serial-clause-rest
+returns-then-not-has_serial-clause-rest g c = refl

@@ -1,4 +1,4 @@
-use Rattle.std.proofs.Common.{◌∙◌, ap, length}
+use Rattle.std.proofs.Common.{◌∙◌, ap, length, refl}
 use Rattle.task_sched.specs.Tasks.{TasksView}
 use Rattle.machine_core.specs.declared.machine_parts.cores.Core.{Core}
 use Rattle.machine_numbers.specs.declared.keeping.Numbers.{Numbers}
@@ -123,3 +123,51 @@ returns-in-Err-clause-plans c =
     let now = c.prepare.new.core in
     let picked = ap (λ (n : Core). n.numbers.tasks) c.prepare.ensures.rest ∙ (c.in-Some.ensures).taken in
     plans_back m.numbers.tasks now.numbers.tasks c.put_back.new.tasks c.in-Some.pick (c.in-Some.ensures).can picked c.put_back.ensures.back c.put_back.ensures.plans
+
+pub returns-then-flight_count-core-clause-orderly : goal.returns-then-flight_count-core-clause-orderly
+returns-then-flight_count-core-clause-orderly c = c.requires.orderly
+
+pub returns-then-flight_count-core-clause-places : goal.returns-then-flight_count-core-clause-places
+returns-then-flight_count-core-clause-places c = c.requires.places
+
+pub returns-then-flight_count-core-clause-settings : goal.returns-then-flight_count-core-clause-settings
+returns-then-flight_count-core-clause-settings c = λ st part. part
+
+pub returns-then-flight_count-core-clause-scope : goal.returns-then-flight_count-core-clause-scope
+returns-then-flight_count-core-clause-scope c = tt
+
+pub returns-then-flight_count-core-clause-admitted : goal.returns-then-flight_count-core-clause-admitted
+returns-then-flight_count-core-clause-admitted c = tt
+
+pub returns-then-flight_count-core-clause-unchanged : goal.returns-then-flight_count-core-clause-unchanged
+returns-then-flight_count-core-clause-unchanged c = refl
+
+pub returns-then-flight_count-core-clause-local : goal.returns-then-flight_count-core-clause-local
+returns-then-flight_count-core-clause-local c = refl
+
+pub returns-then-flight_count-core-clause-outside : goal.returns-then-flight_count-core-clause-outside
+returns-then-flight_count-core-clause-outside c = refl
+
+pub returns-then-flight_count-core-clause-terms : goal.returns-then-flight_count-core-clause-terms
+returns-then-flight_count-core-clause-terms c = refl
+
+pub returns-in-Ok-clause-orderly : goal.returns-in-Ok-clause-orderly
+returns-in-Ok-clause-orderly c = c.set_out.ensures.orderly
+
+pub returns-in-Ok-clause-local : goal.returns-in-Ok-clause-local
+returns-in-Ok-clause-local c = ap (λ (n : Core). n.numbers.local) c.set_out.ensures.rest ∙ ap (λ (n : Core). n.numbers.local) c.prepare.ensures.rest
+
+pub returns-in-Ok-clause-terms : goal.returns-in-Ok-clause-terms
+returns-in-Ok-clause-terms c = ap (λ (n : Core). n.terms) c.set_out.ensures.rest ∙ ap (λ (n : Core). n.terms) c.prepare.ensures.rest
+
+pub returns-in-Err-clause-local : goal.returns-in-Err-clause-local
+returns-in-Err-clause-local c = ap (λ (n : Core). n.numbers.local) c.prepare.ensures.rest
+
+pub returns-in-Err-clause-terms : goal.returns-in-Err-clause-terms
+returns-in-Err-clause-terms c = ap (λ (n : Core). n.terms) c.prepare.ensures.rest
+
+pub returns-in-Err-clause-scope : goal.returns-in-Err-clause-scope
+returns-in-Err-clause-scope c = tt
+
+pub returns-in-Err-clause-admitted : goal.returns-in-Err-clause-admitted
+returns-in-Err-clause-admitted c = tt

@@ -4,7 +4,7 @@ use Rattle.gl_base.specs.declared.numbers.Vertex.{Vertex}
 use Rattle.gl_base.specs.declared.scopes.ScopeId.{ScopeId}
 use Rattle.machine_numbers.specs.Views.{TasksView}
 use Rattle.machine_core.specs.declared.machine_parts.cores.Core.{Core}
-use Rattle.machine_core.specs.machine_turns.Turns.{HasRun, datum_here, is_own, place_at}
+use Rattle.machine_core.specs.machine_turns.Turns.{HasEachRow, HasRun, datum_here, is_own, links_at, place_at}
 use Rattle.machine_core.specs.machine_turns.Inner.Taking.{HasRunAt, IsReserved}
 use Rattle.machine_core.proofs.machine_turns.TurnLemmas.{on_ok, reserved_still, row_taken, links_same, local_same, rows_in, has_made}
 use Rattle.machine_core.proofs.machine_turns.turns.make.Goals as goal
@@ -94,3 +94,51 @@ returns-clause-run g c =
 pub returns-clause-own : goal.returns-clause-own
 returns-clause-own g c x =
     c.complete.ensures.own x ∙ ap (λ (m : Core). is_own m.numbers.local x) c.take_work-work.ensures.rest ∙ ap (λ (m : Core). is_own m.numbers.local x) c.reserve_commit.ensures.same.rest
+
+pub returns-in_err-prepared-clause-rows : goal.returns-in_err-prepared-clause-rows
+returns-in_err-prepared-clause-rows g c = subst (λ (m : Core). HasEachRow m.numbers.local) (sym c.reserve_commit.ensures.same.rest) c.requires.rows
+
+pub returns-in_err-prepared-clause-links : goal.returns-in_err-prepared-clause-links
+returns-in_err-prepared-clause-links g c = λ x. ap (λ (m : Core). links_at m.numbers.local x) c.reserve_commit.ensures.same.rest
+
+pub returns-in_err-prepared-clause-own : goal.returns-in_err-prepared-clause-own
+returns-in_err-prepared-clause-own g c = λ x. ap (λ (m : Core). is_own m.numbers.local x) c.reserve_commit.ensures.same.rest
+
+pub returns-in_err-prepared-clause-marks : goal.returns-in_err-prepared-clause-marks
+returns-in_err-prepared-clause-marks g c = λ x. ap (λ (m : Core). (datum_here m.numbers x).mark) c.reserve_commit.ensures.same.rest
+
+pub returns-in_err-prepared-clause-orderly : goal.returns-in_err-prepared-clause-orderly
+returns-in_err-prepared-clause-orderly g c = c.reserve_commit.ensures.orderly
+
+pub returns-in_err-prepared-clause-places : goal.returns-in_err-prepared-clause-places
+returns-in_err-prepared-clause-places g c = c.reserve_commit.ensures.places
+
+pub returns-in_err-prepared-clause-settings : goal.returns-in_err-prepared-clause-settings
+returns-in_err-prepared-clause-settings g c = c.reserve_commit.ensures.settings
+
+pub returns-in_err-spare-clause-rows : goal.returns-in_err-spare-clause-rows
+returns-in_err-spare-clause-rows g c = subst (λ (m : Core). HasEachRow m.numbers.local) (sym c.reserve_commit.ensures.same.rest) c.requires.rows
+
+pub returns-in_err-spare-clause-links : goal.returns-in_err-spare-clause-links
+returns-in_err-spare-clause-links g c = λ x. ap (λ (m : Core). links_at m.numbers.local x) c.reserve_commit.ensures.same.rest
+
+pub returns-in_err-spare-clause-own : goal.returns-in_err-spare-clause-own
+returns-in_err-spare-clause-own g c = λ x. ap (λ (m : Core). is_own m.numbers.local x) c.reserve_commit.ensures.same.rest
+
+pub returns-in_err-spare-clause-marks : goal.returns-in_err-spare-clause-marks
+returns-in_err-spare-clause-marks g c = λ x. ap (λ (m : Core). (datum_here m.numbers x).mark) c.reserve_commit.ensures.same.rest
+
+pub returns-in_err-spare-clause-orderly : goal.returns-in_err-spare-clause-orderly
+returns-in_err-spare-clause-orderly g c = c.reserve_commit.ensures.orderly
+
+pub returns-in_err-spare-clause-places : goal.returns-in_err-spare-clause-places
+returns-in_err-spare-clause-places g c = c.reserve_commit.ensures.places
+
+pub returns-in_err-spare-clause-settings : goal.returns-in_err-spare-clause-settings
+returns-in_err-spare-clause-settings g c = c.reserve_commit.ensures.settings
+
+pub returns-clause-orderly : goal.returns-clause-orderly
+returns-clause-orderly g c = c.complete.ensures.orderly
+
+pub returns-clause-places : goal.returns-clause-places
+returns-clause-places g c = λ places. c.complete.ensures.places (c.take_work-work.ensures.places (c.reserve_commit.ensures.places places))
