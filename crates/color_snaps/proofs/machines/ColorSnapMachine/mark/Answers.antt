@@ -74,3 +74,51 @@ returns-in-Ok-clause-step g c =
     let e = c.in-Ok.ensures in
     rw (← c.self.view_is)
     (same_step (seen_in_steps m.machine m.lines.colours m.colour m.closed) c.mark.new.self c.enlist.new.lines.colours e.settings e.places (ap (λ (l : LocalView). l.me) e.local) e.program c.enlist.ensures.colours)
+
+pub returns-in-Ok-clause-saved : goal.returns-in-Ok-clause-saved
+returns-in-Ok-clause-saved g c = rw (← c.self.view_is) c.in-Ok.ensures.saved
+
+pub returns-in-Ok-clause-once : goal.returns-in-Ok-clause-once
+returns-in-Ok-clause-once g c = rw (← c.self.view_is) c.in-Ok.ensures.once
+
+pub returns-in-Ok-clause-local : goal.returns-in-Ok-clause-local
+returns-in-Ok-clause-local g c = rw (← c.self.view_is) c.in-Ok.ensures.local
+
+pub returns-in-Ok-clause-unchanged : goal.returns-in-Ok-clause-unchanged
+returns-in-Ok-clause-unchanged g c = tt
+
+pub returns-in-Ok-clause-part : goal.returns-in-Ok-clause-part
+returns-in-Ok-clause-part g c = tt
+
+pub returns-in-Ok-clause-same : goal.returns-in-Ok-clause-same
+returns-in-Ok-clause-same g c = tt
+
+pub returns-in-Err-clause-marked : goal.returns-in-Err-clause-marked
+returns-in-Err-clause-marked g c = tt
+
+pub returns-in-Err-clause-once : goal.returns-in-Err-clause-once
+returns-in-Err-clause-once g c = tt
+
+pub returns-in-Err-clause-plans : goal.returns-in-Err-clause-plans
+returns-in-Err-clause-plans g c = tt
+
+pub returns-in-Err-clause-saved : goal.returns-in-Err-clause-saved
+returns-in-Err-clause-saved g c = rw (← c.self.view_is) c.in-Err.ensures.saved
+
+pub returns-in-Err-clause-unchanged : goal.returns-in-Err-clause-unchanged
+returns-in-Err-clause-unchanged g c = rw (← c.self.view_is) c.in-Err.ensures.unchanged
+
+pub returns-in-Err-clause-same : goal.returns-in-Err-clause-same
+returns-in-Err-clause-same g c = rw (← c.self.view_is) c.in-Err.ensures.same
+
+pub returns-in-Err-clause-local : goal.returns-in-Err-clause-local
+returns-in-Err-clause-local g c = rw (← c.self.view_is) c.in-Err.ensures.local
+
+pub returns-in_default-clause-marked : goal.returns-in_default-clause-marked
+returns-in_default-clause-marked g c = tt
+
+pub returns-in_default-clause-once : goal.returns-in_default-clause-once
+returns-in_default-clause-once g c = tt
+
+pub returns-in_default-clause-plans : goal.returns-in_default-clause-plans
+returns-in_default-clause-plans g c = tt

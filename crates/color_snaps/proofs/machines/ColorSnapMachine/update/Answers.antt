@@ -72,3 +72,45 @@ returns-in-Ok-clause-step g c =
     let e = c.in-Ok.ensures in
     rw (← c.self.view_is)
     (same_step (seen_in_steps m.machine m.lines.colours m.colour m.closed) c.update.new.self c.enlist_near.new.lines.colours e.settings e.places (ap (λ (l : LocalView). l.me) e.local) e.program c.enlist_near.ensures.colours)
+
+pub returns-in-Ok-clause-logged : goal.returns-in-Ok-clause-logged
+returns-in-Ok-clause-logged g c = rw (← c.self.view_is) c.in-Ok.ensures.logged
+
+pub returns-in-Ok-clause-local : goal.returns-in-Ok-clause-local
+returns-in-Ok-clause-local g c = rw (← c.self.view_is) c.in-Ok.ensures.local
+
+pub returns-in-Ok-clause-unchanged : goal.returns-in-Ok-clause-unchanged
+returns-in-Ok-clause-unchanged g c = tt
+
+pub returns-in-Ok-clause-same : goal.returns-in-Ok-clause-same
+returns-in-Ok-clause-same g c = tt
+
+pub returns-in-Ok-clause-tasks : goal.returns-in-Ok-clause-tasks
+returns-in-Ok-clause-tasks g c = tt
+
+pub returns-in-Err-clause-updated : goal.returns-in-Err-clause-updated
+returns-in-Err-clause-updated g c = tt
+
+pub returns-in-Err-clause-run : goal.returns-in-Err-clause-run
+returns-in-Err-clause-run g c = tt
+
+pub returns-in-Err-clause-logged : goal.returns-in-Err-clause-logged
+returns-in-Err-clause-logged g c = tt
+
+pub returns-in-Err-clause-same : goal.returns-in-Err-clause-same
+returns-in-Err-clause-same g c = rw (← c.self.view_is) c.in-Err.ensures.same
+
+pub returns-in-Err-clause-tasks : goal.returns-in-Err-clause-tasks
+returns-in-Err-clause-tasks g c = rw (← c.self.view_is) c.in-Err.ensures.tasks
+
+pub returns-in-Err-clause-local : goal.returns-in-Err-clause-local
+returns-in-Err-clause-local g c = rw (← c.self.view_is) c.in-Err.ensures.local
+
+pub returns-in_default-clause-updated : goal.returns-in_default-clause-updated
+returns-in_default-clause-updated g c = tt
+
+pub returns-in_default-clause-run : goal.returns-in_default-clause-run
+returns-in_default-clause-run g c = tt
+
+pub returns-in_default-clause-logged : goal.returns-in_default-clause-logged
+returns-in_default-clause-logged g c = tt
