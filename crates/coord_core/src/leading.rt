@@ -291,14 +291,24 @@ impl Coordinator {
         requires kept { IsSavingKept saving }
         ensures { IfOk result (λ c. IsFirstSaving machines engine saving c) }
     {
+        // A drop by a call is proved in one step; one at the end of the scope is proved here, field by field.
+        let Ok(waves) = Waves::new(alloc, machines) else {
+            drop(saving);
+            return Err(NoMemory);
+        };
+        let Ok(out) = Outboxes::new(alloc, machines) else {
+            drop(saving);
+            drop(waves);
+            return Err(NoMemory);
+        };
         Ok(Coordinator {
             machines,
             put_out: 0,
             waiting: false,
-            waves: Waves::new(alloc, machines)?,
+            waves,
             steps: Steps::none(engine),
             saving,
-            out: Outboxes::new(alloc, machines)?,
+            out,
         })
     }
 
