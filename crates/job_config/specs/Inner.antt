@@ -1,1 +1,2 @@
 pub mod FieldsViews
+pub mod Groups

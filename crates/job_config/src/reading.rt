@@ -54,20 +54,20 @@ fn build(alloc: Global, fields: &Fields, failures: Vec<FailureAt>) -> Result<Job
         ≡ record { fields = fields_view fields.now; failures = failures.items }) }
 {
     Ok(Job {
-        vertices: own_name(alloc, fields.vertices)?,
-        edges: own_name(alloc, fields.edges)?,
-        directed: fields.directed,
-        algorithm: fields.algorithm,
-        source: fields.source,
-        engine: fields.engine,
-        machines: fields.machines,
-        atoms: fields.atoms,
-        pipeline: fields.pipeline,
-        budget: fields.budget,
-        window: fields.window,
-        store: own_optional_name(alloc, fields.store)?,
-        atoms_at: own_optional_name(alloc, fields.atoms_at)?,
-        order: own_optional_name(alloc, fields.order)?,
+        vertices: own_name(alloc, fields.input.vertices)?,
+        edges: own_name(alloc, fields.input.edges)?,
+        directed: fields.input.directed,
+        algorithm: fields.input.algorithm,
+        source: fields.input.source,
+        engine: fields.settings.engine,
+        machines: fields.settings.machines,
+        atoms: fields.settings.atoms,
+        pipeline: fields.settings.pipeline,
+        budget: fields.settings.budget,
+        window: fields.settings.window,
+        store: own_optional_name(alloc, fields.places.store)?,
+        atoms_at: own_optional_name(alloc, fields.places.atoms_at)?,
+        order: own_optional_name(alloc, fields.places.order)?,
         failures,
     })
 }
@@ -90,7 +90,7 @@ fn read_value(alloc: Global, value: &Value) -> Result<Job, JobReading>
         Ok(fields) => fields,
         Err(fault) => return Err(JobReading::Fault(fault_of(fault))),
     };
-    match read_failures(alloc, fields.machines, value.get("failures")) {
+    match read_failures(alloc, fields.settings.machines, value.get("failures")) {
         Ok(failures) => Ok(build(alloc, &fields, failures)?),
         Err(OrNoMemory::Fault(fault)) => Err(JobReading::Fault(fault_of(fault))),
         Err(OrNoMemory::NoMemory) => Err(JobReading::NoMemory),

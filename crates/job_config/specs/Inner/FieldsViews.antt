@@ -1,22 +1,26 @@
 -- What the values of a job hold while it is read, in the words of the definitions.
 use Rattle.std.specs.Prelude.{option_map}
 use Rattle.job_config.specs.declared.fields.Fields.{Fields}
+use Rattle.job_config.specs.declared.fields.Input.{Input}
+use Rattle.job_config.specs.declared.fields.Places.{Places}
 use Rattle.job_config.specs.Fields.{JobFields}
+use Rattle.job_config.specs.Inner.Groups.{InputFields, PlaceFields, fields_in}
+
+abbrev pub input_view : Input → InputFields
+input_view i = record {
+  vertices = i.vertices.now;
+  edges = i.edges.now;
+  directed = i.directed;
+  algorithm = i.algorithm;
+  source = i.source;
+}
+
+abbrev pub places_view : Places → PlaceFields
+places_view p = record {
+  store = option_map (λ s. s.now) p.store;
+  atoms_at = option_map (λ s. s.now) p.atoms_at;
+  order = option_map (λ s. s.now) p.order;
+}
 
 abbrev pub fields_view : Fields → JobFields
-fields_view f = record {
-  vertices = f.vertices.now;
-  edges = f.edges.now;
-  directed = f.directed;
-  algorithm = f.algorithm;
-  source = f.source;
-  engine = f.engine;
-  machines = f.machines;
-  atoms = f.atoms;
-  pipeline = f.pipeline;
-  budget = f.budget;
-  window = f.window;
-  store = option_map (λ s. s.now) f.store;
-  atoms_at = option_map (λ s. s.now) f.atoms_at;
-  order = option_map (λ s. s.now) f.order;
-}
+fields_view f = fields_in (input_view f.input) f.settings (places_view f.places)
