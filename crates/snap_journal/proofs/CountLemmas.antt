@@ -1,16 +1,15 @@
 -- How many entries the order of a store has, by its length: all else of a record has one size.
-use Rattle.std.proofs.Common.{◌≡◌, ◌≢◌, None, Option, Result, Err, Some, inl, inr, ◌++◌, ℕ, zero, suc, ◌+◌, ◌-◌, ◌*◌, ◌/◌, Bool, true, false, List, [], ◌∷◌, Ok, length, drop, refl, sym, ap, ◌∙◌, arith, take, length-drop, if◌then◌else◌}
+use Rattle.std.proofs.Common.{◌≡◌, None, Option, Result, Some, inl, inr, ◌++◌, ℕ, zero, suc, ◌+◌, ◌-◌, ◌*◌, ◌/◌, Bool, true, false, List, [], ◌∷◌, Ok, length, drop, refl, sym, ap, ◌∙◌, arith, take, length-drop, if◌then◌else◌}
 use Rattle.std.specs.Prelude.{nat_lt, ⊤}
 use Rattle.std.proofs.lemmas.Bool.{cases_eq, eq-eqb}
 use Rattle.std.proofs.Math.Nat.{suc-mul, zero-mul}
 use Rattle.gl_base.specs.declared.entries.Entry.{Entry}
 use Rattle.store_format.specs.declared.header.Header.{Header}
 use Rattle.store_format.specs.Bodies.{body_size, entry_count}
-use Rattle.store_format.specs.Fields.{field}
 use Rattle.store_format.specs.Records.{bodies_from, body_in, length_in, stored_fault, unless_bad, with_body}
 use Rattle.store_format.specs.declared.faults.StoreFault.{StoreFault}
 use Rattle.store_format.specs.StoredOrders.{body_entries, entries_from, entry_rank, order_behind, put_in_order, stored_order, with_entries}
-use Rattle.store_format.specs.Stores.{StandsFor, read_store, records_size}
+use Rattle.store_format.specs.Stores.{StandsFor, records_size}
 use Rattle.store_format.specs.Headers.{store_header_fault}
 use Rattle.store_format.proofs.NewLemmas.{field-behind}
 use Rattle.store_format.proofs.ReadLemmas.{IsSplit, IsStored, bodies_from-closed, bodies_from-record, split_record, with_body-inv}

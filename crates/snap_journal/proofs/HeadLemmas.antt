@@ -8,7 +8,9 @@ use Rattle.store_format.specs.Fields.{field}
 use Rattle.store_format.specs.Bodies.{body_size, body_fault, entry_count}
 use Rattle.store_format.specs.Records.{bodies_from, with_body}
 use Rattle.store_format.proofs.NewLemmas.{field-take, field-behind}
-use Rattle.snap_journal.specs.Inner.Reads.{HasLength}
+use Rattle.snap_journal.specs.declared.faults.JournalFault.{JournalFault}
+use Rattle.snap_journal.specs.declared.faults.JournalFault.TheVariants.{DiskFault, BadStore, Full, Failed, NoMemory}
+use Rattle.snap_journal.specs.Inner.Reads.{HasLength, IsWhyBad, IsWhyNot}
 use Rattle.snap_journal.proofs.GateLemmas.{at_end, at_closed, at_torn_head, at_bad_length, at_torn_body, at_bad_body, at_record}
 
 -- as many bytes as there are, and at most 17, are the first 17
@@ -85,3 +87,13 @@ module _ (header : Header) (number at : ℕ) (seen body : List ℕ) (size : ℕ)
       ∙ ap (λ (b : List ℕ). with_body b (bodies_from header (number + 1) (at + (9 + size)) 0 (drop (9 + size) (drop at seen)))) (sym there)
       ∙ ap (λ (l : List ℕ). with_body body (bodies_from header (number + 1) (at + (9 + size)) 0 l)) (drop-drop (9 + size) at seen)
       ∙ ap (λ (n : ℕ). with_body body (bodies_from header (number + 1) (at + n) 0 (drop (at + n) seen))) long
+
+-- where these bytes are no body the store is not read on
+pub why_not_body : {told : Type 0} (header : Header) (number at most before now : ℕ) (seen body : List ℕ) (fault : JournalFault)
+    → (told → HasLength header (drop at seen) most) → (told → body ≡ take most (drop (at + 9) seen))
+    → IsWhyBad header number at most body fault → IsWhyNot told header number at seen before now fault
+why_not_body header number at most before now seen body DiskFault has is bad = absurd bad
+why_not_body header number at most before now seen body (BadStore fault) has is bad = λ told. bad seen (has told) (is told)
+why_not_body header number at most before now seen body (Full stored bytes) has is bad = bad
+why_not_body header number at most before now seen body Failed has is bad = bad
+why_not_body header number at most before now seen body NoMemory has is bad = bad

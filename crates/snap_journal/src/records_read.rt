@@ -1,7 +1,9 @@
 //! Records, read one after another.
-ghost use Rattle.std.specs.Prelude.{◌≡◌, ◌+◌, ◌^◌, ◌<◌, ◌≤◌, true, false, length, drop, IsTrue, IfOk, IfErr, IfSome};
+ghost use Rattle.std.specs.Prelude.{◌≡◌, ℕ, ◌+◌, ◌^◌, ◌<◌, ◌≤◌, true, false, List, length, take, drop, None, Err, IsTrue, IfOk, IfErr, IfSome, OnOk};
+ghost use Rattle.store_format.specs.Bodies.{body_fault};
+ghost use Rattle.store_format.specs.Records.{bodies_from};
 ghost use Rattle.snap_journal.specs.Formats.{IsBody};
-ghost use Rattle.snap_journal.specs.Inner.Reads.{IsNextLength, IsNextBody, IsWhyNot};
+ghost use Rattle.snap_journal.specs.Inner.Reads.{IsNextLength, IsNextBody, IsWhyBad, IsWhyNot};
 
 use crate::JournalFault;
 use crate::disk_reads::read_front;
@@ -14,6 +16,38 @@ pub const OPEN: u8 = 1;
 
 /// How many bytes an open gate, a length, a number and a count of entries have.
 const HEAD: u64 = 17;
+
+/// What the first bytes at a gate say, up to 17 of them: nothing where the gate isn't open, and else the length of a body that is
+/// there.
+fn length_in(header: &Header, at: u64, len: u64, head: &[u8]) -> Result<Option<u64>, StoreFault>
+    requires { at + length head.now ≤ len }
+    ensures next { (number : ℕ) (bytes : List ℕ) → head.now ≡ take 17 bytes → at + length bytes ≡ len
+        → IfOk result (IsNextLength header.now number at bytes) }
+    ensures here { IfOk result (λ next. at < len) }
+    ensures room { IfOk result (λ next. IfSome next (λ size. at + 10 + size ≤ len)) }
+    ensures least { IfOk result (λ next. IfSome next (λ size. 8 ≤ size)) }
+    ensures small { IfOk result (λ next. IfSome next (λ size. size < 2 ^ 38)) }
+    ensures fault { (number : ℕ) (bytes : List ℕ) → head.now ≡ take 17 bytes → at + length bytes ≡ len
+        → IfErr result (λ fault. bodies_from header.now number at 0 bytes ≡ Err fault) }
+{
+    if head.is_empty() {
+        return Err(StoreFault::Torn(at));
+    }
+    if head[0] != OPEN {
+        return Ok(None);
+    }
+    if (head.len() as u64) < HEAD {
+        return Err(StoreFault::Torn(at + head.len() as u64));
+    }
+    let size = u64_at(head, 1);
+    if size != body_size(header, u32_at(head, 13)) {
+        return Err(StoreFault::BadByte(at + 1));
+    }
+    if len - at < 10 + size {
+        return Err(StoreFault::Torn(len));
+    }
+    Ok(Some(size))
+}
 
 /// Reads what stands at a gate: nothing where it isn't open, and else the length of a body that is there.
 fn next_length<D: Disk>(
@@ -38,23 +72,39 @@ fn next_length<D: Disk>(
 {
     let there = (len - at).min(HEAD);
     let head = read_front(alloc, disk, at, there as usize)?;
-    if head.is_empty() {
-        return Err(JournalFault::BadStore(StoreFault::Torn(at)));
+    match length_in(header, at, len, &head) {
+        Ok(next) => Ok(next),
+        Err(fault) => Err(JournalFault::BadStore(fault)),
     }
-    if head[0] != OPEN {
-        return Ok(None);
+}
+
+/// Looks whether what was read as a body of this size, behind the gate at a place, is one.
+fn check_body(
+    alloc: Global,
+    header: &Header,
+    number: u32,
+    at: u64,
+    size: u64,
+    body: &[u8],
+) -> Result<(), JournalFault>
+    requires least { 8 ≤ size }
+    requires most { length body.now ≤ size }
+    requires room { at + 10 + size < 2 ^ 64 }
+    ensures none { OnOk result (body_fault header.now number body.now ≡ None) }
+    ensures numbers { OnOk result (number < 4294967295) }
+    ensures form { OnOk result (IsBody header.now number body.now) }
+    ensures fault { IfErr result (IsWhyBad header.now number at size body.now) }
+{
+    if (body.len() as u64) < size {
+        return Err(JournalFault::BadStore(StoreFault::Torn(at + 9 + body.len() as u64)));
     }
-    if (head.len() as u64) < HEAD {
-        return Err(JournalFault::BadStore(StoreFault::Torn(at + head.len() as u64)));
-    }
-    let size = u64_at(&head, 1);
-    if size != body_size(header, u32_at(&head, 13)) {
+    if size != body_size(header, u32_at(body, 4)) {
         return Err(JournalFault::BadStore(StoreFault::BadByte(at + 1)));
     }
-    if len - at < 10 + size {
-        return Err(JournalFault::BadStore(StoreFault::Torn(len)));
+    match fault_of_body(alloc, header, number, body)? {
+        None => Ok(()),
+        Some(place) => Err(JournalFault::BadStore(StoreFault::BadByte(at + 9 + place as u64))),
     }
-    Ok(Some(size))
 }
 
 /// Reads what stands at a gate, and tells whether that is a record. Its body takes the place of the one that was read before, whose
@@ -86,15 +136,7 @@ pub fn next_body<D: Disk>(
     };
     *body = Vec::new(alloc);
     let read = read_front(alloc, disk, at + 9, size as usize)?;
-    if (read.len() as u64) < size {
-        return Err(JournalFault::BadStore(StoreFault::Torn(at + 9 + read.len() as u64)));
-    }
-    if size != body_size(header, u32_at(&read, 4)) {
-        return Err(JournalFault::BadStore(StoreFault::BadByte(at + 1)));
-    }
-    if let Some(place) = fault_of_body(alloc, header, number, &read)? {
-        return Err(JournalFault::BadStore(StoreFault::BadByte(at + 9 + place as u64)));
-    }
+    check_body(alloc, header, number, at, size, &read)?;
     *body = read;
     Ok(true)
 }

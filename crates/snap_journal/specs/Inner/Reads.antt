@@ -48,3 +48,13 @@ IsWhyNot told header number at seen before now (BadStore fault) = told → bodie
 IsWhyNot told header number at seen before now (Full stored bytes) = ⊥
 IsWhyNot told header number at seen before now Failed = ⊥
 IsWhyNot told header number at seen before now NoMemory = ⊤
+
+-- why bytes that were read as a body of this length, behind the gate at this place, are none
+abbrev pub IsWhyBad : Header → ℕ → ℕ → ℕ → List ℕ → JournalFault → Type 0
+IsWhyBad header number at size body DiskFault = ⊥
+IsWhyBad header number at size body (BadStore fault) =
+    (seen : List ℕ) → HasLength header (drop at seen) size → body ≡ take size (drop (at + 9) seen)
+    → bodies_from header number at 0 (drop at seen) ≡ Err fault
+IsWhyBad header number at size body (Full stored bytes) = ⊥
+IsWhyBad header number at size body Failed = ⊥
+IsWhyBad header number at size body NoMemory = ⊤
