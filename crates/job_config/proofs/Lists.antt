@@ -1,5 +1,5 @@
 -- Steps over lists of values, keys and failures.
-use Rattle.std.proofs.Common.{◌≡◌, ◌∙◌, ◌+◌, ◌<◌, ℕ, suc, Bool, cond, true, false, List, [], ◌∷◌, ◌++◌, Option, Some, None, String, Global, length, map, drop, take, refl, sym, ap, arith, get_or, is_some, filter_map, add-one, codes, length-take, option_map, string_bytes, ◌==◌, eq-eqb, ne_eqb, Err, true≢false}
+use Rattle.std.proofs.Common.{◌≡◌, ◌∙◌, ◌+◌, ◌<◌, ◌≤◌, ℕ, suc, Bool, cond, true, false, List, [], ◌∷◌, ◌++◌, Option, Some, None, String, Global, length, map, drop, take, refl, sym, ap, arith, get_or, is_some, filter_map, add-one, codes, length-take, option_map, string_bytes, ◌==◌, eq-eqb, ne_eqb, Err, true≢false, append_assoc, append-nil}
 use Rattle.std.specs.List.{list_all}
 use Rattle.std.specs.Map.{keys_of}
 use Rattle.std.specs.Option.{unwrap_or}
@@ -8,7 +8,7 @@ use Rattle.job_config.specs.declared.values.KeyFault.TheVariants.{WrongKind}
 use Rattle.std.specs.Prelude.{option_and_then}
 use Rattle.serde_json.specs.Find.{as_array, as_object, get}
 use Rattle.job_config.specs.Values.{whole_number}
-use Rattle.std.proofs.lemmas.List.{take_more}
+use Rattle.std.proofs.lemmas.List.{at_drop_all, take_more}
 use Rattle.std.proofs.Math.Seq.{drop-cons}
 use Rattle.gl_base.specs.declared.jobs.FailureAt.{FailureAt}
 use Rattle.serde_json.specs.Data.{Data, Members}
@@ -79,6 +79,37 @@ gathered done ds = cond (list_all (λ d. is_some (failure_in d)) ds) (Some (done
 -- the failures that the values are
 abbrev pub each_of : List Value → Option (List FailureAt)
 each_of vs = cond (list_all (λ d. is_some (failure_in d)) (map view vs)) (Some (filter_map failure_in (map view vs))) None
+
+-- an item is read after others, or it is none
+read_more : {A B : Type 0} (read : A → Option B) (done : List B) (x : A) (y : B) (xs : List A) → read x ≡ Some y
+    → cond (list_all (λ d. is_some (read d)) xs) (Some ((done ++ y ∷ []) ++ filter_map read xs)) None
+    ≡ cond (list_all (λ d. is_some (read d)) (x ∷ xs)) (Some (done ++ filter_map read (x ∷ xs))) None
+read_more read done x y xs e = rw (e, append_assoc) refl
+
+read_none : {A B : Type 0} (read : A → Option B) (done : List B) (x : A) (xs : List A) → read x ≡ None
+    → cond (list_all (λ d. is_some (read d)) (x ∷ xs)) (Some (done ++ filter_map read (x ∷ xs))) None ≡ None
+read_none read done x xs e = rw e refl
+
+-- the value at a place, and those after it
+values_at : (vs : List Value) (i : ℕ) (v : Value) → i < length vs → v ≡ get_or vs i v
+    → map view (drop i vs) ≡ view v ∷ map view (drop (i + 1) vs)
+values_at vs i v lt is = rw (add-one, drop-cons vs i v) (ap (λ (x : Value). view x ∷ map view (drop (suc i) vs)) (sym is))
+
+-- the value at a place is a failure
+pub each_more : (vs : List Value) (i : ℕ) (v : Value) (y : FailureAt) (done : List FailureAt) → i < length vs → v ≡ get_or vs i v
+    → failure_in (view v) ≡ Some y → gathered (done ++ y ∷ []) (map view (drop (i + 1) vs)) ≡ gathered done (map view (drop i vs))
+each_more vs i v y done lt is e =
+    read_more failure_in done (view v) y (map view (drop (i + 1) vs)) e ∙ ap (gathered done) (sym (values_at vs i v lt is))
+
+-- it is none
+pub each_none : (vs : List Value) (i : ℕ) (v : Value) (done : List FailureAt) → i < length vs → v ≡ get_or vs i v
+    → failure_in (view v) ≡ None → gathered done (map view (drop i vs)) ≡ None
+each_none vs i v done lt is e =
+    ap (gathered done) (values_at vs i v lt is) ∙ read_none failure_in done (view v) (map view (drop (i + 1) vs)) e
+
+-- there are no more values
+pub each_end : (vs : List Value) (i : ℕ) (done : List FailureAt) → length vs ≤ i → gathered done (map view (drop i vs)) ≡ Some done
+each_end vs i done past = at_drop_all (λ (xs : List Value). gathered done (map view xs)) vs i past ∙ ap Some (append-nil done)
 
 -- the values of a list are all failures, or they are refused
 pub none_each : (machines : ℕ) (ds : List Data) → cond (list_all (λ d. is_some (failure_in d)) ds) (Some (filter_map failure_in ds)) None ≡ None
