@@ -1,110 +1,85 @@
-//! The lines of a file of scenarios, gathered as sections.
-use crate::escapes::unescape;
-use crate::parts::Part;
-use crate::trouble::{Trouble, Wrong, note_trouble};
-use std::alloc::{AllocError, Global};
+//! The sections of a scenario: a line that begins with a word, and the lines below it.
+use crate::escapes::{add_lines, unescape};
+use crate::stores::add_snapshots;
+use scenario_lines::{is_remark, number_of, word_of, words_behind};
+use std::alloc::Global;
 
-/// A line that begins with a word, and its text: the lines below it that begin with `|` or `+`, or for a part of what a
-/// call leaves what follows in the line.
-#[derive(Drop)]
+/// A line that begins with a word, the lines of its text, and the remarks up to the next section.
+#[derive(Clone, Copy)]
 pub struct Section<'a> {
-    pub line: usize,
+    pub lines: &'a [&'a str],
     pub keyword: &'a str,
     /// What follows the word in its line.
     pub said: &'a str,
-    pub text: Vec<u8>,
-    /// Whether a line of text stands below.
-    pub has_text: bool,
-    /// The first line that is malformed.
-    pub wrong: Option<Wrong>,
 }
 
-/// The sections of a file. Empty lines and those that begin with `#` are passed over.
-pub fn read_sections<'a>(alloc: Global, file: &'a str) -> Result<Vec<Section<'a>>, AllocError> {
+/// Cuts lines into sections. The first of them begins one in any case.
+pub fn sections_of<'a>(alloc: Global, lines: &'a [&'a str]) -> Vec<Section<'a>> {
     let mut sections = Vec::new(alloc);
-    for (place, line) in file.lines().enumerate() {
-        let number = place.saturating_add(1);
-        match line.as_bytes().first() {
-            None | Some(b'#') => {}
-            Some(b'|' | b'+') => add_text(alloc, &mut sections, number, line)?,
-            Some(_) => sections.push(section_of(alloc, number, line)?)?,
+    let mut start = 0;
+    for (place, line) in lines.iter().enumerate() {
+        if place > 0 && begins_section(line) {
+            let _ = sections.push(section_of(lines, start, place));
+            start = place;
         }
     }
-    Ok(sections)
+    let _ = sections.push(section_of(lines, start, lines.len()));
+    sections
 }
 
-/// A section that begins with this line.
-fn section_of<'a>(alloc: Global, number: usize, line: &'a str) -> Result<Section<'a>, AllocError> {
-    let (keyword, said) = line.split_once(' ').unwrap_or((line, ""));
-    let mut text = Vec::new(alloc);
-    let mut wrong = None;
-    if let Some(part) = Part::of_word(keyword) {
-        let outcome = add_said(alloc, part, said, &mut text);
-        note_trouble(&mut wrong, number, outcome)?;
-    }
-    Ok(Section {
-        line: number,
-        keyword,
-        said,
-        text,
-        has_text: false,
-        wrong,
-    })
+/// Returns whether a section begins with this line.
+fn begins_section(line: &str) -> bool {
+    !is_remark(line) && !is_text(line)
 }
 
-/// Adds what stands behind the word of a part: a line, or one for each word.
-fn add_said(alloc: Global, part: Part<'_>, said: &str, text: &mut Vec<u8>) -> Result<(), Trouble> {
-    if said.is_empty() {
-        return Ok(());
-    }
-    if !part.is_list() {
-        unescape(alloc, said, 0, text)?;
-        text.push(b'\n')?;
-        return Ok(());
-    }
-    for word in said.split(' ') {
-        unescape(alloc, word, 0, text)?;
-        text.push(b'\n')?;
-    }
-    Ok(())
+/// Returns whether a line belongs to the text of a section.
+fn is_text(line: &str) -> bool {
+    line.starts_with('|') || line.starts_with('+')
 }
 
-/// Adds a line of text to the last section.
-fn add_text(
-    alloc: Global,
-    sections: &mut Vec<Section<'_>>,
-    number: usize,
-    line: &str,
-) -> Result<(), AllocError> {
-    let Some(section) = sections.last_mut() else {
-        return Ok(());
+/// Returns the section of the lines from one place up to another.
+fn section_of<'a>(lines: &'a [&'a str], start: usize, end: usize) -> Section<'a> {
+    let lines = lines.get(start..end).unwrap_or(&[]);
+    let first = match lines.first() {
+        Some(line) => *line,
+        None => "",
     };
-    section.has_text = true;
-    let outcome = add_lines(alloc, line, &mut section.text);
-    note_trouble(&mut section.wrong, number, outcome)
+    Section {
+        lines,
+        keyword: word_of(first),
+        said: words_behind(first),
+    }
 }
 
-/// Adds what a line of text stands for: a mark, how often it stands there, a blank and the text.
-fn add_lines(alloc: Global, line: &str, text: &mut Vec<u8>) -> Result<(), Trouble> {
-    let (head, written) = line.split_once(' ').unwrap_or((line, ""));
-    let count = count_of(head)?;
-    for place in 0..count {
-        unescape(alloc, written, place.saturating_add(1), text)?;
-        if head.starts_with('|') {
-            text.push(b'\n')?;
+impl Section<'_> {
+    /// Returns whether it says that a part isn't looked at.
+    pub fn is_any(&self) -> bool {
+        self.said == "any" || self.keyword == "any" || self.keyword == "any-disk"
+    }
+
+    /// Returns the bytes that its text stands for, or none if it is malformed. The text of `stored NAME COUNT` is a store: the bytes
+    /// below, and so many snapshots.
+    pub fn text(&self, alloc: Global) -> Option<Vec<u8>> {
+        let mut text = Vec::new(alloc);
+        for line in self.lines {
+            if is_text(line) && !add_lines(alloc, line, &mut text) {
+                return None;
+            }
         }
+        if self.keyword == "stored" {
+            add_snapshots(&mut text, number_of(words_behind(self.said)));
+        }
+        Some(text)
     }
-    Ok(())
-}
 
-/// How often a line of text stands there: the number behind its mark, or once.
-fn count_of(head: &str) -> Result<u64, Trouble> {
-    let digits = head.trim_start_matches(['|', '+']);
-    if digits.is_empty() {
-        return Ok(1);
-    }
-    match digits.parse::<u64>() {
-        Ok(count) => Ok(count),
-        Err(_) => Err(Trouble::Malformed("no number of lines")),
+    /// Returns the bytes of its text, of which the first line may stand behind the word.
+    pub fn text_from_word(&self, alloc: Global) -> Option<Vec<u8>> {
+        if self.said.is_empty() {
+            return self.text(alloc);
+        }
+        let mut text = Vec::new(alloc);
+        let is_well = unescape(alloc, self.said, 0, &mut text);
+        let _ = text.push(b'\n');
+        if is_well { Some(text) } else { None }
     }
 }

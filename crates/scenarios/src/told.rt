@@ -1,0 +1,63 @@
+//! What a call tells of each part but files and disks.
+use crate::calling::Left;
+use crate::entries::add_entries;
+use engine_cli::Ended;
+use scenario_lines::Page;
+use std::alloc::Global;
+
+/// The parts that are told in one line, by their words.
+pub static LINES: [&str; 6] = ["status", "cause", "order", "done", "lost", "fired"];
+
+/// The parts that are told by a text, by their words.
+pub static TEXTS: [&str; 3] = ["out", "note", "snapshots"];
+
+/// Adds what a call tells of a part behind the part's word.
+pub fn add_line(alloc: Global, page: &mut Page, word: &str, ended: &Ended) {
+    match word {
+        "status" => page.add_numbers(&[u64::from(ended.status.number())]),
+        "cause" => add_cause(alloc, page, ended),
+        "order" => add_entries(page, &ended.order),
+        "done" => page.add_numbers(&ended.done),
+        "lost" => add_entries(page, &ended.lost),
+        "fired" => add_fired(page, &ended.fired),
+        _ => {}
+    }
+}
+
+/// Adds the status as it is written in code.
+fn add_cause(alloc: Global, page: &mut Page, ended: &Ended) {
+    if let Ok(cause) = format!(in alloc; " {:?}", ended.status) {
+        page.add(cause.as_str());
+    }
+}
+
+/// Adds the places of the failures that fired.
+fn add_fired(page: &mut Page, fired: &[u16]) {
+    for place in fired {
+        page.add_numbers(&[u64::from(*place)]);
+    }
+}
+
+/// Returns what a call left of a part that is told by a text.
+pub fn text_left(alloc: Global, word: &str, left: &Left) -> Vec<u8> {
+    let bytes = match word {
+        "out" => left.out.bytes(),
+        "note" => left.note.bytes(),
+        _ => return snapshots(alloc, &left.ended),
+    };
+    match Vec::from_slice(alloc, bytes) {
+        Ok(copy) => copy,
+        Err(_) => Vec::new(alloc),
+    }
+}
+
+/// Returns a line for each snapshot: its number, how many entries its order has, and what its numbers come to.
+fn snapshots(alloc: Global, ended: &Ended) -> Vec<u8> {
+    let mut text = String::new(alloc);
+    for line in ended.snapshots.iter() {
+        let (number, entries) = (line.number, line.entries);
+        let (reached, sum, max) = (line.reached, line.sum, line.max);
+        let _ = writeln!(text, "{number} {entries} {reached} {sum} {max}");
+    }
+    text.into_bytes()
+}
