@@ -1,0 +1,3 @@
+-- What the proofs of these tests speak of.
+pub mod Flying
+pub mod Rows

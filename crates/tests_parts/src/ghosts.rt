@@ -1,7 +1,37 @@
 //! Ghosts: of two data the one of the greater version stays.
 use ghost_cache::GhostCache;
 use gl_base::{AtomNo, Datum, GhostLine, Vertex};
-use std::test::Fail;
+use std::alloc::Global;
+use std::io;
+
+/// Prints what a cache of the one ghost 3 keeps.
+pub fn print_ghosts(rt: &impl Print, alloc: Global) -> io::Result<()> {
+    let line = GhostLine {
+        vertex: Vertex(3),
+        id: 30,
+        atom: AtomNo(1),
+    };
+    match GhostCache::new(alloc, &[line], 4) {
+        Ok(mut cache) => print_cache(rt, &mut cache),
+        Err(fault) => println!(rt; "ghosts: {fault}"),
+    }
+}
+
+fn print_cache(rt: &impl Print, cache: &mut GhostCache) -> io::Result<()> {
+    println!(rt;
+        "ghosts: vertex 3 {}, vertex 2 {}",
+        cache.has(Vertex(3)),
+        cache.has(Vertex(2))
+    )?;
+    print_ghost(rt, "at first", cache)?;
+    if cache.has(Vertex(3)) {
+        cache.set(Vertex(3), datum(2));
+    }
+    if cache.has(Vertex(3)) {
+        cache.apply(Vertex(3), datum(1));
+    }
+    print_ghost(rt, "with version 2 set and version 1 applied", cache)
+}
 
 fn datum(version: u32) -> Datum {
     Datum {
@@ -11,28 +41,13 @@ fn datum(version: u32) -> Datum {
     }
 }
 
-/// Whether a ghost has no datum yet, and then keeps those that it is to keep.
-fn learns(cache: &mut GhostCache, v: Vertex) -> bool {
-    if !cache.has(v) || cache.get(v).version != 0 {
-        return false;
+fn print_ghost(rt: &impl Print, when: &str, cache: &GhostCache) -> io::Result<()> {
+    if !cache.has(Vertex(3)) {
+        return println!(rt; "ghost 3 {when}: none");
     }
-    cache.set(v, datum(2));
-    if !cache.has(v) {
-        return false;
-    }
-    cache.apply(v, datum(1));
-    cache.has(v) && cache.get(v) == datum(2)
-}
-
-#[test]
-fn the_newest_stays(rt: HostRuntime) -> Result<(), Fail> {
-    let line = GhostLine {
-        vertex: Vertex(3),
-        id: 30,
-        atom: AtomNo(1),
-    };
-    let mut cache = GhostCache::new(rt.alloc(), &[line], 4)?;
-    assert!(rt; learns(&mut cache, Vertex(3)));
-    assert!(rt; !cache.has(Vertex(2)));
-    Ok(())
+    let datum = cache.get(Vertex(3));
+    println!(rt;
+        "ghost 3 {when}: number {}, version {}, mark {}",
+        datum.value, datum.version, datum.mark
+    )
 }

@@ -1,37 +1,88 @@
 //! The coordinator and machines that answer it.
 use coord_core::{Coordinator, Due, Engine, Store};
-use gl_base::{MachineNo, NoMemory, Refused, Vertex};
+use gl_base::{MachineNo, Refused, Vertex};
 use scope_pipe::ScopePipe;
 use std::alloc::Global;
-use std::test::Fail;
+use std::io;
 use task_sched::TaskSet;
 use wave_counts::{WaveCounts, is_at_rest};
 use wire_msgs::Message;
 
-/// How many messages machines 0 and 1 send and receive before each wave, and whether the end is due behind it.
-static ROWS: [((u64, u64), (u64, u64), bool); 4] = [
-    ((3, 2), (3, 3), false),
-    ((0, 0), (0, 0), false),
-    ((2, 2), (1, 2), false),
-    ((0, 0), (0, 0), true),
+/// How many messages machines 0 and 1 send and receive before a wave.
+type Worked = (u64, u64, u64, u64);
+
+static PAIR: [Worked; 4] = [(3, 2, 3, 3), (0, 0, 0, 0), (2, 2, 1, 2), (0, 0, 0, 0)];
+
+/// What a coordinator of two colours puts out in turn: a step of this colour, or a wave where there is none; and how many messages
+/// machines 0 and 1 send and receive before.
+static STEPS: [(u32, Worked); 9] = [
+    (1, (0, 0, 0, 0)),
+    (0, (1, 0, 0, 0)),
+    (0, (0, 0, 0, 1)),
+    (0, (0, 0, 0, 0)),
+    (2, (0, 0, 0, 0)),
+    (0, (0, 0, 0, 0)),
+    (0, (0, 0, 0, 0)),
+    (1, (0, 0, 0, 0)),
+    (0, (0, 0, 0, 0)),
 ];
 
-/// What a coordinator of two colours puts out in turn: a step of this colour, or a wave; and how many messages machines 0 and 1 send and
-/// receive before.
-static STEPS: [(Option<u32>, (u64, u64), (u64, u64)); 9] = [
-    (Some(1), (0, 0), (0, 0)),
-    (None, (1, 0), (0, 0)),
-    (None, (0, 0), (0, 1)),
-    (None, (0, 0), (0, 0)),
-    (Some(2), (0, 0), (0, 0)),
-    (None, (0, 0), (0, 0)),
-    (None, (0, 0), (0, 0)),
-    (Some(1), (0, 0), (0, 0)),
-    (None, (0, 0), (0, 0)),
-];
+/// Prints how machines are led to their end, and through steps, and when a machine is at rest.
+pub fn print_leading(rt: &impl Print, alloc: Global) -> io::Result<()> {
+    match Coordinator::new(alloc, 2) {
+        Ok(mut coordinator) => print_pair(rt, &mut coordinator)?,
+        Err(fault) => println!(rt; "pair: {fault}")?,
+    }
+    let store = Store {
+        vertices: 2,
+        edges: 1,
+        newest: 0,
+        length: 100,
+    };
+    match Coordinator::with_store(alloc, 2, Engine::Chromatic(2), store) {
+        Ok(mut coordinator) => print_steps(rt, &mut coordinator)?,
+        Err(fault) => println!(rt; "steps: {fault}")?,
+    }
+    print_rests(rt, alloc)
+}
+
+/// Machines that are idle are led to their end.
+fn print_pair(rt: &impl Print, coordinator: &mut Coordinator) -> io::Result<()> {
+    let mut first = WaveCounts::new();
+    let mut second = WaveCounts::new();
+    print_due(rt, "pair, due at first", coordinator.due())?;
+    for worked in &PAIR {
+        work_both(&mut first, &mut second, *worked);
+        print_wave(rt, "pair", coordinator, &mut first, &mut second, true)?;
+    }
+    let left = coordinator.outbox_take(MachineNo(0)).is_some();
+    println!(rt; "pair, a message left for machine 0: {left}")
+}
+
+/// Machines that never rest are led through steps: the next one is due where two waves behind the last were even, and told the same.
+fn print_steps(rt: &impl Print, coordinator: &mut Coordinator) -> io::Result<()> {
+    let mut first = WaveCounts::new();
+    let mut second = WaveCounts::new();
+    for (colour, worked) in &STEPS {
+        work_both(&mut first, &mut second, *worked);
+        if *colour > 0 {
+            print_step(rt, coordinator)?;
+        } else {
+            print_due(rt, "steps, due", coordinator.due())?;
+            print_answer(rt, "steps, a step in place of the wave", coordinator.step())?;
+            print_wave(rt, "steps", coordinator, &mut first, &mut second, false)?;
+        }
+    }
+    Ok(())
+}
+
+fn work_both(first: &mut WaveCounts, second: &mut WaveCounts, worked: Worked) {
+    work(first, worked.0, worked.1);
+    work(second, worked.2, worked.3);
+}
 
 /// The machine sends and receives so many messages more.
-fn work(counts: &mut WaveCounts, (sent, received): (u64, u64)) {
+fn work(counts: &mut WaveCounts, sent: u64, received: u64) {
     for _ in 0..sent {
         counts.add_sent();
     }
@@ -40,7 +91,30 @@ fn work(counts: &mut WaveCounts, (sent, received): (u64, u64)) {
     }
 }
 
-/// The machine takes its wave, answers that it is idle or not, and the coordinator receives the answer.
+/// A wave is put out, and no other before both have answered it.
+fn print_wave(
+    rt: &impl Print,
+    name: &str,
+    coordinator: &mut Coordinator,
+    first: &mut WaveCounts,
+    second: &mut WaveCounts,
+    idle: bool,
+) -> io::Result<()> {
+    println!(rt;
+        "{name}, wave: {}, another: {}",
+        text_of(coordinator.wave()),
+        text_of(coordinator.wave())
+    )?;
+    let answered = answer(coordinator, 0, first, idle);
+    print!(rt; "{name}, machine 0 answers: {answered}, ")?;
+    print_due(rt, "due", coordinator.due())?;
+    let answered = answer(coordinator, 1, second, idle);
+    print!(rt; "{name}, machine 1 answers: {answered}, ")?;
+    print_due(rt, "due", coordinator.due())
+}
+
+/// The machine takes its wave, answers that it is idle or not, and the coordinator receives the answer. Tells whether it held the wave
+/// until then, and the answer was awaited.
 fn answer(
     coordinator: &mut Coordinator,
     machine: u16,
@@ -70,114 +144,87 @@ fn answer(
     held && !counts.holds_wave() && awaited
 }
 
-/// Whether machines that work so before each wave are led to their end.
-fn are_led(coordinator: &mut Coordinator, first: &mut WaveCounts, second: &mut WaveCounts) -> bool {
-    for (one, other, ends) in &ROWS {
-        let due = if *ends { Due::Ended } else { Due::Wave };
-        work(first, *one);
-        work(second, *other);
-        if !wave(coordinator, first, second, true) || coordinator.due() != due {
-            return false;
-        }
-    }
-    coordinator.outbox_take(MachineNo(0)).is_none()
+/// A step begins in place of a wave, and both machines are told its colour.
+fn print_step(rt: &impl Print, coordinator: &mut Coordinator) -> io::Result<()> {
+    print_due(rt, "steps, due", coordinator.due())?;
+    print_answer(rt, "steps, a wave in place of the step", coordinator.wave())?;
+    print_answer(rt, "steps, the step", coordinator.step())?;
+    println!(rt;
+        "steps, colour for machine 0: {}, for machine 1: {}",
+        colour_for(coordinator, 0),
+        colour_for(coordinator, 1)
+    )
 }
 
-/// A wave is put out, and no other before both have answered it.
-fn wave(
-    coordinator: &mut Coordinator,
-    first: &mut WaveCounts,
-    second: &mut WaveCounts,
-    idle: bool,
-) -> bool {
-    coordinator.wave() == Ok(())
-        && coordinator.wave() == Err(Refused::NotNow)
-        && answer(coordinator, 0, first, idle)
-        && coordinator.due() == Due::Nothing
-        && answer(coordinator, 1, second, idle)
-}
-
-#[test]
-fn of_a_pair(rt: HostRuntime) -> Result<(), Fail> {
-    let mut coordinator = Coordinator::new(rt.alloc(), 2)?;
-    let mut first = WaveCounts::new();
-    let mut second = WaveCounts::new();
-    assert_eq!(rt; coordinator.due(), Due::Wave);
-    assert!(rt; are_led(&mut coordinator, &mut first, &mut second));
-    Ok(())
-}
-
-/// The machine takes the word that a step of this colour begins.
-fn steps_to(coordinator: &mut Coordinator, machine: u16, colour: u32) -> bool {
+/// The colour of the step that the machine is told to begin, and 0 for another message.
+fn colour_for(coordinator: &mut Coordinator, machine: u16) -> u32 {
     match coordinator.outbox_take(MachineNo(machine)) {
-        Some(Message::Step { colour: told }) => told == colour,
-        _ => false,
+        Some(Message::Step { colour }) => colour,
+        _ => 0,
     }
 }
 
-/// A step begins in place of a wave.
-fn step(coordinator: &mut Coordinator, colour: u32) -> bool {
-    coordinator.due() == Due::Step(colour)
-        && coordinator.wave() == Err(Refused::NotNow)
-        && coordinator.step() == Ok(())
-        && steps_to(coordinator, 0, colour)
-        && steps_to(coordinator, 1, colour)
+fn print_answer(rt: &impl Print, name: &str, answer: Result<(), Refused>) -> io::Result<()> {
+    println!(rt; "{name}: {}", text_of(answer))
 }
 
-/// Whether machines that work so before each step or wave are led through them.
-fn are_stepped(
-    coordinator: &mut Coordinator,
-    first: &mut WaveCounts,
-    second: &mut WaveCounts,
-) -> bool {
-    for (colour, one, other) in &STEPS {
-        work(first, *one);
-        work(second, *other);
-        let has_come = match *colour {
-            Some(colour) => step(coordinator, colour),
-            None => {
-                coordinator.due() == Due::Wave
-                    && coordinator.step() == Err(Refused::NotNow)
-                    && wave(coordinator, first, second, false)
-            }
-        };
-        if !has_come {
-            return false;
-        }
+fn text_of(answer: Result<(), Refused>) -> &'static str {
+    match answer {
+        Ok(()) => "done",
+        Err(Refused::NotNow) => "not now",
+        Err(Refused::NoMemory) => "out of memory",
     }
-    true
 }
 
-/// Machines that never rest are led through steps: the next one is due where two waves behind the last were even, and told the same.
-#[test]
-fn by_colours(rt: HostRuntime) -> Result<(), Fail> {
-    let store = Store {
-        vertices: 2,
-        edges: 1,
-        newest: 0,
-        length: 100,
-    };
-    let mut coordinator = Coordinator::with_store(rt.alloc(), 2, Engine::Chromatic(2), store)?;
-    let mut first = WaveCounts::new();
-    let mut second = WaveCounts::new();
-    assert!(rt; are_stepped(&mut coordinator, &mut first, &mut second));
-    Ok(())
+fn print_due(rt: &impl Print, name: &str, due: Due) -> io::Result<()> {
+    match due {
+        Due::Record(number) => println!(rt; "{name}: record {number}"),
+        Due::Snapshot(number) => println!(rt; "{name}: snapshot {number}"),
+        Due::Ended => println!(rt; "{name}: the end"),
+        Due::Step(colour) => println!(rt; "{name}: step of colour {colour}"),
+        Due::Wave => println!(rt; "{name}: a wave"),
+        Due::Nothing => println!(rt; "{name}: nothing"),
+    }
 }
 
-/// Whether a machine with this pipe and so many tasks is at rest, and has no task then.
-fn rests(alloc: Global, pipe: &ScopePipe, count: u32) -> Result<bool, NoMemory> {
-    let mut tasks = TaskSet::new(alloc, count, None)?;
-    Ok(is_at_rest(&tasks, pipe) && tasks.next().is_none())
+/// Prints whether a machine is at rest without a task, with one, and with a scope in flight.
+fn print_rests(rt: &impl Print, alloc: Global) -> io::Result<()> {
+    match ScopePipe::new(alloc, MachineNo(0), 1) {
+        Ok(mut pipe) => print_rests_of(rt, alloc, &mut pipe),
+        Err(fault) => println!(rt; "rest: {fault}"),
+    }
 }
 
-fn admits(pipe: &mut ScopePipe) -> bool {
-    pipe.next_id().serial < u64::MAX && pipe.admit(Vertex(0)).is_ok()
+fn print_rests_of(rt: &impl Print, alloc: Global, pipe: &mut ScopePipe) -> io::Result<()> {
+    print_rest(rt, alloc, "no task and no scope", pipe, 0)?;
+    print_rest(rt, alloc, "a task", pipe, 1)?;
+    let admitted = pipe.next_id().serial < u64::MAX && pipe.admit(Vertex(0)).is_ok();
+    println!(rt; "a scope is admitted: {admitted}")?;
+    print_rest(rt, alloc, "a scope in flight", pipe, 0)
 }
 
-#[test]
-fn at_rest(rt: HostRuntime) -> Result<(), Fail> {
-    let mut pipe = ScopePipe::new(rt.alloc(), MachineNo(0), 1)?;
-    assert!(rt; rests(rt.alloc(), &pipe, 0)? && !rests(rt.alloc(), &pipe, 1)?);
-    assert!(rt; admits(&mut pipe) && !rests(rt.alloc(), &pipe, 0)?);
-    Ok(())
+fn print_rest(
+    rt: &impl Print,
+    alloc: Global,
+    name: &str,
+    pipe: &ScopePipe,
+    count: u32,
+) -> io::Result<()> {
+    match TaskSet::new(alloc, count, None) {
+        Ok(mut tasks) => print_rest_of(rt, name, pipe, &mut tasks),
+        Err(fault) => println!(rt; "machine with {name}: {fault}"),
+    }
+}
+
+fn print_rest_of(
+    rt: &impl Print,
+    name: &str,
+    pipe: &ScopePipe,
+    tasks: &mut TaskSet,
+) -> io::Result<()> {
+    let at_rest = is_at_rest(tasks, pipe);
+    println!(rt;
+        "machine with {name}: at rest {at_rest}, has a next task {}",
+        tasks.next().is_some()
+    )
 }

@@ -1,18 +1,71 @@
 //! Locks: who waits and who holds.
 use gl_base::{Claim, MachineNo, Mode, ScopeId, Vertex};
-use std::test::Fail;
+use std::alloc::Global;
+use std::io;
 use vertex_locks::{LockTable, Turn};
 
 /// A call at the lock of vertex 5, with the serial of the scope.
 #[derive(Clone, Copy)]
 enum Call {
-    Ask(u64, Mode),
-    Grant(Option<u64>),
+    Read(u64),
+    Write(u64),
+    Grant,
     Release(u64),
     Reset,
 }
 
 const X: Vertex = Vertex(5);
+
+static CALLS: [Call; 8] = [
+    Call::Read(0),
+    Call::Write(1),
+    Call::Grant,
+    Call::Grant,
+    Call::Release(0),
+    Call::Grant,
+    Call::Reset,
+    Call::Grant,
+];
+
+/// Prints what the calls answer in turn.
+pub fn print_locks(rt: &impl Print, alloc: Global) -> io::Result<()> {
+    match LockTable::new(alloc, &[Vertex(5), Vertex(2)], 6) {
+        Ok(mut table) => print_calls(rt, &mut table),
+        Err(fault) => println!(rt; "locks: {fault}"),
+    }
+}
+
+fn print_calls(rt: &impl Print, table: &mut LockTable) -> io::Result<()> {
+    for call in &CALLS {
+        print_call(rt, table, *call)?;
+    }
+    Ok(())
+}
+
+fn print_call(rt: &impl Print, table: &mut LockTable, call: Call) -> io::Result<()> {
+    match call {
+        Call::Read(serial) => print_asked(rt, "to read", serial, asks(table, serial, Mode::Reader)),
+        Call::Write(serial) => print_asked(
+            rt,
+            "to write",
+            serial,
+            asks(table, serial, Mode::Writer),
+        ),
+        Call::Grant => print_granted(rt, table),
+        Call::Release(serial) => println!(rt;
+            "lock, scope {serial} releases: {}",
+            releases(table, serial)
+        ),
+        Call::Reset => {
+            table.reset();
+            println!(rt; "lock, the table is reset")
+        }
+    }
+}
+
+fn print_asked(rt: &impl Print, mode: &str, serial: u64, asked: bool) -> io::Result<()> {
+    println!(rt; "lock, scope {serial} asks {mode}: {asked}")
+}
 
 fn scope(serial: u64) -> ScopeId {
     ScopeId {
@@ -21,20 +74,9 @@ fn scope(serial: u64) -> ScopeId {
     }
 }
 
-/// Makes the call, and tells whether its answer is the wanted one.
-fn make(table: &mut LockTable, call: Call) -> bool {
-    match call {
-        Call::Ask(serial, mode) => asks(table, scope(serial), mode),
-        Call::Grant(wanted) => grants(table, wanted),
-        Call::Release(serial) => releases(table, scope(serial)),
-        Call::Reset => {
-            table.reset();
-            true
-        }
-    }
-}
-
-fn asks(table: &mut LockTable, scope: ScopeId, mode: Mode) -> bool {
+/// The scope asks, if it neither holds the lock nor waits for it.
+fn asks(table: &mut LockTable, serial: u64, mode: Mode) -> bool {
+    let scope = scope(serial);
     if !table.owns(X) || table.reserve(X).is_err() || !table.owns(X) {
         return false;
     }
@@ -45,42 +87,29 @@ fn asks(table: &mut LockTable, scope: ScopeId, mode: Mode) -> bool {
     true
 }
 
-fn grants(table: &mut LockTable, wanted: Option<u64>) -> bool {
+/// Prints what `look` and `grant` tell.
+fn print_granted(rt: &impl Print, table: &mut LockTable) -> io::Result<()> {
     if !table.owns(X) {
-        return false;
+        return println!(rt; "lock, no owner");
     }
-    let looked = table.look(X);
-    let turn = table.grant(X);
-    let serial = match turn {
-        Turn::Granted(claim) => Some(claim.scope.serial),
-        Turn::Waiting => None,
-    };
-    looked == turn && serial == wanted
+    print!(rt; "lock, looked:")?;
+    print_turn(rt, table.look(X))?;
+    print!(rt; ", granted:")?;
+    print_turn(rt, table.grant(X))?;
+    println!(rt; "")
 }
 
-fn releases(table: &mut LockTable, scope: ScopeId) -> bool {
-    if !table.owns(X) || !table.holds(X, scope) {
+fn print_turn(rt: &impl Print, turn: Turn) -> io::Result<()> {
+    match turn {
+        Turn::Granted(claim) => print!(rt; " scope {}", claim.scope.serial),
+        Turn::Waiting => print!(rt; " none"),
+    }
+}
+
+fn releases(table: &mut LockTable, serial: u64) -> bool {
+    if !table.owns(X) || !table.holds(X, scope(serial)) {
         return false;
     }
-    table.release(X, scope);
+    table.release(X, scope(serial));
     true
-}
-
-#[test]
-fn in_turn(rt: HostRuntime) -> Result<(), Fail> {
-    let calls = [
-        Call::Ask(0, Mode::Reader),
-        Call::Ask(1, Mode::Writer),
-        Call::Grant(Some(0)),
-        Call::Grant(None),
-        Call::Release(0),
-        Call::Grant(Some(1)),
-        Call::Reset,
-        Call::Grant(None),
-    ];
-    let mut table = LockTable::new(rt.alloc(), &[Vertex(5), Vertex(2)], 6)?;
-    for call in calls {
-        assert!(rt; make(&mut table, call));
-    }
-    Ok(())
 }

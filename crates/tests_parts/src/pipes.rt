@@ -1,94 +1,126 @@
 //! The pipeline: who is in flight, and in which order a scope takes its locks.
+ghost use Rattle.std.specs.Prelude.{◌≡◌};
+
 use gl_base::{MachineNo, Mode, NoMemory, ScopeId, Vertex};
 use scope_pipe::{Next, ScopePipe};
 use std::alloc::Global;
-use std::test::Fail;
+use std::io;
 
-/// Admits a scope of v, and tells whether it is in flight then and not ready.
-fn admits(pipe: &mut ScopePipe, v: Vertex) -> bool {
-    let id = pipe.next_id();
-    if id.serial == u64::MAX || pipe.admit(v) != Ok(id) {
-        return false;
+/// Prints how a scope flies, one at once, and how a scope that has come takes its locks.
+pub fn print_pipes(rt: &impl Print, alloc: Global) -> io::Result<()> {
+    match ScopePipe::new(alloc, MachineNo(0), 1) {
+        Ok(mut pipe) => print_flight(rt, &mut pipe)?,
+        Err(fault) => println!(rt; "pipe: {fault}")?,
     }
-    pipe.flies(v) && pipe.is_in_flight(id) && !pipe.is_ready(id)
+    match ScopePipe::new(alloc, MachineNo(0), 1) {
+        Ok(mut pipe) => print_at_once(rt, &mut pipe)?,
+        Err(fault) => println!(rt; "pipe: {fault}")?,
+    }
+    match ScopePipe::new(alloc, MachineNo(0), 256) {
+        Ok(mut pipe) => print_stand(rt, alloc, &mut pipe),
+        Err(fault) => println!(rt; "pipe: {fault}"),
+    }
 }
 
-/// Takes a scope that waits to its end.
-fn ends(pipe: &mut ScopePipe, id: ScopeId, v: Vertex) -> bool {
-    if !pipe.is_in_flight(id) || pipe.is_ready(id) {
-        return false;
-    }
-    let centre = pipe.centre(id);
-    pipe.ready(id);
-    if !pipe.is_in_flight(id) || !pipe.is_ready(id) || pipe.ready_ones().len() != 1 {
-        return false;
-    }
-    pipe.finish(id);
-    centre == v && !pipe.is_in_flight(id)
-}
-
-#[test]
-fn in_flight(rt: HostRuntime) -> Result<(), Fail> {
-    let mut pipe = ScopePipe::new(rt.alloc(), MachineNo(0), 1)?;
+fn print_flight(rt: &impl Print, pipe: &mut ScopePipe) -> io::Result<()> {
     let id = pipe.next_id();
-    assert!(rt; admits(&mut pipe, Vertex(3)));
-    assert!(rt; ends(&mut pipe, id, Vertex(3)));
+    let admitted = id.serial < u64::MAX && pipe.admit(Vertex(3)) == Ok(id);
+    println!(rt; "scope of vertex 3 admitted under the next number: {admitted}")?;
+    print_scope(rt, "admitted", pipe, id)?;
+    if pipe.is_in_flight(id) && !pipe.is_ready(id) {
+        println!(rt; "centre of the scope: {}", pipe.centre(id).0)?;
+        pipe.ready(id);
+    }
+    print_scope(rt, "ready", pipe, id)?;
+    if pipe.is_in_flight(id) {
+        pipe.finish(id);
+    }
+    print_scope(rt, "finished", pipe, id)?;
     pipe.reset();
-    assert!(rt; pipe.flight_count() == 0);
-    Ok(())
+    print_scope(rt, "reset", pipe, id)
 }
 
-#[test]
-fn in_flight_at_once(rt: HostRuntime) -> Result<(), Fail> {
-    let mut pipe = ScopePipe::new(rt.alloc(), MachineNo(0), 1)?;
-    if pipe.next_id().serial < u64::MAX && pipe.flight_count() < 1 {
+fn print_scope(rt: &impl Print, when: &str, pipe: &ScopePipe, id: ScopeId) -> io::Result<()> {
+    let (flies, in_flight) = (pipe.flies(Vertex(3)), pipe.is_in_flight(id));
+    let (ready, all_ready) = (pipe.is_ready(id), pipe.ready_ones().len());
+    println!(rt;
+        "scope of vertex 3, {when}: vertex flies {flies}, in flight {in_flight}, ready {ready}, all that fly {}, all ready {all_ready}",
+        pipe.flight_count()
+    )
+}
+
+/// A scope is admitted with no look at its vertex, if there is room.
+fn print_at_once(rt: &impl Print, pipe: &mut ScopePipe) -> io::Result<()>
+    requires { pipe.old.width ≡ 1 }
+{
+    if pipe.has_serial() && pipe.flight_count() < 1 {
         pipe.admit_now(Vertex(7));
     }
-    assert!(rt; pipe.flies(Vertex(7)));
-    Ok(())
+    println!(rt;
+        "scope of vertex 7 admitted at once: vertex flies {}",
+        pipe.flies(Vertex(7))
+    )
 }
-
-/// Whether this is what the scope wants next, as `look` and `advance` tell.
-fn wants(pipe: &mut ScopePipe, id: ScopeId, next: Next) -> bool {
-    pipe.has_come(id) && pipe.look(id) == next && pipe.advance(id) == next
-}
-
-/// Whether the scope leaves with its centre.
-fn leaves(pipe: &mut ScopePipe, id: ScopeId, centre: Vertex) -> bool {
-    pipe.has_come(id) && pipe.leave(id).centre == centre
-}
-
-static WANTS: [Next; 4] = [
-    Next::Lock(Vertex(2), Mode::Reader),
-    Next::Lock(Vertex(5), Mode::Writer),
-    Next::Lock(Vertex(9), Mode::Reader),
-    Next::Forward(MachineNo(1)),
-];
 
 /// A scope of vertex 5 comes, takes its locks in the canonical order, and leaves.
-fn goes_in_order(pipe: &mut ScopePipe, alloc: Global) -> Result<bool, NoMemory> {
+fn print_stand(rt: &impl Print, alloc: Global, pipe: &mut ScopePipe) -> io::Result<()> {
+    let id = pipe.next_id();
+    println!(rt;
+        "stand of vertex 5: has come {}, all that have come {}",
+        pipe.has_come(id),
+        pipe.entered_count()
+    )?;
+    if enter(alloc, pipe, id).is_err() {
+        return println!(rt; "stand of vertex 5: out of memory");
+    }
+    for _ in 0..4 {
+        print_wants(rt, pipe, id)?;
+    }
+    println!(rt;
+        "stand of vertex 5: has come {}, all that have come {}",
+        pipe.has_come(id),
+        pipe.entered_count()
+    )?;
+    print_left(rt, pipe, id)
+}
+
+/// The scope comes, if it has not come yet, nor has another.
+fn enter(alloc: Global, pipe: &mut ScopePipe, id: ScopeId) -> Result<(), NoMemory> {
     let part = Vec::from_slice(alloc, &[Vertex(2), Vertex(5), Vertex(9)])?;
     let rest = Vec::from_slice(alloc, &[MachineNo(1), MachineNo(3)])?;
-    let id = pipe.next_id();
-    if pipe.has_come(id) || pipe.entered_count() > 0 {
-        return Ok(false);
+    if !pipe.has_come(id) && pipe.entered_count() == 0 {
+        pipe.enter(id, Vertex(5), part, rest);
     }
-    pipe.enter(id, Vertex(5), part, rest);
-    Ok(wants_all(pipe, id) && pipe.entered_count() == 1 && leaves(pipe, id, Vertex(5)))
-}
-
-fn wants_all(pipe: &mut ScopePipe, id: ScopeId) -> bool {
-    for next in &WANTS {
-        if !wants(pipe, id, *next) {
-            return false;
-        }
-    }
-    true
-}
-
-#[test]
-fn in_canonical_order(rt: HostRuntime) -> Result<(), Fail> {
-    let mut pipe = ScopePipe::new(rt.alloc(), MachineNo(0), 256)?;
-    assert!(rt; goes_in_order(&mut pipe, rt.alloc())?);
     Ok(())
+}
+
+/// Prints what the scope wants next, as `look` and `advance` tell.
+fn print_wants(rt: &impl Print, pipe: &mut ScopePipe, id: ScopeId) -> io::Result<()> {
+    if !pipe.has_come(id) {
+        return println!(rt; "stand of vertex 5: gone");
+    }
+    print!(rt; "stand of vertex 5, looked:")?;
+    print_next(rt, pipe.look(id))?;
+    print!(rt; ", advanced:")?;
+    print_next(rt, pipe.advance(id))?;
+    println!(rt; "")
+}
+
+fn print_next(rt: &impl Print, next: Next) -> io::Result<()> {
+    match next {
+        Next::Lock(vertex, Mode::Reader) => print!(rt; " to read {}", vertex.0),
+        Next::Lock(vertex, Mode::Writer) => print!(rt; " to write {}", vertex.0),
+        Next::Forward(machine) => print!(rt; " to go on to {}", machine.0),
+        Next::Home => print!(rt; " to go home"),
+    }
+}
+
+fn print_left(rt: &impl Print, pipe: &mut ScopePipe, id: ScopeId) -> io::Result<()> {
+    if !pipe.has_come(id) {
+        return println!(rt; "stand of vertex 5: gone");
+    }
+    println!(rt;
+        "stand of vertex 5 leaves with centre {}",
+        pipe.leave(id).centre.0
+    )
 }

@@ -2,7 +2,8 @@
 use gl_base::{EdgeNo, Entry, MachineNo, NoMemory, Vertex};
 use snap_update::SnapPart;
 use std::alloc::Global;
-use std::test::Fail;
+use std::io;
+use wire_msgs::Section;
 
 fn go(vertex: u32, ticket: u64) -> Entry {
     Entry::Go {
@@ -12,38 +13,144 @@ fn go(vertex: u32, ticket: u64) -> Entry {
     }
 }
 
-/// An update before the marks, one behind them, and the section of the snapshot.
-fn play(alloc: Global) -> Result<bool, NoMemory> {
+/// Prints what a machine keeps for snapshots: an update before the marks, one behind them, and the section of the snapshot.
+pub fn print_snaps(rt: &impl Print, alloc: Global) -> io::Result<()> {
     let mut part = SnapPart::new(alloc, 0);
-    part.reserve()?;
-    part.log(go(0, 0), 0);
-    let began = part.begin(1) && !part.begin(1) && part.is_unsent() && !part.is_marked(0);
-    part.reserve_mark(1)?;
-    part.save_vertex(Vertex(0), 7);
-    part.save_edge(EdgeNo(0), 3);
-    part.reserve()?;
-    part.log(go(0, 1), 1);
-    part.reserve()?;
-    part.log(go(1, 2), 0);
-    let asked = part.ask(3) == Some(0) && part.ask(3) == None;
-    let section = part.section(alloc)?;
-    let told = section.number == 1
-        && section.vertices.as_slice() == [(Vertex(0), 7)].as_slice()
-        && section.edges.as_slice() == [(EdgeNo(0), 3)].as_slice()
-        && section.entries.as_slice() == [go(0, 0), go(1, 2)].as_slice();
-    let kept = part.before().is_empty()
-        && part.behind() == [go(0, 1)].as_slice()
-        && !part.is_unsent();
-    let many = part.outside() == 3 && part.committed(1) == 2 && part.outside() == 1;
-    let next = part.begin(2) && part.known() == 2 && part.before() == [go(0, 1)].as_slice();
-    let gone = part.vertices().is_empty() && part.edges().is_empty();
-    part.reset(1);
-    Ok(began && asked && told && kept && many && next && gone && part.outside() == 0)
+    print_logged(rt, &mut part, 0, 0, 0)?;
+    print_began(rt, &mut part, 1)?;
+    print_began(rt, &mut part, 1)?;
+    println!(rt;
+        "snapshot, section unsent {}, marked by 0 {}",
+        part.is_unsent(),
+        part.is_marked(0)
+    )?;
+    print_saved(rt, &mut part)?;
+    print_logged(rt, &mut part, 0, 1, 1)?;
+    print_logged(rt, &mut part, 1, 2, 0)?;
+    print_asked(rt, &mut part)?;
+    print_asked(rt, &mut part)?;
+    print_section(rt, &part.section(alloc))?;
+    print_rest(rt, &mut part)
 }
 
-#[test]
-fn a_snapshot_has_what_was_made_before_its_marks(rt: HostRuntime) -> Result<(), Fail> {
-    let right = play(rt.alloc())?;
-    assert!(rt; right);
+/// Logs an update that saw this mark.
+fn print_logged(
+    rt: &impl Print,
+    part: &mut SnapPart,
+    vertex: u32,
+    ticket: u64,
+    mark: u32,
+) -> io::Result<()> {
+    if part.reserve().is_ok() && part.outside() < 9 {
+        part.log(go(vertex, ticket), mark);
+    }
+    println!(rt;
+        "snapshot, update {ticket} of vertex {vertex} at mark {mark}: updates outside {}",
+        part.outside()
+    )
+}
+
+fn print_began(rt: &impl Print, part: &mut SnapPart, number: u32) -> io::Result<()> {
+    println!(rt;
+        "snapshot {number} begins: {}, known {}",
+        part.begin(number),
+        part.known()
+    )
+}
+
+/// Saves a vertex and an edge.
+fn print_saved(rt: &impl Print, part: &mut SnapPart) -> io::Result<()> {
+    let has_room = part.reserve_mark(1).is_ok();
+    if has_room {
+        part.save_vertex(Vertex(0), 7);
+        part.save_edge(EdgeNo(0), 3);
+    }
+    println!(rt; "snapshot, room for a vertex and an edge: {has_room}")
+}
+
+fn print_asked(rt: &impl Print, part: &mut SnapPart) -> io::Result<()> {
+    match part.ask(3) {
+        Some(number) => println!(rt; "snapshot asked for behind 3 updates: {number}"),
+        None => println!(rt; "snapshot asked for behind 3 updates: none"),
+    }
+}
+
+fn print_section(rt: &impl Print, section: &Result<Section, NoMemory>) -> io::Result<()> {
+    match section {
+        Ok(section) => print_parts(rt, section),
+        Err(fault) => println!(rt; "section: {fault}"),
+    }
+}
+
+fn print_parts(rt: &impl Print, section: &Section) -> io::Result<()> {
+    print!(rt; "section {}:", section.number)?;
+    print_vertices(rt, &section.vertices)?;
+    print_edges(rt, &section.edges)?;
+    print_entries(rt, &section.entries)?;
+    println!(rt; "")
+}
+
+fn print_vertices(rt: &impl Print, vertices: &[(Vertex, u64)]) -> io::Result<()> {
+    for (vertex, number) in vertices {
+        print!(rt; " (vertex {}, number {number})", vertex.0)?;
+    }
     Ok(())
+}
+
+fn print_edges(rt: &impl Print, edges: &[(EdgeNo, u64)]) -> io::Result<()> {
+    for (edge, number) in edges {
+        print!(rt; " (edge {}, number {number})", edge.0)?;
+    }
+    Ok(())
+}
+
+/// Prints the entries of an order: ticket, vertex and machine.
+pub fn print_entries(rt: &impl Print, entries: &[Entry]) -> io::Result<()> {
+    for entry in entries {
+        print_entry(rt, entry)?;
+    }
+    Ok(())
+}
+
+fn print_entry(rt: &impl Print, entry: &Entry) -> io::Result<()> {
+    match entry {
+        Entry::Go {
+            machine,
+            vertex,
+            ticket,
+        } => print!(rt; " {ticket}:{}@{}", vertex.0, machine.0),
+        Entry::Restart { ticket } => print!(rt; " {ticket}:restart"),
+    }
+}
+
+/// Prints what is kept behind the section, as it commits, in the next snapshot, and behind a reset.
+fn print_rest(rt: &impl Print, part: &mut SnapPart) -> io::Result<()> {
+    print_kept(rt, "behind the section", part)?;
+    println!(rt; "snapshot 1 is committed: updates {}", part.committed(1))?;
+    print_kept(rt, "behind the commit", part)?;
+    print_began(rt, part, 2)?;
+    print_kept(rt, "in snapshot 2", part)?;
+    println!(rt;
+        "snapshot 2, saved vertices {}, saved edges {}",
+        part.vertices().len(),
+        part.edges().len()
+    )?;
+    part.reset(1);
+    println!(rt;
+        "snapshot, updates outside behind a reset: {}",
+        part.outside()
+    )
+}
+
+fn print_kept(rt: &impl Print, when: &str, part: &SnapPart) -> io::Result<()> {
+    print!(rt;
+        "snapshot, {when}: section unsent {}, updates outside {}",
+        part.is_unsent(),
+        part.outside()
+    )?;
+    print!(rt; ", entries before the marks")?;
+    print_entries(rt, part.before())?;
+    print!(rt; ", behind them")?;
+    print_entries(rt, part.behind())?;
+    println!(rt; "")
 }

@@ -1,52 +1,134 @@
 //! Tasks: which vertex is admitted next.
 use gl_base::Vertex;
-use std::test::Fail;
+use std::alloc::Global;
+use std::io;
 use task_sched::{Pick, TaskSet};
 
-/// A call, and what it is to answer.
+/// A call.
 #[derive(Clone, Copy)]
 enum Call {
     Wake(u32, u64),
     Pend(u32),
-    Snapshot(u32),
-    Update(u32),
-    Nothing,
+    Next,
     Ran(u32),
     Marked(u32),
     Acknowledged(u64),
     Reset,
 }
 
-/// Makes the call, and tells whether its answer is the wanted one.
-fn make(set: &mut TaskSet, call: Call) -> bool {
+/// Updates within a window, and snapshots first.
+static WINDOW: [Call; 16] = [
+    Call::Next,
+    Call::Next,
+    Call::Ran(0),
+    Call::Next,
+    Call::Acknowledged(1),
+    Call::Next,
+    Call::Pend(1),
+    Call::Marked(1),
+    Call::Next,
+    Call::Ran(1),
+    Call::Acknowledged(1),
+    Call::Pend(1),
+    Call::Next,
+    Call::Marked(1),
+    Call::Reset,
+    Call::Next,
+];
+
+/// Of tasks those with near keys come first. Which task is next is told by no clause.
+static NEAR: [Call; 20] = [
+    Call::Next,
+    Call::Ran(0),
+    Call::Next,
+    Call::Ran(1),
+    Call::Next,
+    Call::Ran(2),
+    Call::Next,
+    Call::Ran(3),
+    Call::Next,
+    Call::Ran(4),
+    Call::Next,
+    Call::Wake(4, 100),
+    Call::Wake(3, 90),
+    Call::Wake(2, 10),
+    Call::Wake(1, 12),
+    Call::Next,
+    Call::Next,
+    Call::Next,
+    Call::Next,
+    Call::Next,
+];
+
+/// Prints what calls of task sets answer in turn.
+pub fn print_tasks(rt: &impl Print, alloc: Global) -> io::Result<()> {
+    match TaskSet::new(alloc, 2, Some(1)) {
+        Ok(mut set) => print_calls(rt, "window of 1", &mut set, &WINDOW)?,
+        Err(fault) => println!(rt; "window of 1: {fault}")?,
+    }
+    match TaskSet::new(alloc, 5, None) {
+        Ok(mut set) => print_calls(rt, "near tasks", &mut set, &NEAR),
+        Err(fault) => println!(rt; "near tasks: {fault}"),
+    }
+}
+
+fn print_calls(rt: &impl Print, name: &str, set: &mut TaskSet, calls: &[Call]) -> io::Result<()> {
+    for call in calls {
+        print!(rt; "{name}, ")?;
+        print_call(rt, set, *call)?;
+    }
+    println!(rt;
+        "{name}, in the end: has a task {}, a pending vertex {}",
+        set.some_task().is_some(),
+        set.some_pending().is_some()
+    )
+}
+
+fn print_call(rt: &impl Print, set: &mut TaskSet, call: Call) -> io::Result<()> {
     match call {
-        Call::Wake(v, key) => wake(set, Vertex(v), key),
-        Call::Pend(v) => pend(set, Vertex(v)),
-        Call::Snapshot(v) => gives(set, Some((v, true))),
-        Call::Update(v) => gives(set, Some((v, false))),
-        Call::Nothing => gives(set, None),
-        Call::Ran(v) => ran(set, Vertex(v)),
-        Call::Marked(v) => marked(set, Vertex(v)),
-        Call::Acknowledged(count) => acknowledged(set, count),
+        Call::Wake(v, key) => println!(rt;
+            "wake {v} with key {key}: {}",
+            wake(set, Vertex(v), key)
+        ),
+        Call::Pend(v) => println!(rt; "pend {v}: {}", pend(set, Vertex(v))),
+        Call::Next => print_next(rt, set),
+        Call::Ran(v) => println!(rt; "{v} ran: {}", ran(set, Vertex(v))),
+        Call::Marked(v) => println!(rt; "{v} is marked: {}", marked(set, Vertex(v))),
+        Call::Acknowledged(count) => println!(rt;
+            "updates acknowledged {count}: {}",
+            acknowledged(set, count)
+        ),
         Call::Reset => {
             set.reset();
-            true
+            println!(rt; "reset")
         }
     }
 }
 
-/// Whether these are the answers of `look` and of `next`.
-fn gives(set: &mut TaskSet, wanted: Option<(u32, bool)>) -> bool {
-    let wanted = wanted.map(|(v, snapshot)| Pick {
-        vertex: Vertex(v),
-        snapshot,
-    });
-    let looked = set.look();
-    let next = set.next();
-    looked == wanted && next == wanted
+/// Prints the answers of `look` and of `next`.
+fn print_next(rt: &impl Print, set: &mut TaskSet) -> io::Result<()> {
+    print!(rt; "looked:")?;
+    print_pick(rt, set.look())?;
+    print!(rt; ", next:")?;
+    print_pick(rt, set.next())?;
+    println!(rt; "")
 }
 
-fn wake(set: &mut TaskSet, v: Vertex, key: u64) -> bool {
+fn print_pick(rt: &impl Print, pick: Option<Pick>) -> io::Result<()> {
+    match pick {
+        Some(
+            Pick {
+                vertex,
+                snapshot: true,
+            },
+        ) => print!(rt; " snapshot of {}", vertex.0),
+        Some(Pick { vertex, .. }) => print!(rt; " update of {}", vertex.0),
+        None => print!(rt; " none"),
+    }
+}
+
+/// Each of these makes its call, if it has what the call asks for, and tells whether the vertex is so then.
+pub fn wake(set: &mut TaskSet, v: Vertex, key: u64) -> bool {
     if v.0 >= set.count() {
         return false;
     }
@@ -54,7 +136,7 @@ fn wake(set: &mut TaskSet, v: Vertex, key: u64) -> bool {
     set.is_task(v)
 }
 
-fn pend(set: &mut TaskSet, v: Vertex) -> bool {
+pub fn pend(set: &mut TaskSet, v: Vertex) -> bool {
     if v.0 >= set.count() {
         return false;
     }
@@ -62,7 +144,7 @@ fn pend(set: &mut TaskSet, v: Vertex) -> bool {
     set.is_pending(v)
 }
 
-fn ran(set: &mut TaskSet, v: Vertex) -> bool {
+pub fn ran(set: &mut TaskSet, v: Vertex) -> bool {
     if !set.is_admitted(v) || !set.is_task(v) || set.is_pending(v) || set.outside() == u64::MAX {
         return false;
     }
@@ -70,7 +152,7 @@ fn ran(set: &mut TaskSet, v: Vertex) -> bool {
     !set.is_admitted(v)
 }
 
-fn marked(set: &mut TaskSet, v: Vertex) -> bool {
+pub fn marked(set: &mut TaskSet, v: Vertex) -> bool {
     if !set.is_admitted(v) || !set.is_pending(v) {
         return false;
     }
@@ -78,81 +160,10 @@ fn marked(set: &mut TaskSet, v: Vertex) -> bool {
     !set.is_pending(v)
 }
 
-fn acknowledged(set: &mut TaskSet, count: u64) -> bool {
+pub fn acknowledged(set: &mut TaskSet, count: u64) -> bool {
     if count > set.outside() {
         return false;
     }
     set.acknowledged(count);
     true
-}
-
-// Updates within a window, snapshots first, and of tasks those with near keys first.
-static CALLS: [Call; 16] = [
-    Call::Update(0),
-    Call::Nothing,
-    Call::Ran(0),
-    Call::Nothing,
-    Call::Acknowledged(1),
-    Call::Update(1),
-    Call::Pend(1),
-    Call::Marked(1),
-    Call::Update(1),
-    Call::Ran(1),
-    Call::Acknowledged(1),
-    Call::Pend(1),
-    Call::Snapshot(1),
-    Call::Marked(1),
-    Call::Reset,
-    Call::Update(0),
-];
-
-// Which task is next is told by no clause.
-static NEAR: [Call; 10] = [
-    Call::Nothing,
-    Call::Wake(4, 100),
-    Call::Wake(3, 90),
-    Call::Wake(2, 10),
-    Call::Wake(1, 12),
-    Call::Update(4),
-    Call::Update(2),
-    Call::Update(1),
-    Call::Update(3),
-    Call::Nothing,
-];
-
-/// Whether the calls in turn answer as they are to.
-fn play(set: &mut TaskSet, calls: &[Call]) -> bool {
-    for call in calls {
-        if !make(set, *call) {
-            return false;
-        }
-    }
-    true
-}
-
-fn keeps_to_window(set: &mut TaskSet) -> bool {
-    play(set, &CALLS) && set.some_task().is_some() && set.some_pending().is_none()
-}
-
-#[test]
-fn within_the_window(rt: HostRuntime) -> Result<(), Fail> {
-    let mut set = TaskSet::new(rt.alloc(), 2, Some(1))?;
-    assert!(rt; keeps_to_window(&mut set));
-    Ok(())
-}
-
-fn takes_near_ones_first(set: &mut TaskSet) -> bool {
-    for v in 0..5 {
-        if !make(set, Call::Update(v)) || !make(set, Call::Ran(v)) {
-            return false;
-        }
-    }
-    play(set, &NEAR)
-}
-
-#[test]
-fn near_ones_first(rt: HostRuntime) -> Result<(), Fail> {
-    let mut set = TaskSet::new(rt.alloc(), 5, None)?;
-    assert!(rt; takes_near_ones_first(&mut set));
-    Ok(())
 }

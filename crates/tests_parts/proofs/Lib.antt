@@ -1,0 +1,2 @@
+mod FlyingLemmas
+pub mod Rows

@@ -1,2 +1,0 @@
--- What holds of the plain lists beside a pipe.
-pub mod Flying
