@@ -1,5 +1,6 @@
 //! What the lines of a text say.
 use gl_base::TextKind;
+use std::alloc::AllocError;
 
 /// The first three fields of a line. A number is `None` where the field isn't one, and `INF` where it is above.
 #[derive(Clone, Copy)]
@@ -12,7 +13,7 @@ pub enum Row {
 }
 
 /// What a line says.
-#[derive(Clone, Copy)]
+#[derive(Copy)]
 pub enum Said<X> {
     /// Nothing.
     Passed,
@@ -23,8 +24,14 @@ pub enum Said<X> {
     Item(X),
 }
 
+impl<X: Copy> Clone for Said<X> {
+    fn clone(&self) -> Result<Self, AllocError> {
+        Ok(*self)
+    }
+}
+
 /// Why a text is read no further, and at which line.
-#[derive(Clone, Copy)]
+#[derive(Copy)]
 pub enum Ending<X> {
     /// The text is faulty.
     Fault(u32, TextKind),
@@ -32,6 +39,12 @@ pub enum Ending<X> {
     Late(u32, X, TextKind),
     /// The item is one more than there may be, where nothing is wrong with it behind the others.
     Full(u32, X),
+}
+
+impl<X: Copy> Clone for Ending<X> {
+    fn clone(&self) -> Result<Self, AllocError> {
+        Ok(*self)
+    }
 }
 
 /// Why a text was not read.
@@ -44,9 +57,15 @@ pub enum Unread {
 }
 
 /// Why a text is read no further.
-#[derive(Clone, Copy)]
+#[derive(Copy)]
 pub(crate) enum Halt<X> {
     Stopped(Ending<X>),
     ReadFault,
     NoMemory,
+}
+
+impl<X: Copy> Clone for Halt<X> {
+    fn clone(&self) -> Result<Self, AllocError> {
+        Ok(*self)
+    }
 }
