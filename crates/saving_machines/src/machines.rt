@@ -45,7 +45,12 @@ impl<P: Program> SnapMachine<P> {
         ensures kept { IfOk result (λ m. m.kept ≡ nothing_since core.terms.base m.kept.room) }
         ensures program { IfOk result (λ m. m.program ≡ program) }
     {
-        let spares = Spares::with_room(alloc, AT_A_TIME)?;
+        // A drop by a call is proved in one step; one at the end of the scope is proved here, field by field.
+        let Ok(spares) = Spares::with_room(alloc, AT_A_TIME) else {
+            drop(core);
+            drop(program);
+            return Err(NoMemory);
+        };
         let snaps = SnapPart::new(alloc, core.terms.base);
         Ok(SnapMachine {
             core,
