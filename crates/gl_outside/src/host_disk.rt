@@ -21,8 +21,31 @@ impl<F> Model for HostDisk<F> {
     ghost view = { λ d. d.file };
 }
 
-/// Opens a file to read and write it. One that is missing is made, without bytes, where its folder can be opened.
-pub(crate) fn open_host_disk<R: rt::Files>(rt: &R, name: &str) -> io::Result<HostDisk<R::File>> {
+/// A file on which one process at a time can hold the system's advisory lock.
+pub trait LockFile {
+    /// Takes the lock, which the process holds until it closes the file. It is an error if another holds it.
+    fn lock_alone(&self) -> io::Result<()>;
+}
+
+impl LockFile for File {
+    fn lock_alone(&self) -> io::Result<()> {
+        self.try_lock()?;
+        Ok(())
+    }
+}
+
+/// Opens a file to read and write it, and locks it. One that is missing is made, without bytes, where its folder can be opened.
+pub(crate) fn open_host_disk<R: rt::Files>(rt: &R, name: &str) -> io::Result<HostDisk<R::File>>
+where
+    R::File: LockFile,
+{
+    let disk = open_unlocked(rt, name)?;
+    disk.file.lock_alone()?;
+    Ok(disk)
+}
+
+/// Opens a file to read and write it, or makes it.
+fn open_unlocked<R: rt::Files>(rt: &R, name: &str) -> io::Result<HostDisk<R::File>> {
     let folder = File::open(rt, folder_of(name));
     match OpenOptions::new().read(true).write(true).open(rt, name) {
         Ok(file) => Ok(HostDisk {

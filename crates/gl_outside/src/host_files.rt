@@ -10,7 +10,7 @@ ghost use Rattle.gl_outside.specs.Host.{files_of_host, faults_after, faults_afte
 ghost use Rattle.gl_outside.specs.Inner.Laws.{nothing_filled};
 
 use crate::fault_count::FaultCount;
-use crate::host_disk::{HostDisk, open_host_disk};
+use crate::host_disk::{HostDisk, LockFile, open_host_disk};
 use crate::writer_sink::write_through;
 use crate::{Failed, FileNo, Files, OpenFault};
 use std::alloc::Global;
@@ -60,7 +60,10 @@ impl<R: rt::Files> HostFiles<R> {
     }
 }
 
-impl<R: rt::Files> Files for HostFiles<R> {
+impl<R: rt::Files> Files for HostFiles<R>
+where
+    R::File: LockFile,
+{
     ghost state = { files_of_host };
 
     ghost disks_told = { false };
@@ -150,8 +153,9 @@ impl<R: rt::Files> Files for HostFiles<R> {
         }
     }
 
-    /// Opens the file to read and write it, and makes it where it is missing. The first sync that succeeds syncs its folder
-    /// too, where that could be opened, so that a file that was made is found again.
+    /// Opens the file to read and write it, and makes it where it is missing. It fails while another process has the file open so: the
+    /// file is locked until these files are dropped. The first sync that succeeds syncs its folder too, where that could be
+    /// opened, so that a file that was made is found again.
     fn open_disk(&mut self, name: &str) -> Result<FileNo, OpenFault>
         ensures opens { OpensDisk (files_of_host self.old) (files_of_host self.new) name.now result }
         ensures names { NotesName (files_of_host self.old).disks.names (files_of_host self.new).disks.names name.now result }
@@ -276,6 +280,8 @@ fn open_disk_file<R: rt::Files>(
     faults: &mut FaultCount,
     name: &str,
 ) -> Result<FileNo, OpenFault>
+where
+    R::File: LockFile,
     ensures one { OpensOne disks.old.items disks.new.items result }
     ensures counted { faults.new ≡ faults_after_open faults.old result }
     ensures later { faults.old ≤ faults.new }

@@ -29,6 +29,7 @@ pub use disk::Disk;
 pub use disk_of::DiskOf;
 pub use files::{FileNo, Files, OpenFault};
 pub use gate::{Gate, OpenGate};
+pub use host_disk::LockFile;
 pub use host_files::HostFiles;
 pub use mem_disk::MemDisk;
 pub use mem_files::MemFiles;
