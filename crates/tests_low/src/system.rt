@@ -2,26 +2,38 @@
 use crate::bytes::text_of;
 use crate::disks::{Call, print_calls_by_name};
 use crate::names::{is_written, print_file};
-use gl_outside::{Failed, HostFiles, OutSink, Sink};
+use gl_outside::{Failed, HostFiles, LockFile, OutSink, Sink};
 use std::alloc::Global;
 use std::rt::Files;
 use std::{fs, io};
 
 /// Prints what files and disks of the system give and take, in the folder where the program runs.
-pub fn print_system<R: Print + Files + Alloc>(rt: &R, alloc: Global) -> io::Result<()> {
+pub fn print_system<R: Print + Files + Alloc>(rt: &R, alloc: Global) -> io::Result<()>
+where
+    R::File: LockFile,
+{
     fs::write(rt, "some_file", b"a longer text".as_slice())?;
     print_files(rt, &mut HostFiles::new(alloc, rt))?;
-    print_disks(rt, &mut HostFiles::new(alloc, rt))
+    print_disks(rt, alloc, &mut HostFiles::new(alloc, rt))?;
+    print!(rt; "\ndisk of the system, opened again:")?;
+    print_calls_by_name(rt, &mut HostFiles::new(alloc, rt), "some_disk", &CALLS[5..])?;
+    print_held(rt)
 }
 
-fn print_files<R: Print + Files>(rt: &R, files: &mut HostFiles<&R>) -> io::Result<()> {
+fn print_files<R: Print + Files>(rt: &R, files: &mut HostFiles<&R>) -> io::Result<()>
+where
+    R::File: LockFile,
+{
     print_written(rt, files)?;
     fs::remove_file(rt, "some_file")?;
     print_unread(rt, files)
 }
 
 /// A file is read as it was written over.
-fn print_written<R: Print + Files>(rt: &R, files: &mut HostFiles<&R>) -> io::Result<()> {
+fn print_written<R: Print + Files>(rt: &R, files: &mut HostFiles<&R>) -> io::Result<()>
+where
+    R::File: LockFile,
+{
     let written = is_written(files, "some_file", "one line");
     print!(rt; "file of the system: written over {written}, read")?;
     print_file(rt, files, "some_file")?;
@@ -29,7 +41,10 @@ fn print_written<R: Print + Files>(rt: &R, files: &mut HostFiles<&R>) -> io::Res
 }
 
 /// A file that is gone is not opened. A folder is no file.
-fn print_unread<R: Print + Files>(rt: &R, files: &mut HostFiles<&R>) -> io::Result<()> {
+fn print_unread<R: Print + Files>(rt: &R, files: &mut HostFiles<&R>) -> io::Result<()>
+where
+    R::File: LockFile,
+{
     print!(rt; "file that is gone: read")?;
     print_file(rt, files, "some_file")?;
     print!(rt; "\nfolder as a file: read")?;
@@ -47,13 +62,15 @@ static CALLS: [Call; 7] = [
     Call::Read(9),
 ];
 
-/// A disk is opened twice, and then read as a file.
-fn print_disks<R: Print + Files + Alloc>(rt: &R, files: &mut HostFiles<&R>) -> io::Result<()> {
+/// A disk is opened, and by other files while it is open.
+fn print_disks<R: Print + Files>(rt: &R, alloc: Global, files: &mut HostFiles<&R>) -> io::Result<()>
+where
+    R::File: LockFile,
+{
     print!(rt; "disk of the system:")?;
     print_calls_by_name(rt, files, "some_disk", &CALLS)?;
-    print!(rt; "\ndisk of the system, opened again:")?;
-    print_calls_by_name(rt, files, "some_disk", &CALLS[5..])?;
-    print_held(rt)
+    print!(rt; "\ndisk of the system, while it is open:")?;
+    print_calls_by_name(rt, &mut HostFiles::new(alloc, rt), "some_disk", &CALLS[5..])
 }
 
 fn print_held<R: Print + Files + Alloc>(rt: &R) -> io::Result<()> {
