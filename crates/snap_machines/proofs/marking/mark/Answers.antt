@@ -1,5 +1,5 @@
 -- Room is made, the snapshot update is made, and then the first unmarked vertex becomes pending where none is.
-use Rattle.std.proofs.Common.{◌≡◌, ℕ, ap, ◌∙◌, refl, sym, subst}
+use Rattle.std.proofs.Common.{◌≡◌, ℕ, ap, ◌∙◌, sym, subst}
 use Rattle.machine_core.specs.declared.machine_parts.cores.Core.{Core}
 use Rattle.machine_core.specs.machine_parts.Parts.{LocalView}
 use Rattle.snap_machines.specs.Keeping.{SnapView}
@@ -127,81 +127,3 @@ returns-in-Ok-clause-plans c v place flight at =
     let e = c.reserve_mark.ensures in
     let can = c.in-Some.ensures.some in
     plans_end m roomy c.make_mark.new.core c.seed.new.core e.made v c.in-Some.centre place (sym can.flight ∙ flight) at c.make_mark.ensures.plans c.seed.ensures.rest
-
-pub returns-in_default-clause-marked : goal.returns-in_default-clause-marked
-returns-in_default-clause-marked c = tt
-
-pub returns-in_default-clause-once : goal.returns-in_default-clause-once
-returns-in_default-clause-once c = tt
-
-pub returns-in_default-clause-plans : goal.returns-in_default-clause-plans
-returns-in_default-clause-plans c = tt
-
-pub returns-in_default-clause-part : goal.returns-in_default-clause-part
-returns-in_default-clause-part c = refl
-
-pub returns-in_default-clause-same : goal.returns-in_default-clause-same
-returns-in_default-clause-same c = refl
-
-pub returns-in_default-clause-local : goal.returns-in_default-clause-local
-returns-in_default-clause-local c = refl
-
-pub returns-in_default-clause-outside : goal.returns-in_default-clause-outside
-returns-in_default-clause-outside c = refl
-
-pub returns-in_default-clause-rows : goal.returns-in_default-clause-rows
-returns-in_default-clause-rows c = c.requires.rows
-
-pub returns-in_default-clause-seen : goal.returns-in_default-clause-seen
-returns-in_default-clause-seen c = c.requires.seen
-
-pub returns-in_default-clause-marks : goal.returns-in_default-clause-marks
-returns-in_default-clause-marks c = λ most. most
-
-pub returns-in_default-clause-orderly : goal.returns-in_default-clause-orderly
-returns-in_default-clause-orderly c = c.requires.orderly
-
-pub returns-in_default-clause-places : goal.returns-in_default-clause-places
-returns-in_default-clause-places c = c.requires.places
-
-pub returns-in_default-clause-settings : goal.returns-in_default-clause-settings
-returns-in_default-clause-settings c = λ st part. part
-
-pub returns-in_default-clause-rest : goal.returns-in_default-clause-rest
-returns-in_default-clause-rest c = refl
-
-pub returns-in-Err-clause-marked : goal.returns-in-Err-clause-marked
-returns-in-Err-clause-marked c = tt
-
-pub returns-in-Err-clause-once : goal.returns-in-Err-clause-once
-returns-in-Err-clause-once c = tt
-
-pub returns-in-Err-clause-plans : goal.returns-in-Err-clause-plans
-returns-in-Err-clause-plans c = tt
-
-pub returns-in-Err-clause-unchanged : goal.returns-in-Err-clause-unchanged
-returns-in-Err-clause-unchanged c = c.reserve_mark.ensures.made
-
-pub returns-in-Err-clause-part : goal.returns-in-Err-clause-part
-returns-in-Err-clause-part c = c.reserve_mark.ensures.part
-
-pub returns-in-Err-clause-same : goal.returns-in-Err-clause-same
-returns-in-Err-clause-same c = c.reserve_mark.ensures.same
-
-pub returns-in-Err-clause-orderly : goal.returns-in-Err-clause-orderly
-returns-in-Err-clause-orderly c = c.reserve_mark.ensures.orderly
-
-pub returns-in-Err-clause-places : goal.returns-in-Err-clause-places
-returns-in-Err-clause-places c = c.reserve_mark.ensures.places c.requires.places
-
-pub returns-in-Err-clause-settings : goal.returns-in-Err-clause-settings
-returns-in-Err-clause-settings c = c.reserve_mark.ensures.settings
-
-pub returns-in-Ok-clause-unchanged : goal.returns-in-Ok-clause-unchanged
-returns-in-Ok-clause-unchanged c = tt
-
-pub returns-in-Ok-clause-part : goal.returns-in-Ok-clause-part
-returns-in-Ok-clause-part c = tt
-
-pub returns-in-Ok-clause-same : goal.returns-in-Ok-clause-same
-returns-in-Ok-clause-same c = tt
