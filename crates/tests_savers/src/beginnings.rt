@@ -38,48 +38,57 @@ pub struct Beginning<'a, P: Program> {
     pub program: P,
     /// Each vertex is in the atom of its machine's number.
     pub of: Vec<AtomNo>,
-    pub owner: Vec<MachineNo>,
     pub machines: u16,
     pub pipeline: u16,
     pub window: u32,
     pub engine: EngineKind,
+    pub tickets: u64,
+    /// The numbers with which the run begins.
+    pub base: Base,
 }
 
-/// What the plan says of it.
+/// Returns what the plan says of it.
 pub fn beginning_of<'a, P: Program>(
     alloc: Global,
     graph: &'a Graph,
     program: P,
     plan: &Plan,
 ) -> Result<Beginning<'a, P>, Trouble> {
+    let (Ok(pipeline), Ok(window)) = (u16::try_from(plan.pipeline), u32::try_from(plan.window))
+    else {
+        return Err(Trouble("a limit is too great"));
+    };
+    if plan.tickets >= MOST_TICKETS {
+        return Err(Trouble("there are too many tickets"));
+    }
     let of = atoms_of(alloc, &plan.machines)?;
-    let machines = count_of(&of);
-    let owner = owners_of(alloc, machines)?;
+    let base = base_of(alloc, graph, &program, plan)?;
     Ok(Beginning {
         graph,
         program,
+        machines: count_of(&of),
         of,
-        owner,
-        machines,
-        pipeline: plan.pipeline,
-        window: plan.window,
+        pipeline,
+        window,
         engine: plan.engine,
+        tickets: plan.tickets,
+        base,
     })
 }
 
-/// The atom of each vertex: the one of its machine's number.
+/// Returns the atom of each vertex: the one of its machine's number.
 fn atoms_of(alloc: Global, numbers: &[u64]) -> Result<Vec<AtomNo>, Trouble> {
     let mut of = Vec::new(alloc);
     for number in numbers {
         if *number >= 16 {
-            return Err(Trouble::Malformed("too many machines"));
+            return Err(Trouble("there are too many machines"));
         }
         of.push(AtomNo(*number as u16))?;
     }
     Ok(of)
 }
 
-/// How many machines there are, where the vertices are in these atoms.
+/// Returns how many machines there are, if the vertices are in these atoms.
 fn count_of(of: &[AtomNo]) -> u16 {
     let mut last = 0;
     for atom in of {
@@ -88,7 +97,7 @@ fn count_of(of: &[AtomNo]) -> u16 {
     last.saturating_add(1)
 }
 
-/// The machine of each atom.
+/// Returns the machine of each atom.
 fn owners_of(alloc: Global, machines: u16) -> Result<Vec<MachineNo>, Trouble> {
     let mut owner = Vec::new(alloc);
     for machine in 0..machines {
@@ -97,21 +106,21 @@ fn owners_of(alloc: Global, machines: u16) -> Result<Vec<MachineNo>, Trouble> {
     Ok(owner)
 }
 
-/// The numbers with which the plan begins: those that it lists, or else those with which the program starts, and 0 for each edge.
-pub fn base_of<P: Program>(
+/// Returns the numbers with which the plan begins: those that it lists, or else those with which the program starts, and 0 for each edge.
+fn base_of<P: Program>(
     alloc: Global,
     graph: &Graph,
     program: &P,
     plan: &Plan,
 ) -> Result<Base, Trouble> {
     let mut base = first_base(alloc, graph, program)?;
-    if let Some(values) = &plan.values {
-        base.values = Vec::from_slice(alloc, values)?;
+    if !plan.values.is_empty() {
+        base.values = Vec::from_slice(alloc, &plan.values)?;
     }
     Ok(base)
 }
 
-/// Whether each vertex has an atom, and each atom one of so many machines.
+/// Returns whether each vertex has an atom, and each atom one of so many machines.
 fn has_places(graph: &Graph, of: &[AtomNo], owner: &[MachineNo], machines: u16) -> bool
     ensures each { IsTrue result → length of.now ≡ size graph.now }
     ensures atoms { IsTrue result → All (λ a. a.0 < length owner.now) of.now }
@@ -123,14 +132,14 @@ fn has_places(graph: &Graph, of: &[AtomNo], owner: &[MachineNo], machines: u16) 
         && owner.iter().all(|m| m.0 < machines)
 }
 
-/// Whether there is a number for each vertex and for each edge.
+/// Returns whether there is a number for each vertex and for each edge.
 fn has_numbers(graph: &Graph, base: &Base) -> bool
     ensures { IsTrue result → IsBaseFor graph.now base.now }
 {
     base.values.len() == graph.n() as usize && base.edges.len() == graph.m() as usize
 }
 
-/// The store of this base, as the cluster knows it.
+/// Returns the store of this base, as the cluster knows it.
 fn store_of(graph: &Graph, base: &Base) -> Store
     ensures vertices { result.vertices ≡ size graph.now }
     ensures edges { result.edges ≡ length graph.now.edges }
@@ -145,7 +154,7 @@ fn store_of(graph: &Graph, base: &Base) -> Store
     }
 }
 
-/// How updates on the graph are kept apart, and the colour of each vertex where they run by colours.
+/// Returns how updates on the graph are kept apart, and the colour of each vertex if they run by colours.
 fn kept_apart(
     alloc: Global,
     graph: &Graph,
@@ -162,16 +171,16 @@ fn kept_apart(
     }
 }
 
-/// The places of the graph, where each vertex has a machine.
+/// Returns the places of the graph, if each vertex has a machine.
 fn places_of<P: Program>(alloc: Global, beginning: &Beginning<'_, P>) -> Result<Places, Trouble>
     ensures places { IfOk result (λ places. ArePlacesOf beginning.now.graph.now places.run.machines places) }
     ensures graph { IfOk result (λ places. IsDataGraph beginning.now.graph.now) }
 {
     let graph = beginning.graph;
     let of = Vec::from_slice(alloc, &beginning.of)?;
-    let owner = Vec::from_slice(alloc, &beginning.owner)?;
+    let owner = owners_of(alloc, beginning.machines)?;
     if !has_places(graph, &of, &owner, beginning.machines) {
-        return Err(Trouble::Malformed("a vertex without a machine"));
+        return Err(Trouble("a vertex is without a machine"));
     }
     let (engine, colours) = kept_apart(alloc, graph, beginning.engine)?;
     let run = SavingRun {
@@ -197,7 +206,7 @@ struct Start<P: Program> {
     store: Store,
 }
 
-/// The start from this base, where each vertex has a machine, and each machine has admitted so many scopes.
+/// Returns the start from this base, if each vertex has a machine; each machine has admitted so many scopes.
 fn start_from<P: Program>(
     alloc: Global,
     beginning: &Beginning<'_, P>,
@@ -213,7 +222,7 @@ fn start_from<P: Program>(
     start_at(alloc, beginning, base, &places, serials)
 }
 
-/// The same at these places.
+/// Returns the same at these places.
 fn start_at<P: Program>(
     alloc: Global,
     beginning: &Beginning<'_, P>,
@@ -231,14 +240,14 @@ fn start_at<P: Program>(
     let (graph, program) = (beginning.graph, beginning.program);
     let run = places.run;
     if serials.len() != run.machines as usize || run.machines == u16::MAX {
-        return Err(Trouble::Malformed("another count of machines"));
+        return Err(Trouble("there is another count of machines"));
     }
     if !has_numbers(graph, base) {
-        return Err(Trouble::Malformed("not a number for each"));
+        return Err(Trouble("there is not a number for each"));
     }
     let store = store_of(graph, base);
     if store.newest == u32::MAX || store.length > MOST_BYTES {
-        return Err(Trouble::Malformed("too great a store"));
+        return Err(Trouble("the store is too great"));
     }
     let machines = placed_savers(alloc, graph, program, base, places, serials)?;
     Ok(Start {
@@ -248,37 +257,49 @@ fn start_at<P: Program>(
     })
 }
 
-/// The cluster that begins from this base, with so many tickets.
-pub fn begun<P: Program>(
-    alloc: Global,
-    beginning: &Beginning<'_, P>,
-    base: &Base,
-    tickets: u64,
-) -> Result<Whole<P>, Trouble> {
+/// Returns the cluster as it begins.
+pub fn begun<P: Program>(alloc: Global, beginning: &Beginning<'_, P>) -> Result<Whole<P>, Trouble> {
+    let tickets = beginning.tickets;
     if tickets >= MOST_TICKETS {
-        return Err(Trouble::Malformed("too many tickets"));
+        return Err(Trouble("there are too many tickets"));
     }
-    let serials = vec![in alloc; 0u64; beginning.machines as usize]?;
-    let start = start_from(alloc, beginning, base, &serials)?;
+    let start = first_start(alloc, beginning, &beginning.base)?;
     Ok(SnapCluster::new(alloc, start.machines, start.engine, start.store, 0, tickets)?)
 }
 
-/// All machines of the cluster go back to this base.
+/// Returns the start from this base, of machines that have admitted nothing.
+fn first_start<P: Program>(
+    alloc: Global,
+    beginning: &Beginning<'_, P>,
+    base: &Base,
+) -> Result<Start<P>, Trouble>
+    ensures start { IfOk result (λ start. (next left : ℕ) → (st : Setting) × (view : BaseView) × (before : Cluster) × StartsSaving (IsEngineSaverOf P.meaning) start.machines.items start.engine (store_view start.store) next left st view before) }
+    ensures many { IfOk result (λ start. length start.machines.items < 65535) }
+    ensures newest { IfOk result (λ start. start.store.newest + 1 < 2 ^ 32) }
+    ensures length { IfOk result (λ start. start.store.length < 2 ^ 32) }
+{
+    let serials = vec![in alloc; 0u64; beginning.machines as usize]?;
+    start_from(alloc, beginning, base, &serials)
+}
+
+/// Lets all machines of the cluster go back to this base. Returns `true`.
 pub fn begin_again<P: Program>(
     alloc: Global,
     beginning: &Beginning<'_, P>,
     base: &Base,
     whole: &mut Whole<P>,
-) -> Result<(), Trouble> {
+) -> Result<bool, Trouble> {
     let serials = serials_of(alloc, whole)?;
     let start = start_from(alloc, beginning, base, &serials)?;
     if start.machines.len() != whole.machines() {
-        return Err(Trouble::Malformed("another count of machines"));
+        drop(start);
+        return Err(Trouble("there is another count of machines"));
     }
-    Ok(whole.recover(alloc, start.machines, start.engine, start.store)?)
+    whole.recover(alloc, start.machines, start.engine, start.store)?;
+    Ok(true)
 }
 
-/// How many scopes each machine of the cluster has admitted.
+/// Returns how many scopes each machine of the cluster has admitted.
 fn serials_of<P: Program>(alloc: Global, whole: &Whole<P>) -> Result<Vec<u64>, Trouble> {
     let mut serials = Vec::new(alloc);
     for m in 0..whole.machines() {
@@ -287,7 +308,7 @@ fn serials_of<P: Program>(alloc: Global, whole: &Whole<P>) -> Result<Vec<u64>, T
     Ok(serials)
 }
 
-/// The same of each machine of the call.
+/// Returns the same of each machine of the call.
 fn serials_in<P: Program>(alloc: Global, course: &InCourse<P>) -> Result<Vec<u64>, Trouble> {
     let mut serials = Vec::new(alloc);
     for m in 0..course.machines() {
@@ -296,19 +317,19 @@ fn serials_in<P: Program>(alloc: Global, course: &InCourse<P>) -> Result<Vec<u64
     Ok(serials)
 }
 
-/// The call that opens from this base, with so many tickets and these failures.
+/// Returns the call that opens from this base, with these failures.
 pub fn begin_call<P: Program>(
     alloc: Global,
     beginning: &Beginning<'_, P>,
     base: &Base,
-    tickets: u64,
-    failures: Vec<FailureAt>,
+    failures: &[FailureAt],
 ) -> Result<InCourse<P>, Trouble> {
+    let tickets = beginning.tickets;
     if tickets >= MOST_TICKETS {
-        return Err(Trouble::Malformed("too many tickets"));
+        return Err(Trouble("there are too many tickets"));
     }
-    let serials = vec![in alloc; 0u64; beginning.machines as usize]?;
-    let start = start_from(alloc, beginning, base, &serials)?;
+    let failures = Vec::from_slice(alloc, failures)?;
+    let start = first_start(alloc, beginning, base)?;
     Ok(Course::open(
         alloc,
         start.machines,
@@ -320,7 +341,7 @@ pub fn begin_call<P: Program>(
     )?)
 }
 
-/// All machines of the call go back to this base.
+/// Lets all machines of the call go back to this base.
 pub fn call_again<P: Program>(
     alloc: Global,
     beginning: &Beginning<'_, P>,
@@ -330,7 +351,8 @@ pub fn call_again<P: Program>(
     let serials = serials_in(alloc, course)?;
     let start = start_from(alloc, beginning, base, &serials)?;
     if start.machines.len() != course.machines() {
-        return Err(Trouble::Malformed("another count of machines"));
+        drop(start);
+        return Err(Trouble("there is another count of machines"));
     }
     Ok(course.recover(alloc, start.machines, start.engine, start.store)?)
 }

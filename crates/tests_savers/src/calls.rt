@@ -2,23 +2,20 @@
 ghost use Rattle.std.specs.Prelude.{◌<◌, IsTrue, length};
 
 use crate::answers::is_answer;
-use crate::beginnings::{Beginning, InCourse, base_of, begin_call, beginning_of, call_again};
-use crate::fields::Fields;
-use crate::graphs::graph_of;
-use crate::looks::{kept_text, number_text, word_text};
-use crate::plans::{Plan, take_lines};
+use crate::beginnings::{Beginning, InCourse, begin_call, call_again};
+use crate::looks::{Look, add_kept, look_of};
+use crate::plans::machine_of;
+use crate::playing::{add_outcome, add_trouble};
 use crate::records::keep_record;
-use crate::recovering::{newest_base, with_restarts};
-use crate::scenarios::{Line, Scenario};
+use crate::recovering::newest_base;
+use crate::restarts::missing_of;
 use crate::scenes::{Kept, first_kept};
-use crate::spots::Spot;
 use crate::trouble::Trouble;
 use call_courses::{Course, Event, Local, SavingMachine};
-use call_returns::count_failed;
+use call_returns::{base_behind, count_failed};
 use call_rounds::{Pause, drive};
-use gl_base::{MachineNo, Refused};
-use graph_core::Graph;
-use job_programs::JobProgram;
+use gl_base::{Base, FailureAt, MachineNo, Refused};
+use scenario_lines::{Line, Page, is_remark};
 use std::alloc::Global;
 use std::sync::Wait;
 use update_api::Program;
@@ -36,62 +33,56 @@ struct Call<'a, P: Program> {
     pause: Option<Pause>,
 }
 
-/// Plays a scenario of a call: drives it to its end, and then looks at what its lines say. `at` follows the line.
-pub fn play_call<R: Wait + AllocGlobal>(
+/// Drives a call with these failures to its end, and writes each line as it was seen then.
+pub fn play_call<R: Wait + AllocGlobal, P: Program>(
     rt: &R,
-    scenario: &Scenario<'_>,
-    at: &mut Spot,
+    beginning: &Beginning<'_, P>,
+    failures: &[FailureAt],
+    lines: &[&str],
+    page: &mut Page,
 ) -> Result<(), Trouble> {
-    let mut plan = Plan::new(rt.alloc());
-    let taken = take_lines(rt.alloc(), &mut plan, &scenario.lines, at)?;
-    let lines = scenario.lines.get(taken..).unwrap_or(&[]);
-    let graph = graph_of(rt.alloc(), &plan)?;
-    play_on(rt, &graph, &plan, lines, at)
+    let mut call = opened_call(rt.alloc(), beginning, failures)?;
+    if let Err(trouble) = go_on(rt, &mut call) {
+        add_trouble(trouble, page);
+    }
+    look_on(rt.alloc(), &call, lines, page);
+    drop(call);
+    Ok(())
 }
 
-/// Plays the lines on a call of the plan's program.
-fn play_on<R: Wait + AllocGlobal>(
-    rt: &R,
-    graph: &Graph,
-    plan: &Plan,
-    lines: &[Line<'_>],
-    at: &mut Spot,
-) -> Result<(), Trouble> {
-    let program = JobProgram::of(plan.algorithm, plan.source);
-    let beginning = beginning_of(rt.alloc(), graph, program, plan)?;
-    let mut call = opened_call(rt.alloc(), &beginning, plan)?;
-    go_on(rt, &mut call)?;
-    look_on(rt.alloc(), &call, lines, at)
-}
-
-/// The call opens with a store without snapshots.
+/// Opens the call with a store without snapshots.
 fn opened_call<'a, P: Program>(
     alloc: Global,
     beginning: &'a Beginning<'a, P>,
-    plan: &Plan,
+    failures: &[FailureAt],
 ) -> Result<Call<'a, P>, Trouble> {
-    let base = base_of(alloc, beginning.graph, &beginning.program, plan)?;
-    let mut kept = first_kept(alloc, beginning, &base)?;
-    let course = opened_course(alloc, beginning, &mut kept, plan)?;
-    Ok(Call {
-        beginning,
-        course,
-        kept,
-        recoveries: 0,
-        pause: None,
-    })
+    let mut kept = first_kept(alloc, beginning)?;
+    match opened_course(alloc, beginning, &mut kept, failures) {
+        Ok(course) => Ok(Call {
+            beginning,
+            course,
+            kept,
+            recoveries: 0,
+            pause: None,
+        }),
+        Err(trouble) => {
+            drop(kept);
+            Err(trouble)
+        }
+    }
 }
 
-/// The call opens from what the store tells.
+/// Opens the call from what the store tells.
 fn opened_course<P: Program>(
     alloc: Global,
     beginning: &Beginning<'_, P>,
     kept: &mut Kept,
-    plan: &Plan,
+    failures: &[FailureAt],
 ) -> Result<InCourse<P>, Trouble> {
     let base = newest_base(alloc, beginning, kept)?;
-    let failures = Vec::from_slice(alloc, &plan.failures)?;
-    begin_call(alloc, beginning, &base, plan.tickets, failures)
+    let outcome = begin_call(alloc, beginning, &base, failures);
+    drop(base);
+    outcome
 }
 
 /// Goes on from pause to pause until the call has ended, or its budget is spent.
@@ -107,10 +98,10 @@ fn go_on<R: Wait + AllocGlobal, P: Program>(rt: &R, call: &mut Call<'_, P>) -> R
             Pause::Reached(_) => go_back(rt.alloc(), call)?,
         }
     }
-    Err(Trouble::Differs("a call has no end"))
+    Err(Trouble("a call has no end"))
 }
 
-/// The record that is due is kept, and acknowledged.
+/// Keeps the record that is due, and acknowledges it.
 fn take_due<P: Program, M: SavingMachine>(
     alloc: Global,
     beginning: &Beginning<'_, P>,
@@ -119,8 +110,8 @@ fn take_due<P: Program, M: SavingMachine>(
 ) -> Result<(), Trouble> {
     let record = match course.record(alloc) {
         Ok(record) => record,
-        Err(Refused::NotNow) => return Err(Trouble::Differs("no record is due")),
-        Err(Refused::NoMemory) => return Err(Trouble::NoMemory),
+        Err(Refused::NotNow) => return Err(Trouble("no record is due")),
+        Err(Refused::NoMemory) => return Err(Trouble("memory is missing")),
     };
     let number = record.number;
     keep_record(alloc, beginning, kept, record)?;
@@ -128,17 +119,28 @@ fn take_due<P: Program, M: SavingMachine>(
     Ok(())
 }
 
-/// Each machine that has reached the count of a failure fails, and all go back to the newest snapshot.
+/// Lets each machine fail that has reached the count of a failure, and all go back to the newest snapshot.
 fn go_back<P: Program>(alloc: Global, call: &mut Call<'_, P>) -> Result<(), Trouble> {
     let failures = failures_of(alloc, &mut call.course, call.beginning.machines)?;
-    let base = newest_base(alloc, call.beginning, &mut call.kept)?;
-    let base = with_restarts(alloc, &mut call.kept, base, failures, call.course.next())?;
-    call_again(alloc, call.beginning, &base, &mut call.course)?;
+    let base = base_behind_failures(alloc, call, failures)?;
+    let outcome = call_again(alloc, call.beginning, &base, &mut call.course);
+    drop(base);
     call.recoveries = call.recoveries.saturating_add(1);
-    Ok(())
+    outcome
 }
 
-/// Each machine that has reached the count of a failure fails. Tells how many do.
+/// Returns the newest snapshot with the restarts that the store lacks.
+fn base_behind_failures<P: Program>(
+    alloc: Global,
+    call: &mut Call<'_, P>,
+    failures: usize,
+) -> Result<Base, Trouble> {
+    call.kept.lacking = missing_of(alloc, &call.kept, failures, call.course.next())?;
+    let base = newest_base(alloc, call.beginning, &mut call.kept)?;
+    Ok(base_behind(base, &call.kept.lacking)?)
+}
+
+/// Lets each machine fail that has reached the count of a failure. Returns how many do.
 fn failures_of<M: SavingMachine>(
     alloc: Global,
     course: &mut Course<M>,
@@ -151,104 +153,103 @@ fn failures_of<M: SavingMachine>(
     Ok(count_failed(&flags))
 }
 
-/// Whether the call has this machine.
+/// Returns whether the call has this machine.
 fn has_machine<M: SavingMachine>(course: &Course<M>, at: MachineNo) -> bool
     ensures { IsTrue result → at.0 < length course.now.now.machines.items }
 {
     (at.0 as usize) < course.machines()
 }
 
-/// The machine fails, where it has reached the count of a failure, which makes no update any more; and no other may. Tells whether it has
-/// failed.
+/// Lets the machine fail if it has reached the count of a failure, which makes no update any more; and no other may. Returns whether it
+/// has failed.
 fn fails<M: SavingMachine>(course: &mut Course<M>, at: MachineNo) -> Result<bool, Trouble> {
     let reached = has_machine(course, at) && course.has_reached(at);
     if reached && is_updated(course, at) {
-        return Err(Trouble::Differs("an update behind the count of a failure"));
+        return Err(Trouble("an update is made behind the count of a failure"));
     }
     if is_let_fail(course, at) != reached {
-        return Err(Trouble::Differs("a machine fails at another time"));
+        return Err(Trouble("a machine fails at another time"));
     }
     if has_machine(course, at) && course.has_failed(at) == reached {
         Ok(reached)
     } else {
-        Err(Trouble::Differs("a machine has failed at another time"))
+        Err(Trouble("a machine has failed at another time"))
     }
 }
 
-/// Whether the machine makes an update at once.
+/// Returns whether the machine makes an update at once.
 fn is_updated<M: SavingMachine>(course: &mut Course<M>, at: MachineNo) -> bool {
     has_machine(course, at) && course.update_at_once(at).is_ok()
 }
 
-/// Whether the machine fails now.
+/// Returns whether the machine fails now.
 fn is_let_fail<M: SavingMachine>(course: &mut Course<M>, at: MachineNo) -> bool {
     has_machine(course, at) && course.apply(Event::Local(Local::Fail(at))).is_ok()
 }
 
-/// Looks at what the lines say.
-fn look_on<P: Program>(
-    alloc: Global,
-    call: &Call<'_, P>,
-    lines: &[Line<'_>],
-    at: &mut Spot,
-) -> Result<(), Trouble> {
-    for line in lines {
-        at.line = line.number;
-        look(alloc, call, line.text, at)?;
-    }
-    Ok(())
-}
-
-/// Looks at what the line says.
-fn look<P: Program>(
-    alloc: Global,
-    call: &Call<'_, P>,
-    text: &str,
-    at: &mut Spot,
-) -> Result<(), Trouble> {
-    if text == "answer" {
-        return is_answer(alloc, call.beginning, &call.kept);
-    }
-    let Some((asked, wanted)) = text.split_once(" is ") else {
-        return Err(Trouble::Malformed("no such word"));
-    };
-    let fields = Fields::of(alloc, asked)?;
-    at.look(seen(alloc, call, &fields)?, wanted)
-}
-
-/// What is to be seen where the line asks for it.
-fn seen<P: Program>(
-    alloc: Global,
-    call: &Call<'_, P>,
-    fields: &Fields<'_>,
-) -> Result<String, Trouble> {
-    match fields.first() {
-        "pause" => pause_text(alloc, call.pause),
-        "recoveries" => number_text(alloc, call.recoveries),
-        "stored" => number_text(alloc, call.course.coordinator().stored() as u64),
-        "left" => number_text(alloc, call.course.left()),
-        "completed" => completed_text(alloc, &call.course, fields.machine(0)?),
-        _ => kept_text(alloc, call.beginning.graph, &call.kept, fields),
+/// Writes each line as it was seen.
+fn look_on<P: Program>(alloc: Global, call: &Call<'_, P>, lines: &[&str], page: &mut Page) {
+    for text in lines {
+        if is_remark(text) {
+            page.add_line(text);
+        } else {
+            look(alloc, call, text, page);
+        }
     }
 }
 
-fn pause_text(alloc: Global, pause: Option<Pause>) -> Result<String, Trouble> {
-    match pause {
-        Some(Pause::Ended) => word_text(alloc, "ended"),
-        Some(Pause::Spent) => word_text(alloc, "spent"),
-        _ => word_text(alloc, "none"),
+/// Writes a line as it was seen: what it asks for, or whether the call came to the answer.
+fn look<P: Program>(alloc: Global, call: &Call<'_, P>, text: &str, page: &mut Page) {
+    match text.split_once(" is ") {
+        Some((asked, _)) => look_at(call, &Line::of(alloc, asked), page),
+        None => look_at_answer(alloc, call.beginning, &call.kept, page),
     }
 }
 
-/// How many updates the machine has completed in the call.
-fn completed_text<M: SavingMachine>(
+/// Writes a line with what is seen of the call.
+fn look_at<P: Program>(call: &Call<'_, P>, line: &Line<'_>, page: &mut Page) {
+    page.add_words(line);
+    page.add(" is");
+    add_seen(call, line, page);
+    page.add_line("");
+}
+
+/// Writes whether the call came to the answer.
+fn look_at_answer<P: Program>(
     alloc: Global,
-    course: &Course<M>,
-    at: MachineNo,
-) -> Result<String, Trouble> {
+    beginning: &Beginning<'_, P>,
+    kept: &Kept,
+    page: &mut Page,
+) {
+    let outcome = is_answer(alloc, beginning, kept);
+    add_outcome(&Line::of(alloc, "answer"), outcome, page);
+}
+
+/// Writes what is seen of the call where the line asks for it.
+fn add_seen<P: Program>(call: &Call<'_, P>, line: &Line<'_>, page: &mut Page) {
+    match look_of(line.word) {
+        Look::Pause => add_pause(call.pause, page),
+        Look::Recoveries => page.add_numbers(&[call.recoveries]),
+        Look::Stored => page.add_numbers(&[call.course.coordinator().stored() as u64]),
+        Look::Left => page.add_numbers(&[call.course.left()]),
+        Look::Completed => add_completed(&call.course, machine_of(line.number(0)), page),
+        look => add_kept(call.beginning.graph, &call.kept, look, page),
+    }
+}
+
+fn add_pause(pause: Option<Pause>, page: &mut Page) {
+    page.add(match pause {
+        Some(Pause::Ended) => " ended",
+        Some(Pause::Spent) => " spent",
+        _ => " none",
+    });
+}
+
+/// Writes how many updates the machine has completed in the call.
+fn add_completed<M: SavingMachine>(course: &Course<M>, at: MachineNo, page: &mut Page) {
     if has_machine(course, at) {
-        number_text(alloc, course.completed(at))
+        page.add_numbers(&[course.completed(at)]);
     } else {
-        Err(Trouble::Malformed("no such machine"))
+        page.add(" no such machine");
     }
 }

@@ -2,6 +2,7 @@
 ghost use Rattle.std.specs.Prelude.{◌<◌};
 
 use crate::answers::is_answer;
+use crate::beginnings::Beginning;
 use crate::driving::drive;
 use crate::events::{happens, happens_at_once, next_grant, next_scope};
 use crate::records::take_record;
@@ -9,14 +10,16 @@ use crate::recovering::go_back;
 use crate::scenes::Scene;
 use crate::trouble::Trouble;
 use gl_base::{EngineKind, MachineNo, ScopeId, Vertex};
+use scenario_lines::Line;
 use snap_clusters::{Event, Lead, Local, Passage};
 use std::alloc::Global;
 use update_api::Program;
 
-/// Numbers that look random: those of splitmix.
+/// Numbers that look random, those of splitmix, and whether machines may fail by them.
 #[derive(Clone, Copy)]
 struct Chances {
     state: u64,
+    may_fail: bool,
 }
 
 impl Chances {
@@ -32,52 +35,86 @@ impl Chances {
     }
 }
 
-/// By each of the seeds in turn lets so many things happen, or be refused, in a cluster of its own, which is driven to its end then.
+/// Lets things happen by chance, or be refused, in a cluster of its own for each seed, which is driven to its end then. The line says how
+/// many seeds and how many things. Returns `true` if all is well.
 pub fn play_seeds<P: Program>(
     alloc: Global,
-    scene: &mut Scene<'_, P>,
-    seeds: u64,
-    steps: u64,
+    beginning: &Beginning<'_, P>,
+    line: &Line<'_>,
     may_fail: bool,
-) -> Result<(), Trouble> {
-    for seed in 0..seeds {
-        scene.begin_anew(alloc)?;
-        play_chances(alloc, scene, seed, steps, may_fail)?;
-        go_back(alloc, scene, None)?;
-        drive(alloc, scene, false)?;
-        is_answer(alloc, scene.beginning, &scene.kept)?;
+) -> Result<bool, Trouble> {
+    for seed in 0..line.number(0) {
+        let chances = Chances {
+            state: seed,
+            may_fail,
+        };
+        play_seed(alloc, beginning, chances, line.number(1))?;
     }
-    Ok(())
+    Ok(true)
 }
 
-/// Lets so many things happen, or be refused, by the seed.
+/// Plays the chances of one seed.
+fn play_seed<P: Program>(
+    alloc: Global,
+    beginning: &Beginning<'_, P>,
+    chances: Chances,
+    steps: u64,
+) -> Result<bool, Trouble> {
+    let mut scene = Scene::new(alloc, beginning)?;
+    let outcome = play_to_end(alloc, &mut scene, chances, steps);
+    drop(scene);
+    outcome
+}
+
+/// Lets so many things happen, or be refused, and drives the cluster to its end.
+fn play_to_end<P: Program>(
+    alloc: Global,
+    scene: &mut Scene<'_, P>,
+    chances: Chances,
+    steps: u64,
+) -> Result<bool, Trouble> {
+    play_chances(alloc, scene, chances, steps)?;
+    go_back(alloc, scene, &[])?;
+    drive(alloc, scene, false)?;
+    is_answer(alloc, scene.beginning, &scene.kept)
+}
+
+/// Lets so many things happen, or be refused.
 fn play_chances<P: Program>(
     alloc: Global,
     scene: &mut Scene<'_, P>,
-    seed: u64,
+    chances: Chances,
     steps: u64,
-    may_fail: bool,
 ) -> Result<(), Trouble> {
-    let mut chances = Chances { state: seed };
+    let mut chances = chances;
     for _ in 0..steps {
-        match chances.below(64) {
-            0..=3 => take_record(alloc, scene)?,
-            4..=6 => go_back(alloc, scene, None)?,
-            7 if may_fail => some_failure(scene, &mut chances)?,
-            8..=10 => {
-                let at = some_machine(scene, &mut chances);
-                happens_at_once(&mut scene.whole, at)?
-            }
-            _ => {
-                let event = some_event(scene, &mut chances)?;
-                happens(&mut scene.whole, event)?
-            }
-        };
+        play_chance(alloc, scene, &mut chances)?;
     }
     Ok(())
 }
 
-/// One of the machines fails, one time in eight.
+/// Lets one thing happen, or be refused.
+fn play_chance<P: Program>(
+    alloc: Global,
+    scene: &mut Scene<'_, P>,
+    chances: &mut Chances,
+) -> Result<bool, Trouble> {
+    match chances.below(64) {
+        0..=3 => take_record(alloc, scene),
+        4..=6 => go_back(alloc, scene, &[]),
+        7 if chances.may_fail => some_failure(scene, chances),
+        8..=10 => {
+            let at = some_machine(scene, chances);
+            happens_at_once(&mut scene.whole, at)
+        }
+        _ => {
+            let event = some_event(scene, chances);
+            happens(&mut scene.whole, event)
+        }
+    }
+}
+
+/// Lets one of the machines fail, one time in eight.
 fn some_failure<P: Program>(
     scene: &mut Scene<'_, P>,
     chances: &mut Chances,
@@ -90,17 +127,14 @@ fn some_failure<P: Program>(
     }
 }
 
-/// Something that might happen.
-fn some_event<P: Program>(
-    scene: &mut Scene<'_, P>,
-    chances: &mut Chances,
-) -> Result<Event, Trouble> {
+/// Returns something that might happen.
+fn some_event<P: Program>(scene: &mut Scene<'_, P>, chances: &mut Chances) -> Event {
     let at = some_machine(scene, chances);
     if chances.below(2) == 0 {
-        return Ok(Event::Local(some_local(scene, chances, at)?));
+        return Event::Local(some_local(scene, chances, at));
     }
     if scene.beginning.engine == EngineKind::Chromatic && chances.below(2) == 0 {
-        return Ok(some_turn(chances, at));
+        return some_turn(chances, at);
     }
     let to = some_machine(scene, chances);
     let passage = match chances.below(11) {
@@ -110,12 +144,12 @@ fn some_event<P: Program>(
         7 => Passage::DeliverCall(at),
         8 => Passage::SendReport(at),
         9 => Passage::DeliverReport(at),
-        _ => return Ok(Event::Lead(some_lead(chances))),
+        _ => return Event::Lead(some_lead(chances)),
     };
-    Ok(Event::Passage(passage))
+    Event::Passage(passage)
 }
 
-/// Where vertices run by colours: a step, a wave or a snapshot begins, or word of one goes on.
+/// Returns what might happen if vertices run by colours: a step, a wave or a snapshot begins, or word of one goes on.
 fn some_turn(chances: &mut Chances, at: MachineNo) -> Event {
     Event::Passage(match chances.below(12) {
         0..=1 => Passage::SendCall(at),
@@ -127,7 +161,7 @@ fn some_turn(chances: &mut Chances, at: MachineNo) -> Event {
     })
 }
 
-/// The next snapshot begins, or a wave is put out.
+/// Returns that the next snapshot begins, or that a wave is put out.
 fn some_lead(chances: &mut Chances) -> Lead {
     if chances.below(4) == 0 {
         Lead::Wave
@@ -136,22 +170,18 @@ fn some_lead(chances: &mut Chances) -> Lead {
     }
 }
 
-/// Something that the machine might do by itself.
-fn some_local<P: Program>(
-    scene: &mut Scene<'_, P>,
-    chances: &mut Chances,
-    at: MachineNo,
-) -> Result<Local, Trouble> {
-    Ok(match chances.below(10) {
+/// Returns something that the machine might do by itself.
+fn some_local<P: Program>(scene: &mut Scene<'_, P>, chances: &mut Chances, at: MachineNo) -> Local {
+    match chances.below(10) {
         0..=2 => Local::Admit(at),
-        3..=5 => Local::Grant(at, some_lock(scene, chances, at)?),
-        6..=7 => Local::Update(some_scope(scene, chances, at, false)?),
-        8 => Local::Mark(some_scope(scene, chances, at, true)?),
+        3..=5 => Local::Grant(at, some_lock(scene, chances, at)),
+        6..=7 => Local::Update(some_scope(scene, chances, at, false)),
+        8 => Local::Mark(some_scope(scene, chances, at, true)),
         _ => Local::Section(at),
-    })
+    }
 }
 
-/// One of the machines.
+/// Returns one of the machines.
 fn some_machine<P: Program>(scene: &Scene<'_, P>, chances: &mut Chances) -> MachineNo {
     let machines = scene.beginning.machines;
     if machines == 0 {
@@ -160,35 +190,31 @@ fn some_machine<P: Program>(scene: &Scene<'_, P>, chances: &mut Chances) -> Mach
     MachineNo(chances.below(machines as u64) as u16)
 }
 
-/// The next lock that may be granted, or any vertex.
-fn some_lock<P: Program>(
-    scene: &mut Scene<'_, P>,
-    chances: &mut Chances,
-    at: MachineNo,
-) -> Result<Vertex, Trouble> {
+/// Returns the next lock that may be granted, or any vertex.
+fn some_lock<P: Program>(scene: &mut Scene<'_, P>, chances: &mut Chances, at: MachineNo) -> Vertex {
     if chances.below(8) > 0 {
-        if let Some(x) = next_grant(&mut scene.whole, at)? {
-            return Ok(x);
+        if let Some(x) = next_grant(&mut scene.whole, at) {
+            return x;
         }
     }
     let vertices = scene.beginning.graph.n();
     if vertices == 0 {
-        return Ok(Vertex(0));
+        return Vertex(0);
     }
-    Ok(Vertex(chances.below(vertices as u64) as u32))
+    Vertex(chances.below(vertices as u64) as u32)
 }
 
-/// The next scope that is ready, or any.
+/// Returns the next scope that is ready, or any.
 fn some_scope<P: Program>(
     scene: &Scene<'_, P>,
     chances: &mut Chances,
     home: MachineNo,
     is_mark: bool,
-) -> Result<ScopeId, Trouble> {
+) -> ScopeId {
     let serial = chances.below(32);
     let any = ScopeId { home, serial };
     if chances.below(8) == 0 {
-        return Ok(any);
+        return any;
     }
-    Ok(next_scope(&scene.whole, home, is_mark)?.unwrap_or(any))
+    next_scope(&scene.whole, home, is_mark).unwrap_or(any)
 }

@@ -8,28 +8,28 @@ use snap_clusters::{Due, Event, Lead, Local, Passage, SavingMachine, SnapCluster
 use std::alloc::Global;
 use update_api::Program;
 
-/// So many rounds are made at most, and so many events in one turn of a machine.
+/// How many rounds are made at most, and how many events in one turn of a machine.
 const MOST: u32 = 1000000;
 
-/// Makes rounds, and what the coordinator has due, until the end is due, or already where a record is.
+/// Makes rounds, and what the coordinator has due, until the end is due, or until a record is. Returns `true` then.
 pub fn drive<P: Program>(
     alloc: Global,
     scene: &mut Scene<'_, P>,
     to_record: bool,
-) -> Result<(), Trouble> {
+) -> Result<bool, Trouble> {
     let machines = scene.beginning.machines;
     for _ in 0..MOST {
         let moved = match go_on(&mut scene.whole, machines)? {
-            Stand::Ended => return Ok(()),
-            Stand::Record if to_record => return Ok(()),
+            Stand::Ended => return Ok(true),
+            Stand::Record if to_record => return Ok(true),
             Stand::Record => take_record(alloc, scene)?,
             Stand::GoesOn(moved) => moved,
         };
         if !moved {
-            return Err(Trouble::Differs("nothing moves, and it is not the end"));
+            return Err(Trouble("nothing moves, and it is not the end"));
         }
     }
-    Err(Trouble::Differs("no end comes"))
+    Err(Trouble("no end comes"))
 }
 
 /// Where a cluster stands: at its end, at a record that is due, or behind what was due, which moved something or not.
@@ -39,7 +39,7 @@ enum Stand {
     GoesOn(bool),
 }
 
-/// What the coordinator has due is done, but for a record, or else a round is made, and a wave put out where nothing moves.
+/// Does what the coordinator has due, but for a record; or else makes a round, and puts a wave out if nothing moves.
 fn go_on<M: SavingMachine>(whole: &mut SnapCluster<M>, machines: u16) -> Result<Stand, Trouble> {
     let moved = match whole.due() {
         Due::Ended => return Ok(Stand::Ended),
@@ -51,7 +51,7 @@ fn go_on<M: SavingMachine>(whole: &mut SnapCluster<M>, machines: u16) -> Result<
     Ok(Stand::GoesOn(moved))
 }
 
-/// Each machine has its turn. Tells whether anything moved.
+/// Gives each machine its turn. Returns whether anything moved.
 fn round<M: SavingMachine>(whole: &mut SnapCluster<M>, machines: u16) -> Result<bool, Trouble> {
     let mut moved = false;
     for m in 0..machines {
@@ -62,7 +62,7 @@ fn round<M: SavingMachine>(whole: &mut SnapCluster<M>, machines: u16) -> Result<
     Ok(moved)
 }
 
-/// What the machine may do by itself is done, until there is nothing. Tells whether there was something.
+/// Does what the machine may do by itself, until there is nothing. Returns whether there was something.
 pub fn settle<M: SavingMachine>(
     whole: &mut SnapCluster<M>,
     at: MachineNo,
@@ -76,23 +76,23 @@ pub fn settle<M: SavingMachine>(
             return if matches!(event, Event::Local(Local::Admit(_))) {
                 Ok(times > 0)
             } else {
-                Err(Trouble::Differs("what may happen is refused"))
+                Err(Trouble("what may happen is refused"))
             };
         }
     }
-    Err(Trouble::Differs("a turn has no end"))
+    Err(Trouble("a turn has no end"))
 }
 
-/// A grant, an update, a snapshot update or a section of the machine that may be now.
+/// Returns a grant, an update, a snapshot update or a section of the machine that may be now.
 fn next_of<M: SavingMachine>(
     whole: &mut SnapCluster<M>,
     at: MachineNo,
 ) -> Result<Option<Event>, Trouble> {
-    if let Some(x) = next_grant(whole, at)? {
+    if let Some(x) = next_grant(whole, at) {
         return Ok(Some(Event::Local(Local::Grant(at, x))));
     }
     if !has_machine(whole, at) {
-        return Err(Trouble::Malformed("no such machine"));
+        return Err(Trouble("there is no such machine"));
     }
     if let Some(scope) = whole.next_update(at) {
         return Ok(Some(Event::Local(Local::Update(scope))));
@@ -106,25 +106,25 @@ fn next_of<M: SavingMachine>(
     Ok(None)
 }
 
-/// Locks are granted, and messages between machines brought, until there is nothing of that.
-pub fn bring<M: SavingMachine>(whole: &mut SnapCluster<M>, machines: u16) -> Result<(), Trouble> {
+/// Grants locks and brings messages between machines, until there is nothing of that. Returns `true` then.
+pub fn bring<M: SavingMachine>(whole: &mut SnapCluster<M>, machines: u16) -> Result<bool, Trouble> {
     for _ in 0..MOST {
         let mut moved = false;
         for m in 0..machines {
             let at = MachineNo(m);
-            if let Some(x) = next_grant(whole, at)? {
+            if let Some(x) = next_grant(whole, at) {
                 moved = happens(whole, Event::Local(Local::Grant(at, x)))? || moved;
             }
             moved = tell_others(whole, at, machines)? || moved;
         }
         if !moved {
-            return Ok(());
+            return Ok(true);
         }
     }
-    Err(Trouble::Differs("messages have no end"))
+    Err(Trouble("messages have no end"))
 }
 
-/// What waits at the machine or for it comes. Tells whether anything did.
+/// Brings what waits at the machine or for it. Returns whether anything did.
 fn tell<M: SavingMachine>(
     whole: &mut SnapCluster<M>,
     at: MachineNo,
@@ -137,7 +137,7 @@ fn tell<M: SavingMachine>(
     Ok(tell_others(whole, at, machines)? || moved)
 }
 
-/// What waits at the machine for others comes. Tells whether anything did.
+/// Brings what waits at the machine for others. Returns whether anything did.
 fn tell_others<M: SavingMachine>(
     whole: &mut SnapCluster<M>,
     at: MachineNo,
@@ -152,7 +152,7 @@ fn tell_others<M: SavingMachine>(
     Ok(moved)
 }
 
-/// Makes the event as often as it may happen. Tells whether it happened.
+/// Lets the message go or come as often as it may. Returns whether it did.
 fn exhaust<M: SavingMachine>(
     whole: &mut SnapCluster<M>,
     passage: Passage,

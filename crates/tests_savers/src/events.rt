@@ -7,53 +7,53 @@ use gl_base::{MachineNo, Record, Refused, ScopeId, Vertex};
 use snap_clusters::{Event, Local, Passage, SavingMachine, SnapCluster};
 use std::alloc::Global;
 
-/// The event happens, or is refused. Tells whether it has happened.
+/// Lets the event happen, and returns whether it has.
 pub fn happens<M: SavingMachine>(
     whole: &mut SnapCluster<M>,
     event: Event,
 ) -> Result<bool, Trouble> {
     if !is_within(whole.machines(), event) {
-        return Err(Trouble::Malformed("no such machine"));
+        return Err(Trouble("there is no such machine"));
     }
     match whole.apply(event) {
         Ok(()) => Ok(true),
         Err(Refused::NotNow) => Ok(false),
-        Err(Refused::NoMemory) => Err(Trouble::NoMemory),
+        Err(Refused::NoMemory) => Err(Trouble("memory is missing")),
     }
 }
 
-/// A vertex of the machine is updated at once, or none is. Tells whether one was.
+/// Updates a vertex of the machine at once, and returns whether one was.
 pub fn happens_at_once<M: SavingMachine>(
     whole: &mut SnapCluster<M>,
     at: MachineNo,
 ) -> Result<bool, Trouble> {
     if !has_machine(whole, at) {
-        return Err(Trouble::Malformed("no such machine"));
+        return Err(Trouble("there is no such machine"));
     }
     match whole.update_at_once(at) {
         Ok(_) => Ok(true),
         Err(Refused::NotNow) => Ok(false),
-        Err(Refused::NoMemory) => Err(Trouble::NoMemory),
+        Err(Refused::NoMemory) => Err(Trouble("memory is missing")),
     }
 }
 
-/// The one event happens, and then the other, or neither.
+/// Lets the one message go onto a link and come by the other, and returns whether it has.
 pub fn both_happen<M: SavingMachine>(
     whole: &mut SnapCluster<M>,
-    first: Event,
-    second: Event,
+    first: Passage,
+    second: Passage,
 ) -> Result<bool, Trouble> {
-    if !happens(whole, first)? {
+    if !happens(whole, Event::Passage(first))? {
         return Ok(false);
     }
-    if happens(whole, second)? {
+    if happens(whole, Event::Passage(second))? {
         Ok(true)
     } else {
-        Err(Trouble::Differs("what was sent doesn't come"))
+        Err(Trouble("what was sent doesn't come"))
     }
 }
 
-/// The record that is due, if one is.
+/// Returns the record that is due, if one is.
 pub fn due_record<M: SavingMachine>(
     alloc: Global,
     whole: &mut SnapCluster<M>,
@@ -61,45 +61,43 @@ pub fn due_record<M: SavingMachine>(
     match whole.record(alloc) {
         Ok(record) => Ok(Some(record)),
         Err(Refused::NotNow) => Ok(None),
-        Err(Refused::NoMemory) => Err(Trouble::NoMemory),
+        Err(Refused::NoMemory) => Err(Trouble("memory is missing")),
     }
 }
 
-/// A lock of the machine that may be granted.
-pub fn next_grant<M: SavingMachine>(
-    whole: &mut SnapCluster<M>,
-    at: MachineNo,
-) -> Result<Option<Vertex>, Trouble> {
-    if !has_machine(whole, at) {
-        return Err(Trouble::Malformed("no such machine"));
+/// Returns a lock of the machine that may be granted, if it has one.
+pub fn next_grant<M: SavingMachine>(whole: &mut SnapCluster<M>, at: MachineNo) -> Option<Vertex> {
+    if has_machine(whole, at) {
+        whole.next_grant(at)
+    } else {
+        None
     }
-    Ok(whole.next_grant(at))
 }
 
-/// The next scope of the machine that is ready for its update, or for its snapshot update.
+/// Returns the next scope of the machine that is ready for its update, or for its snapshot update, if one is.
 pub fn next_scope<M: SavingMachine>(
     whole: &SnapCluster<M>,
     home: MachineNo,
     is_mark: bool,
-) -> Result<Option<ScopeId>, Trouble> {
+) -> Option<ScopeId> {
     if !has_machine(whole, home) {
-        return Err(Trouble::Malformed("no such machine"));
+        return None;
     }
-    Ok(if is_mark {
+    if is_mark {
         whole.next_mark(home)
     } else {
         whole.next_update(home)
-    })
+    }
 }
 
-/// Whether the cluster has this machine.
+/// Returns whether the cluster has this machine.
 pub fn has_machine<M: SavingMachine>(whole: &SnapCluster<M>, at: MachineNo) -> bool
     ensures { IsTrue result → at.0 < length whole.now.machines.items }
 {
     (at.0 as usize) < whole.machines()
 }
 
-/// Whether the event names machines of the cluster.
+/// Returns whether the event names machines of the cluster.
 fn is_within(machines: usize, event: Event) -> bool
     ensures { result ≡ true → NamesItsMachines machines event }
 {
@@ -110,7 +108,7 @@ fn is_within(machines: usize, event: Event) -> bool
     }
 }
 
-/// The same of what a machine does by itself.
+/// Returns the same of what a machine does by itself.
 fn is_local_within(machines: usize, local: Local) -> bool
     ensures { result ≡ true → NamesLocal machines local }
 {
@@ -124,7 +122,7 @@ fn is_local_within(machines: usize, local: Local) -> bool
     }
 }
 
-/// The same of what goes onto a link, and what comes.
+/// Returns the same of what goes onto a link, and what comes.
 fn is_passage_within(machines: usize, passage: Passage) -> bool
     ensures { result ≡ true → NamesPassage machines passage }
 {

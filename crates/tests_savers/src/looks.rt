@@ -1,190 +1,203 @@
 //! The lines that say what is to be seen.
 use crate::events::{has_machine, next_grant};
-use crate::fields::Fields;
+use crate::plans::machine_of;
 use crate::scenes::{Kept, Scene};
-use crate::trouble::Trouble;
-use gl_base::{Entry, Vertex};
+use gl_base::{Entry, MachineNo, Vertex};
 use graph_core::Graph;
+use scenario_lines::{Line, Page};
 use snap_clusters::{Due, SavingMachine, SnapCluster};
-use std::alloc::Global;
 use update_api::Program;
 
-/// What is to be seen where the line asks for it.
-pub fn seen<P: Program>(
-    alloc: Global,
-    scene: &mut Scene<'_, P>,
-    fields: &Fields<'_>,
-) -> Result<String, Trouble> {
-    let graph = scene.beginning.graph;
-    match fields.first() {
-        "stored" | "next" | "left" | "due" => whole_text(alloc, &scene.whole, fields),
-        "grant" | "log" | "failed" => seen_at(alloc, graph, &mut scene.whole, fields),
-        "link" | "call-link" | "report-link" | "call-waits" => {
-            on_way_text(alloc, &scene.whole, fields)
+/// What a line asks for.
+#[derive(Clone, Copy)]
+pub enum Look {
+    Stored,
+    Next,
+    Left,
+    Due,
+    Grant,
+    Log,
+    Failed,
+    Link,
+    CallLink,
+    ReportLink,
+    CallWaits,
+    Numbers,
+    Edges,
+    Entries,
+    Order,
+    Restarts,
+    Pause,
+    Recoveries,
+    Completed,
+    Unknown,
+}
+
+/// Each of them with its word.
+static LOOKS: [(&str, Look); 19] = [
+    ("stored", Look::Stored),
+    ("next", Look::Next),
+    ("left", Look::Left),
+    ("due", Look::Due),
+    ("grant", Look::Grant),
+    ("log", Look::Log),
+    ("failed", Look::Failed),
+    ("link", Look::Link),
+    ("call-link", Look::CallLink),
+    ("report-link", Look::ReportLink),
+    ("call-waits", Look::CallWaits),
+    ("numbers", Look::Numbers),
+    ("edges", Look::Edges),
+    ("entries", Look::Entries),
+    ("order", Look::Order),
+    ("restarts", Look::Restarts),
+    ("pause", Look::Pause),
+    ("recoveries", Look::Recoveries),
+    ("completed", Look::Completed),
+];
+
+/// Returns what the word asks for.
+pub fn look_of(word: &str) -> Look {
+    for (its_word, look) in LOOKS.as_slice() {
+        if *its_word == word {
+            return *look;
         }
-        _ => kept_text(alloc, graph, &scene.kept, fields),
+    }
+    Look::Unknown
+}
+
+/// Writes what is seen of the cluster where the line asks for it.
+pub fn add_seen<P: Program>(scene: &mut Scene<'_, P>, line: &Line<'_>, page: &mut Page) {
+    let graph = scene.beginning.graph;
+    match look_of(line.word) {
+        Look::Stored => page.add_numbers(&[scene.whole.stored() as u64]),
+        Look::Next => page.add_numbers(&[scene.whole.next()]),
+        Look::Left => page.add_numbers(&[scene.whole.left()]),
+        Look::Due => add_due(scene.whole.due(), page),
+        Look::Grant => match next_grant(&mut scene.whole, machine_of(line.number(0))) {
+            Some(x) => page.add_numbers(&[id_of(graph, x)]),
+            None => page.add(" none"),
+        },
+        look @ (Look::Numbers | Look::Edges | Look::Entries | Look::Order | Look::Restarts) => {
+            add_kept(graph, &scene.kept, look, page);
+        }
+        look => add_seen_at(graph, &scene.whole, look, line, page),
     }
 }
 
-/// What is to be seen of the whole cluster.
-fn whole_text<M: SavingMachine>(
-    alloc: Global,
+/// Writes what is seen of the machine that the line names, or of the link between two.
+fn add_seen_at<M: SavingMachine>(
+    graph: &Graph,
     whole: &SnapCluster<M>,
-    fields: &Fields<'_>,
-) -> Result<String, Trouble> {
-    match fields.first() {
-        "stored" => number_text(alloc, whole.stored() as u64),
-        "next" => number_text(alloc, whole.next()),
-        "left" => number_text(alloc, whole.left()),
-        _ => due_text(alloc, whole.due()),
-    }
-}
-
-/// What is to be seen of the records so far.
-pub fn kept_text(
-    alloc: Global,
-    graph: &Graph,
-    kept: &Kept,
-    fields: &Fields<'_>,
-) -> Result<String, Trouble> {
-    match fields.first() {
-        "numbers" => list_text(alloc, &kept.newest.values),
-        "edges" => list_text(alloc, &kept.newest.edges),
-        "entries" => entries_text(alloc, graph, &kept.entries),
-        "order" => entries_text(alloc, graph, &kept.order),
-        "restarts" => restarts_text(alloc, &kept.order),
-        _ => Err(Trouble::Malformed("nothing of this name is to be seen")),
-    }
-}
-
-/// What is to be seen of the machine that the line names.
-fn seen_at<M: SavingMachine>(
-    alloc: Global,
-    graph: &Graph,
-    whole: &mut SnapCluster<M>,
-    fields: &Fields<'_>,
-) -> Result<String, Trouble> {
-    let at = fields.machine(0)?;
-    if fields.first() == "grant" {
-        return match next_grant(whole, at)? {
-            Some(x) => vertex_text(alloc, graph, x),
-            None => word_text(alloc, "none"),
-        };
-    }
+    look: Look,
+    line: &Line<'_>,
+    page: &mut Page,
+) {
+    let at = machine_of(line.number(0));
     if !has_machine(whole, at) {
-        return Err(Trouble::Malformed("no such machine"));
+        page.add(" no such machine");
+        return;
     }
-    match fields.first() {
-        "log" => entries_text(alloc, graph, whole.log(at)),
-        _ => yes_or_no(alloc, whole.has_failed(at)),
+    match look {
+        Look::Log => add_entries(graph, whole.log(at), page),
+        Look::Failed => add_answer(whole.has_failed(at), page),
+        Look::Link => add_link(whole, at, machine_of(line.number(1)), page),
+        Look::CallLink => add_answer(whole.has_call(at), page),
+        Look::ReportLink => add_answer(whole.has_report(at), page),
+        Look::CallWaits => add_answer(whole.call_waits(at), page),
+        _ => page.add(" no such thing"),
     }
 }
 
-/// Whether something is on the link that the line names, or waits at the coordinator.
-fn on_way_text<M: SavingMachine>(
-    alloc: Global,
+/// Writes whether a message is on the link between two machines.
+fn add_link<M: SavingMachine>(
     whole: &SnapCluster<M>,
-    fields: &Fields<'_>,
-) -> Result<String, Trouble> {
-    let from = fields.machine(0)?;
-    let to = if fields.first() == "link" {
-        fields.machine(1)?
+    from: MachineNo,
+    to: MachineNo,
+    page: &mut Page,
+) {
+    if has_machine(whole, from) && has_machine(whole, to) {
+        add_answer(whole.has_message(from, to), page);
     } else {
-        from
-    };
-    if !has_machine(whole, from) || !has_machine(whole, to) {
-        return Err(Trouble::Malformed("no such machine"));
+        page.add(" no such machine");
     }
-    let there = match fields.first() {
-        "link" => whole.has_message(from, to),
-        "call-link" => whole.has_call(to),
-        "report-link" => whole.has_report(from),
-        _ => whole.call_waits(to),
-    };
-    yes_or_no(alloc, there)
 }
 
-fn due_text(alloc: Global, due: Due) -> Result<String, Trouble> {
+/// Writes what is known of the records so far.
+pub fn add_kept(graph: &Graph, kept: &Kept, look: Look, page: &mut Page) {
+    match look {
+        Look::Numbers => add_list(&kept.newest.values, page),
+        Look::Edges => add_list(&kept.newest.edges, page),
+        Look::Entries => add_entries(graph, &kept.entries, page),
+        Look::Order => add_entries(graph, &kept.order, page),
+        Look::Restarts => add_restarts(&kept.order, page),
+        _ => page.add(" no such thing"),
+    }
+}
+
+fn add_due(due: Due, page: &mut Page) {
     match due {
-        Due::Ended => word_text(alloc, "ended"),
-        Due::Step(colour) => Ok(format!(in alloc; "step {colour}")?),
-        Due::Wave => word_text(alloc, "wave"),
-        Due::Nothing => word_text(alloc, "nothing"),
-        Due::Record(number) => Ok(format!(in alloc; "record {number}")?),
-        Due::Snapshot(number) => Ok(format!(in alloc; "snapshot {number}")?),
+        Due::Ended => page.add(" ended"),
+        Due::Wave => page.add(" wave"),
+        Due::Nothing => page.add(" nothing"),
+        Due::Step(colour) => add_named(" step", colour, page),
+        Due::Record(number) => add_named(" record", number, page),
+        Due::Snapshot(number) => add_named(" snapshot", number, page),
     }
 }
 
-fn yes_or_no(alloc: Global, yes: bool) -> Result<String, Trouble> {
-    word_text(alloc, if yes { "yes" } else { "no" })
+fn add_named(name: &str, number: u32, page: &mut Page) {
+    page.add(name);
+    page.add_numbers(&[number as u64]);
 }
 
-pub fn word_text(alloc: Global, word: &str) -> Result<String, Trouble> {
-    Ok(String::from_str(alloc, word)?)
+fn add_answer(is_so: bool, page: &mut Page) {
+    page.add(if is_so { " yes" } else { " no" });
 }
 
-pub fn number_text(alloc: Global, number: u64) -> Result<String, Trouble> {
-    Ok(format!(in alloc; "{number}")?)
+/// Writes the numbers, or `none`.
+fn add_list(numbers: &[u64], page: &mut Page) {
+    if numbers.is_empty() {
+        page.add(" none");
+    }
+    page.add_numbers(numbers);
 }
 
-/// The identifier of a vertex.
-fn vertex_text(alloc: Global, graph: &Graph, v: Vertex) -> Result<String, Trouble> {
+/// Returns the identifier of a vertex.
+fn id_of(graph: &Graph, v: Vertex) -> u64 {
     if v.0 < graph.n() {
-        number_text(alloc, graph.id(v))
+        graph.id(v)
     } else {
-        word_text(alloc, "none")
+        u64::MAX
     }
 }
 
-/// The numbers, with a blank between them.
-fn list_text(alloc: Global, numbers: &[u64]) -> Result<String, Trouble> {
-    let mut text = String::new(alloc);
-    for number in numbers {
-        add_word(&mut text, number_text(alloc, *number)?.as_str())?;
+/// Writes the identifiers of the vertices that were updated, and the restarts, each behind its ticket; or `none`.
+fn add_entries(graph: &Graph, entries: &[Entry], page: &mut Page) {
+    if entries.is_empty() {
+        page.add(" none");
     }
-    or_none(alloc, text)
-}
-
-/// The text, or `none` where it is empty.
-fn or_none(alloc: Global, text: String) -> Result<String, Trouble> {
-    if text.is_empty() {
-        word_text(alloc, "none")
-    } else {
-        Ok(text)
-    }
-}
-
-/// The identifiers of the vertices that were updated, and the restarts, each behind its ticket.
-fn entries_text(alloc: Global, graph: &Graph, entries: &[Entry]) -> Result<String, Trouble> {
-    let mut text = String::new(alloc);
     for entry in entries {
         let (Entry::Go { ticket, .. } | Entry::Restart { ticket }) = *entry;
-        let what = match entry {
-            Entry::Go { vertex, .. } => vertex_text(alloc, graph, *vertex)?,
-            Entry::Restart { .. } => word_text(alloc, "restart")?,
-        };
-        let word = format!(in alloc; "{ticket}:{}", what.as_str())?;
-        add_word(&mut text, word.as_str())?;
-    }
-    or_none(alloc, text)
-}
-
-/// The tickets of the restarts.
-fn restarts_text(alloc: Global, entries: &[Entry]) -> Result<String, Trouble> {
-    let mut text = String::new(alloc);
-    for entry in entries {
-        if let Entry::Restart { ticket } = entry {
-            add_word(&mut text, number_text(alloc, *ticket)?.as_str())?;
+        page.add_numbers(&[ticket]);
+        page.add(":");
+        match entry {
+            Entry::Go { vertex, .. } => page.add_number(id_of(graph, *vertex)),
+            Entry::Restart { .. } => page.add("restart"),
         }
     }
-    or_none(alloc, text)
 }
 
-/// Adds a word behind a blank.
-fn add_word(text: &mut String, word: &str) -> Result<(), Trouble> {
-    if !text.is_empty() {
-        text.push_str(" ")?;
+/// Writes the tickets of the restarts, or `none`.
+fn add_restarts(entries: &[Entry], page: &mut Page) {
+    let mut is_none = true;
+    for entry in entries {
+        if let Entry::Restart { ticket } = entry {
+            page.add_numbers(&[*ticket]);
+            is_none = false;
+        }
     }
-    text.push_str(word)?;
-    Ok(())
+    if is_none {
+        page.add(" none");
+    }
 }

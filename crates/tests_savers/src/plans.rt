@@ -1,11 +1,7 @@
 //! What a scenario's cluster is made of, as it is written.
-use crate::fields::{Fields, number_of};
-use crate::graphs::add_edges;
-use crate::scenarios::Line;
-use crate::spots::Spot;
-use crate::trouble::Trouble;
 use gl_base::{Algorithm, EngineKind, FailureAt, MachineNo};
 use graph_core::EdgeIn;
+use scenario_lines::{Line, Page, is_remark, number_of, word_of, words_behind};
 use std::alloc::Global;
 
 /// What a cluster is made of.
@@ -19,17 +15,83 @@ pub struct Plan {
     /// The machine of each vertex, by ascending identifier.
     pub machines: Vec<u64>,
     pub engine: EngineKind,
-    pub pipeline: u16,
-    pub window: u32,
+    pub pipeline: u64,
+    pub window: u64,
     pub tickets: u64,
-    /// The numbers of the vertices with which the run begins, where they are written.
-    pub values: Option<Vec<u64>>,
+    /// The numbers of the vertices with which the run begins; empty if they are the program's.
+    pub values: Vec<u64>,
     /// The failures that the job orders.
     pub failures: Vec<FailureAt>,
+    /// Whether the scenario is a call that is driven to its end.
+    pub is_call: bool,
+}
+
+/// What a line says of a cluster.
+#[derive(Clone, Copy)]
+enum Part {
+    Heading,
+    Vertices,
+    Edges,
+    Components,
+    Levels,
+    Paths,
+    On,
+    Locking,
+    Chromatic,
+    Pipeline,
+    Window,
+    Tickets,
+    Values,
+    Failures,
+    Driven,
+}
+
+/// Each of them with its word.
+static PARTS: [(&str, Part); 16] = [
+    ("given", Part::Heading),
+    ("scenario", Part::Heading),
+    ("vertices", Part::Vertices),
+    ("edges", Part::Edges),
+    ("components", Part::Components),
+    ("levels", Part::Levels),
+    ("paths", Part::Paths),
+    ("on", Part::On),
+    ("locking", Part::Locking),
+    ("chromatic", Part::Chromatic),
+    ("pipeline", Part::Pipeline),
+    ("window", Part::Window),
+    ("tickets", Part::Tickets),
+    ("values", Part::Values),
+    ("failures", Part::Failures),
+    ("driven", Part::Driven),
+];
+
+/// Takes what the first lines say of the cluster, writes them as they were taken, and returns how many they are.
+pub fn take_lines(alloc: Global, plan: &mut Plan, lines: &[&str], page: &mut Page) -> usize {
+    for (place, text) in lines.iter().enumerate() {
+        if is_remark(text) {
+            page.add_line(text);
+        } else if let Some(part) = part_of(text) {
+            plan.take(alloc, part, text, page);
+        } else {
+            return place;
+        }
+    }
+    lines.len()
+}
+
+/// Returns what the line says of a cluster, if it does.
+fn part_of(text: &str) -> Option<Part> {
+    for (word, part) in PARTS.as_slice() {
+        if *word == word_of(text) {
+            return Some(*part);
+        }
+    }
+    None
 }
 
 impl Plan {
-    /// No vertices, components, locks, one scope in flight, a window of four updates, and many tickets.
+    /// Makes a plan of no vertices, components, locks, one scope in flight, a window of four updates, and many tickets.
     pub fn new(alloc: Global) -> Plan {
         Plan {
             vertices: Vec::new(alloc),
@@ -41,112 +103,93 @@ impl Plan {
             pipeline: 1,
             window: 4,
             tickets: 1000000,
-            values: None,
+            values: Vec::new(alloc),
             failures: Vec::new(alloc),
+            is_call: false,
         }
     }
 
-    /// Takes what a line says of the cluster, and tells whether it says something of it.
-    pub fn take(&mut self, alloc: Global, fields: &Fields<'_>) -> Result<bool, Trouble> {
-        match fields.first() {
-            "vertices" | "on" | "values" => self.take_numbers(alloc, fields)?,
-            "edges" | "failures" => self.take_pairs(fields)?,
-            "components" | "levels" | "paths" => self.take_program(fields)?,
-            "locking" => self.engine = EngineKind::Locking,
-            "chromatic" => self.engine = EngineKind::Chromatic,
-            _ => return self.take_limit(fields),
+    /// Takes a line, and writes it as it was taken.
+    fn take(&mut self, alloc: Global, part: Part, text: &str, page: &mut Page) {
+        match part {
+            Part::Heading => page.add(text),
+            Part::Edges => self.take_edges(text, page),
+            Part::Failures => self.take_failures(text, page),
+            _ => self.take_numbers(part, Line::of(alloc, text), page),
         }
-        Ok(true)
+        page.add_line("");
     }
 
-    /// Takes numbers of vertices.
-    fn take_numbers(&mut self, alloc: Global, fields: &Fields<'_>) -> Result<(), Trouble> {
-        let numbers = fields.numbers(alloc)?;
-        match fields.first() {
-            "vertices" => self.vertices = numbers,
-            "on" => self.machines = numbers,
-            _ => self.values = Some(numbers),
-        }
-        Ok(())
-    }
-
-    /// Takes edges or failures.
-    fn take_pairs(&mut self, fields: &Fields<'_>) -> Result<(), Trouble> {
-        match fields.first() {
-            "edges" => add_edges(&mut self.edges, fields.others()),
-            _ => add_failures(&mut self.failures, fields.others()),
+    /// Takes a line of numbers.
+    fn take_numbers(&mut self, part: Part, line: Line<'_>, page: &mut Page) {
+        page.add_words(&line);
+        let number = line.number(0);
+        match part {
+            Part::Vertices => self.vertices = line.numbers,
+            Part::On => self.machines = line.numbers,
+            Part::Values => self.values = line.numbers,
+            _ => self.take_number(part, number),
         }
     }
 
-    /// Takes the program.
-    fn take_program(&mut self, fields: &Fields<'_>) -> Result<(), Trouble> {
-        match fields.first() {
-            "components" => self.algorithm = Algorithm::Components,
-            "levels" => {
-                self.algorithm = Algorithm::Levels;
-                self.source = fields.number(0)?;
+    /// Takes a line of one number, or of none.
+    fn take_number(&mut self, part: Part, number: u64) {
+        match part {
+            Part::Levels => self.run(Algorithm::Levels, number),
+            Part::Paths => self.run(Algorithm::Paths, number),
+            Part::Locking => self.engine = EngineKind::Locking,
+            Part::Chromatic => self.engine = EngineKind::Chromatic,
+            Part::Pipeline => self.pipeline = number,
+            Part::Window => self.window = number,
+            Part::Tickets => self.tickets = number,
+            Part::Driven => self.is_call = true,
+            _ => self.run(Algorithm::Components, 0),
+        }
+    }
+
+    /// Takes the program and its source.
+    fn run(&mut self, algorithm: Algorithm, source: u64) {
+        self.algorithm = algorithm;
+        self.source = source;
+    }
+
+    /// Takes edges that are written as `1-2`, or with a weight as `1-2:7`.
+    fn take_edges(&mut self, text: &str, page: &mut Page) {
+        page.add(word_of(text));
+        for word in words_behind(text).split(' ') {
+            let (ends, weight) = word.split_once(':').unwrap_or((word, "1"));
+            let (from, to) = ends.split_once('-').unwrap_or((ends, ""));
+            let (from, to) = (number_of(from), number_of(to));
+            page.add_numbers(&[from]);
+            page.add("-");
+            page.add_number(to);
+            let weight = u32::try_from(number_of(weight)).unwrap_or(u32::MAX);
+            if word.contains(':') {
+                page.add(":");
+                page.add_number(weight as u64);
             }
-            _ => {
-                self.algorithm = Algorithm::Paths;
-                self.source = fields.number(0)?;
-            }
-        }
-        Ok(())
-    }
-
-    /// Takes a limit, and tells whether the line says one.
-    fn take_limit(&mut self, fields: &Fields<'_>) -> Result<bool, Trouble> {
-        match fields.first() {
-            "pipeline" => self.pipeline = fields.machine(0)?.0,
-            "window" => self.window = window_of(fields.number(0)?)?,
-            "tickets" => self.tickets = fields.number(0)?,
-            _ => return Ok(false),
-        }
-        Ok(true)
-    }
-}
-
-/// Takes what the first lines of a scenario say, and tells how many these are. `at` follows the line.
-pub fn take_lines(
-    alloc: Global,
-    plan: &mut Plan,
-    lines: &[Line<'_>],
-    at: &mut Spot,
-) -> Result<usize, Trouble> {
-    for (place, line) in lines.iter().enumerate() {
-        at.line = line.number;
-        if !is_taken(alloc, plan, line.text)? {
-            return Ok(place);
+            let _ = self.edges.push(EdgeIn { from, to, weight });
         }
     }
-    Ok(lines.len())
-}
 
-/// Whether the line says something of the cluster, which the plan takes.
-fn is_taken(alloc: Global, plan: &mut Plan, text: &str) -> Result<bool, Trouble> {
-    let fields = Fields::of(alloc, text)?;
-    plan.take(alloc, &fields)
-}
-
-/// The window of this many updates.
-fn window_of(number: u64) -> Result<u32, Trouble> {
-    match u32::try_from(number) {
-        Ok(window) => Ok(window),
-        Err(_) => Err(Trouble::Malformed("too wide a window")),
+    /// Takes failures that are written as `0:5`: machine 0 fails where it has completed five updates.
+    fn take_failures(&mut self, text: &str, page: &mut Page) {
+        page.add(word_of(text));
+        for word in words_behind(text).split(' ') {
+            let (machine, after) = word.split_once(':').unwrap_or((word, ""));
+            let failure = FailureAt {
+                machine: machine_of(number_of(machine)),
+                after: number_of(after),
+            };
+            page.add_numbers(&[failure.machine.0 as u64]);
+            page.add(":");
+            page.add_number(failure.after);
+            let _ = self.failures.push(failure);
+        }
     }
 }
 
-/// Adds failures that are written as `0:5`: machine 0 fails where it has completed five updates.
-fn add_failures(failures: &mut Vec<FailureAt>, words: &[&str]) -> Result<(), Trouble> {
-    for word in words {
-        let Some((machine, after)) = word.split_once(':') else {
-            return Err(Trouble::Malformed("no failure"));
-        };
-        let Ok(machine) = machine.parse::<u16>() else {
-            return Err(Trouble::Malformed("no machine's number"));
-        };
-        let (machine, after) = (MachineNo(machine), number_of(after)?);
-        failures.push(FailureAt { machine, after })?;
-    }
-    Ok(())
+/// Returns the machine of this number; if it is too great, one that no cluster has.
+pub fn machine_of(number: u64) -> MachineNo {
+    MachineNo(u16::try_from(number).unwrap_or(u16::MAX))
 }

@@ -1,98 +1,82 @@
-//! A scenario is played.
-use crate::acts::act;
-use crate::answers::is_answer;
-use crate::beginnings::{base_of, beginning_of};
-use crate::chances::play_seeds;
-use crate::driving::{bring, drive, settle};
-use crate::fields::Fields;
-use crate::graphs::graph_of;
-use crate::looks::seen;
-use crate::plans::{Plan, take_lines};
-use crate::scenarios::{Line, Scenario};
+//! The lines of a scenario of events are played.
+use crate::acts::play_act;
+use crate::beginnings::Beginning;
+use crate::looks::add_seen;
 use crate::scenes::Scene;
-use crate::spots::Spot;
 use crate::trouble::Trouble;
-use graph_core::Graph;
-use job_programs::JobProgram;
+use scenario_lines::{Line, Page, is_remark};
 use std::alloc::Global;
 use update_api::Program;
 
-/// Plays a scenario to its last line, or to the first that differs or can't be understood. `at` follows the line that is played.
-pub fn play(alloc: Global, scenario: &Scenario<'_>, at: &mut Spot) -> Result<(), Trouble> {
-    let mut plan = Plan::new(alloc);
-    let taken = take_lines(alloc, &mut plan, &scenario.lines, at)?;
-    let lines = scenario.lines.get(taken..).unwrap_or(&[]);
-    let graph = graph_of(alloc, &plan)?;
-    play_on(alloc, &graph, &plan, lines, at)
-}
-
-/// Plays the lines on a cluster of the plan's program.
-fn play_on(
+/// Plays the lines behind what is given on a cluster that begins so, and writes each as it was seen.
+pub fn play_events<P: Program>(
     alloc: Global,
-    graph: &Graph,
-    plan: &Plan,
-    lines: &[Line<'_>],
-    at: &mut Spot,
+    beginning: &Beginning<'_, P>,
+    given: &[&str],
+    lines: &[&str],
+    page: &mut Page,
 ) -> Result<(), Trouble> {
-    let program = JobProgram::of(plan.algorithm, plan.source);
-    let beginning = beginning_of(alloc, graph, program, plan)?;
-    let base = base_of(alloc, graph, &program, plan)?;
-    let mut scene = Scene::new(alloc, &beginning, &base, plan.tickets)?;
-    play_lines(alloc, &mut scene, lines, at)
+    let mut scene = Scene::new(alloc, beginning)?;
+    play_lines(alloc, &mut scene, given, &mut Page::new(alloc));
+    play_lines(alloc, &mut scene, lines, page);
+    drop(scene);
+    Ok(())
 }
 
 /// Plays the lines in turn.
 fn play_lines<P: Program>(
     alloc: Global,
     scene: &mut Scene<'_, P>,
-    lines: &[Line<'_>],
-    at: &mut Spot,
-) -> Result<(), Trouble> {
-    for line in lines {
-        at.line = line.number;
-        play_line(alloc, scene, line.text, at)?;
+    lines: &[&str],
+    page: &mut Page,
+) {
+    for text in lines {
+        play_line(alloc, scene, text, page);
     }
-    Ok(())
 }
 
-/// Plays a line.
-fn play_line<P: Program>(
-    alloc: Global,
-    scene: &mut Scene<'_, P>,
-    text: &str,
-    at: &mut Spot,
-) -> Result<(), Trouble> {
-    if let Some((asked, wanted)) = text.split_once(" is ") {
-        let fields = Fields::of(alloc, asked)?;
-        return at.look(seen(alloc, scene, &fields)?, wanted);
+/// Plays a line, and writes it as it was seen.
+fn play_line<P: Program>(alloc: Global, scene: &mut Scene<'_, P>, text: &str, page: &mut Page) {
+    let said = without_outcome(text);
+    if is_remark(text) {
+        page.add_line(text);
+    } else if let Some((asked, _)) = said.split_once(" is ") {
+        let line = Line::of(alloc, asked);
+        page.add_words(&line);
+        page.add(" is");
+        add_seen(scene, &line, page);
+        page.add_line("");
+    } else {
+        let line = Line::of(alloc, said);
+        let outcome = play_act(alloc, scene, &line);
+        add_outcome(&line, outcome, page);
     }
-    if let Some(refused) = text.strip_prefix("not-now ") {
-        let fields = Fields::of(alloc, refused)?;
-        return act(alloc, scene, &fields, false);
-    }
-    let fields = Fields::of(alloc, text)?;
-    play_far(alloc, scene, &fields)
 }
 
-/// Lets much happen, or looks over the whole, or lets one thing happen.
-fn play_far<P: Program>(
-    alloc: Global,
-    scene: &mut Scene<'_, P>,
-    fields: &Fields<'_>,
-) -> Result<(), Trouble> {
-    match fields.first() {
-        "settle" => {
-            settle(&mut scene.whole, fields.machine(0)?)?;
-            Ok(())
-        }
-        "bring" => bring(&mut scene.whole, scene.beginning.machines),
-        "drive" => drive(alloc, scene, false),
-        "drive-to-record" => drive(alloc, scene, true),
-        "answer" => is_answer(alloc, scene.beginning, &scene.kept),
-        "seeds" | "seeds-and-failures" => {
-            let may_fail = fields.first() == "seeds-and-failures";
-            play_seeds(alloc, scene, fields.number(0)?, fields.number(1)?, may_fail)
-        }
-        _ => act(alloc, scene, fields, true),
+/// Returns the line without `not-now` before it, and without a reason behind `but`.
+fn without_outcome(text: &str) -> &str {
+    let text = text.strip_prefix("not-now ").unwrap_or(text);
+    match text.split_once(" but ") {
+        Some((text, _)) => text,
+        None => text,
     }
+}
+
+/// Writes the line, and whether what it says has happened, was refused, or met with trouble.
+pub fn add_outcome(line: &Line<'_>, outcome: Result<bool, Trouble>, page: &mut Page) {
+    if let Ok(false) = outcome {
+        page.add("not-now ");
+    }
+    page.add_words(line);
+    if let Err(Trouble(why)) = outcome {
+        page.add(" but ");
+        page.add(why);
+    }
+    page.add_line("");
+}
+
+/// Writes a line of trouble.
+pub fn add_trouble(Trouble(why): Trouble, page: &mut Page) {
+    page.add("but ");
+    page.add_line(why);
 }

@@ -12,7 +12,7 @@ use snap_clusters::{Event, Lead};
 use std::alloc::Global;
 use update_api::Program;
 
-/// The record that is due is kept and acknowledged, if one is. Tells whether one was.
+/// Keeps and acknowledges the record that is due, if one is. Returns whether one was.
 pub fn take_record<P: Program>(alloc: Global, scene: &mut Scene<'_, P>) -> Result<bool, Trouble> {
     let Some(record) = due_record(alloc, &mut scene.whole)? else {
         return Ok(false);
@@ -21,27 +21,45 @@ pub fn take_record<P: Program>(alloc: Global, scene: &mut Scene<'_, P>) -> Resul
     if happens(&mut scene.whole, Event::Lead(Lead::Record))? {
         Ok(true)
     } else {
-        Err(Trouble::Differs("the record is not acknowledged"))
+        Err(Trouble("the record is not acknowledged"))
     }
 }
 
-/// The record is looked at, and added to the store with the restarts that this lacks.
+/// Looks at the record, and adds it to the store with the restarts that this lacks.
 pub fn keep_record<P: Program>(
     alloc: Global,
     beginning: &Beginning<'_, P>,
     kept: &mut Kept,
     record: Record,
 ) -> Result<(), Trouble> {
-    let missing = missing_of(alloc, kept, 0, 0)?;
+    let missing = match missing_of(alloc, kept, 0, 0) {
+        Ok(missing) => missing,
+        Err(trouble) => {
+            drop(record);
+            return Err(trouble);
+        }
+    };
     let record = record_behind(alloc, record, &missing)?;
-    look_at(alloc, beginning, kept, &record)?;
-    append(alloc, &mut kept.store, &record)?;
-    kept.entries = record.entries;
+    let outcome = keep_whole(alloc, beginning, kept, &record);
+    drop(record);
+    outcome
+}
+
+/// Looks at the record that has all restarts, and adds it to the store.
+fn keep_whole<P: Program>(
+    alloc: Global,
+    beginning: &Beginning<'_, P>,
+    kept: &mut Kept,
+    record: &Record,
+) -> Result<(), Trouble> {
+    look_at(alloc, beginning, kept, record)?;
+    append(alloc, &mut kept.store, record)?;
+    kept.entries = Vec::from_slice(alloc, &record.entries)?;
     kept.lacking.clear();
     Ok(())
 }
 
-/// The numbers of the record have to be those of the replay of all entries so far.
+/// Looks whether the numbers of the record are those of the replay of all entries so far.
 fn look_at<P: Program>(
     alloc: Global,
     beginning: &Beginning<'_, P>,
@@ -49,7 +67,7 @@ fn look_at<P: Program>(
     record: &Record,
 ) -> Result<(), Trouble> {
     if record.sections.len() != beginning.machines as usize {
-        return Err(Trouble::Differs("a section is missing"));
+        return Err(Trouble("a section is missing"));
     }
     kept.order.extend_from_slice(&record.entries)?;
     kept.order.sort_unstable_by_key(|entry| rank(*entry));
@@ -58,7 +76,7 @@ fn look_at<P: Program>(
     has_numbers(alloc, record, &kept.newest)
 }
 
-/// Where an entry stands in an order: by its ticket, and a restart before an update with the same.
+/// Returns where an entry stands in an order: by its ticket, and a restart before an update with the same.
 fn rank(entry: Entry) -> u128 {
     match entry {
         Entry::Go { ticket, .. } => 2 * ticket as u128 + 1,
@@ -66,38 +84,45 @@ fn rank(entry: Entry) -> u128 {
     }
 }
 
-/// The sections have each vertex and each edge once, with these numbers.
+/// Looks whether the sections have each vertex and each edge once, with these numbers.
 fn has_numbers(alloc: Global, record: &Record, numbers: &Numbers) -> Result<(), Trouble> {
-    let mut values = Vec::new(alloc);
-    let mut edges = Vec::new(alloc);
+    let mut saved = Saved {
+        values: Vec::new(alloc),
+        edges: Vec::new(alloc),
+    };
     for section in record.sections.iter() {
-        add_section(section, &mut values, &mut edges)?;
+        saved.add(section);
     }
-    if are_numbers(values, &numbers.values) && are_numbers(edges, &numbers.edges) {
+    if are_numbers(&mut saved.values, &numbers.values)
+        && are_numbers(&mut saved.edges, &numbers.edges)
+    {
         Ok(())
     } else {
-        Err(Trouble::Differs("the record's numbers are not the replay's"))
+        Err(Trouble("the record's numbers are not the replay's"))
     }
 }
 
-/// Adds what a machine saved.
-fn add_section(
-    section: &SavedPart,
-    values: &mut Vec<(u32, u64)>,
-    edges: &mut Vec<(u32, u64)>,
-) -> Result<(), Trouble> {
-    for (v, number) in section.vertices.iter() {
-        values.push((v.0, *number))?;
-    }
-    for (e, number) in section.edges.iter() {
-        edges.push((e.0, *number))?;
-    }
-    Ok(())
+/// The numbers of the vertices and of the edges in the sections of a record, each behind its place.
+#[derive(Drop)]
+struct Saved {
+    values: Vec<(u32, u64)>,
+    edges: Vec<(u32, u64)>,
 }
 
-/// Whether each place has its number once.
-fn are_numbers(saved: Vec<(u32, u64)>, numbers: &[u64]) -> bool {
-    let mut saved = saved;
+impl Saved {
+    /// Adds what a machine saved. What memory does not suffice for is missing then.
+    fn add(&mut self, section: &SavedPart) {
+        for (v, number) in section.vertices.iter() {
+            let _ = self.values.push((v.0, *number));
+        }
+        for (e, number) in section.edges.iter() {
+            let _ = self.edges.push((e.0, *number));
+        }
+    }
+}
+
+/// Returns whether each place has its number once.
+fn are_numbers(saved: &mut [(u32, u64)], numbers: &[u64]) -> bool {
     saved.sort_unstable_by_key(|pair| pair.0);
     if saved.len() != numbers.len() {
         return false;

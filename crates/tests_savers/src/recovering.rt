@@ -12,52 +12,82 @@ use snap_clusters::{SavingMachine, SnapCluster};
 use std::alloc::Global;
 use update_api::Program;
 
-/// All machines go back to the newest snapshot, with a restart for each machine that has failed, where one has. Tells whether one had. Where
-/// numbers are given the vertices have these in place of the snapshot's, and replays begin with them from then on.
+/// Lets all machines go back to the newest snapshot, with a restart for each that has failed, if one has. Returns whether one had. If
+/// values are given, the vertices have these in place of the snapshot's, and replays begin with them from then on.
 pub fn go_back<P: Program>(
     alloc: Global,
     scene: &mut Scene<'_, P>,
-    values: Option<Vec<u64>>,
+    values: &[u64],
 ) -> Result<bool, Trouble> {
-    let failures = count_failed(&failed(alloc, &scene.whole)?);
+    let failures = failures_of(alloc, &scene.whole)?;
     if failures == 0 {
         return Ok(false);
     }
-    let mut base = newest_base(alloc, scene.beginning, &mut scene.kept)?;
-    if base.number != scene.whole.stored() {
-        return Err(Trouble::Differs("another snapshot is the store's last"));
-    }
-    if let Some(values) = values {
-        base.values = values;
-        scene.kept.first = numbers_of(alloc, &base)?;
-        scene.kept.order.clear();
-    }
-    let base = with_restarts(alloc, &mut scene.kept, base, failures, scene.whole.next())?;
-    begin_again(alloc, scene.beginning, &base, &mut scene.whole)?;
-    Ok(true)
+    let base = base_behind_failures(alloc, scene, values, failures)?;
+    let outcome = begin_again(alloc, scene.beginning, &base, &mut scene.whole);
+    drop(base);
+    outcome
 }
 
-/// Which machines have failed.
-fn failed<M: SavingMachine>(alloc: Global, whole: &SnapCluster<M>) -> Result<Vec<bool>, Trouble> {
+/// Returns how many machines have failed.
+fn failures_of<M: SavingMachine>(alloc: Global, whole: &SnapCluster<M>) -> Result<usize, Trouble> {
     let mut flags = Vec::new(alloc);
     for m in 0..whole.machines() {
         flags.push(whole.has_failed(MachineNo(m as u16)))?;
     }
-    Ok(flags)
+    Ok(count_failed(&flags))
 }
 
-/// The newest snapshot of the store, or the start, which has to be what is known of it.
+/// Returns the newest snapshot with these values, if there are some, and with the restarts that the store lacks.
+fn base_behind_failures<P: Program>(
+    alloc: Global,
+    scene: &mut Scene<'_, P>,
+    values: &[u64],
+    failures: usize,
+) -> Result<Base, Trouble> {
+    let mut base = newest_base(alloc, scene.beginning, &mut scene.kept)?;
+    if let Err(trouble) = prepare(alloc, scene, &mut base, values, failures) {
+        drop(base);
+        return Err(trouble);
+    }
+    Ok(base_behind(base, &scene.kept.lacking)?)
+}
+
+/// Puts the values into the base, if there are some, and keeps the restarts that the store lacks behind it.
+fn prepare<P: Program>(
+    alloc: Global,
+    scene: &mut Scene<'_, P>,
+    base: &mut Base,
+    values: &[u64],
+    failures: usize,
+) -> Result<(), Trouble> {
+    if base.number != scene.whole.stored() {
+        return Err(Trouble("another snapshot is the store's last"));
+    }
+    if !values.is_empty() {
+        base.values = Vec::from_slice(alloc, values)?;
+        scene.kept.first = Numbers::of(alloc, base)?;
+        scene.kept.order.clear();
+    }
+    scene.kept.lacking = missing_of(alloc, &scene.kept, failures, scene.whole.next())?;
+    Ok(())
+}
+
+/// Returns the newest snapshot of the store, or the start, which has to be what is known of it.
 pub fn newest_base<P: Program>(
     alloc: Global,
     beginning: &Beginning<'_, P>,
     kept: &mut Kept,
 ) -> Result<Base, Trouble> {
     let base = recovered(alloc, beginning, &mut kept.store)?;
-    is_newest(&base, kept)?;
+    if let Err(trouble) = is_newest(&base, kept) {
+        drop(base);
+        return Err(trouble);
+    }
     Ok(base)
 }
 
-/// What the store tells, which is opened again.
+/// Returns what the store tells, which is opened again.
 fn recovered<P: Program>(
     alloc: Global,
     beginning: &Beginning<'_, P>,
@@ -68,41 +98,19 @@ fn recovered<P: Program>(
     *kept = Some(store);
     match base {
         Ok(base) => Ok(base),
-        Err(_) => Err(Trouble::Differs("the store tells no snapshot")),
+        Err(_) => Err(Trouble("the store tells no snapshot")),
     }
 }
 
-/// It has the order and the numbers that are known of the newest snapshot.
+/// Looks whether the base has the order and the numbers that are known of the newest snapshot.
 fn is_newest(base: &Base, kept: &Kept) -> Result<(), Trouble> {
     if base.order.as_slice() != kept.order.as_slice() {
-        return Err(Trouble::Differs("the store has another order"));
+        return Err(Trouble("the store has another order"));
     }
     if base.values.as_slice() != kept.newest.values.as_slice()
         || base.edges.as_slice() != kept.newest.edges.as_slice()
     {
-        return Err(Trouble::Differs("the store has other numbers"));
+        return Err(Trouble("the store has other numbers"));
     }
     Ok(())
-}
-
-/// The base, with the restarts that the store lacks behind its order, of which so many are for failures of this attempt.
-pub fn with_restarts(
-    alloc: Global,
-    kept: &mut Kept,
-    base: Base,
-    failures: usize,
-    ticket: u64,
-) -> Result<Base, Trouble> {
-    let missing = missing_of(alloc, kept, failures, ticket)?;
-    let base = base_behind(base, &missing)?;
-    kept.lacking = missing;
-    Ok(base)
-}
-
-/// The numbers of the base.
-fn numbers_of(alloc: Global, base: &Base) -> Result<Numbers, Trouble> {
-    Ok(Numbers {
-        values: Vec::from_slice(alloc, &base.values)?,
-        edges: Vec::from_slice(alloc, &base.edges)?,
-    })
 }

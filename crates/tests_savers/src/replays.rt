@@ -2,7 +2,7 @@
 ghost use Rattle.tests_savers.specs.Replays.{starting_with};
 
 use crate::trouble::Trouble;
-use gl_base::{EdgeNo, Entry, Vertex};
+use gl_base::{Base, EdgeNo, Entry, Vertex};
 use graph_core::Graph;
 use seq_run::{Played, SeqRun, StepFault};
 use std::alloc::Global;
@@ -42,16 +42,21 @@ pub struct Numbers {
 }
 
 impl Numbers {
-    /// The same numbers once more.
-    pub fn again(&self, alloc: Global) -> Result<Numbers, Trouble> {
+    /// Returns the numbers of a base.
+    pub fn of(alloc: Global, base: &Base) -> Result<Numbers, Trouble> {
+        Numbers::alike(alloc, &base.values, &base.edges)
+    }
+
+    /// Returns these numbers of the vertices and the edges.
+    fn alike(alloc: Global, values: &[u64], edges: &[u64]) -> Result<Numbers, Trouble> {
         Ok(Numbers {
-            values: Vec::from_slice(alloc, &self.values)?,
-            edges: Vec::from_slice(alloc, &self.edges)?,
+            values: Vec::from_slice(alloc, values)?,
+            edges: Vec::from_slice(alloc, edges)?,
         })
     }
 }
 
-/// The numbers to which an order leads from these on. At first and behind each restart every vertex is a task.
+/// Returns the numbers to which an order leads from these on. At first and behind each restart every vertex is a task.
 pub fn replay<P: Program>(
     alloc: Global,
     graph: &Graph,
@@ -59,33 +64,56 @@ pub fn replay<P: Program>(
     first: &Numbers,
     order: &[Entry],
 ) -> Result<Numbers, Trouble> {
-    let mut numbers = first.again(alloc)?;
-    for part in order.split(|entry| matches!(entry, Entry::Restart { .. })) {
-        let played = played_from(alloc, graph, program, &numbers, part)?;
-        keep_edges(graph, part, &played.edges, &mut numbers);
-        numbers.values = played.values;
+    let mut numbers = Numbers::alike(alloc, &first.values, &first.edges)?;
+    let outcome = replay_parts(alloc, graph, program, order, &mut numbers);
+    if let Err(trouble) = outcome {
+        drop(numbers);
+        return Err(trouble);
     }
     Ok(numbers)
 }
 
-/// What updates without a restart among them lead to, where each edge begins at 0.
-fn played_from<P: Program>(
+/// Replays the parts of an order between its restarts in turn.
+fn replay_parts<P: Program>(
     alloc: Global,
     graph: &Graph,
     program: P,
-    numbers: &Numbers,
-    part: &[Entry],
-) -> Result<Played, Trouble> {
-    let program = started_by(graph, program, &numbers.values)?;
-    let mut run = SeqRun::new(alloc, graph, program)?;
-    let mut least = 0;
-    for entry in part {
-        least = step(&mut run, *entry, least)?;
+    order: &[Entry],
+    numbers: &mut Numbers,
+) -> Result<(), Trouble> {
+    let mut start = 0;
+    for (place, entry) in order.iter().enumerate() {
+        if let Entry::Restart { .. } = entry {
+            let part = order.get(start..place).unwrap_or(&[]);
+            replay_part(alloc, graph, program, part, numbers)?;
+            start = place.saturating_add(1);
+        }
     }
-    Ok(run.finish())
+    let part = order.get(start..).unwrap_or(&[]);
+    replay_part(alloc, graph, program, part, numbers)
 }
 
-/// The program, which starts with these numbers.
+/// Replays updates without a restart among them.
+fn replay_part<P: Program>(
+    alloc: Global,
+    graph: &Graph,
+    program: P,
+    part: &[Entry],
+    numbers: &mut Numbers,
+) -> Result<(), Trouble> {
+    let program = started_by(graph, program, &numbers.values)?;
+    let mut run = SeqRun::new(alloc, graph, program)?;
+    if let Err(trouble) = make_updates(&mut run, part) {
+        drop(run);
+        return Err(trouble);
+    }
+    let Played { values, edges, .. } = run.finish();
+    keep_edges(graph, part, &edges, numbers);
+    numbers.values = values;
+    Ok(())
+}
+
+/// Returns the program, which starts with these numbers.
 fn started_by<P: Program>(
     graph: &Graph,
     program: P,
@@ -96,22 +124,31 @@ fn started_by<P: Program>(
         let id = graph.id(Vertex(v));
         let number = values.get(v as usize).copied();
         if id >= 64 {
-            return Err(Trouble::Malformed("too great an identifier for a replay"));
+            return Err(Trouble("an identifier is too great for a replay"));
         }
         numbers[id as usize] = number.unwrap_or(0);
     }
     Ok(StartingWith { program, numbers })
 }
 
-/// One update more, whose ticket is no less than this. Tells the least that the next may have.
+/// Makes the updates, whose tickets ascend.
+fn make_updates<P: Program>(run: &mut SeqRun<'_, P>, part: &[Entry]) -> Result<(), Trouble> {
+    let mut least = 0;
+    for entry in part {
+        least = step(run, *entry, least)?;
+    }
+    Ok(())
+}
+
+/// Makes one update more, whose ticket is no less than this. Returns the least that the next may have.
 fn step<P: Program>(run: &mut SeqRun<'_, P>, entry: Entry, least: u64) -> Result<u64, Trouble> {
     match entry {
         Entry::Go { vertex, ticket, .. } if ticket >= least => match run.step(vertex) {
             Ok(()) => Ok(ticket.saturating_add(1)),
-            Err(StepFault::NotScheduled) => Err(Trouble::Differs("an update of no task")),
-            Err(StepFault::NoMemory) => Err(Trouble::NoMemory),
+            Err(StepFault::NotScheduled) => Err(Trouble("an update is of no task")),
+            Err(StepFault::NoMemory) => Err(Trouble("memory is missing")),
         },
-        _ => Err(Trouble::Differs("an entry out of its turn")),
+        _ => Err(Trouble("an entry is out of its turn")),
     }
 }
 
@@ -131,7 +168,14 @@ fn keep_edges(graph: &Graph, part: &[Entry], played: &[u64], numbers: &mut Numbe
     }
 }
 
-/// Whether the vertex was updated.
+/// Returns whether the vertex was updated.
 fn is_updated(part: &[Entry], v: Vertex) -> bool {
-    part.iter().any(|entry| matches!(entry, Entry::Go { vertex, .. } if *vertex == v))
+    for entry in part {
+        if let Entry::Go { vertex, .. } = entry {
+            if *vertex == v {
+                return true;
+            }
+        }
+    }
+    false
 }

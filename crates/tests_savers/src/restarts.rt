@@ -5,7 +5,7 @@ use call_returns::missing_restarts;
 use gl_base::Entry;
 use std::alloc::Global;
 
-/// The restarts that the store lacks: those that it lacked as the attempt began, and those of so many failures with this ticket.
+/// Returns the restarts that the store lacks: those that it lacked as the attempt began, and those of so many failures with this ticket.
 pub fn missing_of(
     alloc: Global,
     kept: &Kept,

@@ -3,7 +3,7 @@ use crate::beginnings::{Beginning, Whole, begun};
 use crate::replays::Numbers;
 use crate::stores::{Store, empty_store};
 use crate::trouble::Trouble;
-use gl_base::{Base, Entry};
+use gl_base::Entry;
 use std::alloc::Global;
 use update_api::Program;
 
@@ -26,52 +26,40 @@ pub struct Kept {
 #[derive(Drop)]
 pub struct Scene<'a, P: Program> {
     pub beginning: &'a Beginning<'a, P>,
-    pub base: &'a Base,
-    pub tickets: u64,
     pub whole: Whole<P>,
     pub kept: Kept,
 }
 
 impl<'a, P: Program> Scene<'a, P> {
-    /// The cluster as it begins, with a store without snapshots.
-    pub fn new(
-        alloc: Global,
-        beginning: &'a Beginning<'a, P>,
-        base: &'a Base,
-        tickets: u64,
-    ) -> Result<Scene<'a, P>, Trouble> {
-        Ok(Scene {
-            beginning,
-            base,
-            tickets,
-            whole: begun(alloc, beginning, base, tickets)?,
-            kept: first_kept(alloc, beginning, base)?,
-        })
-    }
-
-    /// Begins anew.
-    pub fn begin_anew(&mut self, alloc: Global) -> Result<(), Trouble> {
-        self.whole = begun(alloc, self.beginning, self.base, self.tickets)?;
-        self.kept = first_kept(alloc, self.beginning, self.base)?;
-        Ok(())
+    /// Returns the cluster as it begins, with a store without snapshots.
+    pub fn new(alloc: Global, beginning: &'a Beginning<'a, P>) -> Result<Scene<'a, P>, Trouble> {
+        let kept = first_kept(alloc, beginning)?;
+        match begun(alloc, beginning) {
+            Ok(whole) => Ok(Scene {
+                beginning,
+                whole,
+                kept,
+            }),
+            Err(trouble) => {
+                drop(kept);
+                Err(trouble)
+            }
+        }
     }
 }
 
-/// What is known at first.
+/// Returns what is known at first.
 pub fn first_kept<P: Program>(
     alloc: Global,
     beginning: &Beginning<'_, P>,
-    base: &Base,
 ) -> Result<Kept, Trouble> {
+    let first = Numbers::of(alloc, &beginning.base)?;
+    let newest = Numbers::of(alloc, &beginning.base)?;
     let store = empty_store(alloc, beginning.graph, beginning.machines)?;
-    let first = Numbers {
-        values: Vec::from_slice(alloc, &base.values)?,
-        edges: Vec::from_slice(alloc, &base.edges)?,
-    };
     Ok(Kept {
         store: Some(store),
-        newest: first.again(alloc)?,
         first,
+        newest,
         order: Vec::new(alloc),
         entries: Vec::new(alloc),
         lacking: Vec::new(alloc),

@@ -10,10 +10,10 @@ use store_format::{Digest, Header, is_record};
 /// A store in memory that is open.
 pub type Store = Journal<MemDisk>;
 
-/// A store without snapshots, for so many machines and this graph.
+/// Makes a store without snapshots, for so many machines and this graph.
 pub fn empty_store(alloc: Global, graph: &Graph, machines: u16) -> Result<Store, Trouble> {
     if machines < 1 || machines > 16 {
-        return Err(Trouble::Malformed("too many machines"));
+        return Err(Trouble("there are too many machines"));
     }
     let header = Header {
         machines,
@@ -25,44 +25,51 @@ pub fn empty_store(alloc: Global, graph: &Graph, machines: u16) -> Result<Store,
         digest: Digest([7; 32]),
     };
     let mut disk = MemDisk::new(alloc, Vec::new(alloc), Vec::new(alloc), u64::MAX);
-    match init(&mut disk, &header) {
-        Ok(()) => opened(alloc, disk, &header),
-        Err(_) => Err(Trouble::Differs("no store is made")),
+    if init(&mut disk, &header).is_err() {
+        drop(disk);
+        return Err(Trouble("no store is made"));
     }
+    opened(alloc, disk, &header)
 }
 
-/// The store on the disk, which is opened.
+/// Opens the store on the disk.
 fn opened(alloc: Global, disk: MemDisk, header: &Header) -> Result<Store, Trouble> {
     match Journal::open(alloc, disk, header) {
         Ok(store) => Ok(store),
-        Err(_) => Err(Trouble::Differs("the store is not opened")),
+        Err(_) => Err(Trouble("the store is not opened")),
     }
 }
 
-/// The store, which is taken and opened again.
+/// Takes the store and opens it again.
 pub fn opened_again(alloc: Global, store: &mut Option<Store>) -> Result<Store, Trouble> {
     let Some(store) = store.take() else {
-        return Err(Trouble::Differs("the store is gone"));
+        return Err(Trouble("the store is gone"));
     };
     let header = store.header();
     opened(alloc, store.into_disk(), &header)
 }
 
-/// Adds a record to the store.
+/// Adds a record to the store, which has to be in the form of one.
 pub fn append(alloc: Global, store: &mut Option<Store>, record: &Record) -> Result<(), Trouble> {
     let Some(mut open) = store.take() else {
-        return Err(Trouble::Differs("the store is gone"));
+        return Err(Trouble("the store is gone"));
     };
+    let outcome = append_to(alloc, &mut open, record);
+    *store = Some(open);
+    outcome
+}
+
+/// Adds a record to a store that is open.
+fn append_to(alloc: Global, open: &mut Store, record: &Record) -> Result<(), Trouble> {
     if open.count() >= 4096 {
-        return Err(Trouble::Differs("the store is full"));
+        return Err(Trouble("the store is full"));
     }
     let header = open.header();
     if !is_record(alloc, &header, 1 + open.count(), record)? {
-        return Err(Trouble::Differs("the record is not in the form of a store"));
+        return Err(Trouble("the record is not in the form of a store"));
     }
     if open.append(alloc, record).is_err() {
-        return Err(Trouble::Differs("the record is not stored"));
+        return Err(Trouble("the record is not stored"));
     }
-    *store = Some(open);
     Ok(())
 }

@@ -1,31 +1,25 @@
-//! What may go wrong with a line.
+//! Why a line is not played.
 use gl_base::NoMemory;
 use std::alloc::{AllocError, AllocFailed};
 
-/// What may go wrong with a line of a scenario.
-#[derive(Clone, Copy, Debug, PartialEq, Eq)]
-pub enum Trouble {
-    /// The line can't be understood.
-    Malformed(&'static str),
-    /// What came is another thing than what is wanted.
-    Differs(&'static str),
-    NoMemory,
-}
+/// Why a line is not played, in words that are printed behind it.
+#[derive(Clone, Copy)]
+pub struct Trouble(pub &'static str);
 
 impl From<NoMemory> for Trouble {
     fn from(_: NoMemory) -> Self {
-        Trouble::NoMemory
+        Trouble("memory is missing")
     }
 }
 
 impl From<AllocError> for Trouble {
     fn from(_: AllocError) -> Self {
-        Trouble::NoMemory
+        Trouble("memory is missing")
     }
 }
 
 impl<T: Drop> From<AllocFailed<T>> for Trouble {
     fn from(_: AllocFailed<T>) -> Self {
-        Trouble::NoMemory
+        Trouble("memory is missing")
     }
 }

@@ -2,4 +2,4 @@
 use Rattle.tests_savers.proofs.beginnings.begin_call.Goals as goal
 
 pub open-requires-clause-start : goal.open-requires-clause-start
-open-requires-clause-start g c = c.in_ok-start.ensures.start 0 c.args.tickets
+open-requires-clause-start g c = c.in_ok-start.ensures.start _ _

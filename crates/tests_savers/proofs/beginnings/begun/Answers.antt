@@ -2,4 +2,4 @@
 use Rattle.tests_savers.proofs.beginnings.begun.Goals as goal
 
 pub new-requires-clause-start : goal.new-requires-clause-start
-new-requires-clause-start g c = c.in_ok-start.ensures.start 0 c.args.tickets
+new-requires-clause-start g c = c.in_ok-start.ensures.start _ _
