@@ -5,5 +5,5 @@ mod faults;
 mod numbers;
 mod storing;
 
-pub use adding::append_due;
-pub use faults::AppendFault;
+pub(crate) use adding::append_due;
+pub(crate) use faults::AppendFault;

@@ -8,6 +8,7 @@ mod logs;
 mod numbers;
 mod tasks;
 
-pub use gathering::{CallLists, GatherFault, gather_call};
+pub(crate) use gathering::{CallLists, GatherFault, gather_call};
 pub use laws::calls_end_so;
+pub(crate) use logs::merged_logs;
 pub use tasks::task_left;

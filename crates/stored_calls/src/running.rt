@@ -96,9 +96,16 @@ pub fn run_stored<R: Wait, D: Disk, P: Program>(
     let _stored = journal.count();
     let _length = journal.length();
     let mut call = begin(alloc, graph, program, plan, failures, journal, resumed)?;
-    let end = play_to_end(rt, alloc, graph, program, &mut call, journal)?;
-    let long = journal.length();
-    gathered(alloc, graph, failures, call, end, long)
+    match play_to_end(rt, alloc, graph, program, &mut call, journal) {
+        Ok(end) => {
+            let long = journal.length();
+            gathered(alloc, graph, failures, call, end, long)
+        }
+        Err(why) => {
+            drop(call);
+            Err(why)
+        }
+    }
 }
 
 /// The call as it starts.
@@ -199,15 +206,28 @@ fn gathered<P: Program>(
     let StoredCall {
         course,
         places,
+        restarts,
         order,
         lost,
         snapshots,
-        ..
     } = call;
+    drop(restarts);
     match gather_call(alloc, graph, &course, &places, failures, order, lost) {
-        Ok(lists) => Ok(run_of(lists, snapshots, end)),
-        Err(GatherFault::OtherGraph) => Err(JournalFault::BadStore(StoreFault::BadByte(long))),
-        Err(GatherFault::NoMemory) => Err(JournalFault::NoMemory),
+        Ok(lists) => {
+            drop(course);
+            drop(places);
+            Ok(run_of(lists, snapshots, end))
+        }
+        Err(GatherFault::OtherGraph) => {
+            drop(course);
+            drop(places);
+            Err(JournalFault::BadStore(StoreFault::BadByte(long)))
+        }
+        Err(GatherFault::NoMemory) => {
+            drop(course);
+            drop(places);
+            Err(JournalFault::NoMemory)
+        }
     }
 }
 

@@ -1,14 +1,10 @@
--- The logs of all machines, and what an order lacks of them.
-use Rattle.std.proofs.Common.{◌≡◌, ℕ, ◌+◌, ◌++◌, ◌∙◌, List, [], ◌∷◌, ap, ap₂, arith, filter, subst, sym}
+-- What an order lacks of the logs of all machines.
+use Rattle.std.proofs.Common.{◌≡◌, ℕ, ◌∙◌, List, ap, filter, subst, sym}
 use Rattle.std.specs.Prelude.{Err, IfOk, Ok, Result}
-use Rattle.std.specs.List.Sorted.{IsNonDecreasingBy, IsPermutation}
-use Rattle.std.proofs.lemmas.List.{append-nil}
-use Rattle.std.proofs.lemmas.Grind.{flat_map-append}
-use Rattle.std.proofs.lemmas.List.FromFn.{map-range_with_len_more}
 use Rattle.gl_base.specs.declared.entries.Entry.{Entry}
 use Rattle.cluster_laws.specs.cluster_model.Clusters.{BaseView, Cluster}
 use Rattle.cluster_laws.specs.cluster_model.Events as law
-use Rattle.merged_logs.specs.Merges.{IsMerge, ticket_of}
+use Rattle.merged_logs.specs.Merges.{IsMerge}
 use Rattle.whole_laws.proofs.whole_calls.Calling.{the_losses}
 use Rattle.whole_laws.specs.whole_calls.Lost.{TakesAway, all_logged, is_lacking, machine_logs}
 use Rattle.stored_calls.specs.call_backs.Failing.{CallOpening, CourseView, IsCourseNow, Machine, Setting, newest_setting}
@@ -16,21 +12,6 @@ use Rattle.stored_calls.specs.call_backs.Failing.{CallOpening, CourseView, IsCou
 pub for_ok : {X E : Type 0} (r : Result X E) (P Q : X → Type 0) → ((x : X) → P x → Q x) → IfOk r P → IfOk r Q
 for_ok (Ok x) P Q then is = then x is
 for_ok (Err e) P Q then is = tt
-
-from_none : (n : ℕ) → 0 + n ≡ n
-from_none n = omega arith
-
--- one log more
-pub logs_more : (c : Cluster) (m : ℕ) (all log : List Entry) → all ≡ all_logged (machine_logs m c) → log ≡ (c.machine m).part.log → all ++ log ≡ all_logged (machine_logs (m + 1) c)
-logs_more c m all log so_far is =
-    let own : List Entry = (c.machine m).part.log in
-    ap₂ (λ (xs ys : List Entry). xs ++ ys) so_far (is ∙ sym (append-nil own))
-    ∙ sym (flat_map-append (λ (es : List Entry). es) (machine_logs m c) (own ∷ []))
-    ∙ ap all_logged (sym (map-range_with_len_more (λ (a : ℕ). (c.machine a).part.log) 0 m m (from_none m)))
-
--- sorted by ticket they are merged
-pub merge_so : (entries all merged : List Entry) → all ≡ entries → IsPermutation all merged → IsNonDecreasingBy ticket_of merged → IsMerge entries merged
-merge_so entries all merged are same up = record { same = subst (λ (es : List Entry). IsPermutation es merged) are same; by_ticket = up }
 
 -- what is lacking of them is taken away
 pub takes_away : {M : Type 0} (stands : Setting → ℕ → Machine → M → Type 0) (v : CourseView M) (st : Setting) (o : CallOpening) (events : List law.Event) (c : Cluster) → IsCourseNow stands v st o events c →

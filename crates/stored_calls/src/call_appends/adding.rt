@@ -23,7 +23,7 @@ use stored_answers::SnapLine;
 /// course only once the journal has it. Between them nothing can fail. `Full` comes where the snapshot may not be acknowledged since the store
 /// takes no snapshot more, or not this one. After each error the course is where it was, and after each but `DiskFault` the journal is
 /// unchanged; after `DiskFault` the store has to be opened again, and may have the snapshot, which was not acknowledged.
-pub fn append_due<D: Disk, M: SavingMachine>(
+pub(crate) fn append_due<D: Disk, M: SavingMachine>(
     alloc: Global,
     course: &mut Course<M>,
     journal: &mut Journal<D>,
@@ -97,8 +97,8 @@ fn due_record<M: SavingMachine>(
     ensures stays { StaysThere M.stands course.old course.new }
     ensures same { IsSameAttempt course.old course.new }
 {
-    let saved = course.record(alloc)?;
     let missing = missing_restarts(alloc, &restarts.stored, &restarts.front, 0, 0)?;
+    let saved = course.record(alloc)?;
     Ok(record_behind(alloc, saved, &missing)?)
 }
 

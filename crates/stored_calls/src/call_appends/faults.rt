@@ -2,22 +2,17 @@
 use gl_base::Refused;
 use snap_journal::JournalFault;
 use std::alloc::AllocError;
-use thiserror::Error;
 
 /// Why the snapshot that is due was not added to the store.
-#[derive(Clone, Copy, Debug, Error)]
-pub enum AppendFault {
+#[derive(Clone, Copy)]
+pub(crate) enum AppendFault {
     /// The store takes no snapshot more, or not this one.
-    #[error("the store is full: {stored} snapshots, {length} bytes")]
     Full { stored: u32, length: u64 },
     /// A call on the disk failed.
-    #[error("the disk failed")]
     DiskFault,
     /// The record of the snapshot is not in the form of the store.
-    #[error("the snapshot is not in the form of the store")]
     NotInForm,
     /// There was not enough memory.
-    #[error("out of memory")]
     NoMemory,
 }
 

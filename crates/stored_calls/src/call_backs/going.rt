@@ -11,7 +11,7 @@ use crate::call_backs::failing::fail_reached;
 use crate::call_backs::next_attempts::next_attempt;
 use call_courses::Course;
 use call_returns::Restarts;
-use gl_base::Entry;
+use gl_base::{Entry, NoMemory};
 use gl_outside::Disk;
 use graph_core::Graph;
 use placed_savers::Places;
@@ -72,7 +72,12 @@ pub fn go_back<D: Disk, P: Program>(
     let next = next_attempt(
         alloc, course, journal, graph, program, places, restarts, lost,
     )?;
-    course.recover(alloc, next.machines, places.run.engine, next.store)?;
+    if let Err(NoMemory) = course.recover(alloc, next.machines, places.run.engine, next.store) {
+        drop(next.order);
+        drop(next.front);
+        drop(next.lost);
+        return Err(JournalFault::NoMemory);
+    }
     restarts.front = next.front;
     *lost = next.lost;
     Ok(next.order)

@@ -17,7 +17,7 @@ ghost use Rattle.snap_journal.specs.Last.{IsWhyNoLast};
 use crate::call_backs::losing::taken_away;
 use crate::call_backs::reading::{failures_now, serials};
 use crate::call_backs::rooms::store_behind;
-use call_courses::{Course, Store};
+use call_courses::{Course, SavingMachine, Store};
 use call_returns::{Restarts, base_behind, missing_restarts};
 use gl_base::{Base, Entry, NoMemory};
 use gl_outside::Disk;
@@ -79,11 +79,28 @@ pub(crate) fn next_attempt<D: Disk, P: Program>(
         failures,
         course.next(),
     )?;
-    let base = base_with(alloc, journal, graph, &program, &missing)?;
-    let store = store_behind(course, graph, base.number, failures)?;
-    let next = attempt_from(
+    let base = match base_with(alloc, journal, graph, &program, &missing) {
+        Ok(base) => base,
+        Err(why) => {
+            drop(missing);
+            return Err(why);
+        }
+    };
+    let store = match store_behind(course, graph, base.number, failures) {
+        Ok(store) => store,
+        Err(full) => {
+            drop(base);
+            drop(missing);
+            return Err(full);
+        }
+    };
+    let Ok(next) = attempt_from(
         alloc, course, graph, program, places, restarts, lost, base, &missing, store,
-    )?;
+    ) else {
+        drop(missing);
+        return Err(JournalFault::NoMemory);
+    };
+    drop(missing);
     Ok(next)
 }
 
@@ -139,11 +156,21 @@ fn attempt_from<P: Program>(
     ensures start { IfOk result (λ next. (store : StoreView) → store.vertices ≡ size graph.now → store.edges ≡ length graph.now.edges → store.newest ≡ base.number →
         (st : Setting) × (to : BaseView) × (before : Cluster) × StartsSaving (IsEngineSaverOf P.meaning) next.machines.items places.now.run.engine store course.now.now.next course.now.now.left st to before) }
 {
-    let gone = taken_away(alloc, course, &base.order)?;
-    let lost = list_behind(alloc, lost, &gone)?;
-    let front = list_behind(alloc, &restarts.stored, missing)?;
-    let serials = serials(alloc, course)?;
-    let machines = placed_savers(alloc, graph, program, &base, places, &serials)?;
+    let Ok(lost) = lost_behind(alloc, course, lost, &base.order) else {
+        drop(base);
+        return Err(NoMemory);
+    };
+    let Ok(front) = list_behind(alloc, &restarts.stored, missing) else {
+        drop(lost);
+        drop(base);
+        return Err(NoMemory);
+    };
+    let Ok(machines) = machines_from(alloc, course, graph, program, &base, places) else {
+        drop(front);
+        drop(lost);
+        drop(base);
+        return Err(NoMemory);
+    };
     Ok(NextAttempt {
         machines,
         store,
@@ -151,6 +178,44 @@ fn attempt_from<P: Program>(
         front,
         lost,
     })
+}
+
+/// The updates that the call has lost where all go back to this order: those that it had lost before, and behind them what that takes away.
+fn lost_behind<M: SavingMachine>(
+    alloc: Global,
+    course: &Course<M>,
+    lost: &[Entry],
+    order: &[Entry],
+) -> Result<Vec<Entry>, NoMemory>
+    ensures { IfOk result (λ all. (gone : List Entry) × (all.items ≡ lost.now ++ gone) × InEachCourse M.stands course.now (λ st o events c. (to : BaseView) → to.order ≡ order.now →
+        GoesBackTo (newest_setting st o events) c to → TakesAway (newest_setting st o events) c to gone)) }
+{
+    let gone = taken_away(alloc, course, order)?;
+    let lost = list_behind(alloc, lost, &gone)?;
+    Ok(lost)
+}
+
+/// The machines of the next attempt from this base.
+fn machines_from<P: Program>(
+    alloc: Global,
+    course: &Course<EngineSaver<P>>,
+    graph: &Graph,
+    program: P,
+    base: &Base,
+    places: &Places,
+) -> Result<Vec<EngineSaver<P>>, NoMemory>
+    requires places { ArePlacesOf graph.now (length course.now.now.machines.items) places.now }
+    requires base { IsBaseFor graph.now base.now }
+    requires graph { IsDataGraph graph.now }
+    ensures many { IfOk result (λ machines. length machines.items ≡ length course.now.now.machines.items) }
+    ensures stand { IfOk result (λ machines. InEachCourse (IsEngineSaverOf P.meaning) course.now (λ st o events c. (to : BaseView) → IsRunAt graph.now (P.meaning program) places.now (newest_setting st o events) → IsBaseOf (newest_setting st o events) base.now to →
+        AreSaversOf P.meaning (newest_setting st o events) to c machines.items)) }
+    ensures start { IfOk result (λ machines. (store : StoreView) → store.vertices ≡ size graph.now → store.edges ≡ length graph.now.edges → store.newest ≡ base.now.number →
+        (st : Setting) × (to : BaseView) × (before : Cluster) × StartsSaving (IsEngineSaverOf P.meaning) machines.items places.now.run.engine store course.now.now.next course.now.now.left st to before) }
+{
+    let serials = serials(alloc, course)?;
+    let machines = placed_savers(alloc, graph, program, base, places, &serials)?;
+    Ok(machines)
 }
 
 /// The one list with the other behind it.

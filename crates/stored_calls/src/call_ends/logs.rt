@@ -23,7 +23,10 @@ pub(crate) fn order_behind<M: SavingMachine>(
 }
 
 /// The updates of all machines in the newest attempt, by ticket.
-fn merged_logs<M: SavingMachine>(alloc: Global, course: &Course<M>) -> Result<Vec<Entry>, NoMemory>
+pub(crate) fn merged_logs<M: SavingMachine>(
+    alloc: Global,
+    course: &Course<M>,
+) -> Result<Vec<Entry>, NoMemory>
     ensures { IfOk result (λ merged. InEachCourse M.stands course.now (λ st o events c. IsMerge (all_logged (machine_logs st.machines c)) merged.items)) }
 {
     let mut merged = all_logs(alloc, course)?;

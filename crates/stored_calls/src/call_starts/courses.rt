@@ -39,9 +39,9 @@ pub(crate) fn course_of<P: Program>(
         CanOpenWith st failures.now resumed (base_with kept opening.now.base) opening.now.next budget → OpensWith P.meaning course st resumed (base_with kept opening.now.base) budget) }
 {
     attempts_can_begin();
+    let listed = Vec::from_slice(alloc, failures)?;
     let serials = Vec::from_elem(alloc, 0u64, places.run.machines as usize)?;
     let machines = placed_savers(alloc, graph, program, &opening.base, places, &serials)?;
-    let listed = Vec::from_slice(alloc, failures)?;
     let store = store_of(graph, &opening.base);
     let left = tickets_from(opening.next, budget);
     Course::open(

@@ -39,11 +39,20 @@ pub(crate) fn opening_of(
     ensures short { IfOk result (λ opening. opening.base.length < 2 ^ 32) }
     ensures refused { IfErr result (IsWhyNoOpening stored base.length (restart_room resumed)) }
 {
-    check_room(stored, base.length, resumed)?;
+    if let Err(full) = check_room(stored, base.length, resumed) {
+        drop(base);
+        return Err(full);
+    }
     let next = next_ticket(&base.order);
-    let stored = restarts_of(alloc, &base.order)?;
+    let Ok(stored) = restarts_of(alloc, &base.order) else {
+        drop(base);
+        return Err(JournalFault::NoMemory);
+    };
     let base = base_opened(base, next, resumed)?;
-    let front = restarts_of(alloc, &base.order)?;
+    let Ok(front) = restarts_of(alloc, &base.order) else {
+        drop(base);
+        return Err(JournalFault::NoMemory);
+    };
     Ok(Opening {
         base,
         next,

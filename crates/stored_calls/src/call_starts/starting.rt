@@ -71,8 +71,11 @@ pub fn start_call<D: Disk, P: Program>(
     let stored = journal.count();
     let base = recover(alloc, journal, graph, &program)?;
     let opening = opening_of(alloc, base, stored, resumed)?;
-    let places = places_of(alloc, graph, &opening.base, plan)?;
-    let course = course_of(
+    let Ok(places) = places_of(alloc, graph, &opening.base, plan) else {
+        drop(opening);
+        return Err(JournalFault::NoMemory);
+    };
+    let Ok(course) = course_of(
         alloc,
         graph,
         program,
@@ -80,7 +83,11 @@ pub fn start_call<D: Disk, P: Program>(
         &opening,
         plan.run.budget,
         failures,
-    )?;
+    ) else {
+        drop(places);
+        drop(opening);
+        return Err(JournalFault::NoMemory);
+    };
     let Opening { base, restarts, .. } = opening;
     Ok(Started {
         course,

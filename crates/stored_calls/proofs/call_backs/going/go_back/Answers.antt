@@ -17,13 +17,11 @@ returns-in_err-next-clause-failed g c =
 pub recover-requires-clause-many : goal.recover-requires-clause-many
 recover-requires-clause-many g c = c.in_ok-next.ensures.many
 
-pub returns-in_err-recover-clause-failed : goal.returns-in_err-recover-clause-failed
-returns-in_err-recover-clause-failed g c =
+pub returns-in-Err-clause-failed : goal.returns-in-Err-clause-failed
+returns-in-Err-clause-failed g c =
     let some : InEachCourse (IsEngineSaverOf g.P.Program.meaning) c.args.course.now (HaveFailedSince (IsEngineSaverOf g.P.Program.meaning) c.fail_reached.new.course (λ a. ⊥)) =
     λ st o events x is. fewer (IsEngineSaverOf g.P.Program.meaning) c.fail_reached.new.course (λ a. a < length c.args.course.now.now.machines.items) (λ a. ⊥) (λ a none. absurd none) st o events x (c.in_ok-fail_reached.ensures.failed st o events x is) in
-    let same : InEachCourse (IsEngineSaverOf g.P.Program.meaning) c.args.course.now (HaveFailedSince (IsEngineSaverOf g.P.Program.meaning) c.recover.new.self (λ a. ⊥)) =
-    subst (λ v. InEachCourse (IsEngineSaverOf g.P.Program.meaning) c.args.course.now (HaveFailedSince (IsEngineSaverOf g.P.Program.meaning) v (λ a. ⊥))) (sym c.in_err-recover.ensures.unchanged) some in
-    on_err _ same
+    subst (λ v. InEachCourse (IsEngineSaverOf g.P.Program.meaning) c.args.course.now (HaveFailedSince (IsEngineSaverOf g.P.Program.meaning) v (λ a. ⊥))) (sym c.in-Err.ensures.unchanged) some
 
 pub returns-clause-back : goal.returns-clause-back
 returns-clause-back g c = λ told runs start order st o run known some.
@@ -41,5 +39,5 @@ returns-clause-back g c = λ told runs start order st o run known some.
     let after = known_failed (IsEngineSaverOf meaning) old mid failures header start bodies lost stored front order st o known runs some fails in
     let next = lost_read meaning mid header start bodies c.deref.result.now lost c.in_ok-next.next.lost.items stored front c.in_ok-next.next.front.items order c.in_ok-next.next.order.items st o c.in_ok-next.next.machines.items c.args.places.now.run.engine
     (store_view c.in_ok-next.next.store) c.deref.ensures.value (c.in_ok-next.ensures.back told start order st o run) after.0 after.1 in
-    known_back meaning mid new c.in_ok-recover.ensures.same.1 header start bodies lost c.in_ok-next.next.lost.items stored front c.in_ok-next.next.front.items order c.in_ok-next.next.order.items st o
-    c.in_ok-next.next.machines.items c.args.places.now.run.engine (store_view c.in_ok-next.next.store) after.0 next c.in_ok-recover.ensures.recovered
+    known_back meaning mid new c.in_default.ensures.same.1 header start bodies lost c.in_ok-next.next.lost.items stored front c.in_ok-next.next.front.items order c.in_ok-next.next.order.items st o
+    c.in_ok-next.next.machines.items c.args.places.now.run.engine (store_view c.in_ok-next.next.store) after.0 next c.in_default.ensures.recovered

@@ -1,29 +1,16 @@
--- The machines of the next attempt, and what is lost.
-use Rattle.std.proofs.Common.{◌++◌, ◌∙◌, List, ap, length, refl, sym}
-use Rattle.gl_base.specs.declared.entries.Entry.{Entry}
-use Rattle.stored_calls.proofs.call_backs.Attempts.{admitted_so, stand_so, starts_so}
-use Rattle.stored_calls.specs.call_backs.Returning.{newest_setting}
+-- What is lost behind the order of the base.
+use Rattle.std.proofs.Common.{◌∙◌, sym}
 use Rattle.stored_calls.proofs.call_backs.next_attempts.attempt_from.Goals as goal
 
 pub returns-clause-lost : goal.returns-clause-lost
 returns-clause-lost g c = (
-  c.in_ok-gone.gone.items,
-  c.in_ok-lost.ensures ∙ ap (λ (es : List Entry). c.args.lost.now ++ es) c.deref-2.ensures.value,
-  λ st o events x is to order_is back. c.in_ok-gone.ensures st o events x is to (order_is ∙ sym c.deref.ensures.value) back,
+  c.in-Ok.ensures.0,
+  c.in-Ok.ensures.1,
+  λ st o events x is to order_is back. c.in-Ok.ensures.2 st o events x is to (order_is ∙ sym c.deref.ensures.value) back,
 )
 
-pub placed_savers-requires-clause-places : goal.placed_savers-requires-clause-places
-placed_savers-requires-clause-places g c = record { each = c.requires.places.each; atoms = c.requires.places.atoms; owners = c.requires.places.owners; colours = c.requires.places.colours; many = refl }
-
 pub returns-clause-stand : goal.returns-clause-stand
-returns-clause-stand g c = λ st o events x is to runs of.
-    stand_so g.P.Program.meaning c.args.graph.now (g.P.Program.meaning c.args.program) c.args.places.now c.args.base c.in_ok-machines.machines.items c.deref-4.result.now c.in_ok-serials.serials.items
-    c.deref-4.ensures.value c.in_ok-machines.ensures.stand (newest_setting st o events) to x runs of
-    (admitted_so g.P.Program.meaning c.args.course.now c.in_ok-serials.serials.items c.in_ok-serials.ensures.each st o events x is)
+returns-clause-stand g c = c.in-Ok-machines_from.ensures.stand
 
 pub returns-clause-start : goal.returns-clause-start
-returns-clause-start g c =
-    starts_so g.P.Program.meaning c.args.graph.now (g.P.Program.meaning c.args.program) c.args.places.now (length c.args.course.now.now.machines.items) c.args.base c.in_ok-serials.serials.items c.in_ok-machines.machines.items c.args.course.now.now.next
-    c.args.course.now.now.left c.requires.graph c.requires.places c.requires.base
-    (stand_so g.P.Program.meaning c.args.graph.now (g.P.Program.meaning c.args.program) c.args.places.now c.args.base c.in_ok-machines.machines.items c.deref-4.result.now c.in_ok-serials.serials.items
-    c.deref-4.ensures.value c.in_ok-machines.ensures.stand)
+returns-clause-start g c = c.in-Ok-machines_from.ensures.start

@@ -1,6 +1,5 @@
 -- The next attempt goes on from what the store has.
 use Rattle.std.proofs.Common.{◌≡◌, ◌++◌, ◌∙◌, List, ap, filter, subst, sym}
-use Rattle.std.proofs.lemmas.Result.{err_from_is_err_and}
 use Rattle.gl_base.specs.declared.entries.Entry.{Entry}
 use Rattle.cluster_laws.specs.cluster_runs.Recorded.{shared_of}
 use Rattle.coord_core.specs.Stores.{store_view}
@@ -16,11 +15,16 @@ missing_restarts-requires g c =
     begins_kept c.deref.result.now c.deref-2.result.now
     (subst (λ (es : List Entry). Begins es c.deref-2.result.now) (sym c.deref.ensures.value) (subst (λ (es : List Entry). Begins c.args.restarts.now.stored.items es) (sym c.deref-2.ensures.value) c.requires.first))
 
-pub returns-in_err-store-clause-refused : goal.returns-in_err-store-clause-refused
-returns-in_err-store-clause-refused g c =
-    let exit = err_from_is_err_and c.from_residual-in_err-store.result c.from_residual-in_err-store.ensures.1 in
-    rw (exit.1, exit.2) (is_full _ _ _ _ _ _ c.in_ok-base.base.number c.args.course.now.now.coordinator.saving.store_end _ c.in_err-store.ensures.full.0
-    (no_place (IsEngineSaverOf g.P.Program.meaning) c.args.course.now c.in_ok-failures.failures c.in_ok-failures.ensures c.in_err-store.ensures.full.1) c.in_ok-base.ensures.well.0 c.in_ok-base.ensures.well.1)
+pub returns-in-Err-store_behind-clause-refused : goal.returns-in-Err-store_behind-clause-refused
+returns-in-Err-store_behind-clause-refused g c =
+    is_full _ _ _ _ _ _ c.in-Ok.base.number c.args.course.now.now.coordinator.saving.store_end _ c.in-Err-store_behind.ensures.full.0
+    (no_place (IsEngineSaverOf g.P.Program.meaning) c.args.course.now c.in_ok-failures.failures c.in_ok-failures.ensures c.in-Err-store_behind.ensures.full.1) c.in-Ok.ensures.well.0 c.in-Ok.ensures.well.1
+
+pub returns-clause-start : goal.returns-clause-start
+returns-clause-start g c =
+    let made = c.in-Ok-attempt_from.ensures in
+    let store = c.in-Ok-store_behind.ensures in
+    made.start (store_view c.in-Ok-attempt_from.next.store) (ap (λ s. s.vertices) made.store ∙ store.vertices) (ap (λ s. s.edges) made.store ∙ store.edges) (ap (λ s. s.newest) made.store ∙ store.newest)
 
 pub returns-clause-back : goal.returns-clause-back
 returns-clause-back g c = λ told start order st o runs known has.
@@ -33,13 +37,13 @@ returns-clause-back g c = λ told start order st o runs known has.
     let lacks : filter is_restart c.args.restarts.now.stored.items ++ missing ≡ filter is_restart c.args.restarts.now.front.items ++ restarts failures c.next.result =
     subst (λ (es : List Entry). filter is_restart es ++ missing ≡ filter is_restart c.args.restarts.now.front.items ++ restarts failures c.next.result) c.deref.ensures.value
     (subst (λ (es : List Entry). filter is_restart c.deref.result.now ++ missing ≡ filter is_restart es ++ restarts failures c.next.result) c.deref-2.ensures.value c.in_ok-missing.ensures.lacks) in
-    let behind : IsBaseBehind shared header bodies missing c.in_ok-base.base =
-    subst (λ (es : List Entry). IsBaseBehind shared header bodies es c.in_ok-base.base) c.deref-3.ensures.value (c.in_ok-base.ensures.base told shared runs.placed.graph runs.program_is known.was.keeps.good) in
-    let next = c.in_ok-next.next in
-    let lost = c.in_ok-next.ensures.lost in
-    subst (λ (es : List Entry). GoesBackSo meaning c.args.course.now next.machines.items c.args.places.now.run.engine (store_view next.store) es c.args.lost.now next.lost.items c.args.restarts.now.front.items next.front.items st o known.was.events known.was.cluster) (sym c.in_ok-next.ensures.order)
+    let behind : IsBaseBehind shared header bodies missing c.in-Ok.base =
+    subst (λ (es : List Entry). IsBaseBehind shared header bodies es c.in-Ok.base) c.deref-3.ensures.value (c.in-Ok.ensures.base told shared runs.placed.graph runs.program_is known.was.keeps.good) in
+    let next = c.in-Ok-attempt_from.next in
+    let lost = c.in-Ok-attempt_from.ensures.lost in
+    subst (λ (es : List Entry). GoesBackSo meaning c.args.course.now next.machines.items c.args.places.now.run.engine (store_view next.store) es c.args.lost.now next.lost.items c.args.restarts.now.front.items next.front.items st o known.was.events known.was.cluster) (sym c.in-Ok-attempt_from.ensures.order)
     (goes_so meaning c.args.graph.now (meaning c.args.program) c.args.places.now c.args.course.now header start bodies c.args.lost.now c.args.restarts.now.stored.items c.args.restarts.now.front.items order st o runs known has failures c.next.result
-    (c.in_ok-failures.ensures st o known.was.events known.was.cluster known.was.now) (c.next.ensures st o known.was.events known.was.cluster known.was.now) missing c.in_ok-missing.ensures.alone lacks c.in_ok-base.base behind next.machines.items
-    (λ to. c.in_ok-next.ensures.stand st o known.was.events known.was.cluster known.was.now to) (store_view next.store) (ap (λ s. s.vertices) c.in_ok-next.ensures.store ∙ c.in_ok-store.ensures.vertices)
-    (ap (λ s. s.edges) c.in_ok-next.ensures.store ∙ c.in_ok-store.ensures.edges) (ap (λ s. s.newest) c.in_ok-next.ensures.store ∙ c.in_ok-store.ensures.newest) (ap (λ s. s.length) c.in_ok-next.ensures.store ∙ c.in_ok-store.ensures.place)
-    next.front.items next.lost.items lost.0 (c.in_ok-next.ensures.front ∙ ap (λ (es : List Entry). c.args.restarts.now.stored.items ++ es) c.deref-4.ensures.value) lost.1 (λ to. lost.2 st o known.was.events known.was.cluster known.was.now to))
+    (c.in_ok-failures.ensures st o known.was.events known.was.cluster known.was.now) (c.next.ensures st o known.was.events known.was.cluster known.was.now) missing c.in_ok-missing.ensures.alone lacks c.in-Ok.base behind next.machines.items
+    (λ to. c.in-Ok-attempt_from.ensures.stand st o known.was.events known.was.cluster known.was.now to) (store_view next.store) (ap (λ s. s.vertices) c.in-Ok-attempt_from.ensures.store ∙ c.in-Ok-store_behind.ensures.vertices)
+    (ap (λ s. s.edges) c.in-Ok-attempt_from.ensures.store ∙ c.in-Ok-store_behind.ensures.edges) (ap (λ s. s.newest) c.in-Ok-attempt_from.ensures.store ∙ c.in-Ok-store_behind.ensures.newest) (ap (λ s. s.length) c.in-Ok-attempt_from.ensures.store ∙ c.in-Ok-store_behind.ensures.place)
+    next.front.items next.lost.items lost.0 (c.in-Ok-attempt_from.ensures.front ∙ ap (λ (es : List Entry). c.args.restarts.now.stored.items ++ es) c.deref-4.ensures.value) lost.1 (λ to. lost.2 st o known.was.events known.was.cluster known.was.now to))
