@@ -101,23 +101,21 @@ fn print_failing(rt: &impl Print, alloc: Global, call: u64, after: Filled) -> io
 /// Prints what images are left if the disk stops within a call.
 pub fn print_stopped_calls(rt: &impl Print, alloc: Global) -> io::Result<()> {
     for call in MADE..CALLS {
-        print_stopped(rt, alloc, call)?;
+        print_stopped(rt, alloc, call, call + 1)?;
     }
     Ok(())
 }
 
-fn print_stopped(rt: &impl Print, alloc: Global, call: u64) -> io::Result<()> {
+fn print_stopped(rt: &impl Print, alloc: Global, call: u64, next: u64) -> io::Result<()> {
     let Ok(before) = filled_store(alloc, Vec::new(alloc), call) else {
         return println!(rt; "store stopped: out of memory");
     };
-    let Ok(after) = filled_store(alloc, Vec::new(alloc), call + 1) else {
+    let Ok(after) = filled_store(alloc, Vec::new(alloc), next) else {
         return println!(rt; "store stopped: out of memory");
     };
     println!(rt;
         "store stopped within call {}: acknowledged {}, then {}",
-        call + 1,
-        before.stored,
-        after.stored
+        next, before.stored, after.stored
     )?;
     print_images(rt, alloc, &before.bytes, &after.bytes)
 }
