@@ -2,25 +2,27 @@
 use crate::bytes::text_of;
 use crate::disks::{Call, print_calls_by_name};
 use crate::names::{is_written, print_file};
-use gl_outside::{Failed, HostFiles, LockFile, OutSink, Sink};
+use gl_outside::{Failed, Files, HostFiles, LockFile, OutSink, Sink};
 use std::alloc::Global;
-use std::rt::Files;
-use std::{fs, io};
+use std::{fs, io, rt};
 
 /// Prints what files and disks of the system give and take, in the folder where the program runs.
-pub fn print_system<R: Print + Files + Alloc>(rt: &R, alloc: Global) -> io::Result<()>
+pub fn print_system<R: Print + rt::Files + Alloc>(rt: &R, alloc: Global) -> io::Result<()>
 where
     R::File: LockFile,
 {
     fs::write(rt, "some_file", b"a longer text".as_slice())?;
     print_files(rt, &mut HostFiles::new(alloc, rt))?;
-    print_disks(rt, alloc, &mut HostFiles::new(alloc, rt))?;
-    print!(rt; "\ndisk of the system, opened again:")?;
-    print_calls_by_name(rt, &mut HostFiles::new(alloc, rt), "some_disk", &CALLS[5..])?;
+    print_disk(
+        rt,
+        &mut HostFiles::new(alloc, rt),
+        &mut HostFiles::new(alloc, rt),
+    )?;
+    print_disk_again(rt, &mut HostFiles::new(alloc, rt))?;
     print_held(rt)
 }
 
-fn print_files<R: Print + Files>(rt: &R, files: &mut HostFiles<&R>) -> io::Result<()>
+fn print_files<R: Print + rt::Files>(rt: &R, files: &mut HostFiles<&R>) -> io::Result<()>
 where
     R::File: LockFile,
 {
@@ -30,7 +32,7 @@ where
 }
 
 /// A file is read as it was written over.
-fn print_written<R: Print + Files>(rt: &R, files: &mut HostFiles<&R>) -> io::Result<()>
+fn print_written<R: Print + rt::Files>(rt: &R, files: &mut HostFiles<&R>) -> io::Result<()>
 where
     R::File: LockFile,
 {
@@ -41,7 +43,7 @@ where
 }
 
 /// A file that is gone is not opened. A folder is no file.
-fn print_unread<R: Print + Files>(rt: &R, files: &mut HostFiles<&R>) -> io::Result<()>
+fn print_unread<R: Print + rt::Files>(rt: &R, files: &mut HostFiles<&R>) -> io::Result<()>
 where
     R::File: LockFile,
 {
@@ -62,18 +64,21 @@ static CALLS: [Call; 7] = [
     Call::Read(9),
 ];
 
-/// A disk is opened, and by other files while it is open.
-fn print_disks<R: Print + Files>(rt: &R, alloc: Global, files: &mut HostFiles<&R>) -> io::Result<()>
-where
-    R::File: LockFile,
-{
+/// A disk is opened, and others want it while it is open.
+fn print_disk<F: Files>(rt: &impl Print, files: &mut F, others: &mut F) -> io::Result<()> {
     print!(rt; "disk of the system:")?;
     print_calls_by_name(rt, files, "some_disk", &CALLS)?;
     print!(rt; "\ndisk of the system, while it is open:")?;
-    print_calls_by_name(rt, &mut HostFiles::new(alloc, rt), "some_disk", &CALLS[5..])
+    print_calls_by_name(rt, others, "some_disk", &CALLS[5..])
 }
 
-fn print_held<R: Print + Files + Alloc>(rt: &R) -> io::Result<()> {
+/// A disk that nobody has open is opened again.
+fn print_disk_again<F: Files>(rt: &impl Print, files: &mut F) -> io::Result<()> {
+    print!(rt; "\ndisk of the system, opened again:")?;
+    print_calls_by_name(rt, files, "some_disk", &CALLS[5..])
+}
+
+fn print_held<R: Print + rt::Files + Alloc>(rt: &R) -> io::Result<()> {
     let held = fs::read(rt, "some_disk")?;
     fs::remove_file(rt, "some_disk")?;
     println!(rt; "\nfile of that disk: {}", text_of(&held))
