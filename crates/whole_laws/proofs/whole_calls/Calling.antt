@@ -190,18 +190,18 @@ module _ (failures : List FailureAt) (kept : List Entry) (resumed : Bool) (numbe
   needs_more due refused = (
     due.under,
     ⊎_elim
-      (λ (many : 4096 ≤ c.coordinator.acknowledged).
-      inl (
-        many,
-        ⊎_elim
-            (λ (half : (m : ℕ) × (m < st.machines) × (half_window st ≤ many_outside m c.coordinator.acknowledged logged)).
-            inl (half.0, half.1, subst (λ (n : ℕ). half_window st ≤ n) (sym (unheld_many st at.is c at.whole logged at.account failures behind at.so.tickets half.0)) half.2))
-            (λ (done : HasNoTaskLeft st (world_of c) × ((c.coordinator.snapshots ≡ []) ⊎ (entries_to c.coordinator.acknowledged logged ≡ all_entries logged → ⊥))).
-            inr (none_left done.0, ⊎_elim none_last other_last done.1))
-            (e.reason due.under),
-      ))
-      (λ (long : 1073741824 < c.coordinator.store_end + length_with st (length (unheld_updates made_call.last))). inr long)
-      (refused_by st at.is c at.whole logged at.account failures behind at.so.tickets due refused),
+        (λ (many : 4096 ≤ c.coordinator.acknowledged).
+        inl (
+          many,
+          ⊎_elim
+              (λ (half : (m : ℕ) × (m < st.machines) × (half_window st ≤ many_outside m c.coordinator.acknowledged logged)).
+              inl (half.0, half.1, subst (λ (n : ℕ). half_window st ≤ n) (sym (unheld_many st at.is c at.whole logged at.account failures behind at.so.tickets half.0)) half.2))
+              (λ (done : HasNoTaskLeft st (world_of c) × ((c.coordinator.snapshots ≡ []) ⊎ (entries_to c.coordinator.acknowledged logged ≡ all_entries logged → ⊥))).
+              inr (none_left done.0, ⊎_elim none_last other_last done.1))
+              (e.reason due.under),
+        ))
+        (λ (long : 1073741824 < c.coordinator.store_end + length_with st (length (unheld_updates made_call.last))). inr long)
+        (refused_by st at.is c at.whole logged at.account failures behind at.so.tickets due refused),
   )
 
   tells : TellsOfCall st budget c made_call
