@@ -1,0 +1,7 @@
+pub mod ScopesLaws
+pub mod LentNumbers
+pub mod WithEach
+pub mod FullGoingOn
+pub mod FullAtRest
+pub mod OneHalf
+pub mod RowLemmas
