@@ -1,0 +1,9 @@
+pub mod Ending
+pub mod Laying
+pub mod Links
+pub mod Lists
+pub mod Seating
+pub mod Standing
+pub mod Stepping
+pub mod Taking
+pub mod Telling

@@ -1,0 +1,12 @@
+use Rattle.std.proofs.Common.{◌≡◌, [], Some}
+use Rattle.link_tables.specs.Seats.{Rests}
+use Rattle.link_tables.proofs.tests.draw.Given as goal
+
+abbrev pub ghosts-draw : goal.ghosts-draw
+ghosts-draw g a = record { part = Some a._from.now }
+
+abbrev pub invariant-loop : goal.invariant-loop
+invariant-loop g l = record {
+  table : l.place.seat.table_id ≡ l.table.table.shared.table_id;
+  rests : Rests l.place.seat.me l.node [];
+}
