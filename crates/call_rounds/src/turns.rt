@@ -10,14 +10,19 @@ use gl_base::{MachineNo, NoMemory};
 const TASKS_IN_A_TURN: u32 = 16;
 
 /// Each machine has its turn, and then the coordinator: a snapshot or a step begins where one is due, and where nothing else moved a wave is
-/// put out where one is due. Says whether anything moved.
+/// put out where one is due. A machine that reaches the count of a failure ends the round, so that no other machine makes an update before
+/// the failure. Says whether anything moved.
 pub(crate) fn round<M: SavingMachine>(course: &mut Course<M>) -> Result<bool, NoMemory>
     ensures { IsSameAttempt course.old course.new }
 {
     let mut moved = false;
     for m in 0..course.machines() {
-        if turn(course, MachineNo(m as u16))? {
+        let at = MachineNo(m as u16);
+        if turn(course, at)? {
             moved = true;
+        }
+        if course.has_reached(at) {
+            return Ok(moved);
         }
     }
     lead(course, moved)
@@ -52,14 +57,15 @@ fn turn<M: SavingMachine>(course: &mut Course<M>, at: MachineNo) -> Result<bool,
     Ok(worked || told || led)
 }
 
-/// What has come is settled; then one task after another is taken up. Says whether anything moved.
+/// What has come is settled; then one task after another is taken up, until the machine reaches the count of a failure. Says whether anything
+/// moved.
 fn work<M: SavingMachine>(course: &mut Course<M>, at: MachineNo) -> Result<bool, NoMemory>
     requires { at.0 < length course.old.now.machines.items }
     ensures { IsSameAttempt course.old course.new }
 {
     let mut moved = settle(course, at)?;
     for _ in 0..TASKS_IN_A_TURN {
-        if !take_up(course, at)? {
+        if course.has_reached(at) || !take_up(course, at)? {
             return Ok(moved);
         }
         moved = true;
@@ -83,13 +89,13 @@ fn take_up<M: SavingMachine>(course: &mut Course<M>, at: MachineNo) -> Result<bo
     Ok(true)
 }
 
-/// Locks are granted and updates made at the machine until there are none. Says whether there was one.
+/// Locks are granted and updates made at the machine until there are none, or it reaches the count of a failure. Says whether there was one.
 fn settle<M: SavingMachine>(course: &mut Course<M>, at: MachineNo) -> Result<bool, NoMemory>
     requires { at.0 < length course.old.now.machines.items }
     ensures { IsSameAttempt course.old course.new }
 {
     for times in 0..u64::MAX {
-        if !goes_on(course, at)? {
+        if course.has_reached(at) || !goes_on(course, at)? {
             return Ok(times > 0);
         }
     }

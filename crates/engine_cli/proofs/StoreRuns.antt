@@ -97,7 +97,7 @@ module _ (job : JobSayings) (g : DataGraph) (old mid new : DiskPast) (bodies : L
 
   -- the run is one on its store
   pub runs-on-store : (resumed : Bool) (run : StoredRun) → IsDataGraph g → HasStart job.fields.algorithm job.fields.source g → (resumed ≡ false → length bodies ≡ 0)
-      → IsStoreRunFrom job g program job.fields.window resumed (length bodies) bodies mid new run → RunsOnStore resumed job g old new run
+      → IsStoreRunFrom job g program header job.fields.window resumed (length bodies) bodies mid new run → RunsOnStore resumed job g old new run
   runs-on-store resumed run is start fresh from =
       let same : bodies ≡ snapshots_on job g old = sym (stands_are header old.now.seen bodies stands) in
       record {
@@ -121,7 +121,7 @@ module _ (job : JobSayings) (g : DataGraph) (old mid new : DiskPast) (bodies : L
       }
 
   -- memory ran out
-  keeps-going : IsStoreKept job g program bodies mid new → KeepsGoing job g old new
+  keeps-going : IsStoreKept job g program header bodies mid new → KeepsGoing job g old new
   keeps-going kept owner placed front good =
       let same : bodies ≡ snapshots_on job g old = sym (stands_are header old.now.seen bodies stands) in
       let shared = shared_by job g owner in
@@ -131,7 +131,7 @@ module _ (job : JobSayings) (g : DataGraph) (old mid new : DiskPast) (bodies : L
       (went.0, subst K same (keeps-store shared front went.0 good went.1))
 
   -- the store is none that calls leave
-  other-store : IsNotGood job g program bodies → IsOtherStore job g old
+  other-store : IsNotGood job g program header bodies → IsOtherStore job g old
   other-store not owner placed front good short =
       let same : snapshots_on job g old ≡ bodies = stands_are header old.now.seen bodies stands in
       not owner placed (front-opened (shared_by job g owner) front good).2 (subst (λ (b : List (List ℕ)). 65 + records_size b ≤ 2 ^ 30) same short)
@@ -143,7 +143,7 @@ module _ (job : JobSayings) (g : DataGraph) (old mid new : DiskPast) (bodies : L
 -- why there is no run, where the store was opened
 pub not-on-disk : (told : Type 0) (resumed : Bool) (job : JobSayings) (g : DataGraph) (old mid new : DiskPast) (bodies : List (List ℕ)) (before between now : ℕ) (why : NoStore)
     → (told → IsImage old.now old.now.seen) → (told → StandsFor (header_for job.fields g) bodies old.now.seen) → (told → LeavesOnly old mid (IsImage old.now)) → before ≤ between
-    → IsWhyNotOnJournal told resumed job g (update_of job.fields.algorithm job.fields.source) bodies mid new between now why → IsWhyNotOnDisk told resumed job g old new before now why
+    → IsWhyNotOnJournal told resumed job g (update_of job.fields.algorithm job.fields.source) (header_for job.fields g) bodies mid new between now why → IsWhyNotOnDisk told resumed job g old new before now why
 not-on-disk told resumed job g old mid new bodies before between now (no_store.BadStore fault) seen stands opened later refused = λ is.
     ⊎_elim
     (λ said. inl (inr (said.0, record { snapshots = bodies; stands = stands is; some = said.1; told = said.2 }), unchanged job g old mid new bodies (seen is) (stands is) (opened is) said.3))
@@ -167,11 +167,22 @@ not-opened told resumed job g old new before now journal.Failed refused left = a
 not-opened told resumed job g old new before now journal.NoMemory refused left = λ is. inl (left is)
 
 -- why there is none, where the run could not begin or wanted memory
-pub not-stored : (told : Type 0) (resumed : Bool) (job : JobSayings) (g : DataGraph) (bodies : List (List ℕ)) (old new : DiskPast) (before now : ℕ) (fault : JournalFault)
-    → IsWhyNoneStored told job g (update_of job.fields.algorithm job.fields.source) bodies old new before now fault
-    → IsWhyNotOnJournal told resumed job g (update_of job.fields.algorithm job.fields.source) bodies old new before now (no_store_of_journal fault)
-not-stored told resumed job g bodies old new before now journal.DiskFault refused = refused
-not-stored told resumed job g bodies old new before now (journal.BadStore fault) refused = λ is. inr (refused is)
-not-stored told resumed job g bodies old new before now (journal.Full stored length) refused = absurd refused
-not-stored told resumed job g bodies old new before now journal.Failed refused = absurd refused
-not-stored told resumed job g bodies old new before now journal.NoMemory refused = refused
+pub not-stored : (told : Type 0) (resumed : Bool) (job : JobSayings) (g : DataGraph) (header : Header) (bodies : List (List ℕ)) (old new : DiskPast) (before now : ℕ) (fault : JournalFault)
+    → IsWhyNoneStored told job g (update_of job.fields.algorithm job.fields.source) header bodies old new before now fault
+    → IsWhyNotOnJournal told resumed job g (update_of job.fields.algorithm job.fields.source) header bodies old new before now (no_store_of_journal fault)
+not-stored told resumed job g header bodies old new before now journal.DiskFault refused = refused
+not-stored told resumed job g header bodies old new before now (journal.BadStore fault) refused = λ is. inr (refused is)
+not-stored told resumed job g header bodies old new before now (journal.Full stored length) refused = absurd refused
+not-stored told resumed job g header bodies old new before now journal.Failed refused = absurd refused
+not-stored told resumed job g header bodies old new before now journal.NoMemory refused = refused
+
+-- the same of another name of the header
+pub run-of-header : (job : JobSayings) (g : DataGraph) (p : Update) (one other : Header) (window : ℕ) (resumed : Bool) (count : ℕ) (bodies : List (List ℕ)) (old new : DiskPast) (run : StoredRun) → one ≡ other
+    → IsStoreRunFrom job g p one window resumed count bodies old new run → IsStoreRunFrom job g p other window resumed count bodies old new run
+run-of-header job g p one other window resumed count bodies old new run same from =
+    subst (λ (h : Header). IsStoreRunFrom job g p h window resumed count bodies old new run) same from
+
+pub why-of-header : (told : Type 0) (resumed : Bool) (job : JobSayings) (g : DataGraph) (p : Update) (one other : Header) (bodies : List (List ℕ)) (old new : DiskPast) (before now : ℕ) (why : NoStore) → one ≡ other
+    → IsWhyNotOnJournal told resumed job g p one bodies old new before now why → IsWhyNotOnJournal told resumed job g p other bodies old new before now why
+why-of-header told resumed job g p one other bodies old new before now why same is =
+    subst (λ (h : Header). IsWhyNotOnJournal told resumed job g p h bodies old new before now why) same is

@@ -11,7 +11,6 @@ use Rattle.graph_core.specs.DataGraph.{DataGraph, size}
 use Rattle.job_config.specs.Jobs.{JobSayings}
 use Rattle.job_runs.specs.Plays.{IsPlacement}
 use Rattle.job_runs.specs.declared.runs.RunPlan.{RunPlan}
-use Rattle.job_stores.specs.JobHeaders.{header_for}
 use Rattle.order_text.specs.Orders.{IsEntryOf}
 use Rattle.recovery.specs.Journals.{JournalState, records_size, snapshots_in, stored_in, stored_order}
 use Rattle.snap_journal.specs.declared.faults.JournalFault.{JournalFault}
@@ -27,7 +26,7 @@ use Rattle.stored_calls.specs.Calls.{EndsBy}
 use Rattle.stored_calls.specs.Runs.{IsWhyNoRun, owned_shared}
 use Rattle.update_api.specs.Updates.{Update}
 use Rattle.engine_cli.specs.Inner.Prepares.{IsPrintable}
-use Rattle.engine_cli.specs.Inner.Storing.{IsStoreKept, IsNotGood, IsStoreRunFrom, IsWhyNoneStored, shared_with}
+use Rattle.engine_cli.specs.Inner.Storing.{IsStoreKept, IsNotGood, IsStoreRunFrom, IsWhyNoneStored}
 use Rattle.engine_cli.specs.JobRuns.{BoundsSteps, HasRoomForRun, plan_for}
 
 pub IfOk-map : {T E : Type 0} (r : Result T E) (P Q : T → Type 0) → ((x : T) → P x → Q x) → IfOk r P → IfOk r Q
@@ -125,34 +124,34 @@ fault-by journal before now how by is =
     rose.1
 
 module _ (job : JobSayings) (g : DataGraph) (p : Update) (bodies : List (List ℕ)) (old new : DiskPast) (plan : RunPlan) (failures : List FailureAt) (header after : Header)
-    (header_is : header ≡ header_for job.fields g) (still : after ≡ header) (plan_is : plan ≡ plan_for job) (failures_are : failures ≡ job.failures) where
+    (still : after ≡ header) (plan_is : plan ≡ plan_for job) (failures_are : failures ≡ job.failures) where
   -- the same of the job
-  of-job : (F : RunPlan → List FailureAt → Header → Type 0) → F plan failures header → F (plan_for job) job.failures (header_for job.fields g)
+  of-job : (F : RunPlan → List FailureAt → Header → Type 0) → F plan failures header → F (plan_for job) job.failures header
   of-job F f =
       let A : RunPlan → Type 0 = λ pl. F pl failures header in
       let B : List FailureAt → Type 0 = λ fs. F (plan_for job) fs header in
-      subst (F (plan_for job) job.failures) header_is (subst B failures_are (subst A plan_is f))
+      subst B failures_are (subst A plan_is f)
 
   pub run-from : (window : ℕ) (resumed : Bool) (count long : ℕ) (run : StoredRun) → long ≡ 65 + records_size bodies → GoesBy g p window resumed count bodies old new run plan failures header
       → PlacedBy g plan failures header → EnoughBy g p bodies run plan failures header → RoomyBy g p window job.fields.engine count long bodies run plan failures header → FullBy after new run.end
-      → IsStoreRunFrom job g p window resumed count bodies old new run
+      → IsStoreRunFrom job g p header window resumed count bodies old new run
   run-from window resumed count long run long_is goes placed enough roomy full = record {
     goes_on = of-job (GoesBy g p window resumed count bodies old new run) goes;
     placed = of-job (PlacedBy g) placed;
     enough = of-job (EnoughBy g p bodies run) enough;
     roomy = of-job (RoomyBy g p window job.fields.engine count (65 + records_size bodies) bodies run)
         (subst (λ (l : ℕ). RoomyBy g p window job.fields.engine count l bodies run plan failures header) long_is roomy);
-    full = subst (λ (h : Header). FullBy h new run.end) (still ∙ header_is) full;
+    full = subst (λ (h : Header). FullBy h new run.end) still full;
   }
 
-  kept-by : KeepsBy g p bodies old new plan failures header → IsStoreKept job g p bodies old new
+  kept-by : KeepsBy g p bodies old new plan failures header → IsStoreKept job g p header bodies old new
   kept-by keeps = of-job (KeepsBy g p bodies old new) keeps
 
-  not-good-by : NotGoodBy g p bodies plan failures header → IsNotGood job g p bodies
+  not-good-by : NotGoodBy g p bodies plan failures header → IsNotGood job g p header bodies
   not-good-by not = of-job (NotGoodBy g p bodies) not
 
   pub why-not-stored : (told : Type 0) (before now : ℕ) (fault : JournalFault) → IsWhyNoRun told old new before now (KeepsBy g p bodies old new plan failures header) fault
-      → ((why : StoreFault) → fault ≡ journal.BadStore why → told → NotGoodBy g p bodies plan failures header) → IsWhyNoneStored told job g p bodies old new before now fault
+      → ((why : StoreFault) → fault ≡ journal.BadStore why → told → NotGoodBy g p bodies plan failures header) → IsWhyNoneStored told job g p header bodies old new before now fault
   why-not-stored told before now journal.DiskFault refused not = refused
   why-not-stored told before now (journal.BadStore why) refused not = λ is. not-good-by (not why refl is)
   why-not-stored told before now (journal.Full stored length) refused not = refused
@@ -160,6 +159,6 @@ module _ (job : JobSayings) (g : DataGraph) (p : Update) (bodies : List (List �
   why-not-stored told before now journal.NoMemory refused not = λ is. ⊎_elim (λ same. inl same) (λ keeps. inr (kept-by keeps)) (refused is)
 
 -- the same of another name of the program
-pub by-program : (r : Result StoredRun JournalFault) (told : Type 0) (job : JobSayings) (g : DataGraph) (p q : Update) (bodies : List (List ℕ)) (old new : DiskPast) (before now : ℕ) → p ≡ q
-    → IfErr r (IsWhyNoneStored told job g p bodies old new before now) → IfErr r (IsWhyNoneStored told job g q bodies old new before now)
-by-program r told job g p q bodies old new before now same refused = subst (λ (u : Update). IfErr r (IsWhyNoneStored told job g u bodies old new before now)) same refused
+pub by-program : (r : Result StoredRun JournalFault) (told : Type 0) (job : JobSayings) (g : DataGraph) (p q : Update) (header : Header) (bodies : List (List ℕ)) (old new : DiskPast) (before now : ℕ) → p ≡ q
+    → IfErr r (IsWhyNoneStored told job g p header bodies old new before now) → IfErr r (IsWhyNoneStored told job g q header bodies old new before now)
+by-program r told job g p q header bodies old new before now same refused = subst (λ (u : Update). IfErr r (IsWhyNoneStored told job g u header bodies old new before now)) same refused

@@ -1,6 +1,5 @@
 -- A run on a store in memory as one without a store.
-use Rattle.std.proofs.Common.{◌≡◌, ◌≤◌, ℕ, List, [], Bool, false, Result, Ok, Err, refl, sym, subst}
-use Rattle.std.specs.Prelude.{IfErr, IfOk}
+use Rattle.std.proofs.Common.{◌≡◌, ℕ, List, [], false, sym, subst}
 use Rattle.gl_base.specs.declared.entries.Entry.{Entry}
 use Rattle.gl_base.specs.declared.numbers.Vertex.{Vertex}
 use Rattle.gl_outside.specs.Disk.{DiskPast}
@@ -9,11 +8,11 @@ use Rattle.graph_core.specs.DataGraph.{DataGraph, IsDataGraph}
 use Rattle.job_config.specs.Jobs.{JobSayings}
 use Rattle.job_files.specs.JobTexts.{HasStart}
 use Rattle.job_runs.specs.Plays.{IsPlacement}
-use Rattle.job_stores.specs.JobHeaders.{header_for}
 use Rattle.recovery.specs.Journals.{stored_order}
 use Rattle.recovery.proofs.Goodness.{none_good}
 use Rattle.seq_run.specs.Orders.{IsFinished}
 use Rattle.seq_run.specs.StepBound.{step_bound}
+use Rattle.store_format.specs.declared.header.Header.{Header}
 use Rattle.stored_answers.specs.Ends.{RunEndsSo}
 use Rattle.stored_answers.specs.Images.{IsGoodStore}
 use Rattle.stored_answers.specs.declared.runs.StoredEnd.{StoredEnd}
@@ -23,7 +22,7 @@ use Rattle.engine_cli.specs.Inner.Failing.{IsRunWithoutSnapshots}
 use Rattle.engine_cli.specs.Inner.Prepares.{IsPrintable}
 use Rattle.engine_cli.specs.Inner.Storing.{IsStoreRunFrom}
 use Rattle.engine_cli.specs.JobRuns.{BeginsAgain, HasEnough, IsEndAlone, IsRunWithFailures, IsStoredRun, RunsThroughFailures, lists_of, shared_by}
-use Rattle.engine_cli.specs.Plays.{AreResults, update_of}
+use Rattle.engine_cli.specs.Plays.{update_of}
 use Rattle.engine_cli.proofs.Bounds.{bound-of}
 use Rattle.engine_cli.proofs.Results.{results-of}
 
@@ -61,15 +60,15 @@ module _ (job : JobSayings) (g : DataGraph) (owner : ℕ → ℕ) (window stored
       }
 
 -- a run from a store that has no snapshot
-pub through-failures : (job : JobSayings) (g : DataGraph) (window count : ℕ) (bodies : List (List ℕ)) (old new : DiskPast) (was run : StoredRun) → IsDataGraph g
-    → HasStart job.fields.algorithm job.fields.source g → bodies ≡ [] → IsStoreRunFrom job g (update_of job.fields.algorithm job.fields.source) window false count bodies old new was
+pub through-failures : (job : JobSayings) (g : DataGraph) (header : Header) (window count : ℕ) (bodies : List (List ℕ)) (old new : DiskPast) (was run : StoredRun) → IsDataGraph g
+    → HasStart job.fields.algorithm job.fields.source g → bodies ≡ [] → IsStoreRunFrom job g (update_of job.fields.algorithm job.fields.source) header window false count bodies old new was
     → IsRunWithoutSnapshots was run → RunsThroughFailures job g run
-through-failures job g window count bodies old new was run is start none from alone =
+through-failures job g header window count bodies old new was run is start none from alone =
     let R : StoredRun → Type 0 = λ r. (owner : ℕ → ℕ) → IsPlacement g job.fields.atoms job.fields.machines owner → BeginsAgain job (shared_by job g owner) r in
     let again : R (record was { snapshots = run.snapshots }) = λ owner placed.
     let shared = shared_by job g owner in
     let G : List (List ℕ) → Type 0 = λ b. (snapshots : List (List Entry)) × IsStoredRun shared job.fields.machines window job.fields.budget count (stored_order b) false snapshots was in
-    let good : IsGoodStore shared (header_for job.fields g) bodies = subst (IsGoodStore shared (header_for job.fields g)) (sym none) (none_good shared (header_for job.fields g)) in
+    let good : IsGoodStore shared header bodies = subst (IsGoodStore shared header) (sym none) (none_good shared header) in
     let went = from.goes_on owner placed good in
     let ran : G [] = subst G none (went.0, went.1) in
     let enough = from.enough owner placed good (step_bound g job.fields.algorithm) (λ order valid. bound-of job.fields.algorithm job.fields.source g order is start valid) in

@@ -1,33 +1,32 @@
-//! Runs the job's algorithm on its graph without a store, and through the failures that the job orders.
+//! Runs the job's algorithm on its graph without a store, through the failures that the job orders.
 ghost use Rattle.std.specs.Prelude.{◌≡◌, ◌≤◌, [], IfOk, IsTrue, length};
 ghost use Rattle.graph_core.specs.DataGraph.{IsDataGraph};
 ghost use Rattle.job_config.specs.Ranges.{HasNumbers};
 ghost use Rattle.job_config.specs.Views.{job_view};
 ghost use Rattle.job_files.specs.JobTexts.{HasStart};
-ghost use Rattle.job_stores.specs.JobHeaders.{header_for};
+ghost use Rattle.recovery.specs.Recovered.{IsHeaderOf};
+ghost use Rattle.store_format.specs.Headers.{IsAllowed};
 ghost use Rattle.store_format.specs.Stores.{StandsFor};
 ghost use Rattle.whole_laws.specs.whole_calls.Following.{AreJobFailures};
 ghost use Rattle.engine_cli.specs.JobRuns.{IsEndAlone, RunsThroughFailures, RunsWithoutStore};
 ghost use Rattle.engine_cli.specs.Inner.Failing.{IsRunWithoutSnapshots};
 ghost use Rattle.engine_cli.specs.Inner.Prepares.{IsPrintable};
 
-use crate::playing::run_alone;
 use crate::storing::run_stored_on;
 use gl_base::{Job, NoMemory};
 use gl_outside::{Disk, MemDisk};
 use graph_core::Graph;
-use job_stores::header_of;
 use snap_journal::Journal;
 use std::alloc::Global;
 use std::sync::Wait;
-use store_format::{Header, new_store};
+use store_format::{Digest, Header, new_store};
 use stored_answers::{StoredEnd, StoredRun};
 
 /// A window in which a run has no snapshot but at its end: half of it is the greatest budget that a job may have.
 const WIDEST_WINDOW: u32 = 33_554_432;
 
-/// Runs the job's algorithm without a store. What would be in the store of a job that orders failures is kept in memory, and no snapshot is taken
-/// before the end: so a machine that fails takes all back to the start.
+/// Runs the job's algorithm without a store. What would be in a store is kept in memory, and no snapshot is taken before the end: so a
+/// machine that fails takes all back to the start.
 pub fn run_without_store<R: Wait>(
     rt: &R,
     alloc: Global,
@@ -43,14 +42,29 @@ pub fn run_without_store<R: Wait>(
     ensures ended { IfOk result (λ run. IsEndAlone run.end) }
     ensures printable { IfOk result (IsPrintable graph.now) }
 {
-    if job.failures.is_empty() {
-        return run_alone(rt, alloc, graph, job);
-    }
-    let header = header_of(job, graph);
+    let header = unread_header(job, graph);
     let mut bytes = Vec::new(alloc);
     bytes.extend_from_slice(&new_store(header))?;
     let disk = MemDisk::new(alloc, bytes, Vec::new(alloc), u64::MAX);
     run_through_failures(rt, alloc, graph, job, &header, disk)
+}
+
+/// What a store in memory is for, that nobody else reads: the machines and the size of the graph alone.
+fn unread_header(job: &Job, graph: &Graph) -> Header
+    requires { HasNumbers (job_view job.now).fields }
+    ensures graph { IsHeaderOf graph.now result }
+    ensures machines { result.machines ≡ job.now.machines }
+    ensures allowed { IsAllowed result }
+{
+    Header {
+        machines: job.machines,
+        algorithm: 1,
+        directed: 0,
+        source: 0,
+        n: graph.n(),
+        m: graph.m(),
+        digest: Digest([0; 32]),
+    }
 }
 
 /// Runs the job's algorithm through its failures, on a store of this header that has no snapshot. A store that may grow no more is want of memory.
@@ -67,7 +81,8 @@ fn run_through_failures<R: Wait, D: Disk + Drop>(
     requires numbers { HasNumbers (job_view job.now).fields }
     requires failures { AreJobFailures job.now.machines job.now.failures.items }
     requires few { length job.now.failures.items ≤ 64 }
-    requires header { header.now ≡ header_for (job_view job.now).fields graph.now }
+    requires size { IsHeaderOf graph.now header.now }
+    requires machines { header.now.machines ≡ job.now.machines }
     requires told { IsTrue D.told }
     requires empty { StandsFor header.now [] (D.past disk).now.seen }
     ensures run { IfOk result (RunsThroughFailures (job_view job.now) graph.now) }

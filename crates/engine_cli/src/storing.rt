@@ -3,9 +3,9 @@ ghost use Rattle.std.specs.Prelude.{◌≡◌, ◌≤◌, IfErr, IfOk, IsTrue, f
 ghost use Rattle.job_config.specs.Ranges.{HasNumbers};
 ghost use Rattle.job_config.specs.Views.{job_view};
 ghost use Rattle.job_files.specs.JobTexts.{HasStart};
-ghost use Rattle.job_stores.specs.JobHeaders.{header_for};
 ghost use Rattle.job_stores.specs.NewStores.{UsesDisk};
 ghost use Rattle.recovery.specs.Journals.{snapshots_in};
+ghost use Rattle.recovery.specs.Recovered.{IsHeaderOf};
 ghost use Rattle.stored_answers.specs.declared.runs.StoredEnd.TheVariants.{DiskFault};
 ghost use Rattle.gl_outside.specs.Faults.{Rose};
 ghost use Rattle.gl_outside.specs.FilesState.{disk_past};
@@ -102,14 +102,15 @@ fn run_on_journal<R: Wait, D: Disk>(
     resumed: bool,
 ) -> Result<StoredRun, NoStore>
     requires input { IsRunnable input.now }
-    requires header { journal.old.header ≡ header_for (job_view input.now.job).fields input.now.graph }
+    requires graph { IsHeaderOf input.now.graph journal.old.header }
+    requires machines { journal.old.header.machines ≡ input.now.job.machines }
     requires well { journal.old.failed ≡ false }
     ensures fresh { IsTrue D.told → IfOk result (λ run. resumed ≡ false → length (snapshots_in D.past journal.old) ≡ 0) }
-    ensures run { IsTrue D.told → IfOk result (IsStoreRunFrom (job_view input.now.job) input.now.graph (update_of input.now.job.algorithm input.now.job.source) input.now.job.window resumed
+    ensures run { IsTrue D.told → IfOk result (IsStoreRunFrom (job_view input.now.job) input.now.graph (update_of input.now.job.algorithm input.now.job.source) journal.old.header input.now.job.window resumed
         (length (snapshots_in D.past journal.old)) (snapshots_in D.past journal.old) (D.past journal.old.disk) (D.past journal.new.disk)) }
     ensures fault { IfOk result (λ run. run.end ≡ DiskFault → Rose (D.faults journal.old.disk) (D.faults journal.new.disk)) }
     ensures printable { IfOk result (IsPrintable input.now.graph) }
-    ensures refused { IfErr result (IsWhyNotOnJournal (IsTrue D.told) resumed (job_view input.now.job) input.now.graph (update_of input.now.job.algorithm input.now.job.source)
+    ensures refused { IfErr result (IsWhyNotOnJournal (IsTrue D.told) resumed (job_view input.now.job) input.now.graph (update_of input.now.job.algorithm input.now.job.source) journal.old.header
         (snapshots_in D.past journal.old) (D.past journal.old.disk) (D.past journal.new.disk) (D.faults journal.old.disk) (D.faults journal.new.disk)) }
     ensures same { D.same journal.old.disk journal.new.disk }
     ensures later { D.faults journal.old.disk ≤ D.faults journal.new.disk }
@@ -147,14 +148,15 @@ pub fn run_stored_on<R: Wait, D: Disk>(
     requires numbers { HasNumbers (job_view job.now).fields }
     requires failures { AreJobFailures job.now.machines job.now.failures.items }
     requires few { length job.now.failures.items ≤ 64 }
-    requires header { journal.old.header ≡ header_for (job_view job.now).fields graph.now }
+    requires graph { IsHeaderOf graph.now journal.old.header }
+    requires machines { journal.old.header.machines ≡ job.now.machines }
     requires fresh { resumed ≡ false → journal.old.count ≡ 0 }
     requires well { journal.old.failed ≡ false }
-    ensures run { IsTrue D.told → IfOk result (IsStoreRunFrom (job_view job.now) graph.now (update_of job.now.algorithm job.now.source) window resumed
+    ensures run { IsTrue D.told → IfOk result (IsStoreRunFrom (job_view job.now) graph.now (update_of job.now.algorithm job.now.source) journal.old.header window resumed
         journal.old.count (snapshots_in D.past journal.old) (D.past journal.old.disk) (D.past journal.new.disk)) }
     ensures fault { IfOk result (λ run. run.end ≡ DiskFault → Rose (D.faults journal.old.disk) (D.faults journal.new.disk)) }
     ensures printable { IfOk result (IsPrintable graph.now) }
-    ensures refused { IfErr result (IsWhyNoneStored (IsTrue D.told) (job_view job.now) graph.now (update_of job.now.algorithm job.now.source)
+    ensures refused { IfErr result (IsWhyNoneStored (IsTrue D.told) (job_view job.now) graph.now (update_of job.now.algorithm job.now.source) journal.old.header
         (snapshots_in D.past journal.old) (D.past journal.old.disk) (D.past journal.new.disk) (D.faults journal.old.disk) (D.faults journal.new.disk)) }
     ensures same { D.same journal.old.disk journal.new.disk }
     ensures later { D.faults journal.old.disk ≤ D.faults journal.new.disk }
@@ -178,14 +180,15 @@ fn run_stored_by<R: Wait, D: Disk, P: Program>(
     requires numbers { HasNumbers (job_view job.now).fields }
     requires failures { AreJobFailures job.now.machines job.now.failures.items }
     requires few { length job.now.failures.items ≤ 64 }
-    requires header { journal.old.header ≡ header_for (job_view job.now).fields graph.now }
+    requires graph { IsHeaderOf graph.now journal.old.header }
+    requires machines { journal.old.header.machines ≡ job.now.machines }
     requires fresh { resumed ≡ false → journal.old.count ≡ 0 }
     requires well { journal.old.failed ≡ false }
-    ensures run { IsTrue D.told → IfOk result (IsStoreRunFrom (job_view job.now) graph.now (P.meaning program) window resumed
+    ensures run { IsTrue D.told → IfOk result (IsStoreRunFrom (job_view job.now) graph.now (P.meaning program) journal.old.header window resumed
         journal.old.count (snapshots_in D.past journal.old) (D.past journal.old.disk) (D.past journal.new.disk)) }
     ensures fault { IfOk result (λ run. run.end ≡ DiskFault → Rose (D.faults journal.old.disk) (D.faults journal.new.disk)) }
     ensures printable { IfOk result (IsPrintable graph.now) }
-    ensures refused { IfErr result (IsWhyNoneStored (IsTrue D.told) (job_view job.now) graph.now (P.meaning program)
+    ensures refused { IfErr result (IsWhyNoneStored (IsTrue D.told) (job_view job.now) graph.now (P.meaning program) journal.old.header
         (snapshots_in D.past journal.old) (D.past journal.old.disk) (D.past journal.new.disk) (D.faults journal.old.disk) (D.faults journal.new.disk)) }
     ensures same { D.same journal.old.disk journal.new.disk }
     ensures later { D.faults journal.old.disk ≤ D.faults journal.new.disk }

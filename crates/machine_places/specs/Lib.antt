@@ -1,2 +1,4 @@
 pub mod Places
 pub mod Colours
+pub mod Cores
+pub mod Inner

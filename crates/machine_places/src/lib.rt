@@ -1,8 +1,10 @@
-//! The own vertex of a machine at each place of its tasks, and the colours of these.
+//! The parts of a machine as it begins: its own vertices by their places, their colours, and what it holds beside its numbers.
 #![tactic(auto)]
 
 mod colours;
+mod cores;
 mod places;
 
 pub use colours::colours_of;
+pub use cores::{NewTerms, new_core};
 pub use places::vertices_by_place;

@@ -11,10 +11,9 @@ use Rattle.machine_numbers.specs.Views.{flag_there, is_flagged, place_at}
 use Rattle.machine_core.specs.declared.machine_parts.cores.Core.{Core}
 use Rattle.machine_core.specs.declared.machine_parts.cores.Terms.{Terms}
 use Rattle.machine_core.specs.machine_parts.Parts.{message_of, number_of, part_of, stand_at}
-use Rattle.placed_clusters.specs.Making.{IsMadeWith}
-use Rattle.placed_clusters.specs.declared.cores.NewTerms.{NewTerms}
-use Rattle.placed_clusters.proofs.NewLemmas.{is_new, orderly_here, places_here}
-use Rattle.placed_clusters.proofs.RunLemmas.{each_row}
+use Rattle.machine_places.specs.Cores.{IsMadeWith}
+use Rattle.machine_places.specs.declared.cores.NewTerms.{NewTerms}
+use Rattle.machine_places.proofs.NewLemmas.{each_row, is_new, orderly_here, places_here}
 use Rattle.placed_graphs.specs.Beginnings.{BeginsAt}
 use Rattle.saving_machines.specs.Machines.{IsFreshMachine}
 use Rattle.seen_parts.specs.Alike.{LooksAlike, with_copies}

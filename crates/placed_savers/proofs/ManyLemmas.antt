@@ -4,7 +4,7 @@ use Rattle.std.proofs.lemmas.Bool.{cases_lt}
 use Rattle.std.proofs.lemmas.List.{get_or_push, length-append}
 use Rattle.std.proofs.Math.ListN.{get_or-append}
 use Rattle.gl_base.specs.declared.snapshots.Base.{Base}
-use Rattle.placed_clusters.specs.declared.cores.NewTerms.{NewTerms}
+use Rattle.machine_places.specs.declared.cores.NewTerms.{NewTerms}
 use Rattle.placed_savers.specs.Inner.Making.{AreUnsetParts, CanAllSave, CanSave, Cluster, EngineSaver, GoesBy, HaveAdmitted, IsEngineSaverOf, IsUnsetPart, LocalView, Machine, SavesBy, Setting, StandFirst, Update, goes_back, with_locking}
 use Rattle.placed_savers.specs.declared.savers.Places.{Places}
 

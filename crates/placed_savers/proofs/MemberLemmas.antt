@@ -11,9 +11,9 @@ use Rattle.machine_numbers.specs.declared.keeping.Numbers.{Numbers}
 use Rattle.machine_core.specs.declared.machine_parts.cores.Core.{Core}
 use Rattle.machine_core.specs.declared.machine_parts.cores.Terms.{Terms}
 use Rattle.machine_places.proofs.ColourLemmas.{all_coloured, low_colours}
-use Rattle.placed_clusters.specs.Making.{IsMadeWith}
-use Rattle.placed_clusters.specs.declared.cores.NewTerms.{NewTerms}
-use Rattle.placed_clusters.proofs.NewLemmas.{begins_here, made_itself}
+use Rattle.machine_places.specs.Cores.{IsMadeWith}
+use Rattle.machine_places.specs.declared.cores.NewTerms.{NewTerms}
+use Rattle.machine_places.proofs.NewLemmas.{begins_here, made_itself}
 use Rattle.placed_graphs.specs.Beginnings.{AreFirstNumbers, AreFreshTasks, BeginsAt, IsReadyPart}
 use Rattle.placed_savers.specs.color_savers.Savers.{IsColorSaverOf}
 use Rattle.saving_machines.specs.Machines.{IsFreshMachine}

@@ -10,7 +10,7 @@ use Rattle.gl_base.specs.declared.numbers.MachineNo.{MachineNo}
 use Rattle.gl_base.specs.declared.snapshots.Base.{Base}
 use Rattle.graph_core.specs.DataGraph.{DataGraph, IsDataGraph, size}
 use Rattle.machine_places.proofs.OwnerLemmas.{owner_low}
-use Rattle.placed_clusters.specs.declared.cores.NewTerms.{NewTerms}
+use Rattle.machine_places.specs.declared.cores.NewTerms.{NewTerms}
 use Rattle.placed_savers.specs.Beginning.{AreColoursFor, AreSaversOf, BaseView, IsBaseFor, IsBaseOf, IsSavingRunOf, placed_owner}
 use Rattle.placed_savers.specs.Inner.Making.{AreUnsetParts, CanAllSave, Cluster, EngineSaver, GoesBy, IsOwnedBy, IsRunFrom, LocalView, RunsBy, SavesBy, Setting, StandFirst, Update, takes_locks, with_locking}
 use Rattle.placed_savers.specs.declared.savers.Places.{Places}

@@ -15,9 +15,9 @@ use Rattle.machine_core.specs.machine_parts.Settings.{IsPartOf}
 use Rattle.machine_places.specs.Colours.{colours_by_place}
 use Rattle.machine_places.proofs.ColourLemmas.{as_many, colour_there, task_there}
 use Rattle.machine_core.proofs.machine_scopes.PickLemmas.{flag_inside}
-use Rattle.placed_clusters.specs.Making.{IsMadeWith}
-use Rattle.placed_clusters.specs.declared.cores.NewTerms.{NewTerms}
-use Rattle.placed_clusters.proofs.NewLemmas.{part_is}
+use Rattle.machine_places.specs.Cores.{IsMadeWith}
+use Rattle.machine_places.specs.declared.cores.NewTerms.{NewTerms}
+use Rattle.machine_places.proofs.NewLemmas.{part_is}
 use Rattle.placed_graphs.specs.Beginnings.{BeginsAt}
 use Rattle.snap_savers.specs.Savers.{IsSaverOf}
 use Rattle.snap_update.specs.Snaps.{SnapRoom, nothing_since}

@@ -7,7 +7,7 @@ use crate::members::new_member;
 use crate::savers::Places;
 use gl_base::{Base, NoMemory};
 use local_graph::LocalGraph;
-use placed_clusters::{NewTerms, new_core};
+use machine_places::{NewTerms, new_core};
 use placed_graphs::first_numbers;
 use saving_machines::SnapMachine;
 use std::alloc::Global;

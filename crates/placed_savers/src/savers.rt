@@ -11,7 +11,7 @@ use gl_base::{AtomNo, Base, MachineNo, NoMemory, Vertex};
 use graph_core::Graph;
 use local_graph::LocalGraph;
 use machine_core::machine_parts::Terms;
-use placed_clusters::NewTerms;
+use machine_places::NewTerms;
 use placed_graphs::placed;
 use std::alloc::Global;
 use update_api::Program;

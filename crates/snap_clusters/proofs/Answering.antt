@@ -11,9 +11,9 @@ use Rattle.gl_base.specs.declared.scopes.ScopeId.{ScopeId}
 use Rattle.cluster_laws.specs.cluster_core.Actions.{HasFirst}
 use Rattle.cluster_laws.specs.cluster_core.Messages as law_messages
 use Rattle.cluster_laws.specs.cluster_model.Events as law
-use Rattle.cluster_step.specs.Inner.Writing.{HasLinkBetween, behind_first, with_link_between}
-use Rattle.cluster_step.specs.Links.{LinkView, link_between, message_read}
-use Rattle.cluster_step.proofs.WorldLemmas.{has_stays, links_stay}
+use Rattle.snap_clusters.specs.Inner.Writing.{HasLinkBetween, behind_first, with_link_between}
+use Rattle.snap_clusters.specs.Links.{LinkView, link_between, message_read}
+use Rattle.snap_clusters.proofs.LinkLemmas.{has_stays, links_stay}
 use Rattle.snap_clusters.specs.Clusters.{Cluster, HaveLinks, IsSavingClusterOf, IsSnapSetting, Machine, Parts, Setting, StandsForSaving, StandsForSameSaving, messages_on}
 use Rattle.snap_clusters.specs.Events.{AnswersEvent, CanTakePlace, CanNotTakePlace, IsLocalEvent, IsNamedEvent, IsPassageEvent, TakesPlace, acting, is_resting}
 use Rattle.snap_members.specs.Promises.{Admit, CanAdmit, CanDo, CanNotAdmit, CanNotDo, MayReceiveFirst, Deed, HasAdmittedSome, HasDone, HasReceived, IsFirstFrom, SendsItsFirst, MayBeDone, MessageView, OfEach, StandsStill, Update, does, fails, message_view, told_by}

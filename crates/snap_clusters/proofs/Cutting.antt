@@ -25,8 +25,8 @@ use Rattle.whole_laws.proofs.cluster_records.Gathering.{all_gathered}
 use Rattle.whole_laws.proofs.cluster_records.Numbering.{passing_own, replay-append, replayed_same, same_then, valid-append, valid_same}
 use Rattle.whole_laws.proofs.cluster_records.Recording.{all_new, due_good, one_recorded}
 use Rattle.whole_laws.specs.cluster_records.Recorded.{HaveSameNumbers, IsGoodSnapshot}
-use Rattle.cluster_step.specs.Links.{link_between}
-use Rattle.cluster_step.proofs.LinkLemmas.{nothing_told}
+use Rattle.snap_clusters.specs.Links.{link_between}
+use Rattle.snap_clusters.proofs.LinkLemmas.{nothing_told}
 use Rattle.whole_laws.specs.cluster_whole.Logged.{entries_to, is_up_to}
 use Rattle.coord_core.specs.Calls.{IsDueOf, IsFirstWith, IsRecordDueOf, IsRecordFor, MayLeadRecord}
 use Rattle.coord_core.specs.declared.leading.Due.{Due}

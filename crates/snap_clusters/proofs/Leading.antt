@@ -14,8 +14,8 @@ use Rattle.cluster_laws.specs.cluster_model.Counting.{Counting, MayBeCounted}
 use Rattle.cluster_laws.specs.cluster_model.Events as law
 use Rattle.cluster_laws.specs.cluster_model.Leading.{Coordinator}
 use Rattle.cluster_laws.specs.cluster_model.Working.{prompt, takes_call}
-use Rattle.cluster_step.specs.Inner.Writing.{behind_first}
-use Rattle.cluster_step.specs.Links.{LinkView}
+use Rattle.snap_clusters.specs.Inner.Writing.{behind_first}
+use Rattle.snap_clusters.specs.Links.{LinkView}
 use Rattle.whole_laws.specs.cluster_whole.Whole.{IsNoRecovery}
 use Rattle.coord_core.specs.Calls.{HasHandedOver, HasTakenReport, IsHandedOver, MayLead, MayNotLead, MayReport, StaysCoordinator}
 use Rattle.coord_core.specs.Coordinators.{CoordinatorView, no_outbox}

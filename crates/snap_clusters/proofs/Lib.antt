@@ -1,3 +1,4 @@
+pub mod LinkLemmas
 pub mod Goings
 pub mod Lines
 pub mod Making

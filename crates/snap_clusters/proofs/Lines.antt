@@ -6,8 +6,8 @@ use Rattle.cluster_laws.specs.cluster_core.Ranges.{set_at}
 use Rattle.cluster_laws.specs.cluster_core.Messages.{Message}
 use Rattle.cluster_laws.proofs.cluster_core.Basics.{set_at-other, set_at-same}
 use Rattle.cluster_laws.specs.cluster_model.Calls.{Call, Report}
-use Rattle.cluster_step.specs.Inner.Writing.{HasLinkBetween, behind_first, with_link_between}
-use Rattle.cluster_step.specs.Links.{LinkView, empty_link, link_between, message_read, told_on}
+use Rattle.snap_clusters.specs.Inner.Writing.{HasLinkBetween, behind_first, with_link_between}
+use Rattle.snap_clusters.specs.Links.{LinkView, empty_link, link_between, message_read, told_on}
 use Rattle.coord_core.specs.Coordinators.{AreCalls}
 use Rattle.snap_clusters.specs.Lines.{AreReports, messages_on}
 use Rattle.snap_members.specs.Promises.{MessageView, TellsReport}

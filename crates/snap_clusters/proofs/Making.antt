@@ -16,9 +16,9 @@ use Rattle.cluster_laws.specs.cluster_model.Clusters.{with_calls, with_coordinat
 use Rattle.cluster_laws.specs.cluster_model.Events as law
 use Rattle.cluster_laws.specs.cluster_model.Leading.{Coordinator, hands_call, takes_report}
 use Rattle.cluster_laws.specs.cluster_model.Working.{fails, hands, hands_report, prompt, receives, takes_call}
-use Rattle.cluster_step.specs.Inner.Writing.{HasLinkBetween}
-use Rattle.cluster_step.specs.Links.{LinkView, message_read}
-use Rattle.cluster_step.proofs.WorldLemmas.{has_link}
+use Rattle.snap_clusters.specs.Inner.Writing.{HasLinkBetween}
+use Rattle.snap_clusters.specs.Links.{LinkView, message_read}
+use Rattle.snap_clusters.proofs.LinkLemmas.{has_link}
 use Rattle.whole_laws.specs.cluster_whole.Whole.{IsNoRecovery}
 use Rattle.coord_core.specs.Calls.{IsHandedOver}
 use Rattle.coord_core.specs.Coordinators.{CoordinatorView, IsCoordinatorOf}

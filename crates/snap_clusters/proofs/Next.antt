@@ -8,7 +8,7 @@ use Rattle.gl_base.specs.declared.scopes.ScopeId.{ScopeId}
 use Rattle.cluster_laws.specs.cluster_core.Actions.{HasFirst}
 use Rattle.cluster_laws.specs.cluster_model.Calls.{Call, Report}
 use Rattle.cluster_laws.specs.cluster_model.Events as law
-use Rattle.cluster_step.specs.Links.{message_read}
+use Rattle.snap_clusters.specs.Links.{message_read}
 use Rattle.coord_core.specs.Coordinators.{no_outbox}
 use Rattle.outboxes.specs.Outboxes.{has_waiting}
 use Rattle.snap_clusters.specs.Clusters.{AreCalls, AreReports, Cluster, InEachCluster, IsSavingClusterOf, IsSnapSetting, Machine, Parts, Setting, StandsForSaving, messages_on, told_on}

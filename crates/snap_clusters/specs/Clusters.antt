@@ -1,6 +1,6 @@
 -- A cluster that takes snapshots, and the cluster of the law that it stands for.
 pub use Rattle.cluster_laws.specs.cluster_model.Clusters.{BaseView, Cluster}
-pub use Rattle.cluster_step.specs.Inner.Writing.{HaveLinks}
+pub use Rattle.snap_clusters.specs.Inner.Writing.{HaveLinks}
 pub use Rattle.coord_core.specs.Coordinators.{AreCalls, IsCoordinatorOf, IsEngineOf, StoreView}
 pub use Rattle.coord_core.specs.declared.steps.Engine.{Engine}
 pub use Rattle.snap_members.specs.Going.{IsGoing, IsSnapSetting}

@@ -1,3 +1,5 @@
+pub mod Links
+pub mod Inner
 pub mod Lines
 pub mod Clusters
 pub mod Events

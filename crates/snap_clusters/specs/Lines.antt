@@ -1,5 +1,5 @@
 -- What is on the links of a cluster: between machines, and behind the last of them from the coordinator and to it.
-pub use Rattle.cluster_step.specs.Links.{LinkView, link_between, told_on}
+pub use Rattle.snap_clusters.specs.Links.{LinkView, link_between, told_on}
 use Rattle.std.specs.Prelude.{List, [], ⊤, ℕ, ◌∷◌}
 use Rattle.cluster_laws.specs.cluster_model.Calls.{Report}
 use Rattle.snap_members.specs.Promises.{MessageView, TellsReport}

@@ -5,6 +5,8 @@
 mod clusters;
 mod events;
 mod laws;
+mod link;
+mod links;
 mod parts;
 
 pub use clusters::SnapCluster;

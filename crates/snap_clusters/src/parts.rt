@@ -2,7 +2,7 @@
 ghost use Rattle.std.specs.Prelude.{◌≡◌, ◌+◌, ◌-◌, ◌^◌, ◌<◌, ◌≤◌, ◌⊎◌, true, false, length, replicate, slice_index_or, IfOk, IfSome, IfNone, IsErrOf, IsTrue, OnOk};
 ghost use Rattle.cluster_laws.specs.cluster_core.Recovering.{going_on};
 ghost use Rattle.cluster_laws.specs.cluster_model.Events.{recovers};
-ghost use Rattle.cluster_step.specs.Inner.Writing.{HasLinkBetween};
+ghost use Rattle.snap_clusters.specs.Inner.Writing.{HasLinkBetween};
 ghost use Rattle.coord_core.specs.Stores.{store_view};
 ghost use Rattle.snap_clusters.specs.AtOnce.{AnswersAtOnce};
 ghost use Rattle.snap_clusters.specs.Clusters.{BaseView, Cluster, InEachCluster, IsSavingClusterOf, Setting, StandsForSaving, StandsForSameSaving, StartsSaving};
@@ -10,7 +10,7 @@ ghost use Rattle.snap_clusters.specs.Cuts.{RecordsCut};
 ghost use Rattle.snap_clusters.specs.Events.{AnswersEvent, CanNotTakePlace, CanTakePlace, IsReadyToAcknowledge, TakesPlace, NamesLocal, NamesItsMachines, NamesPassage, acting, acting_local, acting_passage, is_resting};
 
 use crate::events::{Event, Lead, Local, Passage};
-use cluster_step::Links;
+use crate::links::Links;
 use coord_core::{Coordinator, Engine, Store};
 use gl_base::{MachineNo, NoMemory, Record, Refused, ScopeId, Vertex};
 use snap_members::SavingMachine;

@@ -1,3 +1,4 @@
+pub mod Told
 pub mod AtOnce
 pub mod Deeds
 pub mod Going

@@ -4,7 +4,7 @@ pub use Rattle.snap_members.specs.Deeds.{Admit, Deed, Grant, Machine, Mark, MayB
 pub use Rattle.cluster_laws.specs.cluster_core.Actions.{HasFirst}
 pub use Rattle.cluster_laws.specs.cluster_model.Events.{HasNext}
 pub use Rattle.cluster_laws.specs.cluster_model.Working.{fails}
-pub use Rattle.cluster_machines.specs.Told.{told_by}
+pub use Rattle.snap_members.specs.Told.{told_by}
 pub use Rattle.wire_msgs.specs.Views.{MessageView, message_view}
 use Rattle.std.specs.Prelude.{List, ℕ, ⊤, ◌<◌, ◌∷◌, ◌≡◌}
 use Rattle.cluster_laws.specs.cluster_core.Messages as law

@@ -1,7 +1,7 @@
 -- What comes first on a link to a machine that takes snapshots.
 pub use Rattle.cluster_laws.specs.cluster_core.Messages.{Ask, Done, Message, Ready}
 pub use Rattle.cluster_laws.specs.cluster_core.Settings.{Setting}
-pub use Rattle.cluster_machines.specs.Told.{no_word}
+pub use Rattle.snap_members.specs.Told.{no_word}
 pub use Rattle.cluster_laws.specs.cluster_model.Clusters.{Cluster}
 pub use Rattle.machine_core.specs.machine_parts.Parts.{machine_numbers}
 pub use Rattle.machine_core.specs.machine_scopes.Asking.{AreMachinesFor, CanBecomeReady, IsNewAt}

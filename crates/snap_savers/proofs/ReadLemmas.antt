@@ -9,7 +9,7 @@ use Rattle.cluster_laws.specs.cluster_core.Actions.{HasFirst}
 use Rattle.cluster_laws.specs.cluster_core.Messages.{Message}
 use Rattle.cluster_laws.specs.cluster_core.Parts.{Part}
 use Rattle.cluster_laws.specs.cluster_core.Ranges.{set_at}
-use Rattle.cluster_machines.specs.Told.{message_read, told_by}
+use Rattle.snap_members.specs.Told.{message_read, told_by}
 use Rattle.cluster_laws.specs.cluster_model.Calls.{Report}
 use Rattle.cluster_laws.specs.cluster_model.Events.{HasNext}
 use Rattle.cluster_laws.specs.cluster_model.Working.{fails, hands}

@@ -13,7 +13,7 @@ use Rattle.cluster_laws.specs.cluster_core.Marks.{IsMarking, mark_of}
 use Rattle.cluster_laws.specs.cluster_core.Messages.{Ask, Done, Message, News, Ready}
 use Rattle.cluster_laws.specs.cluster_core.Parts.{Part}
 use Rattle.whole_laws.proofs.cluster_ending.Growing.{received_longer}
-use Rattle.cluster_machines.specs.Told.{told_by}
+use Rattle.snap_members.specs.Told.{told_by}
 use Rattle.cluster_laws.specs.cluster_model.Clusters.{Cluster}
 use Rattle.cluster_laws.specs.cluster_model.Working.{prompt, receives, snapshot_in}
 use Rattle.cluster_moves.proofs.DueKept.{received_kept}

@@ -1,7 +1,7 @@
 -- How a run with a store begins, and what it is as it ends.
 pub use Rattle.stored_calls.specs.call_ends.Ends.{IsEndedRun}
 pub use Rattle.stored_calls.specs.call_starts.Starting.{ArePlacedFor, run_shared}
-pub use Rattle.cluster_plays.specs.Plans.{IsInRange}
+pub use Rattle.job_runs.specs.Plans.{IsInRange}
 pub use Rattle.job_runs.specs.Plays.{IsPlacement}
 pub use Rattle.order_text.specs.Orders.{IsEntryOf}
 pub use Rattle.call_budgets.specs.Enough.{BoundsSteps}

@@ -81,7 +81,7 @@ impl TaskSet {
         })
     }
 
-    /// Makes v a task, woken with this key: of tasks those with small keys come first, as `docs/decisions/parts.md` tells.
+    /// Makes v a task, woken with this key: of tasks those with small keys come first, as `docs/design/engine.md` says.
     pub fn wake(&mut self, v: Vertex, key: u64)
         requires { v.0 < length self.old.task }
         ensures { self.new ≡ record self.old { task = slice_set self.old.task v.0 true } }

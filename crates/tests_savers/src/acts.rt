@@ -3,6 +3,7 @@ use crate::answers::is_answer;
 use crate::chances::play_seeds;
 use crate::driving::{bring, drive, settle};
 use crate::events::{both_happen, happens, happens_at_once, has_machine, next_scope};
+use crate::orders::play_orders;
 use crate::plans::machine_of;
 use crate::records::take_record;
 use crate::recovering::go_back;
@@ -47,10 +48,11 @@ enum Act {
     Answer,
     Seeds,
     SeedsAndFailures,
+    Orders,
 }
 
 /// Each of them with its word.
-static ACTS: [(&str, Act); 29] = [
+static ACTS: [(&str, Act); 30] = [
     ("admit", Act::Admit),
     ("section", Act::Section),
     ("fail", Act::Fail),
@@ -80,6 +82,7 @@ static ACTS: [(&str, Act); 29] = [
     ("answer", Act::Answer),
     ("seeds", Act::Seeds),
     ("seeds-and-failures", Act::SeedsAndFailures),
+    ("orders", Act::Orders),
 ];
 
 /// Lets happen what the line says, and returns whether it has happened.
@@ -89,7 +92,7 @@ pub fn play_act<P: Program>(
     line: &Line<'_>,
 ) -> Result<bool, Trouble> {
     let Some(act) = act_of(line.word) else {
-        return Err(Trouble("there is no such word"));
+        return Err(Trouble::Because("there is no such word"));
     };
     match act {
         Act::Record => take_record(alloc, scene),
@@ -100,6 +103,7 @@ pub fn play_act<P: Program>(
         Act::Answer => is_answer(alloc, scene.beginning, &scene.kept),
         Act::Seeds => play_seeds(alloc, scene.beginning, line, false),
         Act::SeedsAndFailures => play_seeds(alloc, scene.beginning, line, true),
+        Act::Orders => play_orders(alloc, scene.beginning, line.number(0)),
         _ => happens_there(&mut scene.whole, scene.beginning.graph, act, line),
     }
 }
@@ -174,7 +178,7 @@ fn is_granted<M: SavingMachine>(
 ) -> Result<bool, Trouble> {
     match graph.find(id) {
         Some(x) => happens(whole, Event::Local(Local::Grant(at, x))),
-        None => Err(Trouble("no vertex has this identifier")),
+        None => Err(Trouble::Because("no vertex has this identifier")),
     }
 }
 
@@ -187,7 +191,7 @@ fn happens_in_scope<M: SavingMachine>(
     is_mark: bool,
 ) -> Result<bool, Trouble> {
     if !has_machine(whole, home) {
-        return Err(Trouble("there is no such machine"));
+        return Err(Trouble::Because("there is no such machine"));
     }
     match scope_of(whole, home, line, is_mark) {
         Some(scope) => happens(whole, Event::Local(of_scope(scope, is_mark))),

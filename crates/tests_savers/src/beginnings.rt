@@ -10,7 +10,7 @@ use crate::trouble::Trouble;
 use call_courses::Course;
 use color_steps::{greatest_colour, greedy_colouring};
 use coord_core::{Engine, Store};
-use gl_base::{AtomNo, Base, EngineKind, FailureAt, MachineNo, NoMemory, Vertex};
+use gl_base::{Algorithm, AtomNo, Base, EngineKind, FailureAt, MachineNo, NoMemory, Vertex};
 use graph_core::Graph;
 use placed_graphs::first_base;
 use placed_savers::engine_savers::EngineSaver;
@@ -36,6 +36,7 @@ const MOST_BYTES: u64 = 1073741824;
 pub struct Beginning<'a, P: Program> {
     pub graph: &'a Graph,
     pub program: P,
+    pub algorithm: Algorithm,
     /// Each vertex is in the atom of its machine's number.
     pub of: Vec<AtomNo>,
     pub machines: u16,
@@ -56,16 +57,17 @@ pub fn beginning_of<'a, P: Program>(
 ) -> Result<Beginning<'a, P>, Trouble> {
     let (Ok(pipeline), Ok(window)) = (u16::try_from(plan.pipeline), u32::try_from(plan.window))
     else {
-        return Err(Trouble("a limit is too great"));
+        return Err(Trouble::Because("a limit is too great"));
     };
     if plan.tickets >= MOST_TICKETS {
-        return Err(Trouble("there are too many tickets"));
+        return Err(Trouble::Because("there are too many tickets"));
     }
     let of = atoms_of(alloc, &plan.machines)?;
     let base = base_of(alloc, graph, &program, plan)?;
     Ok(Beginning {
         graph,
         program,
+        algorithm: plan.algorithm,
         machines: count_of(&of),
         of,
         pipeline,
@@ -81,7 +83,7 @@ fn atoms_of(alloc: Global, numbers: &[u64]) -> Result<Vec<AtomNo>, Trouble> {
     let mut of = Vec::new(alloc);
     for number in numbers {
         if *number >= 16 {
-            return Err(Trouble("there are too many machines"));
+            return Err(Trouble::Because("there are too many machines"));
         }
         of.push(AtomNo(*number as u16))?;
     }
@@ -116,6 +118,9 @@ fn base_of<P: Program>(
     let mut base = first_base(alloc, graph, program)?;
     if !plan.values.is_empty() {
         base.values = Vec::from_slice(alloc, &plan.values)?;
+    }
+    if !plan.marks.is_empty() {
+        base.edges = Vec::from_slice(alloc, &plan.marks)?;
     }
     Ok(base)
 }
@@ -180,7 +185,7 @@ fn places_of<P: Program>(alloc: Global, beginning: &Beginning<'_, P>) -> Result<
     let of = Vec::from_slice(alloc, &beginning.of)?;
     let owner = owners_of(alloc, beginning.machines)?;
     if !has_places(graph, &of, &owner, beginning.machines) {
-        return Err(Trouble("a vertex is without a machine"));
+        return Err(Trouble::Because("a vertex is without a machine"));
     }
     let (engine, colours) = kept_apart(alloc, graph, beginning.engine)?;
     let run = SavingRun {
@@ -240,14 +245,14 @@ fn start_at<P: Program>(
     let (graph, program) = (beginning.graph, beginning.program);
     let run = places.run;
     if serials.len() != run.machines as usize || run.machines == u16::MAX {
-        return Err(Trouble("there is another count of machines"));
+        return Err(Trouble::Because("there is another count of machines"));
     }
     if !has_numbers(graph, base) {
-        return Err(Trouble("there is not a number for each"));
+        return Err(Trouble::Because("there is not a number for each"));
     }
     let store = store_of(graph, base);
     if store.newest == u32::MAX || store.length > MOST_BYTES {
-        return Err(Trouble("the store is too great"));
+        return Err(Trouble::Because("the store is too great"));
     }
     let machines = placed_savers(alloc, graph, program, base, places, serials)?;
     Ok(Start {
@@ -261,7 +266,7 @@ fn start_at<P: Program>(
 pub fn begun<P: Program>(alloc: Global, beginning: &Beginning<'_, P>) -> Result<Whole<P>, Trouble> {
     let tickets = beginning.tickets;
     if tickets >= MOST_TICKETS {
-        return Err(Trouble("there are too many tickets"));
+        return Err(Trouble::Because("there are too many tickets"));
     }
     let start = first_start(alloc, beginning, &beginning.base)?;
     Ok(SnapCluster::new(alloc, start.machines, start.engine, start.store, 0, tickets)?)
@@ -293,7 +298,7 @@ pub fn begin_again<P: Program>(
     let start = start_from(alloc, beginning, base, &serials)?;
     if start.machines.len() != whole.machines() {
         drop(start);
-        return Err(Trouble("there is another count of machines"));
+        return Err(Trouble::Because("there is another count of machines"));
     }
     whole.recover(alloc, start.machines, start.engine, start.store)?;
     Ok(true)
@@ -326,7 +331,7 @@ pub fn begin_call<P: Program>(
 ) -> Result<InCourse<P>, Trouble> {
     let tickets = beginning.tickets;
     if tickets >= MOST_TICKETS {
-        return Err(Trouble("there are too many tickets"));
+        return Err(Trouble::Because("there are too many tickets"));
     }
     let failures = Vec::from_slice(alloc, failures)?;
     let start = first_start(alloc, beginning, base)?;
@@ -352,7 +357,7 @@ pub fn call_again<P: Program>(
     let start = start_from(alloc, beginning, base, &serials)?;
     if start.machines.len() != course.machines() {
         drop(start);
-        return Err(Trouble("there is another count of machines"));
+        return Err(Trouble::Because("there is another count of machines"));
     }
     Ok(course.recover(alloc, start.machines, start.engine, start.store)?)
 }

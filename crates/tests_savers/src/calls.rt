@@ -98,7 +98,7 @@ fn go_on<R: Wait + AllocGlobal, P: Program>(rt: &R, call: &mut Call<'_, P>) -> R
             Pause::Reached(_) => go_back(rt.alloc(), call)?,
         }
     }
-    Err(Trouble("a call has no end"))
+    Err(Trouble::Because("a call has no end"))
 }
 
 /// Keeps the record that is due, and acknowledges it.
@@ -110,8 +110,8 @@ fn take_due<P: Program, M: SavingMachine>(
 ) -> Result<(), Trouble> {
     let record = match course.record(alloc) {
         Ok(record) => record,
-        Err(Refused::NotNow) => return Err(Trouble("no record is due")),
-        Err(Refused::NoMemory) => return Err(Trouble("memory is missing")),
+        Err(Refused::NotNow) => return Err(Trouble::Because("no record is due")),
+        Err(Refused::NoMemory) => return Err(Trouble::Because("memory is missing")),
     };
     let number = record.number;
     keep_record(alloc, beginning, kept, record)?;
@@ -165,15 +165,15 @@ fn has_machine<M: SavingMachine>(course: &Course<M>, at: MachineNo) -> bool
 fn fails<M: SavingMachine>(course: &mut Course<M>, at: MachineNo) -> Result<bool, Trouble> {
     let reached = has_machine(course, at) && course.has_reached(at);
     if reached && is_updated(course, at) {
-        return Err(Trouble("an update is made behind the count of a failure"));
+        return Err(Trouble::Because("an update is made behind the count of a failure"));
     }
     if is_let_fail(course, at) != reached {
-        return Err(Trouble("a machine fails at another time"));
+        return Err(Trouble::Because("a machine fails at another time"));
     }
     if has_machine(course, at) && course.has_failed(at) == reached {
         Ok(reached)
     } else {
-        Err(Trouble("a machine has failed at another time"))
+        Err(Trouble::Because("a machine has failed at another time"))
     }
 }
 

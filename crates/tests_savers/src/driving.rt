@@ -26,10 +26,10 @@ pub fn drive<P: Program>(
             Stand::GoesOn(moved) => moved,
         };
         if !moved {
-            return Err(Trouble("nothing moves, and it is not the end"));
+            return Err(Trouble::Because("nothing moves, and it is not the end"));
         }
     }
-    Err(Trouble("no end comes"))
+    Err(Trouble::Because("no end comes"))
 }
 
 /// Where a cluster stands: at its end, at a record that is due, or behind what was due, which moved something or not.
@@ -76,11 +76,11 @@ pub fn settle<M: SavingMachine>(
             return if matches!(event, Event::Local(Local::Admit(_))) {
                 Ok(times > 0)
             } else {
-                Err(Trouble("what may happen is refused"))
+                Err(Trouble::Because("what may happen is refused"))
             };
         }
     }
-    Err(Trouble("a turn has no end"))
+    Err(Trouble::Because("a turn has no end"))
 }
 
 /// Returns a grant, an update, a snapshot update or a section of the machine that may be now.
@@ -92,7 +92,7 @@ fn next_of<M: SavingMachine>(
         return Ok(Some(Event::Local(Local::Grant(at, x))));
     }
     if !has_machine(whole, at) {
-        return Err(Trouble("there is no such machine"));
+        return Err(Trouble::Because("there is no such machine"));
     }
     if let Some(scope) = whole.next_update(at) {
         return Ok(Some(Event::Local(Local::Update(scope))));
@@ -121,7 +121,7 @@ pub fn bring<M: SavingMachine>(whole: &mut SnapCluster<M>, machines: u16) -> Res
             return Ok(true);
         }
     }
-    Err(Trouble("messages have no end"))
+    Err(Trouble::Because("messages have no end"))
 }
 
 /// Brings what waits at the machine or for it. Returns whether anything did.

@@ -2,23 +2,24 @@
 ghost use Rattle.std.specs.Prelude.{◌≡◌, ◌<◌, true, IsTrue, length};
 ghost use Rattle.snap_clusters.specs.Events.{NamesItsMachines, NamesLocal, NamesPassage};
 
+use crate::imprints::imprint;
 use crate::trouble::Trouble;
 use gl_base::{MachineNo, Record, Refused, ScopeId, Vertex};
 use snap_clusters::{Event, Local, Passage, SavingMachine, SnapCluster};
 use std::alloc::Global;
 
-/// Lets the event happen, and returns whether it has.
+/// Lets the event happen, and returns whether it has. What is refused leaves no change that is read of the cluster.
 pub fn happens<M: SavingMachine>(
     whole: &mut SnapCluster<M>,
     event: Event,
 ) -> Result<bool, Trouble> {
     if !is_within(whole.machines(), event) {
-        return Err(Trouble("there is no such machine"));
+        return Err(Trouble::Because("there is no such machine"));
     }
+    let before = imprint(whole);
     match whole.apply(event) {
         Ok(()) => Ok(true),
-        Err(Refused::NotNow) => Ok(false),
-        Err(Refused::NoMemory) => Err(Trouble("memory is missing")),
+        Err(refusal) => refused(whole, before, refusal),
     }
 }
 
@@ -28,12 +29,27 @@ pub fn happens_at_once<M: SavingMachine>(
     at: MachineNo,
 ) -> Result<bool, Trouble> {
     if !has_machine(whole, at) {
-        return Err(Trouble("there is no such machine"));
+        return Err(Trouble::Because("there is no such machine"));
     }
+    let before = imprint(whole);
     match whole.update_at_once(at) {
         Ok(_) => Ok(true),
-        Err(Refused::NotNow) => Ok(false),
-        Err(Refused::NoMemory) => Err(Trouble("memory is missing")),
+        Err(refusal) => refused(whole, before, refusal),
+    }
+}
+
+/// Returns `false` for what may not happen now, and looks whether the refusal has left a change.
+fn refused<M: SavingMachine>(
+    whole: &SnapCluster<M>,
+    before: u64,
+    refusal: Refused,
+) -> Result<bool, Trouble> {
+    if imprint(whole) != before {
+        return Err(Trouble::Because("what was refused has left a change"));
+    }
+    match refusal {
+        Refused::NotNow => Ok(false),
+        Refused::NoMemory => Err(Trouble::NoMemory),
     }
 }
 
@@ -49,7 +65,7 @@ pub fn both_happen<M: SavingMachine>(
     if happens(whole, Event::Passage(second))? {
         Ok(true)
     } else {
-        Err(Trouble("what was sent doesn't come"))
+        Err(Trouble::Because("what was sent doesn't come"))
     }
 }
 
@@ -58,10 +74,13 @@ pub fn due_record<M: SavingMachine>(
     alloc: Global,
     whole: &mut SnapCluster<M>,
 ) -> Result<Option<Record>, Trouble> {
+    let before = imprint(whole);
     match whole.record(alloc) {
         Ok(record) => Ok(Some(record)),
-        Err(Refused::NotNow) => Ok(None),
-        Err(Refused::NoMemory) => Err(Trouble("memory is missing")),
+        Err(refusal) => {
+            refused(whole, before, refusal)?;
+            Ok(None)
+        }
     }
 }
 

@@ -9,6 +9,7 @@ use std::alloc::Global;
 pub struct Plan {
     pub vertices: Vec<u64>,
     pub edges: Vec<EdgeIn>,
+    pub is_directed: bool,
     pub algorithm: Algorithm,
     /// The identifier of the source.
     pub source: u64,
@@ -20,6 +21,8 @@ pub struct Plan {
     pub tickets: u64,
     /// The numbers of the vertices with which the run begins; empty if they are the program's.
     pub values: Vec<u64>,
+    /// The numbers of the edges with which the run begins; empty if they are 0.
+    pub marks: Vec<u64>,
     /// The failures that the job orders.
     pub failures: Vec<FailureAt>,
     /// Whether the scenario is a call that is driven to its end.
@@ -32,9 +35,11 @@ enum Part {
     Heading,
     Vertices,
     Edges,
+    Directed,
     Components,
     Levels,
     Paths,
+    Colours,
     On,
     Locking,
     Chromatic,
@@ -42,19 +47,22 @@ enum Part {
     Window,
     Tickets,
     Values,
+    Marks,
     Failures,
     Driven,
 }
 
 /// Each of them with its word.
-static PARTS: [(&str, Part); 16] = [
+static PARTS: [(&str, Part); 19] = [
     ("given", Part::Heading),
     ("scenario", Part::Heading),
     ("vertices", Part::Vertices),
     ("edges", Part::Edges),
+    ("directed", Part::Directed),
     ("components", Part::Components),
     ("levels", Part::Levels),
     ("paths", Part::Paths),
+    ("colours", Part::Colours),
     ("on", Part::On),
     ("locking", Part::Locking),
     ("chromatic", Part::Chromatic),
@@ -62,6 +70,7 @@ static PARTS: [(&str, Part); 16] = [
     ("window", Part::Window),
     ("tickets", Part::Tickets),
     ("values", Part::Values),
+    ("marks", Part::Marks),
     ("failures", Part::Failures),
     ("driven", Part::Driven),
 ];
@@ -96,6 +105,7 @@ impl Plan {
         Plan {
             vertices: Vec::new(alloc),
             edges: Vec::new(alloc),
+            is_directed: false,
             algorithm: Algorithm::Components,
             source: 0,
             machines: Vec::new(alloc),
@@ -104,6 +114,7 @@ impl Plan {
             window: 4,
             tickets: 1000000,
             values: Vec::new(alloc),
+            marks: Vec::new(alloc),
             failures: Vec::new(alloc),
             is_call: false,
         }
@@ -128,6 +139,7 @@ impl Plan {
             Part::Vertices => self.vertices = line.numbers,
             Part::On => self.machines = line.numbers,
             Part::Values => self.values = line.numbers,
+            Part::Marks => self.marks = line.numbers,
             _ => self.take_number(part, number),
         }
     }
@@ -137,6 +149,8 @@ impl Plan {
         match part {
             Part::Levels => self.run(Algorithm::Levels, number),
             Part::Paths => self.run(Algorithm::Paths, number),
+            Part::Colours => self.run(Algorithm::Colours, 0),
+            Part::Directed => self.is_directed = true,
             Part::Locking => self.engine = EngineKind::Locking,
             Part::Chromatic => self.engine = EngineKind::Chromatic,
             Part::Pipeline => self.pipeline = number,

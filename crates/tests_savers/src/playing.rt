@@ -48,8 +48,26 @@ fn play_line<P: Program>(alloc: Global, scene: &mut Scene<'_, P>, text: &str, pa
         page.add_line("");
     } else {
         let line = Line::of(alloc, said);
-        let outcome = play_act(alloc, scene, &line);
+        let outcome = match play_act(alloc, scene, &line) {
+            Err(Trouble::NoMemory) => play_again(alloc, scene, &line, page),
+            outcome => outcome,
+        };
         add_outcome(&line, outcome, page);
+    }
+}
+
+/// Plays once more a line for which the cluster found no memory, and writes that. It has to happen then.
+fn play_again<P: Program>(
+    alloc: Global,
+    scene: &mut Scene<'_, P>,
+    line: &Line<'_>,
+    page: &mut Page,
+) -> Result<bool, Trouble> {
+    page.add("again ");
+    if play_act(alloc, scene, line)? {
+        Ok(true)
+    } else {
+        Err(Trouble::Because("there was no memory for what may not happen"))
     }
 }
 
@@ -68,15 +86,15 @@ pub fn add_outcome(line: &Line<'_>, outcome: Result<bool, Trouble>, page: &mut P
         page.add("not-now ");
     }
     page.add_words(line);
-    if let Err(Trouble(why)) = outcome {
+    if let Err(trouble) = outcome {
         page.add(" but ");
-        page.add(why);
+        page.add(trouble.words());
     }
     page.add_line("");
 }
 
 /// Writes a line of trouble.
-pub fn add_trouble(Trouble(why): Trouble, page: &mut Page) {
+pub fn add_trouble(trouble: Trouble, page: &mut Page) {
     page.add("but ");
-    page.add_line(why);
+    page.add_line(trouble.words());
 }

@@ -21,7 +21,7 @@ pub fn take_record<P: Program>(alloc: Global, scene: &mut Scene<'_, P>) -> Resul
     if happens(&mut scene.whole, Event::Lead(Lead::Record))? {
         Ok(true)
     } else {
-        Err(Trouble("the record is not acknowledged"))
+        Err(Trouble::Because("the record is not acknowledged"))
     }
 }
 
@@ -67,7 +67,7 @@ fn look_at<P: Program>(
     record: &Record,
 ) -> Result<(), Trouble> {
     if record.sections.len() != beginning.machines as usize {
-        return Err(Trouble("a section is missing"));
+        return Err(Trouble::Because("a section is missing"));
     }
     kept.order.extend_from_slice(&record.entries)?;
     kept.order.sort_unstable_by_key(|entry| rank(*entry));
@@ -98,7 +98,7 @@ fn has_numbers(alloc: Global, record: &Record, numbers: &Numbers) -> Result<(), 
     {
         Ok(())
     } else {
-        Err(Trouble("the record's numbers are not the replay's"))
+        Err(Trouble::Because("the record's numbers are not the replay's"))
     }
 }
 

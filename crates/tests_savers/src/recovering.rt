@@ -62,7 +62,7 @@ fn prepare<P: Program>(
     failures: usize,
 ) -> Result<(), Trouble> {
     if base.number != scene.whole.stored() {
-        return Err(Trouble("another snapshot is the store's last"));
+        return Err(Trouble::Because("another snapshot is the store's last"));
     }
     if !values.is_empty() {
         base.values = Vec::from_slice(alloc, values)?;
@@ -98,19 +98,19 @@ fn recovered<P: Program>(
     *kept = Some(store);
     match base {
         Ok(base) => Ok(base),
-        Err(_) => Err(Trouble("the store tells no snapshot")),
+        Err(_) => Err(Trouble::Because("the store tells no snapshot")),
     }
 }
 
 /// Looks whether the base has the order and the numbers that are known of the newest snapshot.
 fn is_newest(base: &Base, kept: &Kept) -> Result<(), Trouble> {
     if base.order.as_slice() != kept.order.as_slice() {
-        return Err(Trouble("the store has another order"));
+        return Err(Trouble::Because("the store has another order"));
     }
     if base.values.as_slice() != kept.newest.values.as_slice()
         || base.edges.as_slice() != kept.newest.edges.as_slice()
     {
-        return Err(Trouble("the store has other numbers"));
+        return Err(Trouble::Because("the store has other numbers"));
     }
     Ok(())
 }

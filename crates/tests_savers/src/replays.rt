@@ -124,7 +124,7 @@ fn started_by<P: Program>(
         let id = graph.id(Vertex(v));
         let number = values.get(v as usize).copied();
         if id >= 64 {
-            return Err(Trouble("an identifier is too great for a replay"));
+            return Err(Trouble::Because("an identifier is too great for a replay"));
         }
         numbers[id as usize] = number.unwrap_or(0);
     }
@@ -145,10 +145,10 @@ fn step<P: Program>(run: &mut SeqRun<'_, P>, entry: Entry, least: u64) -> Result
     match entry {
         Entry::Go { vertex, ticket, .. } if ticket >= least => match run.step(vertex) {
             Ok(()) => Ok(ticket.saturating_add(1)),
-            Err(StepFault::NotScheduled) => Err(Trouble("an update is of no task")),
-            Err(StepFault::NoMemory) => Err(Trouble("memory is missing")),
+            Err(StepFault::NotScheduled) => Err(Trouble::Because("an update is of no task")),
+            Err(StepFault::NoMemory) => Err(Trouble::Because("memory is missing")),
         },
-        _ => Err(Trouble("an entry is out of its turn")),
+        _ => Err(Trouble::Because("an entry is out of its turn")),
     }
 }
 

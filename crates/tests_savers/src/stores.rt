@@ -13,7 +13,7 @@ pub type Store = Journal<MemDisk>;
 /// Makes a store without snapshots, for so many machines and this graph.
 pub fn empty_store(alloc: Global, graph: &Graph, machines: u16) -> Result<Store, Trouble> {
     if machines < 1 || machines > 16 {
-        return Err(Trouble("there are too many machines"));
+        return Err(Trouble::Because("there are too many machines"));
     }
     let header = Header {
         machines,
@@ -27,7 +27,7 @@ pub fn empty_store(alloc: Global, graph: &Graph, machines: u16) -> Result<Store,
     let mut disk = MemDisk::new(alloc, Vec::new(alloc), Vec::new(alloc), u64::MAX);
     if init(&mut disk, &header).is_err() {
         drop(disk);
-        return Err(Trouble("no store is made"));
+        return Err(Trouble::Because("no store is made"));
     }
     opened(alloc, disk, &header)
 }
@@ -36,14 +36,14 @@ pub fn empty_store(alloc: Global, graph: &Graph, machines: u16) -> Result<Store,
 fn opened(alloc: Global, disk: MemDisk, header: &Header) -> Result<Store, Trouble> {
     match Journal::open(alloc, disk, header) {
         Ok(store) => Ok(store),
-        Err(_) => Err(Trouble("the store is not opened")),
+        Err(_) => Err(Trouble::Because("the store is not opened")),
     }
 }
 
 /// Takes the store and opens it again.
 pub fn opened_again(alloc: Global, store: &mut Option<Store>) -> Result<Store, Trouble> {
     let Some(store) = store.take() else {
-        return Err(Trouble("the store is gone"));
+        return Err(Trouble::Because("the store is gone"));
     };
     let header = store.header();
     opened(alloc, store.into_disk(), &header)
@@ -52,7 +52,7 @@ pub fn opened_again(alloc: Global, store: &mut Option<Store>) -> Result<Store, T
 /// Adds a record to the store, which has to be in the form of one.
 pub fn append(alloc: Global, store: &mut Option<Store>, record: &Record) -> Result<(), Trouble> {
     let Some(mut open) = store.take() else {
-        return Err(Trouble("the store is gone"));
+        return Err(Trouble::Because("the store is gone"));
     };
     let outcome = append_to(alloc, &mut open, record);
     *store = Some(open);
@@ -62,14 +62,14 @@ pub fn append(alloc: Global, store: &mut Option<Store>, record: &Record) -> Resu
 /// Adds a record to a store that is open.
 fn append_to(alloc: Global, open: &mut Store, record: &Record) -> Result<(), Trouble> {
     if open.count() >= 4096 {
-        return Err(Trouble("the store is full"));
+        return Err(Trouble::Because("the store is full"));
     }
     let header = open.header();
     if !is_record(alloc, &header, 1 + open.count(), record)? {
-        return Err(Trouble("the record is not in the form of a store"));
+        return Err(Trouble::Because("the record is not in the form of a store"));
     }
     if open.append(alloc, record).is_err() {
-        return Err(Trouble("the record is not stored"));
+        return Err(Trouble::Because("the record is not stored"));
     }
     Ok(())
 }

@@ -4,9 +4,7 @@
 mod answers;
 mod idling;
 mod laws;
-mod machines;
 
 pub use answers::{WaveAnswer, WaveCounts};
 pub use idling::is_at_rest;
 pub use laws::{answers_are_prompt, counts_follow_events, machines_at_rest_are_idle};
-pub use machines::WaveMachine;

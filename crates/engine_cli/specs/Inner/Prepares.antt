@@ -1,5 +1,5 @@
 -- What reading a job and its graph and running it answers.
-use Rattle.std.specs.Prelude.{◌≡◌, ◌≤◌, ℕ, Bool, All, List, [], length, ⊤, Option, None, Some, Result, Ok, Err}
+use Rattle.std.specs.Prelude.{◌≡◌, ◌≤◌, ℕ, Bool, All, List, length, ⊤, Option, None, Some, Result, Ok, Err}
 use Rattle.gl_outside.specs.Faults.{Rose}
 use Rattle.gl_outside.specs.FilesState.{FilesState}
 use Rattle.graph_core.specs.DataGraph.{DataGraph, IsDataGraph, size}
@@ -10,7 +10,6 @@ use Rattle.job_files.specs.JobTexts.{DescribeJobGraph, HasStart, OfTexts, SaysJo
 use Rattle.job_files.specs.declared.inputs.Input.{Input}
 use Rattle.job_files.specs.declared.jobs.JobVerb.{JobVerb}
 use Rattle.job_files.specs.declared.jobs.JobVerb.TheVariants as verb
-use Rattle.job_runs.specs.declared.runs.Run.{Run}
 use Rattle.job_stores.specs.NewStores.{UsesDisk}
 use Rattle.job_stores.specs.declared.making.NoStore.{NoStore}
 use Rattle.job_stores.specs.declared.making.NoStore.TheVariants as no_store
@@ -23,7 +22,7 @@ use Rattle.engine_cli.specs.declared.running.Prepared.{Prepared}
 use Rattle.engine_cli.specs.declared.status.Status.{Status}
 use Rattle.engine_cli.specs.declared.status.Status.TheVariants.{BudgetSpent, DiskFault, SnapshotsFull}
 use Rattle.engine_cli.specs.Inner.Storing.{IsWhyNoStoredRun}
-use Rattle.engine_cli.specs.JobRuns.{IsEndAlone, RunsSo, is_resumed, left_at}
+use Rattle.engine_cli.specs.JobRuns.{RunsSo, is_resumed}
 use Rattle.engine_cli.specs.Says.{Refuses}
 
 -- a verb that runs a job
@@ -45,17 +44,6 @@ pub record IsRunnable (input : Input) : Type 0 where
 pub record IsPrintable (g : DataGraph) (run : StoredRun) : Type 0 where
   pub numbers : length run.numbers.items ≡ size g
   pub entries : All (IsEntryOf g) run.order.items
-
--- the run is this one, and lost no update and took no snapshot
-pub record IsRunAlone (was : Run) (run : StoredRun) : Type 0 where
-  pub order : run.order.items ≡ was.order.items
-  pub numbers : run.numbers.items ≡ was.numbers.items
-  pub done : run.done.items ≡ was.done.items
-  pub left : left_at run.end ≡ was.left
-  pub ended : IsEndAlone run.end
-  pub lost : run.lost.items ≡ []
-  pub fired : run.fired.items ≡ []
-  pub snapshots : run.snapshots.items ≡ []
 
 -- it is one of the job, and ended by a fault of the disk only where there was one
 pub record IsMadeRun (told : Bool) (asked : JobVerb) (input : Input) (old new : FilesState) (run : StoredRun) : Type 0 where

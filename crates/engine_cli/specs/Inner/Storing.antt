@@ -19,56 +19,57 @@ use Rattle.job_stores.specs.declared.making.NoStore.TheVariants as no_store
 use Rattle.snap_journal.specs.declared.faults.JournalFault.{JournalFault}
 use Rattle.snap_journal.specs.declared.faults.JournalFault.TheVariants as journal
 use Rattle.store_format.specs.declared.faults.StoreFault.TheVariants.{Used}
+use Rattle.store_format.specs.declared.header.Header.{Header}
 use Rattle.stored_answers.specs.Images.{IsGoodStore, KeepsGood}
 use Rattle.stored_answers.specs.declared.runs.StoredEnd.TheVariants as end
 use Rattle.stored_answers.specs.declared.runs.StoredRun.{StoredRun}
 use Rattle.update_api.specs.Updates.{Update}
-use Rattle.engine_cli.specs.JobRuns.{BoundsSteps, HasRoomForRun, IsStoredRun, RunsOnStore, Shared, plan_with, records_size, snapshots_on, stored_order}
+use Rattle.engine_cli.specs.JobRuns.{BoundsSteps, HasRoomForRun, IsStoredRun, RunsOnStore, Shared, plan_with, records_size, stored_in, stored_order}
 use Rattle.engine_cli.specs.JobStores.{IsOtherStore, KeepsGoing, KeepsImages, RefusesStore}
 
 -- what all attempts of a run of this program share
 abbrev pub shared_with : JobSayings → DataGraph → Update → (ℕ → ℕ) → Shared
 shared_with job g p owner = record { graph = g; program = p; owner = owner; failures = job.failures }
 
--- A run of this program with this window on the placed graph, from an opened store with these snapshots, which are so many. From one that is good for it the run is one that goes on
--- from it; it spends no budget that has the steps of each attempt, and fills no store that has room for it.
-pub record IsStoreRunFrom (job : JobSayings) (g : DataGraph) (p : Update) (window : ℕ) (resumed : Bool) (count : ℕ) (bodies : List (List ℕ)) (old new : DiskPast) (run : StoredRun) : Type 0 where
-  pub goes_on : (owner : ℕ → ℕ) → IsPlacement g job.fields.atoms job.fields.machines owner → IsGoodStore (shared_with job g p owner) (header_for job.fields g) bodies →
+-- A run of this program with this window on the placed graph, from an opened store for this header with these snapshots, which are so many. From one
+-- that is good for it the run is one that goes on from it; it spends no budget that has the steps of each attempt, and fills no store that has room for it.
+pub record IsStoreRunFrom (job : JobSayings) (g : DataGraph) (p : Update) (header : Header) (window : ℕ) (resumed : Bool) (count : ℕ) (bodies : List (List ℕ)) (old new : DiskPast) (run : StoredRun) : Type 0 where
+  pub goes_on : (owner : ℕ → ℕ) → IsPlacement g job.fields.atoms job.fields.machines owner → IsGoodStore (shared_with job g p owner) header bodies →
       (snapshots : List (List Entry)) × IsStoredRun (shared_with job g p owner) job.fields.machines window job.fields.budget count (stored_order bodies) resumed snapshots run
-      × KeepsGood (shared_with job g p owner) (header_for job.fields g) bodies snapshots old new
+      × KeepsGood (shared_with job g p owner) header bodies snapshots old new
   pub placed : (owner : ℕ → ℕ) × IsPlacement g job.fields.atoms job.fields.machines owner
-  pub enough : (owner : ℕ → ℕ) → IsPlacement g job.fields.atoms job.fields.machines owner → IsGoodStore (shared_with job g p owner) (header_for job.fields g) bodies →
+  pub enough : (owner : ℕ → ℕ) → IsPlacement g job.fields.atoms job.fields.machines owner → IsGoodStore (shared_with job g p owner) header bodies →
       (bound : ℕ) → BoundsSteps g p bound → (1 + length job.failures) * bound ≤ job.fields.budget → (left : Vertex) → run.end ≡ end.Spent left → ⊥
-  pub roomy : (owner : ℕ → ℕ) → IsPlacement g job.fields.atoms job.fields.machines owner → IsGoodStore (shared_with job g p owner) (header_for job.fields g) bodies →
+  pub roomy : (owner : ℕ → ℕ) → IsPlacement g job.fields.atoms job.fields.machines owner → IsGoodStore (shared_with job g p owner) header bodies →
       HasRoomForRun g (plan_with job window) (length job.failures) count (65 + records_size bodies) → (stored bytes : ℕ) → run.end ≡ end.Full stored bytes → ⊥
-  pub full : (stored bytes : ℕ) → run.end ≡ end.Full stored bytes → (stored ≡ length (snapshots_on job g new)) × (bytes ≡ 65 + records_size (snapshots_on job g new))
+  pub full : (stored bytes : ℕ) → run.end ≡ end.Full stored bytes → (stored ≡ length (stored_in header new.now.seen)) × (bytes ≡ 65 + records_size (stored_in header new.now.seen))
 
 -- a good store with these snapshots may have got others, and keeps what it had
-abbrev pub IsStoreKept : JobSayings → DataGraph → Update → List (List ℕ) → DiskPast → DiskPast → Type 0
-IsStoreKept job g p bodies old new =
-    (owner : ℕ → ℕ) → IsPlacement g job.fields.atoms job.fields.machines owner → IsGoodStore (shared_with job g p owner) (header_for job.fields g) bodies →
-    (snapshots : List (List Entry)) × KeepsGood (shared_with job g p owner) (header_for job.fields g) bodies snapshots old new
+abbrev pub IsStoreKept : JobSayings → DataGraph → Update → Header → List (List ℕ) → DiskPast → DiskPast → Type 0
+IsStoreKept job g p header bodies old new =
+    (owner : ℕ → ℕ) → IsPlacement g job.fields.atoms job.fields.machines owner → IsGoodStore (shared_with job g p owner) header bodies →
+    (snapshots : List (List Entry)) × KeepsGood (shared_with job g p owner) header bodies snapshots old new
 
 -- a store with these snapshots is not a good one for the placed graph, or is longer than one may grow
-abbrev pub IsNotGood : JobSayings → DataGraph → Update → List (List ℕ) → Type 0
-IsNotGood job g p bodies =
-    (owner : ℕ → ℕ) → IsPlacement g job.fields.atoms job.fields.machines owner → IsGoodStore (shared_with job g p owner) (header_for job.fields g) bodies
+abbrev pub IsNotGood : JobSayings → DataGraph → Update → Header → List (List ℕ) → Type 0
+IsNotGood job g p header bodies =
+    (owner : ℕ → ℕ) → IsPlacement g job.fields.atoms job.fields.machines owner → IsGoodStore (shared_with job g p owner) header bodies
     → 65 + records_size bodies ≤ 2 ^ 30 → ⊥
 
 -- Why there is no run of this program. Where it is told what the disk holds, a store is refused only where it is not good.
-abbrev pub IsWhyNoneStored : Type 0 → JobSayings → DataGraph → Update → List (List ℕ) → DiskPast → DiskPast → ℕ → ℕ → JournalFault → Type 0
-IsWhyNoneStored told job g p bodies old new before now journal.DiskFault = Rose before now × (told → new ≡ old)
-IsWhyNoneStored told job g p bodies old new before now (journal.BadStore fault) = told → IsNotGood job g p bodies
-IsWhyNoneStored told job g p bodies old new before now (journal.Full stored length) = ⊥
-IsWhyNoneStored told job g p bodies old new before now journal.Failed = ⊥
-IsWhyNoneStored told job g p bodies old new before now journal.NoMemory = told → (new ≡ old) ⊎ IsStoreKept job g p bodies old new
+abbrev pub IsWhyNoneStored : Type 0 → JobSayings → DataGraph → Update → Header → List (List ℕ) → DiskPast → DiskPast → ℕ → ℕ → JournalFault → Type 0
+IsWhyNoneStored told job g p header bodies old new before now journal.DiskFault = Rose before now × (told → new ≡ old)
+IsWhyNoneStored told job g p header bodies old new before now (journal.BadStore fault) = told → IsNotGood job g p header bodies
+IsWhyNoneStored told job g p header bodies old new before now (journal.Full stored length) = ⊥
+IsWhyNoneStored told job g p header bodies old new before now journal.Failed = ⊥
+IsWhyNoneStored told job g p header bodies old new before now journal.NoMemory = told → (new ≡ old) ⊎ IsStoreKept job g p header bodies old new
 
 -- the same of the job, from a store that may have to be new
-abbrev pub IsWhyNotOnJournal : Type 0 → Bool → JobSayings → DataGraph → Update → List (List ℕ) → DiskPast → DiskPast → ℕ → ℕ → NoStore → Type 0
-IsWhyNotOnJournal told resumed job g p bodies old new before now (no_store.BadStore fault) =
-    told → ((resumed ≡ false) × (0 < length bodies) × (fault ≡ Used (length bodies)) × (new ≡ old)) ⊎ IsNotGood job g p bodies
-IsWhyNotOnJournal told resumed job g p bodies old new before now no_store.DiskFault = Rose before now × (told → new ≡ old)
-IsWhyNotOnJournal told resumed job g p bodies old new before now no_store.NoMemory = told → (new ≡ old) ⊎ IsStoreKept job g p bodies old new
+abbrev pub IsWhyNotOnJournal : Type 0 → Bool → JobSayings → DataGraph → Update → Header → List (List ℕ) → DiskPast → DiskPast → ℕ → ℕ → NoStore → Type 0
+IsWhyNotOnJournal told resumed job g p header bodies old new before now (no_store.BadStore fault) =
+    told → ((resumed ≡ false) × (0 < length bodies) × (fault ≡ Used (length bodies)) × (new ≡ old)) ⊎ IsNotGood job g p header bodies
+IsWhyNotOnJournal told resumed job g p header bodies old new before now no_store.DiskFault = Rose before now × (told → new ≡ old)
+IsWhyNotOnJournal told resumed job g p header bodies old new before now no_store.NoMemory = told → (new ≡ old) ⊎ IsStoreKept job g p header bodies old new
 
 -- the same, from what the disk has
 abbrev pub IsWhyNotOnDisk : Type 0 → Bool → JobSayings → DataGraph → DiskPast → DiskPast → ℕ → ℕ → NoStore → Type 0

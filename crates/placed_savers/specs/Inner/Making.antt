@@ -3,7 +3,7 @@ pub use Rattle.cluster_laws.specs.cluster_model.Clusters.{Cluster}
 pub use Rattle.cluster_laws.specs.cluster_model.Machines.{Machine}
 pub use Rattle.cluster_laws.specs.cluster_model.Working.{goes_back}
 pub use Rattle.color_snaps.specs.Machines.{with_locking}
-pub use Rattle.placed_clusters.specs.Beginning.{GoesBy}
+pub use Rattle.machine_places.specs.Cores.{GoesBy}
 pub use Rattle.placed_graphs.specs.Beginnings.{BeginsWith}
 pub use Rattle.placed_graphs.specs.Placed.{AreUnsetParts, IsUnsetPart, LocalView}
 pub use Rattle.update_api.specs.Updates.{Update}
@@ -14,7 +14,7 @@ use Rattle.coord_core.specs.declared.steps.Engine.{Engine}
 use Rattle.coord_core.specs.declared.steps.Engine.TheVariants.{Chromatic, Locking}
 use Rattle.gl_base.specs.declared.snapshots.Base.{Base}
 use Rattle.graph_core.specs.DataGraph.{DataGraph}
-use Rattle.placed_clusters.specs.declared.cores.NewTerms.{NewTerms}
+use Rattle.machine_places.specs.declared.cores.NewTerms.{NewTerms}
 use Rattle.placed_savers.specs.declared.savers.Places.{Places}
 use Rattle.placed_savers.specs.declared.savers.SavingRun.{SavingRun}
 

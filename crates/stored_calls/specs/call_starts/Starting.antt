@@ -1,7 +1,7 @@
 -- How a call starts from what the journal of a store has.
 pub use Rattle.call_courses.specs.Courses.{CallOpening, CourseView, IsCourseNow, OpensCall, Setting, first_cluster}
 pub use Rattle.call_returns.specs.Missing.{Begins}
-pub use Rattle.cluster_plays.specs.Plans.{IsInRange}
+pub use Rattle.job_runs.specs.Plans.{IsInRange}
 pub use Rattle.gl_base.specs.declared.snapshots.Base.{Base}
 pub use Rattle.job_runs.specs.Plays.{IsPlacement}
 pub use Rattle.placed_savers.specs.Beginning.{AreColoursFor, ArePlacesOf, IsBaseFor, IsEngineSaverOf, IsRunAt, placed_owner}

@@ -5,10 +5,10 @@ ghost use Rattle.stored_calls.specs.call_starts.Inner.Openings.{KeepsApart};
 ghost use Rattle.graph_core.specs.DataGraph.{IsDataGraph};
 
 use call_courses::Engine;
-use cluster_plays::{first_of, placement_of};
 use color_steps::{greatest_colour, greedy_colouring};
 use gl_base::{Base, EngineKind, NoMemory};
 use graph_core::Graph;
+use job_runs::{first_of, placement_of};
 use placed_savers::{Places, SavingRun};
 use std::alloc::Global;
 use stored_answers::StoredPlan;

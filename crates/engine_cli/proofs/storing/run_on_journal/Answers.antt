@@ -6,5 +6,5 @@ use Rattle.engine_cli.proofs.storing.run_on_journal.Goals as goal
 pub returns-in-Err-clause-refused : goal.returns-in-Err-clause-refused
 returns-in-Err-clause-refused g c =
     rw c.why_not_run.ensures
-    (not-stored _ c.args.resumed (job_view c.args.input.now.job) c.args.input.now.graph (snapshots_in g.D.Disk.past c.args.journal.now) (g.D.Disk.past c.args.journal.now.disk)
+    (not-stored _ c.args.resumed (job_view c.args.input.now.job) c.args.input.now.graph c.args.journal.now.header (snapshots_in g.D.Disk.past c.args.journal.now) (g.D.Disk.past c.args.journal.now.disk)
     (g.D.Disk.past c.run_stored_on.new.journal.disk) _ _ c.in-Err.fault c.in-Err.ensures.refused)

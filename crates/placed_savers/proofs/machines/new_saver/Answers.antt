@@ -1,6 +1,6 @@
 use Rattle.std.proofs.Common.{Some, arith}
 use Rattle.std.proofs.lemmas.Result.{IfOk-weaker}
-use Rattle.placed_clusters.proofs.NewLemmas.{few_here, low_here}
+use Rattle.machine_places.proofs.NewLemmas.{few_here, low_here}
 use Rattle.machine_places.proofs.PlaceLemmas.{first_places}
 use Rattle.placed_savers.specs.Inner.Making.{IsEngineSaverOf, goes_back, with_locking}
 use Rattle.placed_savers.specs.Inner.Members.{IsNewMember}

@@ -1,6 +1,6 @@
 -- The parts begin as the law's cluster.
 use Rattle.std.proofs.Common.{◌≡◌, ℕ, suc, ◌+◌, ◌∙◌, add-one, ap, length, refl, rules, subst}
-use Rattle.cluster_step.proofs.LinkLemmas.{have_links}
+use Rattle.snap_clusters.proofs.LinkLemmas.{have_links}
 use Rattle.coord_core.specs.Calls.{IsFirstWith}
 use Rattle.coord_core.specs.Stores.{store_view}
 use Rattle.snap_clusters.specs.Clusters.{HaveLinks}

@@ -1,6 +1,6 @@
 -- The first message of the link is received, or put back.
 use Rattle.std.proofs.Common.{◌∙◌, ◌∷◌, ap}
-use Rattle.cluster_step.proofs.WorldLemmas.{links_stay}
+use Rattle.snap_clusters.proofs.LinkLemmas.{links_stay}
 use Rattle.snap_clusters.specs.Lines.{messages_on}
 use Rattle.snap_clusters.proofs.Answering.{back_line, can_receive, deliver_answers, deliver_full, deliver_none, first_none, links_after, none_line, still_here, still_lines, taken_line}
 use Rattle.snap_clusters.proofs.Lines.{first_is}

@@ -1,7 +1,7 @@
 -- The first call on the link is heard, or put back.
 use Rattle.std.proofs.Common.{◌∙◌, ◌∷◌, ap, subst, sym}
-use Rattle.cluster_step.proofs.WorldLemmas.{links_stay}
-use Rattle.cluster_step.specs.Inner.Writing.{HasLinkBetween}
+use Rattle.snap_clusters.proofs.LinkLemmas.{links_stay}
+use Rattle.snap_clusters.specs.Inner.Writing.{HasLinkBetween}
 use Rattle.snap_clusters.specs.Lines.{messages_on}
 use Rattle.snap_clusters.proofs.Answering.{back_line, first_none, links_after, none_line, still_here, still_lines, taken_line}
 use Rattle.snap_clusters.proofs.Leading.{can_hear, hear_answers, hear_full, hear_none}

@@ -1,7 +1,7 @@
 -- The first report on the link comes to the coordinator.
 use Rattle.std.proofs.Common.{subst, sym}
-use Rattle.cluster_step.proofs.WorldLemmas.{links_stay}
-use Rattle.cluster_step.specs.Inner.Writing.{HasLinkBetween}
+use Rattle.snap_clusters.proofs.LinkLemmas.{links_stay}
+use Rattle.snap_clusters.specs.Inner.Writing.{HasLinkBetween}
 use Rattle.snap_clusters.specs.Lines.{messages_on}
 use Rattle.snap_clusters.proofs.Answering.{first_none, none_line, still_lines, taken_line}
 use Rattle.snap_clusters.proofs.Leading.{hear_no_report, may_report, report_taken}

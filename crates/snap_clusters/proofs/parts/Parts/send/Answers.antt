@@ -1,6 +1,6 @@
 -- The message that is taken from the outbox is put behind the others on the link.
 use Rattle.std.proofs.Common.{rules}
-use Rattle.cluster_step.proofs.WorldLemmas.{links_stay}
+use Rattle.snap_clusters.proofs.LinkLemmas.{links_stay}
 use Rattle.snap_clusters.proofs.Answering.{if_none, kept_lines, links_after, pushed_line, send_answers, send_full, send_none, still_alone, still_here}
 use Rattle.wire_msgs.specs.Views.{message_view}
 use Rattle.snap_clusters.proofs.parts.Parts.send.Goals as goal

@@ -1,7 +1,7 @@
 -- The call that is taken from the coordinator is put behind the others on the link.
 use Rattle.std.proofs.Common.{None, rules, subst, sym}
-use Rattle.cluster_step.proofs.WorldLemmas.{links_stay}
-use Rattle.cluster_step.specs.Inner.Writing.{HasLinkBetween}
+use Rattle.snap_clusters.proofs.LinkLemmas.{links_stay}
+use Rattle.snap_clusters.specs.Inner.Writing.{HasLinkBetween}
 use Rattle.coord_core.specs.Calls.{HasHandedOver}
 use Rattle.snap_clusters.proofs.Answering.{kept_lines, links_after, pushed_line, same_here, still_lines}
 use Rattle.snap_clusters.proofs.Leading.{call_answers, call_full, call_none, call_taken_none, still_led_lines}

@@ -1,7 +1,7 @@
 -- The report that is taken from the machine is put behind the others on the link.
 use Rattle.std.proofs.Common.{rules, subst, sym}
-use Rattle.cluster_step.proofs.WorldLemmas.{links_stay}
-use Rattle.cluster_step.specs.Inner.Writing.{HasLinkBetween}
+use Rattle.snap_clusters.proofs.LinkLemmas.{links_stay}
+use Rattle.snap_clusters.specs.Inner.Writing.{HasLinkBetween}
 use Rattle.snap_clusters.proofs.Answering.{if_none, kept_lines, links_after, pushed_line, still_alone, still_here}
 use Rattle.snap_clusters.proofs.Leading.{report_answers, report_full, report_none}
 use Rattle.wire_msgs.specs.Views.{message_view}

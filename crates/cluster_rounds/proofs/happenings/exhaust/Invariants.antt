@@ -1,5 +1,0 @@
-use Rattle.cluster_rounds.specs.Ends.{IsSameRun}
-use Rattle.cluster_rounds.proofs.happenings.exhaust.Given as goal
-
-abbrev pub invariant-loop-times : goal.invariant-loop-times
-invariant-loop-times g l = IsSameRun l.fn.cluster l.cluster

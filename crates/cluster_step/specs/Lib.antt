@@ -1,9 +1,0 @@
-pub mod Links
-pub mod Worlds
-pub mod Events
-pub mod AtOnce
-pub mod InTurn
-pub mod Stepping
-pub mod Starts
-pub mod Clusters
-pub mod Inner

@@ -1,4 +1,0 @@
--- What the clauses of private functions cite. Who reads the public clauses need not read it.
-pub mod Alone
-pub mod Flying
-pub mod Making

@@ -1,2 +1,0 @@
--- How a step begins.
-pub use Rattle.cluster_laws.specs.cluster_core.Effects.{steps_to}

@@ -1,0 +1,72 @@
+//! Where a plan places a graph, and at which vertex a run begins.
+ghost use Rattle.std.specs.Prelude.{◌≡◌, ℕ, ◌<◌, ◌≤◌, length, slice_index, IfOk};
+ghost use Rattle.graph_core.specs.DataGraph.{IsDataGraph, size};
+ghost use Rattle.placed_graphs.specs.Beginnings.{IsBaseFor};
+ghost use Rattle.job_runs.specs.Plans.{IsInRange, IsPlaced};
+
+use crate::runs::RunPlan;
+use gl_base::{AtomNo, Base, MachineNo, NoMemory, Vertex};
+use graph_core::Graph;
+use placed_graphs::{Placement, placement_by_cut};
+use std::alloc::Global;
+
+/// Where the plan places the graph. One machine has all of it, so it isn't cut.
+pub fn placement_of(alloc: Global, graph: &Graph, plan: RunPlan) -> Result<Placement, NoMemory>
+    requires plan { IsInRange plan }
+    ensures { IfOk result (IsPlaced graph.now plan) }
+{
+    if plan.machines == 1 {
+        whole_placement(alloc, graph, plan)
+    } else {
+        cut_placement(alloc, graph, plan)
+    }
+}
+
+/// The graph cut by its growth, and its atoms placed by what they weigh.
+fn cut_placement(alloc: Global, graph: &Graph, plan: RunPlan) -> Result<Placement, NoMemory>
+    requires plan { IsInRange plan }
+    requires several { 1 < plan.machines }
+    ensures { IfOk result (IsPlaced graph.now plan) }
+{
+    let placed = placement_by_cut(alloc, graph, plan.atoms, plan.machines)?;
+    Ok(placed)
+}
+
+/// All vertices in one atom, and that on the one machine.
+fn whole_placement(alloc: Global, graph: &Graph, plan: RunPlan) -> Result<Placement, NoMemory>
+    requires one { plan.machines ≡ 1 }
+    ensures { IfOk result (IsPlaced graph.now plan) }
+{
+    let of = Vec::from_elem(alloc, AtomNo(0), graph.n() as usize)?;
+    let owner = Vec::from_elem(alloc, MachineNo(0), 1)?;
+    Ok(Placement { of, owner })
+}
+
+/// The vertex at which the machine that owns it begins: of those that start with the least number the first.
+pub fn first_of(graph: &Graph, base: &Base) -> Vertex
+    requires { IsBaseFor graph.now base.now }
+    ensures graph { IsDataGraph graph.now }
+    ensures inside { 0 < size graph.now → result.0 < size graph.now }
+    ensures least { (v : ℕ) → v < size graph.now →
+        slice_index base.now.values.items result.0 ≤ slice_index base.now.values.items v }
+    ensures first { (v : ℕ) → v < result.0 →
+        slice_index base.now.values.items result.0 < slice_index base.now.values.items v }
+{
+    least_start(&base.values, graph.n())
+}
+
+/// The first of the vertices with the least number, and vertex 0 where there is none.
+fn least_start(values: &[u64], count: u32) -> Vertex
+    requires { length values.now ≡ count }
+    ensures inside { 0 < count → result.0 < count }
+    ensures least { (v : ℕ) → v < count → slice_index values.now result.0 ≤ slice_index values.now v }
+    ensures first { (v : ℕ) → v < result.0 → slice_index values.now result.0 < slice_index values.now v }
+{
+    let mut least = 0;
+    for v in 0..count {
+        if values[v as usize] < values[least as usize] {
+            least = v;
+        }
+    }
+    Vertex(least)
+}

@@ -1,4 +1,0 @@
-pub mod NewLemmas
-pub mod ManyLemmas
-pub mod ProgramLemmas
-pub mod RunLemmas

@@ -1,3 +1,0 @@
--- What clauses of private functions cite.
-pub mod Making
-pub mod Programs

@@ -1,4 +1,0 @@
-pub mod Beginning
-pub mod Making
-pub mod Inner
-pub mod Running

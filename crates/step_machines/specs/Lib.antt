@@ -1,4 +1,0 @@
-pub mod Machines
-pub mod Messages
-pub mod Reading
-pub mod Resting

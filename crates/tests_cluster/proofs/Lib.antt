@@ -1,3 +1,0 @@
-pub mod LoneLemmas
-pub mod StartLemmas
-pub mod AtOnceLemmas

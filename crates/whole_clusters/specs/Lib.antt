@@ -1,4 +1,0 @@
-pub mod Seats
-pub mod Wholes
-pub mod Happenings
-pub mod Inner
