@@ -1,0 +1,1 @@
+"""What the scripts beside the program share."""
