@@ -140,7 +140,7 @@ module _ (st : Setting) (failures : List FailureAt) (kept : List Entry) (resumed
       × (0 < half_window st → length (snapshots_of call) + under_way c ≤ first.left / half_window st + 1)
       × (sum_by (λ count. count) lists.done + c.left ≡ first.left)
       × TellsOfCall st first.left c call
-      × (st.stored ≡ true → HasSavedTheEnd st c.coordinator → FinishesRun (shared_of st failures) kept (snapshots_of call) call.last.struck lists)
+      × (st.stored ≡ true → HasSavedTheEnd st c.coordinator → FinishesRun true (shared_of st failures) kept (snapshots_of call) call.last.struck lists)
       × ((left : ℕ) → c.left ≡ 0 → ((a : ℕ) → a < st.machines → has_reached failures c a ≡ false) → left < size st.graph → IsTask st (world_of c) left →
       SpendsRun (shared_of st failures) first.left left call.last.struck lists)
   course_runs =
@@ -170,8 +170,8 @@ module _ (st : Setting) (failures : List FailureAt) (kept : List Entry) (resumed
         λ stored end. record {
           finished = λ u low. ap (λ (es : List Entry). tasks_after st.graph st.program es u) order ∙ made.5.tasks end.end u low;
           answered = made.5.unharmed end.end;
-          some = made.5.some stored end;
-          saved = ap (λ (ks : List Entry). last_order ks (snapshots_of call)) (sym of.base) ∙ made.5.saved stored end ∙ sym order;
+          some = λ _. made.5.some stored end;
+          saved = λ _. ap (λ (ks : List Entry). last_order ks (snapshots_of call)) (sym of.base) ∙ made.5.saved stored end ∙ sym order;
         },
         λ left none unreached low task. record {
           spent = all_spent (sum_by (λ count. count) lists.done) c.left first.left

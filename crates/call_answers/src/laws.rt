@@ -50,7 +50,7 @@ pub fn courses_are_runs()
         × (0 < half_window st → length (snapshots_of call) + under_way c ≤ first.left / half_window st + 1)
         × (sum_by (λ count. count) lists.done + c.left ≡ first.left)
         × TellsOfCall st first.left c call
-        × (st.stored ≡ true → HasSavedTheEnd st c.coordinator → FinishesRun (shared_of st failures) kept (snapshots_of call) call.last.struck lists)
+        × (st.stored ≡ true → HasSavedTheEnd st c.coordinator → FinishesRun true (shared_of st failures) kept (snapshots_of call) call.last.struck lists)
         × ((left : ℕ) → c.left ≡ 0 → ((a : ℕ) → a < st.machines → has_reached failures c a ≡ false) → left < size st.graph → IsTask st (world_of c) left →
         SpendsRun (shared_of st failures) first.left left call.last.struck lists) }
 {}

@@ -39,6 +39,11 @@ OfTheCall stands v holds = InEachCourse stands v (λ st o events c. (call : Engi
 abbrev pub HasCall : {M : Type 0} → (Setting → ℕ → Machine → M → Type 0) → CourseView M → Type 0
 HasCall stands v = InEachCourse stands v (λ st o events c. (call : EngineCall) × MakesCall st v.failures o events c call)
 
+-- no task is left after the call's order, and no failure was reached in its last attempt
+pub record LeavesNothing (st : Setting) (call : EngineCall) : Type 0 where
+  pub tasks : (u : ℕ) → u < size st.graph → tasks_after st.graph st.program (call_order call) u ≡ false
+  pub unharmed : call.last.struck ≡ 0
+
 -- No task is left after the call's order, no failure was reached in its last attempt, and the call has a snapshot, of which the last has the
 -- whole order.
 pub record HasEndedCall (st : Setting) (call : EngineCall) : Type 0 where

@@ -1,8 +1,8 @@
 //! The course of a call.
-ghost use Rattle.std.specs.Prelude.{[], ◌≡◌, ◌+◌, ◌^◌, ◌<◌, ◌≤◌, ℕ, length, slice_index_or, false, true, IfNone, IfOk, IfSome, IsErrOf, OnErr, OnOk};
+ghost use Rattle.std.specs.Prelude.{[], ◌≡◌, ◌+◌, ◌^◌, ◌<◌, ◌≤◌, ℕ, length, slice_index_or, false, true, IfNone, IfOk, IfSome, IsErrOf, IsTrue, OnErr, OnOk};
 ghost use Rattle.whole_laws.specs.attempts.EngineCalls.{done_of, first_ticket, made_of};
 ghost use Rattle.call_courses.specs.AtOnce.{CanHappenAtOnceInCall, CanNotHappenAtOnceInCall, HappensAtOnceInCall};
-ghost use Rattle.call_courses.specs.Calls.{HasCall, HasEndedCall, HasTaskLeft, OfTheCall};
+ghost use Rattle.call_courses.specs.Calls.{HasCall, HasEndedCall, HasTaskLeft, LeavesNothing, OfTheCall};
 ghost use Rattle.call_courses.specs.Courses.{BaseView, CallOpening, Cluster, CourseGoesOn, HasCourse, HasGoneBack, InEachCourse, IsCourseNow, IsSameAttempt, OpensCall, Setting, StartsCall, StartsSaving, as_since, first_cluster, newest_setting};
 ghost use Rattle.call_courses.specs.Events.{CanHappenInCall, CanNotHappenInCall, HappensInCall, IsHeldBack, GoesOnBy, StaysThere};
 ghost use Rattle.cluster_laws.specs.cluster_core.Replays.{entries_of};
@@ -237,6 +237,13 @@ impl<M: SavingMachine> Course<M> {
         ensures pending { (k : ℕ) → result ≡ Due.Record k → OfTheCall M.stands self.now (λ st o c call. MayFollow st c.coordinator call) }
     {
         self.cluster.due()
+    }
+
+    /// Whether the waves have shown that nothing is left to do: then the call leaves nothing.
+    pub fn leaves_nothing(&self) -> bool
+        ensures { IsTrue result → OfTheCall M.stands self.now (λ st o c call. LeavesNothing st call) }
+    {
+        self.cluster.has_seen_the_end()
     }
 
     /// How many tickets are left: the budget is these and the updates that were made.

@@ -1,5 +1,5 @@
 //! Where the rounds of an attempt pause.
-ghost use Rattle.std.specs.Prelude.{IfNone, IfSome, IsTrue};
+ghost use Rattle.std.specs.Prelude.{◌≡◌, false, IfNone, IfSome, IsTrue};
 ghost use Rattle.call_rounds.specs.Pauses.{HasFlaggedTask, HasTaskLeft, IsReachedAt, IsSpentNow, NoneReached, OfTheCall, PausesSo};
 
 use call_courses::{Course, Due, SavingMachine};
@@ -14,35 +14,48 @@ pub enum Pause {
     Record(u32),
     /// The call has ended.
     Ended,
+    /// Nothing is left to do in a call whose end is not saved.
+    Quiet,
     /// No ticket is left, and a task is.
     Spent,
 }
 
-/// The pause, where the course is at one.
-pub(crate) fn pause_of<M: SavingMachine>(course: &Course<M>) -> Option<Pause>
-    ensures { IfSome result (PausesSo M.stands course.now) }
+/// The pause, where the course is at one; and whether the end of the call is saved.
+pub(crate) fn pause_of<M: SavingMachine>(course: &Course<M>, saves_end: bool) -> Option<Pause>
+    ensures pause { IfSome result (PausesSo M.stands course.now) }
+    ensures unsaved { IfSome result (λ pause. pause ≡ Pause.Quiet → saves_end ≡ false) }
 {
     match first_reached(course) {
         Some(m) => Some(Pause::Reached(m)),
-        None => quiet_pause(course),
+        None => quiet_pause(course, saves_end),
     }
 }
 
 /// The pause, where no machine has reached the count of a failure.
-fn quiet_pause<M: SavingMachine>(course: &Course<M>) -> Option<Pause>
+fn quiet_pause<M: SavingMachine>(course: &Course<M>, saves_end: bool) -> Option<Pause>
     requires { NoneReached M.stands course.now }
-    ensures { IfSome result (PausesSo M.stands course.now) }
+    ensures pause { IfSome result (PausesSo M.stands course.now) }
+    ensures unsaved { IfSome result (λ pause. pause ≡ Pause.Quiet → saves_end ≡ false) }
 {
     match course.due() {
         Due::Record(number) => Some(Pause::Record(number)),
         Due::Ended => Some(Pause::Ended),
-        _ => {
-            if is_spent(course) {
-                Some(Pause::Spent)
-            } else {
-                None
-            }
-        }
+        _ => last_pause(course, saves_end),
+    }
+}
+
+/// The pause, where neither a record is due nor the end.
+fn last_pause<M: SavingMachine>(course: &Course<M>, saves_end: bool) -> Option<Pause>
+    requires { NoneReached M.stands course.now }
+    ensures pause { IfSome result (PausesSo M.stands course.now) }
+    ensures unsaved { IfSome result (λ pause. pause ≡ Pause.Quiet → saves_end ≡ false) }
+{
+    if !saves_end && course.leaves_nothing() {
+        Some(Pause::Quiet)
+    } else if is_spent(course) {
+        Some(Pause::Spent)
+    } else {
+        None
     }
 }
 

@@ -10,6 +10,7 @@ use Rattle.cluster_laws.specs.cluster_core.Settings.{Setting}
 use Rattle.cluster_laws.specs.cluster_model.Leading.{Come, Coordinator, HasSeenTheEnd, HasStoreRoom, RecordIsDue, Snapshot, SnapshotIsDue, acknowledges, begins_snapshot, come_or, entries_held, entries_in, first_coordinator, record_length, updates_told}
 use Rattle.graph_core.specs.DataGraph.{size}
 use Rattle.cluster_laws.specs.cluster_model.Totals.{total, total_from}
+use Rattle.coord_core.specs.Calls.{HasShownIt}
 use Rattle.coord_core.specs.Coordinators.{Counting, CoordinatorView, IsComeAs, IsComeOf, IsCoordinatorOf, IsSavingOf}
 use Rattle.coord_core.specs.Inner.Kept.{IsSavingKept}
 use Rattle.coord_core.specs.Inner.Seen.{HasShownTheEnd, WantsSnapshot}
@@ -221,6 +222,12 @@ first_saving st machines store same vertices edges = record {
 seen : (x y : Counting) → x ≡ y → HasShownTheEnd x → HasShownTheEnd y
 seen x y same has = subst HasShownTheEnd same has
 
+-- what the coordinator has seen of the end, it has seen in the law
+pub end_seen : (view : CoordinatorView) → HasShownTheEnd view.counting → HasShownIt view
+end_seen view shown st c of =
+    let has : HasShownTheEnd c.rounds.counting = seen view.counting c.rounds.counting (sym of.counting) shown in
+    record { whole = has.whole; shown = has.shown }
+
 module _ (view : CoordinatorView) (kept : IsSavingKept view.saving) (st : Setting) (c : Coordinator) (of : IsCoordinatorOf st view c) where
   is_stored : view.saving.stored ≡ true → IsSavingOf st view.saving c
   is_stored stored = of.saving (of.stored ∙ stored)
@@ -265,9 +272,7 @@ module _ (view : CoordinatorView) (kept : IsSavingKept view.saving) (st : Settin
   ]
 
   pub law_seen : HasShownTheEnd view.counting → HasSeenTheEnd c
-  law_seen shown =
-      let has : HasShownTheEnd c.rounds.counting = seen view.counting c.rounds.counting (sym of.counting) shown in
-      record { whole = has.whole; shown = has.shown }
+  law_seen shown = end_seen view shown st c of
 
   pub own_seen : HasSeenTheEnd c → HasShownTheEnd view.counting
   own_seen has = seen c.rounds.counting view.counting of.counting (record { whole = has.whole; shown = has.shown })

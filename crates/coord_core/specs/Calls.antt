@@ -38,6 +38,10 @@ StaysCoordinator old new = (st : Setting) (c : Coordinator) → IsCoordinatorOf 
 
 -- ---- what is due
 
+-- the waves have shown it that nothing is left
+abbrev pub HasShownIt : CoordinatorView → Type 0
+HasShownIt view = (st : Setting) (c : Coordinator) → IsCoordinatorOf st view c → HasSeenTheEnd c
+
 -- no snapshot is due or under way, and the last two waves showed the end
 abbrev pub EndIsDue : Setting → Coordinator → Type 0
 EndIsDue st c = (SnapshotIsDue st c → ⊥) × (c.acknowledged ≡ c.begun) × HasSeenTheEnd c

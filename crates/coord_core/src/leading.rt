@@ -2,7 +2,7 @@
 ghost use Rattle.std.specs.Prelude.{◌≡◌, ◌≢◌, ◌+◌, ◌^◌, ◌<◌, ◌≤◌, ◌↔◌, true, IfOk, IsErrOf, IsTrue, length, slice_index_or, OnOk, OnErr};
 ghost use Rattle.coord_core.specs.Coordinators.{HasCluster, MayBeCounted, message_view, no_outbox};
 ghost use Rattle.outboxes.specs.Outboxes.{has_waiting};
-ghost use Rattle.coord_core.specs.Calls.{HasBegunNext, HasHandedOver, HasPutStep, HasPutWave, HasRecorded, HasTakenReport, IsDueOf, IsFirstOf, IsFirstWith, IsReadyToRecord, IsRecordDueOf, MayLeadBegin, MayNotBegin, MayNotPutStep, MayNotPutWave, MayNotRecord, MayPutStep, MayPutWave, MayLeadRecord, MayReport, StaysCoordinator};
+ghost use Rattle.coord_core.specs.Calls.{HasBegunNext, HasHandedOver, HasPutStep, HasPutWave, HasRecorded, HasShownIt, HasTakenReport, IsDueOf, IsFirstOf, IsFirstWith, IsReadyToRecord, IsRecordDueOf, MayLeadBegin, MayNotBegin, MayNotPutStep, MayNotPutWave, MayNotRecord, MayPutStep, MayPutWave, MayLeadRecord, MayReport, StaysCoordinator};
 ghost use Rattle.coord_core.specs.Stores.{store_view};
 ghost use Rattle.coord_core.specs.Inner.Kept.{IsSavingKept};
 ghost use Rattle.coord_core.specs.Inner.Seen.{SeesEnd, HasShownTheEnd, IsFirstSaving, IsWaveTurn, WantsSnapshot, WantsStep};
@@ -213,6 +213,13 @@ impl Coordinator {
         ensures { (result ≡ true) ↔ MayBeCounted self.now.counting from.0 wave }
     {
         self.waiting && wave < self.put_out && self.put_out - 1 == wave && self.waves.awaits(from)
+    }
+
+    /// Whether the waves have shown the end: all answers have come, and in the last two waves nothing was left to do.
+    pub fn has_seen_the_end(&self) -> bool
+        ensures { IsTrue result → HasShownIt self.now }
+    {
+        self.is_quiet()
     }
 
     /// How updates are kept apart.

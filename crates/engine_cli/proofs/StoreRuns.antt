@@ -1,5 +1,5 @@
 -- What a run on its store is, over the opening of the store and what it does with it.
-use Rattle.std.proofs.Common.{◌≡◌, inl, inr, ℕ, ◌+◌, ◌^◌, ◌≤◌, ◌++◌, Bool, false, List, [], length, Result, Ok, sym, ap, ◌∙◌, subst, ⊎_elim, append_assoc}
+use Rattle.std.proofs.Common.{◌≡◌, inl, inr, ℕ, ◌+◌, ◌^◌, ◌≤◌, ◌++◌, Bool, false, true, List, [], length, Result, Ok, sym, ap, ◌∙◌, subst, ⊎_elim, append_assoc}
 use Rattle.std.specs.Result.{result_unwrap_or}
 use Rattle.gl_base.specs.declared.entries.Entry.{Entry}
 use Rattle.gl_outside.specs.Disk.{DiskPast, IsImage, LeavesOnly}
@@ -56,10 +56,10 @@ good-front shared header front behind image holds =
 -- a run that finished has the results of its algorithm
 pub stored-results : (job : JobSayings) (g : DataGraph) (owner : ℕ → ℕ) (count : ℕ) (kept : List Entry) (resumed : Bool) (snapshots : List (List Entry)) (run : StoredRun)
     → IsDataGraph g → HasStart job.fields.algorithm job.fields.source g
-    → IsStoredRun (shared_by job g owner) job.fields.machines job.fields.window job.fields.budget count kept resumed snapshots run
+    → IsStoredRun true (shared_by job g owner) job.fields.machines job.fields.window job.fields.budget count kept resumed snapshots run
     → run.end ≡ end.Finished → AreResults job.fields.algorithm job.fields.source g run.numbers.items
 stored-results job g owner count kept resumed snapshots run is start ran finished =
-    let E : StoredEnd → Type 0 = λ e. RunEndsSo (shared_by job g owner) job.fields.machines job.fields.window job.fields.budget kept snapshots ran.unanswered (lists_of run) e in
+    let E : StoredEnd → Type 0 = λ e. RunEndsSo true (shared_by job g owner) job.fields.machines job.fields.window job.fields.budget kept snapshots ran.unanswered (lists_of run) e in
     let ends : E end.Finished = subst E finished ran.ends in
     results-of job.fields.algorithm job.fields.source g run.order.items run.numbers.items is start ran.is.in_turn.valid ran.numbers_are ends.finished
 
@@ -97,7 +97,7 @@ module _ (job : JobSayings) (g : DataGraph) (old mid new : DiskPast) (bodies : L
 
   -- the run is one on its store
   pub runs-on-store : (resumed : Bool) (run : StoredRun) → IsDataGraph g → HasStart job.fields.algorithm job.fields.source g → (resumed ≡ false → length bodies ≡ 0)
-      → IsStoreRunFrom job g program header job.fields.window resumed (length bodies) bodies mid new run → RunsOnStore resumed job g old new run
+      → IsStoreRunFrom job g program header true job.fields.window resumed (length bodies) bodies mid new run → RunsOnStore resumed job g old new run
   runs-on-store resumed run is start fresh from =
       let same : bodies ≡ snapshots_on job g old = sym (stands_are header old.now.seen bodies stands) in
       record {
@@ -177,10 +177,10 @@ not-stored told resumed job g header bodies old new before now journal.Failed re
 not-stored told resumed job g header bodies old new before now journal.NoMemory refused = refused
 
 -- the same of another name of the header
-pub run-of-header : (job : JobSayings) (g : DataGraph) (p : Update) (one other : Header) (window : ℕ) (resumed : Bool) (count : ℕ) (bodies : List (List ℕ)) (old new : DiskPast) (run : StoredRun) → one ≡ other
-    → IsStoreRunFrom job g p one window resumed count bodies old new run → IsStoreRunFrom job g p other window resumed count bodies old new run
-run-of-header job g p one other window resumed count bodies old new run same from =
-    subst (λ (h : Header). IsStoreRunFrom job g p h window resumed count bodies old new run) same from
+pub run-of-header : (job : JobSayings) (g : DataGraph) (p : Update) (one other : Header) (saves : Bool) (window : ℕ) (resumed : Bool) (count : ℕ) (bodies : List (List ℕ)) (old new : DiskPast) (run : StoredRun) → one ≡ other
+    → IsStoreRunFrom job g p one saves window resumed count bodies old new run → IsStoreRunFrom job g p other saves window resumed count bodies old new run
+run-of-header job g p one other saves window resumed count bodies old new run same from =
+    subst (λ (h : Header). IsStoreRunFrom job g p h saves window resumed count bodies old new run) same from
 
 pub why-of-header : (told : Type 0) (resumed : Bool) (job : JobSayings) (g : DataGraph) (p : Update) (one other : Header) (bodies : List (List ℕ)) (old new : DiskPast) (before now : ℕ) (why : NoStore) → one ≡ other
     → IsWhyNotOnJournal told resumed job g p one bodies old new before now why → IsWhyNotOnJournal told resumed job g p other bodies old new before now why

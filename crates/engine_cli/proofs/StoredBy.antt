@@ -57,10 +57,10 @@ printable-of r g numbers entries =
 -- ---- by the numbers of the job
 
 -- what is said of a program's run by this plan, with these failures, on a store for this header
-abbrev pub GoesBy : DataGraph → Update → ℕ → Bool → ℕ → List (List ℕ) → DiskPast → DiskPast → StoredRun → RunPlan → List FailureAt → Header → Type 0
-GoesBy g p window resumed count bodies old new run plan failures header =
+abbrev pub GoesBy : DataGraph → Update → Bool → ℕ → Bool → ℕ → List (List ℕ) → DiskPast → DiskPast → StoredRun → RunPlan → List FailureAt → Header → Type 0
+GoesBy g p saves window resumed count bodies old new run plan failures header =
     (owner : ℕ → ℕ) → IsPlacement g plan.atoms plan.machines owner → IsGoodStore (owned_shared g p owner failures) header bodies →
-    (snapshots : List (List Entry)) × IsStoredRun (owned_shared g p owner failures) plan.machines window plan.budget count (stored_order bodies) resumed snapshots run
+    (snapshots : List (List Entry)) × IsStoredRun saves (owned_shared g p owner failures) plan.machines window plan.budget count (stored_order bodies) resumed snapshots run
     × KeepsGood (owned_shared g p owner failures) header bodies snapshots old new
 
 -- that a graph is placed for it, that it does not spend a budget that is enough, and that it does not fill a store with room for it
@@ -72,10 +72,10 @@ EnoughBy g p bodies run plan failures header =
     (owner : ℕ → ℕ) → IsPlacement g plan.atoms plan.machines owner → IsGoodStore (owned_shared g p owner failures) header bodies →
     (bound : ℕ) → BoundsSteps g p bound → (1 + length failures) * bound ≤ plan.budget → (left : Vertex) → run.end ≡ end.Spent left → ⊥
 
-abbrev pub RoomyBy : DataGraph → Update → ℕ → EngineKind → ℕ → ℕ → List (List ℕ) → StoredRun → RunPlan → List FailureAt → Header → Type 0
-RoomyBy g p window kind count long bodies run plan failures header =
+abbrev pub RoomyBy : DataGraph → Update → Bool → ℕ → EngineKind → ℕ → ℕ → List (List ℕ) → StoredRun → RunPlan → List FailureAt → Header → Type 0
+RoomyBy g p saves window kind count long bodies run plan failures header =
     (owner : ℕ → ℕ) → IsPlacement g plan.atoms plan.machines owner → IsGoodStore (owned_shared g p owner failures) header bodies →
-    HasRoomForRun g (record { run = plan; window = window; engine = kind }) (length failures) count long → (stored bytes : ℕ) → run.end ≡ end.Full stored bytes → ⊥
+    HasRoomForRun g (record { run = plan; window = window; engine = kind; saves_end = saves }) (length failures) count long → (stored bytes : ℕ) → run.end ≡ end.Full stored bytes → ⊥
 
 abbrev pub KeepsBy : DataGraph → Update → List (List ℕ) → DiskPast → DiskPast → RunPlan → List FailureAt → Header → Type 0
 KeepsBy g p bodies old new plan failures header =
@@ -132,15 +132,15 @@ module _ (job : JobSayings) (g : DataGraph) (p : Update) (bodies : List (List �
       let B : List FailureAt → Type 0 = λ fs. F (plan_for job) fs header in
       subst B failures_are (subst A plan_is f)
 
-  pub run-from : (window : ℕ) (resumed : Bool) (count long : ℕ) (run : StoredRun) → long ≡ 65 + records_size bodies → GoesBy g p window resumed count bodies old new run plan failures header
-      → PlacedBy g plan failures header → EnoughBy g p bodies run plan failures header → RoomyBy g p window job.fields.engine count long bodies run plan failures header → FullBy after new run.end
-      → IsStoreRunFrom job g p header window resumed count bodies old new run
-  run-from window resumed count long run long_is goes placed enough roomy full = record {
-    goes_on = of-job (GoesBy g p window resumed count bodies old new run) goes;
+  pub run-from : (saves : Bool) (window : ℕ) (resumed : Bool) (count long : ℕ) (run : StoredRun) → long ≡ 65 + records_size bodies → GoesBy g p saves window resumed count bodies old new run plan failures header
+      → PlacedBy g plan failures header → EnoughBy g p bodies run plan failures header → RoomyBy g p saves window job.fields.engine count long bodies run plan failures header → FullBy after new run.end
+      → IsStoreRunFrom job g p header saves window resumed count bodies old new run
+  run-from saves window resumed count long run long_is goes placed enough roomy full = record {
+    goes_on = of-job (GoesBy g p saves window resumed count bodies old new run) goes;
     placed = of-job (PlacedBy g) placed;
     enough = of-job (EnoughBy g p bodies run) enough;
-    roomy = of-job (RoomyBy g p window job.fields.engine count (65 + records_size bodies) bodies run)
-        (subst (λ (l : ℕ). RoomyBy g p window job.fields.engine count l bodies run plan failures header) long_is roomy);
+    roomy = of-job (RoomyBy g p saves window job.fields.engine count (65 + records_size bodies) bodies run)
+        (subst (λ (l : ℕ). RoomyBy g p saves window job.fields.engine count l bodies run plan failures header) long_is roomy);
     full = subst (λ (h : Header). FullBy h new run.end) still full;
   }
 

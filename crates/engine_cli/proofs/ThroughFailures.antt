@@ -1,5 +1,5 @@
 -- A run on a store in memory as one without a store.
-use Rattle.std.proofs.Common.{◌≡◌, ℕ, List, [], false, sym, subst}
+use Rattle.std.proofs.Common.{◌≡◌, ℕ, Bool, List, [], false, sym, subst}
 use Rattle.gl_base.specs.declared.entries.Entry.{Entry}
 use Rattle.gl_base.specs.declared.numbers.Vertex.{Vertex}
 use Rattle.gl_outside.specs.Disk.{DiskPast}
@@ -26,10 +26,10 @@ use Rattle.engine_cli.specs.Plays.{update_of}
 use Rattle.engine_cli.proofs.Bounds.{bound-of}
 use Rattle.engine_cli.proofs.Results.{results-of}
 
-module _ (job : JobSayings) (g : DataGraph) (owner : ℕ → ℕ) (window stored : ℕ) (snapshots : List (List Entry)) (was : StoredRun)
-    (ran : IsStoredRun (shared_by job g owner) job.fields.machines window job.fields.budget stored [] false snapshots was) where
+module _ (job : JobSayings) (g : DataGraph) (owner : ℕ → ℕ) (saves : Bool) (window stored : ℕ) (snapshots : List (List Entry)) (was : StoredRun)
+    (ran : IsStoredRun saves (shared_by job g owner) job.fields.machines window job.fields.budget stored [] false snapshots was) where
   abbrev pub ends-so : StoredEnd → Type 0
-  ends-so = RunEndsSo (shared_by job g owner) job.fields.machines window job.fields.budget [] snapshots ran.unanswered (lists_of was)
+  ends-so = RunEndsSo saves (shared_by job g owner) job.fields.machines window job.fields.budget [] snapshots ran.unanswered (lists_of was)
 
   -- no failure went unanswered
   answered : IsEndAlone was.end → ran.unanswered ≡ 0
@@ -60,19 +60,19 @@ module _ (job : JobSayings) (g : DataGraph) (owner : ℕ → ℕ) (window stored
       }
 
 -- a run from a store that has no snapshot
-pub through-failures : (job : JobSayings) (g : DataGraph) (header : Header) (window count : ℕ) (bodies : List (List ℕ)) (old new : DiskPast) (was run : StoredRun) → IsDataGraph g
-    → HasStart job.fields.algorithm job.fields.source g → bodies ≡ [] → IsStoreRunFrom job g (update_of job.fields.algorithm job.fields.source) header window false count bodies old new was
+pub through-failures : (job : JobSayings) (g : DataGraph) (header : Header) (saves : Bool) (window count : ℕ) (bodies : List (List ℕ)) (old new : DiskPast) (was run : StoredRun) → IsDataGraph g
+    → HasStart job.fields.algorithm job.fields.source g → bodies ≡ [] → IsStoreRunFrom job g (update_of job.fields.algorithm job.fields.source) header saves window false count bodies old new was
     → IsRunWithoutSnapshots was run → RunsThroughFailures job g run
-through-failures job g header window count bodies old new was run is start none from alone =
+through-failures job g header saves window count bodies old new was run is start none from alone =
     let R : StoredRun → Type 0 = λ r. (owner : ℕ → ℕ) → IsPlacement g job.fields.atoms job.fields.machines owner → BeginsAgain job (shared_by job g owner) r in
     let again : R (record was { snapshots = run.snapshots }) = λ owner placed.
     let shared = shared_by job g owner in
-    let G : List (List ℕ) → Type 0 = λ b. (snapshots : List (List Entry)) × IsStoredRun shared job.fields.machines window job.fields.budget count (stored_order b) false snapshots was in
+    let G : List (List ℕ) → Type 0 = λ b. (snapshots : List (List Entry)) × IsStoredRun saves shared job.fields.machines window job.fields.budget count (stored_order b) false snapshots was in
     let good : IsGoodStore shared header bodies = subst (IsGoodStore shared header) (sym none) (none_good shared header) in
     let went = from.goes_on owner placed good in
     let ran : G [] = subst G none (went.0, went.1) in
     let enough = from.enough owner placed good (step_bound g job.fields.algorithm) (λ order valid. bound-of job.fields.algorithm job.fields.source g order is start valid) in
-    let b = begins-again job g owner window count ran.0 was ran.1 is start alone.ended enough in
+    let b = begins-again job g owner saves window count ran.0 was ran.1 is start alone.ended enough in
     record { is = b.is; few = b.few; numbers_are = b.numbers_are; finished = b.finished; results = b.results; spent = b.spent; enough = b.enough } in
     record {
       placed = from.placed;

@@ -64,13 +64,13 @@ HasEnough job g = (1 + length job.failures) * step_bound g job.fields.algorithm 
 abbrev pub plan_for : JobSayings → RunPlan
 plan_for job = record { atoms = job.fields.atoms; machines = job.fields.machines; pipeline = job.fields.pipeline; budget = job.fields.budget }
 
--- and with this window
-abbrev pub plan_with : JobSayings → ℕ → StoredPlan
-plan_with job window = record { run = plan_for job; window = window; engine = job.fields.engine }
+-- and with this window, its end saved or not
+abbrev pub plan_with : JobSayings → Bool → ℕ → StoredPlan
+plan_with job saves window = record { run = plan_for job; window = window; engine = job.fields.engine; saves_end = saves }
 
 -- the store with these snapshots has room for the job's run on this graph
 abbrev pub HasRoomForJob : JobSayings → DataGraph → List (List ℕ) → Type 0
-HasRoomForJob job g opened = HasRoomForRun g (plan_with job job.fields.window) (length job.failures) (length opened) (65 + records_size opened)
+HasRoomForJob job g opened = HasRoomForRun g (plan_with job true job.fields.window) (length job.failures) (length opened) (65 + records_size opened)
 
 -- ---- without a store
 
@@ -146,7 +146,7 @@ pub record KeepsStore (shared : Shared) (header : Header) (front opened : List (
 -- fills no store that has room for it.
 pub record GoesOnFrom (job : JobSayings) (shared : Shared) (resumed : Bool) (header : Header) (front opened : List (List ℕ)) (old new : DiskPast) (run : StoredRun) : Type 0 where
   pub snapshots : List (List Entry)
-  pub is : IsStoredRun shared job.fields.machines job.fields.window job.fields.budget (length opened) (stored_order opened) resumed snapshots run
+  pub is : IsStoredRun true shared job.fields.machines job.fields.window job.fields.budget (length opened) (stored_order opened) resumed snapshots run
   pub keeps : KeepsStore shared header front opened snapshots old new
   pub results : run.end ≡ Finished → AreResults job.fields.algorithm job.fields.source shared.graph run.numbers.items
   pub enough : HasEnough job shared.graph → (left : Vertex) → run.end ≡ Spent left → ⊥

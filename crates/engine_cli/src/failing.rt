@@ -22,11 +22,11 @@ use std::sync::Wait;
 use store_format::{Digest, Header, new_store};
 use stored_answers::{StoredEnd, StoredRun};
 
-/// A window in which a run has no snapshot but at its end: half of it is the greatest budget that a job may have.
+/// A window in which a run takes no snapshot: half of it is the greatest budget that a job may have.
 const WIDEST_WINDOW: u32 = 33_554_432;
 
-/// Runs the job's algorithm without a store. What would be in a store is kept in memory, and no snapshot is taken before the end: so a
-/// machine that fails takes all back to the start.
+/// Runs the job's algorithm without a store. A store in memory, which gets no snapshot, stands in for one: so a machine that fails takes all
+/// back to the start.
 pub fn run_without_store<R: Wait>(
     rt: &R,
     alloc: Global,
@@ -91,7 +91,17 @@ fn run_through_failures<R: Wait, D: Disk + Drop>(
     let Ok(mut journal) = Journal::open(alloc, disk, header) else {
         return Err(NoMemory);
     };
-    match run_stored_on(rt, alloc, graph, job, WIDEST_WINDOW, &mut journal, false) {
+    let run = run_stored_on(
+        rt,
+        alloc,
+        graph,
+        job,
+        false,
+        WIDEST_WINDOW,
+        &mut journal,
+        false,
+    );
+    match run {
         Ok(run) => without_snapshots(alloc, run),
         Err(_) => Err(NoMemory),
     }

@@ -106,7 +106,7 @@ fn run_on_journal<R: Wait, D: Disk>(
     requires machines { journal.old.header.machines ≡ input.now.job.machines }
     requires well { journal.old.failed ≡ false }
     ensures fresh { IsTrue D.told → IfOk result (λ run. resumed ≡ false → length (snapshots_in D.past journal.old) ≡ 0) }
-    ensures run { IsTrue D.told → IfOk result (IsStoreRunFrom (job_view input.now.job) input.now.graph (update_of input.now.job.algorithm input.now.job.source) journal.old.header input.now.job.window resumed
+    ensures run { IsTrue D.told → IfOk result (IsStoreRunFrom (job_view input.now.job) input.now.graph (update_of input.now.job.algorithm input.now.job.source) journal.old.header true input.now.job.window resumed
         (length (snapshots_in D.past journal.old)) (snapshots_in D.past journal.old) (D.past journal.old.disk) (D.past journal.new.disk)) }
     ensures fault { IfOk result (λ run. run.end ≡ DiskFault → Rose (D.faults journal.old.disk) (D.faults journal.new.disk)) }
     ensures printable { IfOk result (IsPrintable input.now.graph) }
@@ -125,6 +125,7 @@ fn run_on_journal<R: Wait, D: Disk>(
         alloc,
         &input.graph,
         &input.job,
+        true,
         window,
         journal,
         resumed,
@@ -134,12 +135,13 @@ fn run_on_journal<R: Wait, D: Disk>(
     }
 }
 
-/// Runs the job's algorithm by its program, with snapshots as this window asks.
+/// Runs the job's algorithm by its program, with snapshots as this window asks, and one of the end where that is saved.
 pub fn run_stored_on<R: Wait, D: Disk>(
     rt: &R,
     alloc: Global,
     graph: &Graph,
     job: &Job,
+    saves_end: bool,
     window: u32,
     journal: &mut Journal<D>,
     resumed: bool,
@@ -152,7 +154,7 @@ pub fn run_stored_on<R: Wait, D: Disk>(
     requires machines { journal.old.header.machines ≡ job.now.machines }
     requires fresh { resumed ≡ false → journal.old.count ≡ 0 }
     requires well { journal.old.failed ≡ false }
-    ensures run { IsTrue D.told → IfOk result (IsStoreRunFrom (job_view job.now) graph.now (update_of job.now.algorithm job.now.source) journal.old.header window resumed
+    ensures run { IsTrue D.told → IfOk result (IsStoreRunFrom (job_view job.now) graph.now (update_of job.now.algorithm job.now.source) journal.old.header saves_end window resumed
         journal.old.count (snapshots_in D.past journal.old) (D.past journal.old.disk) (D.past journal.new.disk)) }
     ensures fault { IfOk result (λ run. run.end ≡ DiskFault → Rose (D.faults journal.old.disk) (D.faults journal.new.disk)) }
     ensures printable { IfOk result (IsPrintable graph.now) }
@@ -162,16 +164,19 @@ pub fn run_stored_on<R: Wait, D: Disk>(
     ensures later { D.faults journal.old.disk ≤ D.faults journal.new.disk }
 {
     let program = program_of(job);
-    run_stored_by(rt, alloc, graph, program, job, window, journal, resumed)
+    run_stored_by(
+        rt, alloc, graph, program, job, saves_end, window, journal, resumed,
+    )
 }
 
-/// Runs a program by the numbers of the job and its failures, with snapshots as this window asks.
+/// Runs a program by the numbers of the job and its failures, with snapshots as this window asks, and one of the end where that is saved.
 fn run_stored_by<R: Wait, D: Disk, P: Program>(
     rt: &R,
     alloc: Global,
     graph: &Graph,
     program: P,
     job: &Job,
+    saves_end: bool,
     window: u32,
     journal: &mut Journal<D>,
     resumed: bool,
@@ -184,7 +189,7 @@ fn run_stored_by<R: Wait, D: Disk, P: Program>(
     requires machines { journal.old.header.machines ≡ job.now.machines }
     requires fresh { resumed ≡ false → journal.old.count ≡ 0 }
     requires well { journal.old.failed ≡ false }
-    ensures run { IsTrue D.told → IfOk result (IsStoreRunFrom (job_view job.now) graph.now (P.meaning program) journal.old.header window resumed
+    ensures run { IsTrue D.told → IfOk result (IsStoreRunFrom (job_view job.now) graph.now (P.meaning program) journal.old.header saves_end window resumed
         journal.old.count (snapshots_in D.past journal.old) (D.past journal.old.disk) (D.past journal.new.disk)) }
     ensures fault { IfOk result (λ run. run.end ≡ DiskFault → Rose (D.faults journal.old.disk) (D.faults journal.new.disk)) }
     ensures printable { IfOk result (IsPrintable graph.now) }
@@ -197,6 +202,7 @@ fn run_stored_by<R: Wait, D: Disk, P: Program>(
         run: plan_of(job),
         window,
         engine: job.engine,
+        saves_end,
     };
     // The readers tell how many snapshots and bytes the store has, before and behind the run.
     let _short = journal.length();

@@ -4,6 +4,7 @@ ghost use Rattle.std.specs.List.{AllByRecursion};
 ghost use Rattle.cluster_laws.specs.cluster_core.Recovering.{going_on};
 ghost use Rattle.whole_laws.specs.cluster_ending.Ends.{HasFinishedOrder};
 ghost use Rattle.cluster_laws.specs.cluster_model.Events.{HasNext, recovers};
+ghost use Rattle.cluster_laws.specs.cluster_model.Leading.{HasSeenTheEnd};
 ghost use Rattle.coord_core.specs.Calls.{IsDueOf};
 ghost use Rattle.coord_core.specs.Stores.{store_view};
 ghost use Rattle.snap_clusters.specs.AtOnce.{CanNotTakePlaceAtOnce, CanTakePlaceAtOnce, TakesPlaceAtOnce};
@@ -164,6 +165,13 @@ impl<M: SavingMachine> SnapCluster<M> {
         ensures ended { result ≡ Due.Ended → InEachCluster M.stands self.now HasFinishedOrder }
     {
         self.parts.coordinator.due()
+    }
+
+    /// Whether the waves have shown the coordinator that nothing is left to do.
+    pub fn has_seen_the_end(&self) -> bool
+        ensures { IsTrue result → InEachCluster M.stands self.now (λ st c. HasSeenTheEnd c.coordinator) }
+    {
+        self.parts.coordinator.has_seen_the_end()
     }
 
     /// The ticket of the next update.

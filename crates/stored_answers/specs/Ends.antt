@@ -1,6 +1,6 @@
 -- How a run with a store ends, told by its lists.
 use Rattle.std.specs.List.Sorted.{IsPermutation}
-use Rattle.std.specs.Prelude.{List, [], false, filter, length, ⊤, ℕ, ◌*◌, ◌++◌, ◌+◌, ◌-◌, ◌/◌, ◌<◌, ◌≡◌, ◌≤◌, ◌⊎◌}
+use Rattle.std.specs.Prelude.{Bool, List, [], false, filter, length, ⊤, ℕ, ◌*◌, ◌++◌, ◌+◌, ◌-◌, ◌/◌, ◌<◌, ◌≡◌, ◌≤◌, ◌⊎◌}
 use Rattle.gl_base.specs.declared.entries.Entry.{Entry}
 use Rattle.whole_laws.specs.attempts.Entries.{is_update}
 use Rattle.call_answers.specs.Answers.{RunLists, Shared, last_order, made_by}
@@ -38,11 +38,11 @@ NeedsMoreRoom shared machines window kept snapshots stored bytes order =
     ((4096 ≤ stored) × (HasOutside machines (half_of window) (last_order kept snapshots) order ⊎ LacksLast shared kept snapshots order))
     ⊎ (1073741824 < bytes + bytes_with shared machines (length order - length (last_order kept snapshots)))
 
--- What a run that ended so says by its lists, where these are the orders of the snapshots that it acknowledged, so many failures went
+-- What a run that ended so says by its lists, whose end is saved or not, where these are the orders of the snapshots that it acknowledged, so many failures went
 -- unanswered, and its store had this order and so many bytes.
-abbrev pub RunEndsSo : Shared → ℕ → ℕ → ℕ → List Entry → List (List Entry) → ℕ → RunLists → StoredEnd → Type 0
-RunEndsSo shared machines window budget kept snapshots unanswered lists Finished = FinishesRun shared kept snapshots unanswered lists
-RunEndsSo shared machines window budget kept snapshots unanswered lists (Spent left) = SpendsRun shared budget left.0 unanswered lists
-RunEndsSo shared machines window budget kept snapshots unanswered lists (Full stored bytes) =
+abbrev pub RunEndsSo : Bool → Shared → ℕ → ℕ → ℕ → List Entry → List (List Entry) → ℕ → RunLists → StoredEnd → Type 0
+RunEndsSo saves shared machines window budget kept snapshots unanswered lists Finished = FinishesRun saves shared kept snapshots unanswered lists
+RunEndsSo saves shared machines window budget kept snapshots unanswered lists (Spent left) = SpendsRun shared budget left.0 unanswered lists
+RunEndsSo saves shared machines window budget kept snapshots unanswered lists (Full stored bytes) =
     (unanswered ≡ 0) × NeedsMoreRoom shared machines window kept snapshots stored bytes lists.order
-RunEndsSo shared machines window budget kept snapshots unanswered lists DiskFault = ⊤
+RunEndsSo saves shared machines window budget kept snapshots unanswered lists DiskFault = ⊤

@@ -13,14 +13,14 @@ use Rattle.seq_run.specs.Runs.{AreNumbers}
 abbrev pub lists_of : StoredRun → RunLists
 lists_of run = record { order = run.order.items; lost = run.lost.items; done = run.done.items; fired = run.fired.items }
 
--- It is a run with failures from this order on, resumed or not, with this window and budget, on so many machines; its store had so many
+-- It is a run with failures from this order on, whose end is saved or not, resumed or not, with this window and budget, on so many machines; its store had so many
 -- snapshots, and got these behind them: of each machine at most a window of updates is lost for each failure that fired, and at most that is
 -- outside the last snapshot. Its lines are those of the snapshots, its numbers the replay of its order; and it ended as it says.
-pub record IsStoredRun (shared : Shared) (machines window budget stored : ℕ) (kept : List Entry) (resumed : Bool) (snapshots : List (List Entry)) (run : StoredRun) : Type 0 where
+pub record IsStoredRun (saves : Bool) (shared : Shared) (machines window budget stored : ℕ) (kept : List Entry) (resumed : Bool) (snapshots : List (List Entry)) (run : StoredRun) : Type 0 where
   pub unanswered : ℕ
   pub is : IsRunWithFailures shared machines kept resumed unanswered (lists_of run)
   pub keeps : KeepsToWindow window kept snapshots (lists_of run)
   pub few : sum_by (λ count. count) run.done.items ≤ budget
   pub lines : AreSnapLines shared (suc stored) snapshots run.snapshots.items
   pub numbers_are : AreNumbers (size shared.graph) (replay shared.graph shared.program run.order.items).vertex run.numbers.items
-  pub ends : RunEndsSo shared machines window budget kept snapshots unanswered (lists_of run) run.end
+  pub ends : RunEndsSo saves shared machines window budget kept snapshots unanswered (lists_of run) run.end

@@ -15,7 +15,7 @@ pub struct SnapLine {
 /// How a run with a store ended.
 #[derive(Clone, Copy)]
 pub enum StoredEnd {
-    /// No vertex is left to be updated, and the last snapshot is of the whole order.
+    /// No vertex is left to be updated; and where the end is saved, the last snapshot is of the whole order.
     Finished,
     /// So many updates were made as the budget has, and this vertex is to be updated all the same.
     Spent(Vertex),
@@ -26,12 +26,13 @@ pub enum StoredEnd {
 }
 
 /// How a program is run with a store: how the graph is placed and the program run on it, how many updates of one machine may be outside the
-/// last snapshot that was acknowledged, and how updates are kept apart.
+/// last snapshot that was acknowledged, how updates are kept apart, and whether a snapshot is taken of the end.
 #[derive(Clone, Copy)]
 pub struct StoredPlan {
     pub run: RunPlan,
     pub window: u32,
     pub engine: EngineKind,
+    pub saves_end: bool,
 }
 
 /// A run with a store: the order to which it led, the updates that failures took away, how many updates each machine made, which of the

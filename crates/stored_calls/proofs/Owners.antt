@@ -75,10 +75,10 @@ pub end_at : {D P : Type 0} (meaning : P → Update) (past : D → DiskPast) (ca
 end_at meaning past call after start first st o how e = record { lines = e.at.lines; paused = e.paused; known = e.known; failures = e.failures; now = e.now; gives = e.gives }
 
 -- the run by other names
-pub run_named : (st : Setting) (failures : List FailureAt) (o : CallOpening) (start added : List (List ℕ)) (run : StoredRun) (shared : Shared) (machines window budget stored : ℕ) (resumed : Bool) →
-    shared_of st failures ≡ shared → st.machines ≡ machines → st.window ≡ window → o.first.left ≡ budget → length start ≡ stored → o.resumed ≡ resumed → IsRunSo st failures o start added run →
-    IsStoredRun shared machines window budget stored (stored_order start) resumed (orders_behind (stored_order start) added) run
-run_named st failures o start added run shared machines window budget stored resumed shared_is machines_is window_is budget_is stored_is resumed_is is =
-    subst₂ (λ (s : Shared) (m : ℕ). IsStoredRun s m window budget stored (stored_order start) resumed (orders_behind (stored_order start) added) run) shared_is machines_is
-    (subst₂ (λ (w b : ℕ). IsStoredRun (shared_of st failures) st.machines w b stored (stored_order start) resumed (orders_behind (stored_order start) added) run) window_is budget_is
-    (subst₂ (λ (n : ℕ) (r : Bool). IsStoredRun (shared_of st failures) st.machines st.window o.first.left n (stored_order start) r (orders_behind (stored_order start) added) run) stored_is resumed_is is))
+pub run_named : (saves : Bool) (st : Setting) (failures : List FailureAt) (o : CallOpening) (start added : List (List ℕ)) (run : StoredRun) (shared : Shared) (machines window budget stored : ℕ) (resumed : Bool) →
+    shared_of st failures ≡ shared → st.machines ≡ machines → st.window ≡ window → o.first.left ≡ budget → length start ≡ stored → o.resumed ≡ resumed → IsRunSo saves st failures o start added run →
+    IsStoredRun saves shared machines window budget stored (stored_order start) resumed (orders_behind (stored_order start) added) run
+run_named saves st failures o start added run shared machines window budget stored resumed shared_is machines_is window_is budget_is stored_is resumed_is is =
+    subst₂ (λ (s : Shared) (m : ℕ). IsStoredRun saves s m window budget stored (stored_order start) resumed (orders_behind (stored_order start) added) run) shared_is machines_is
+    (subst₂ (λ (w b : ℕ). IsStoredRun saves (shared_of st failures) st.machines w b stored (stored_order start) resumed (orders_behind (stored_order start) added) run) window_is budget_is
+    (subst₂ (λ (n : ℕ) (r : Bool). IsStoredRun saves (shared_of st failures) st.machines st.window o.first.left n (stored_order start) r (orders_behind (stored_order start) added) run) stored_is resumed_is is))

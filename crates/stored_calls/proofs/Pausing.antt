@@ -1,5 +1,5 @@
 -- A call goes on to its next pause, and is led on or ended there.
-use Rattle.std.proofs.Common.{◌≡◌, List, ap, refl, sym, subst}
+use Rattle.std.proofs.Common.{◌≡◌, ◌∙◌, List, ap, inl, inr, refl, sym, subst}
 use Rattle.std.specs.Prelude.{Err, IfOk, IfSome, None, Ok, Option, Result, Some, false, ◌++◌, ℕ}
 use Rattle.gl_base.specs.declared.numbers.Vertex.{Vertex}
 use Rattle.call_courses.specs.Courses.{InEachCourse}
@@ -41,7 +41,13 @@ module _ {D P : Type 0} (meaning : P → Update) (past : D → DiskPast) (g : Da
   pub finished : PausesSo (IsEngineSaverOf meaning) mid.course pause.Ended → EndsCall meaning past g program call journal mid journal end.Finished
   finished pauses start first st o runs at =
       let now = on_at start first st o at in
-      record { at = now; paused = mid.course; known = now.known; failures = refl; now = now.known.was.now; gives = pauses }
+      record { at = now; paused = mid.course; known = now.known; failures = refl; now = now.known.was.now; gives = inl pauses }
+
+  -- nothing is left, and the end is not saved
+  pub quiet : call.saves_end ≡ false → PausesSo (IsEngineSaverOf meaning) mid.course pause.Quiet → EndsCall meaning past g program call journal mid journal end.Finished
+  quiet unsaved pauses start first st o runs at =
+      let now = on_at start first st o at in
+      record { at = now; paused = mid.course; known = now.known; failures = refl; now = now.known.was.now; gives = inr (attempt.saves ∙ unsaved, pauses) }
 
   -- no ticket is left, and this vertex is a task
   pub spent : (left : Vertex) → PausesSo (IsEngineSaverOf meaning) mid.course pause.Spent → InEachCourse (IsEngineSaverOf meaning) mid.course (λ st o events c. IsTaskIn st c left.0) →

@@ -9,7 +9,7 @@ use Rattle.stored_calls.specs.declared.calls.StoredCall.{StoredCall}
 use Rattle.update_api.specs.Updates.{Update}
 
 pub same_first : {P : Type 0} (call : StoredCall P) → IsSameCall call call
-same_first call = record { places = refl; start = refl; failures = refl; machines = refl; stopped = refl }
+same_first call = record { places = refl; start = refl; failures = refl; machines = refl; stopped = refl; saves = refl }
 
 pub same_on : {P : Type 0} (first call later : StoredCall P) → IsSameCall first call → IsSameCall call later → IsSameCall first later
 same_on first call later one other = record {
@@ -18,6 +18,7 @@ same_on first call later one other = record {
   failures = other.failures ∙ one.failures;
   machines = other.machines ∙ one.machines;
   stopped = other.stopped ∙ one.stopped;
+  saves = other.saves ∙ one.saves;
 }
 
 -- an end that the later part gives is one of the whole

@@ -54,19 +54,20 @@ module _ {D P : Type 0} (meaning : P → Update) (past : D → DiskPast) (g : Da
       )
 
   -- what the run is, and what crashes leave, where it has ended
-  pub runs_owner : (how : StoredEnd) (run : StoredRun) (count : ℕ) → EndsCall meaning past g program call mid later after how → later.places ≡ call.places → length bodies ≡ count →
-      ((program : Update) (header : Header) (start added : List (List ℕ)) (st : Setting) (o : CallOpening) → IsRunAt g program later.places st → IsEndAt meaning later header start added st o how → IsRunSo st failures o start added run) →
+  pub runs_owner : (how : StoredEnd) (run : StoredRun) (count : ℕ) → EndsCall meaning past g program call mid later after how → later.places ≡ call.places → length bodies ≡ count → later.saves_end ≡ plan.saves_end →
+      ((program : Update) (header : Header) (start added : List (List ℕ)) (st : Setting) (o : CallOpening) → IsRunAt g program later.places st → IsEndAt meaning later header start added st o how → IsRunSo later.saves_end st failures o start added run) →
       (owner : ℕ → ℕ) → IsPlacement g plan.run.atoms plan.run.machines owner → IsGoodStore (owned_shared g program owner failures) journal.header bodies →
-      (snapshots : List (List Entry)) × IsStoredRun (owned_shared g program owner failures) plan.run.machines plan.window plan.run.budget count (stored_order bodies) resumed snapshots run
+      (snapshots : List (List Entry)) × IsStoredRun plan.saves_end (owned_shared g program owner failures) plan.run.machines plan.window plan.run.budget count (stored_order bodies) resumed snapshots run
       × KeepsGood (owned_shared g program owner failures) journal.header bodies snapshots (past journal.disk) (past after.disk)
-  runs_owner how run count ends places counted gathered owner placement good =
+  runs_owner how run count ends places counted saves gathered owner placement good =
       let start : HasCallBegun meaning past call journal mid resumed plan.run.budget (has owner placement).st = starts owner placement good in
       let e : IsCallEnded meaning past later after bodies (past journal.disk) (has owner placement).st start.opening how = ends bodies (past journal.disk) (has owner placement).st start.opening (has owner placement).runs start.at in
       let there : IsRunAt g program later.places (has owner placement).st = subst (λ (p : Places). IsRunAt g program p (has owner placement).st) (sym places) (has owner placement).runs in (
         orders_behind (stored_order bodies) e.at.added,
-        run_named (has owner placement).st failures start.opening bodies e.at.added run (owned_shared g program owner failures) plan.run.machines plan.window plan.run.budget count resumed (has owner placement).shared_is
+        run_named plan.saves_end (has owner placement).st failures start.opening bodies e.at.added run (owned_shared g program owner failures) plan.run.machines plan.window plan.run.budget count resumed (has owner placement).shared_is
             ((has owner placement).runs.placed.machines ∙ placed.are.many) ((has owner placement).runs.window ∙ placed.window) start.tickets counted start.resumed_is
-            (gathered program after.header bodies e.at.added (has owner placement).st start.opening there (end_at meaning past later after bodies (past journal.disk) (has owner placement).st start.opening how e)),
+            (subst (λ (b : Bool). IsRunSo b (has owner placement).st failures start.opening bodies e.at.added run) saves
+            (gathered program after.header bodies e.at.added (has owner placement).st start.opening there (end_at meaning past later after bodies (past journal.disk) (has owner placement).st start.opening how e))),
         kept_good meaning past later after bodies (past journal.disk) (has owner placement).st start.opening (owned_shared g program owner failures) journal.header (shared_later owner placement) header e.at,
       )
 

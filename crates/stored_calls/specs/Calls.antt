@@ -13,7 +13,7 @@ pub use Rattle.snap_journal.specs.Journals.{JournalState, snapshots_in}
 pub use Rattle.stored_answers.specs.Images.{HoldsGood, orders_behind, stored_order}
 pub use Rattle.stored_answers.specs.Lines.{AreSnapLines}
 pub use Rattle.stored_courses.specs.Stores.{Cluster, Header, IsKnownCourse}
-use Rattle.std.specs.Prelude.{Err, IsErrOf, List, Ok, Option, Result, Some, false, length, suc, true, ⊤, ℕ, ◌+◌, ◌++◌, ◌<◌, ◌^◌, ◌≡◌, ◌≤◌}
+use Rattle.std.specs.Prelude.{Bool, Err, IsErrOf, List, Ok, Option, Result, Some, false, length, suc, true, ⊤, ℕ, ◌+◌, ◌++◌, ◌<◌, ◌^◌, ◌≡◌, ◌≤◌, ◌⊎◌}
 use Rattle.stored_calls.specs.declared.call_appends.faults.AppendFault.{AppendFault}
 use Rattle.stored_calls.specs.declared.call_appends.faults.AppendFault.TheVariants as append
 use Rattle.call_rounds.specs.declared.pauses.Pause.TheVariants as pause
@@ -44,13 +44,13 @@ pub record IsCallAt {D P : Type 0} (meaning : P → Update) (past : D → DiskPa
   pub any_moment : LeavesOnly first (past journal.disk) (HoldsGood (shared_of st call.course.failures) journal.header start)
   pub at_end : (image : List ℕ) → IsImage (past journal.disk).now image → HoldsGood (shared_of st call.course.failures) journal.header (start ++ added) image
 
--- what a pause of this course gives for the end of the run, where its store has these snapshots
-abbrev pub PauseGives : {P : Type 0} → (P → Update) → CourseView (EngineSaver P) → List (List ℕ) → Setting → CallOpening → Cluster → StoredEnd → Type 0
-PauseGives meaning v bodies st o c end.Finished = PausesSo (IsEngineSaverOf meaning) v pause.Ended
-PauseGives meaning v bodies st o c (end.Spent left) = PausesSo (IsEngineSaverOf meaning) v pause.Spent × IsTaskIn st c left.0
-PauseGives meaning v bodies st o c (end.Full stored bytes) =
+-- what a pause of this course gives for the end of the run, which is saved or not, where its store has these snapshots
+abbrev pub PauseGives : {P : Type 0} → Bool → (P → Update) → CourseView (EngineSaver P) → List (List ℕ) → Setting → CallOpening → Cluster → StoredEnd → Type 0
+PauseGives saves meaning v bodies st o c end.Finished = PausesSo (IsEngineSaverOf meaning) v pause.Ended ⊎ ((saves ≡ false) × PausesSo (IsEngineSaverOf meaning) v pause.Quiet)
+PauseGives saves meaning v bodies st o c (end.Spent left) = PausesSo (IsEngineSaverOf meaning) v pause.Spent × IsTaskIn st c left.0
+PauseGives saves meaning v bodies st o c (end.Full stored bytes) =
     (stored ≡ length bodies) × (bytes ≡ 65 + records_size bodies) × NoneReached (IsEngineSaverOf meaning) v × NeedsMore (IsEngineSaverOf meaning) v st o
-PauseGives meaning v bodies st o c end.DiskFault = ⊤
+PauseGives saves meaning v bodies st o c end.DiskFault = ⊤
 
 -- The run has ended so: the course paused where it gives that, and is where it paused.
 pub record IsCallEnded {D P : Type 0} (meaning : P → Update) (past : D → DiskPast) (call : StoredCall P) (journal : JournalState D) (start : List (List ℕ)) (first : DiskPast) (st : Setting) (o : CallOpening) (how : StoredEnd) : Type 0 where
@@ -59,7 +59,7 @@ pub record IsCallEnded {D P : Type 0} (meaning : P → Update) (past : D → Dis
   pub known : IsKnownAt meaning paused call journal.header start (start ++ at.added) st o
   pub failures : paused.failures ≡ call.course.failures
   pub now : IsCourseNow (IsEngineSaverOf meaning) call.course st o known.was.events known.was.cluster
-  pub gives : PauseGives meaning paused (start ++ at.added) st o known.was.cluster how
+  pub gives : PauseGives call.saves_end meaning paused (start ++ at.added) st o known.was.cluster how
 
 -- what ends a run by the counts of the disk's faults, and what the journal has then
 abbrev pub EndsBy : {D : Type 0} → JournalState D → ℕ → ℕ → StoredEnd → Type 0
@@ -83,6 +83,7 @@ pub record IsSameCall {P : Type 0} (old new : StoredCall P) : Type 0 where
   pub failures : new.course.failures ≡ old.course.failures
   pub machines : length new.course.now.machines.items ≡ length old.course.now.machines.items
   pub stopped : new.course.now.stopped ≡ old.course.now.stopped
+  pub saves : new.saves_end ≡ old.saves_end
 
 -- The call and its journal can go on: its graph is placed on its machines, the journal is of that graph and found no fault, and the run
 -- wasn't stopped.

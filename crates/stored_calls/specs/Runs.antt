@@ -39,12 +39,12 @@ pub record IsEndAt {P : Type 0} (meaning : P → Update) (call : StoredCall P) (
   pub known : IsKnownAt meaning paused call header start (start ++ added) st o
   pub failures : paused.failures ≡ call.course.failures
   pub now : IsCourseNow (IsEngineSaverOf meaning) call.course st o known.was.events known.was.cluster
-  pub gives : PauseGives meaning paused (start ++ added) st o known.was.cluster how
+  pub gives : PauseGives call.saves_end meaning paused (start ++ added) st o known.was.cluster how
 
--- the run is one with a store that began with these snapshots, and got these others
-abbrev pub IsRunSo : Setting → List FailureAt → CallOpening → List (List ℕ) → List (List ℕ) → StoredRun → Type 0
-IsRunSo st failures o start added run =
-    IsStoredRun (shared_of st failures) st.machines st.window o.first.left (length start) (stored_order start) o.resumed (orders_behind (stored_order start) added) run
+-- the run is one with a store that began with these snapshots, and got these others, and its end is saved or not
+abbrev pub IsRunSo : Bool → Setting → List FailureAt → CallOpening → List (List ℕ) → List (List ℕ) → StoredRun → Type 0
+IsRunSo saves st failures o start added run =
+    IsStoredRun saves (shared_of st failures) st.machines st.window o.first.left (length start) (stored_order start) o.resumed (orders_behind (stored_order start) added) run
 
 -- what a run shares on this graph, with this owner of each vertex
 abbrev pub owned_shared : DataGraph → Update → (ℕ → ℕ) → List FailureAt → Shared

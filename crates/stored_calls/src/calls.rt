@@ -8,7 +8,7 @@ use stored_answers::SnapLine;
 use update_api::Program;
 
 /// A call in its course: where its graph is placed, the restarts of the store's last order and of that with which the newest attempt began,
-/// that order, the updates that failures took away, and the snapshots that were acknowledged.
+/// that order, the updates that failures took away, the snapshots that were acknowledged, and whether one is taken of the end.
 #[derive(Drop)]
 pub(crate) struct StoredCall<P: Program> {
     pub(crate) course: Course<EngineSaver<P>>,
@@ -17,4 +17,5 @@ pub(crate) struct StoredCall<P: Program> {
     pub(crate) order: Vec<Entry>,
     pub(crate) lost: Vec<Entry>,
     pub(crate) snapshots: Vec<SnapLine>,
+    pub(crate) saves_end: bool,
 }

@@ -29,7 +29,7 @@ use stored_answers::{SnapLine, StoredEnd, StoredPlan, StoredRun};
 use update_api::Program;
 
 /// Runs a program from what the store has to the end of the run. Machines fail as the failures order, and all go back to the last snapshot that was
-/// acknowledged; snapshots are taken as the window asks, and one for the end. Where it resumes, the run goes on from the order of
+/// acknowledged; snapshots are taken as the window asks, and where the plan says so one of the end. Where it resumes, the run goes on from the order of
 /// the store's last snapshot, behind which stands a restart; else the store has no snapshot yet.
 ///
 /// The run ends finished, at its budget, at a store that is full, or at a fault of the disk while it goes on. `DiskFault` comes where the
@@ -56,7 +56,7 @@ pub fn run_stored<R: Wait, D: Disk, P: Program>(
     // From a store that is good by the owners that the placement gives: what the run is, and what crashes leave.
     ensures run { IsTrue D.told → IfOk result (λ run. (owner : ℕ → ℕ) → IsPlacement graph.now plan.run.atoms plan.run.machines owner →
         IsGoodStore (owned_shared graph.now (P.meaning program) owner failures.now) journal.old.header (snapshots_in D.past journal.old) →
-        (snapshots : List (List Entry)) × IsStoredRun (owned_shared graph.now (P.meaning program) owner failures.now) plan.run.machines plan.window plan.run.budget journal.old.count
+        (snapshots : List (List Entry)) × IsStoredRun plan.saves_end (owned_shared graph.now (P.meaning program) owner failures.now) plan.run.machines plan.window plan.run.budget journal.old.count
         (stored_order (snapshots_in D.past journal.old)) resumed snapshots run
         × KeepsGood (owned_shared graph.now (P.meaning program) owner failures.now) journal.old.header (snapshots_in D.past journal.old) snapshots (D.past journal.old.disk) (D.past journal.new.disk)) }
 
@@ -130,6 +130,7 @@ fn begin<D: Disk, P: Program>(
     ensures setting { IfOk result (λ call. (st : Setting) × IsRunAt graph.now (P.meaning program) call.places st × (shared_of st failures.now ≡ run_shared graph.now (P.meaning program) call.places failures.now)) }
     ensures places { IfOk result (λ call. ArePlacedFor graph.now plan call.places) }
     ensures failures { IfOk result (λ call. call.course.failures ≡ failures.now) }
+    ensures saves { IfOk result (λ call. call.saves_end ≡ plan.saves_end) }
     ensures refused { IfErr result (IsWhyNotBegun journal.old.failed (D.faults journal.old.disk) (D.faults journal.new.disk)) }
     ensures good { IsTrue D.told → journal.old.length ≤ 2 ^ 30 → (why : StoreFault) → IsErrOf result (fault.BadStore why) → ⊥ }
     ensures long { journal.new.length ≡ journal.old.length }
@@ -141,19 +142,20 @@ fn begin<D: Disk, P: Program>(
     let _stored = journal.count();
     let length = journal.length();
     match start_call(alloc, graph, program, plan, failures, journal, resumed) {
-        Ok(started) => Ok(call_of(alloc, started)),
+        Ok(started) => Ok(call_of(alloc, started, plan.saves_end)),
         Err(why) => Err(refused_by(why, length)),
     }
 }
 
-/// The call that has started.
-fn call_of<P: Program>(alloc: Global, started: Started<P>) -> StoredCall<P>
+/// The call that has started, whose end is saved or not.
+fn call_of<P: Program>(alloc: Global, started: Started<P>, saves_end: bool) -> StoredCall<P>
     ensures course { result.course ≡ started.course }
     ensures places { result.places ≡ started.places }
     ensures restarts { result.restarts ≡ started.restarts }
     ensures order { result.order ≡ started.order }
     ensures lost { result.lost.items ≡ [] }
     ensures snapshots { result.snapshots.items ≡ [] }
+    ensures saves { result.saves_end ≡ saves_end }
 {
     let Started {
         course,
@@ -168,6 +170,7 @@ fn call_of<P: Program>(alloc: Global, started: Started<P>) -> StoredCall<P>
         order,
         lost: Vec::new(alloc),
         snapshots: Vec::new(alloc),
+        saves_end,
     }
 }
 
@@ -195,7 +198,7 @@ fn gathered<P: Program>(
     requires few { length failures.now ≤ 65536 }
     requires running { call.course.now.stopped ≡ false }
     ensures run { IfOk result (λ run. (program : Update) (header : Header) (start added : List (List ℕ)) (st : Setting) (o : CallOpening) → IsRunAt graph.now program call.places st →
-        IsEndAt P.meaning call header start added st o end → IsRunSo st failures.now o start added run) }
+        IsEndAt P.meaning call header start added st o end → IsRunSo call.saves_end st failures.now o start added run) }
     ensures end { IfOk result (λ run. run.end ≡ end) }
     ensures numbers { IfOk result (λ run. length run.numbers.items ≡ size graph.now) }
     ensures entries { IfOk result (λ run. All (IsEntryOf graph.now) run.order.items) }
@@ -210,6 +213,7 @@ fn gathered<P: Program>(
         order,
         lost,
         snapshots,
+        ..
     } = call;
     drop(restarts);
     match gather_call(alloc, graph, &course, &places, failures, order, lost) {

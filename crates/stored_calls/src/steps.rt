@@ -1,5 +1,5 @@
 //! A call goes on, pause by pause, until it ends.
-ghost use Rattle.std.specs.Prelude.{List, None, ◌≡◌, ◌≤◌, ◌^◌, ℕ, IfErr, IfOk, IfSome, IsTrue};
+ghost use Rattle.std.specs.Prelude.{List, None, false, ◌≡◌, ◌≤◌, ◌^◌, ℕ, IfErr, IfOk, IfSome, IsTrue};
 ghost use Rattle.stored_calls.specs.Calls.{CallOpening, CanCallGoOn, EndsBy, EndsCall, Header, IsEngineSaverOf, IsKnownAt, IsNotRefused, IsRunAt, IsSameCall, IsWhyStopped, KeepsCall, PausesSo, Setting};
 
 use crate::call_ends::task_left;
@@ -70,6 +70,7 @@ fn step<R: Wait, D: Disk, P: Program>(
         Pause::Reached(_) => go_back_from(alloc, graph, program, call, journal),
         Pause::Record(_) => save_due(alloc, call, journal),
         Pause::Ended => Ok(Some(StoredEnd::Finished)),
+        Pause::Quiet => Ok(Some(StoredEnd::Finished)),
         Pause::Spent => Ok(Some(StoredEnd::Spent(task_left(&call.course)))),
     }
 }
@@ -79,11 +80,12 @@ fn go_on<R: Wait, P: Program>(rt: &R, call: &mut StoredCall<P>) -> Result<Pause,
     ensures known { (header : Header) (start bodies : List (List ℕ)) (st : Setting) (o : CallOpening) →
         IsKnownAt P.meaning call.old.course call.old header start bodies st o → IsKnownAt P.meaning call.new.course call.new header start bodies st o }
     ensures pause { IfOk result (PausesSo (IsEngineSaverOf P.meaning) call.new.course) }
+    ensures unsaved { IfOk result (λ pause. pause ≡ Pause.Quiet → call.old.saves_end ≡ false) }
     ensures same { call.new ≡ record call.old { course = call.new.course } }
     ensures attempt { IsSameCall call.old call.new }
 {
     call.course.remember();
-    let pause = drive(rt, &mut call.course);
+    let pause = drive(rt, &mut call.course, call.saves_end);
     // The reader tells that no snapshot was acknowledged since, and that no attempt began.
     let _machines = call.course.machines();
     pause

@@ -88,10 +88,10 @@ fn opened_course<P: Program>(
 /// Goes on from pause to pause until the call has ended, or its budget is spent.
 fn go_on<R: Wait + AllocGlobal, P: Program>(rt: &R, call: &mut Call<'_, P>) -> Result<(), Trouble> {
     for _ in 0..MOST_PAUSES {
-        let pause = drive(rt, &mut call.course)?;
+        let pause = drive(rt, &mut call.course, true)?;
         call.pause = Some(pause);
         match pause {
-            Pause::Ended | Pause::Spent => return Ok(()),
+            Pause::Ended | Pause::Quiet | Pause::Spent => return Ok(()),
             Pause::Record(_) => {
                 take_due(rt.alloc(), call.beginning, &mut call.kept, &mut call.course)?;
             }
@@ -239,7 +239,7 @@ fn add_seen<P: Program>(call: &Call<'_, P>, line: &Line<'_>, page: &mut Page) {
 
 fn add_pause(pause: Option<Pause>, page: &mut Page) {
     page.add(match pause {
-        Some(Pause::Ended) => " ended",
+        Some(Pause::Ended | Pause::Quiet) => " ended",
         Some(Pause::Spent) => " spent",
         _ => " none",
     });

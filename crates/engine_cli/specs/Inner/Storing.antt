@@ -31,17 +31,17 @@ use Rattle.engine_cli.specs.JobStores.{IsOtherStore, KeepsGoing, KeepsImages, Re
 abbrev pub shared_with : JobSayings → DataGraph → Update → (ℕ → ℕ) → Shared
 shared_with job g p owner = record { graph = g; program = p; owner = owner; failures = job.failures }
 
--- A run of this program with this window on the placed graph, from an opened store for this header with these snapshots, which are so many. From one
+-- A run of this program with this window, whose end is saved or not, on the placed graph, from an opened store for this header with these snapshots, which are so many. From one
 -- that is good for it the run is one that goes on from it; it spends no budget that has the steps of each attempt, and fills no store that has room for it.
-pub record IsStoreRunFrom (job : JobSayings) (g : DataGraph) (p : Update) (header : Header) (window : ℕ) (resumed : Bool) (count : ℕ) (bodies : List (List ℕ)) (old new : DiskPast) (run : StoredRun) : Type 0 where
+pub record IsStoreRunFrom (job : JobSayings) (g : DataGraph) (p : Update) (header : Header) (saves : Bool) (window : ℕ) (resumed : Bool) (count : ℕ) (bodies : List (List ℕ)) (old new : DiskPast) (run : StoredRun) : Type 0 where
   pub goes_on : (owner : ℕ → ℕ) → IsPlacement g job.fields.atoms job.fields.machines owner → IsGoodStore (shared_with job g p owner) header bodies →
-      (snapshots : List (List Entry)) × IsStoredRun (shared_with job g p owner) job.fields.machines window job.fields.budget count (stored_order bodies) resumed snapshots run
+      (snapshots : List (List Entry)) × IsStoredRun saves (shared_with job g p owner) job.fields.machines window job.fields.budget count (stored_order bodies) resumed snapshots run
       × KeepsGood (shared_with job g p owner) header bodies snapshots old new
   pub placed : (owner : ℕ → ℕ) × IsPlacement g job.fields.atoms job.fields.machines owner
   pub enough : (owner : ℕ → ℕ) → IsPlacement g job.fields.atoms job.fields.machines owner → IsGoodStore (shared_with job g p owner) header bodies →
       (bound : ℕ) → BoundsSteps g p bound → (1 + length job.failures) * bound ≤ job.fields.budget → (left : Vertex) → run.end ≡ end.Spent left → ⊥
   pub roomy : (owner : ℕ → ℕ) → IsPlacement g job.fields.atoms job.fields.machines owner → IsGoodStore (shared_with job g p owner) header bodies →
-      HasRoomForRun g (plan_with job window) (length job.failures) count (65 + records_size bodies) → (stored bytes : ℕ) → run.end ≡ end.Full stored bytes → ⊥
+      HasRoomForRun g (plan_with job saves window) (length job.failures) count (65 + records_size bodies) → (stored bytes : ℕ) → run.end ≡ end.Full stored bytes → ⊥
   pub full : (stored bytes : ℕ) → run.end ≡ end.Full stored bytes → (stored ≡ length (stored_in header new.now.seen)) × (bytes ≡ 65 + records_size (stored_in header new.now.seen))
 
 -- a good store with these snapshots may have got others, and keeps what it had

@@ -1,5 +1,5 @@
 -- As the course of a call ends, its lists end.
-use Rattle.std.proofs.Common.{Bool, List, [], ap, ap₂, filter, inl, length, map, refl, subst, subst₂, sym, ℕ, ◌++◌, ◌+◌, ◌<◌, ◌∙◌, ◌∷◌, ◌≡◌, ◌≤◌, arith}
+use Rattle.std.proofs.Common.{Bool, List, [], ap, ap₂, filter, inl, length, true≢false, map, refl, subst, subst₂, sym, ℕ, ◌++◌, ◌+◌, ◌<◌, ◌∙◌, ◌∷◌, ◌≡◌, ◌≤◌, arith}
 use Rattle.std.specs.List.{range_with_len}
 use Rattle.std.specs.Prelude.{sum_by}
 use Rattle.gl_base.specs.Lists.{AreEach}
@@ -11,7 +11,7 @@ use Rattle.call_answers.proofs.Listing.{counts_sum, run_is, window_is}
 use Rattle.whole_laws.specs.attempts.Entries.{is_restart}
 use Rattle.call_answers.specs.Answers.{IsRunWithFailures, KeepsToWindow}
 use Rattle.call_answers.specs.Courses.{IsMerge, ListsOfCourse, all_logged, machine_logs}
-use Rattle.call_courses.specs.Calls.{HasEndedCall, MakesCall}
+use Rattle.call_courses.specs.Calls.{HasEndedCall, LeavesNothing, MakesCall}
 use Rattle.call_courses.specs.Courses.{CallOpening, Cluster, CourseView, IsCourseNow, Machine, Setting, first_cluster, first_setting}
 use Rattle.stored_calls.specs.call_ends.Ends.{IsEndedRun, IsKnownCourse, NoneReached, orders_behind, records_size, shared_of, stored_order}
 use Rattle.stored_calls.specs.call_ends.Gathered.{RunLists, reached_places}
@@ -90,19 +90,25 @@ module _ {M : Type 0} (stands : Setting → ℕ → Machine → M → Type 0) (v
             (run_is (shared_of st v.failures) call is lists order_is lost_is fired st.machines done made.8);
         keeps = subst (λ (ks : List Entry). KeepsToWindow st.window ks (snapshots_of call) lists) of.base (window_is (shared_of st v.failures) call is lists order_is lost_is fired st v.failures refl (made.2 now.setting.stored));
         few = sum_few (sum_by (λ count. count) lists.done) c.left o.first.left sum;
-        finished = λ paused. let has : HasEndedCall st call = paused.1 st o known.was.events c now call makes in record {
+        finished = λ saves paused. let has : HasEndedCall st call = paused.1 st o known.was.events c now call makes in record {
           finished = λ u low. ap (λ (es : List Entry). tasks_after st.graph st.program es u) order_is ∙ has.tasks u low;
           answered = has.unharmed;
-          some = has.some;
-          saved = ap (λ (ks : List Entry). last_order ks (snapshots_of call)) (sym of.base) ∙ has.saved ∙ sym order_is;
+          some = λ _. has.some;
+          saved = λ _. ap (λ (ks : List Entry). last_order ks (snapshots_of call)) (sym of.base) ∙ has.saved ∙ sym order_is;
         };
-        spent = λ paused left task. let spent = (paused.1 st o known.was.events c now call makes).0 in record {
+        quiet = λ paused. let leaves : LeavesNothing st call = paused.1 st o known.was.events c now call makes in record {
+          finished = λ u low. ap (λ (es : List Entry). tasks_after st.graph st.program es u) order_is ∙ leaves.tasks u low;
+          answered = leaves.unharmed;
+          some = λ saves. absurd (true≢false (sym saves));
+          saved = λ saves. absurd (true≢false (sym saves));
+        };
+        spent = λ paused left task saves. let spent = (paused.1 st o known.was.events c now call makes).0 in record {
           spent = counts_sum (shared_of st v.failures) call is lists order_is lost_is fired st.machines done made.8 ∙ spent;
           answered = unharmed paused.0;
           inside = task.0;
           task = ap (λ (es : List Entry). tasks_after st.graph st.program es left.0) order_is ∙ (of.tasks left.0 task.0).1 (inl task.1);
         };
-        full = λ none needs. (
+        full = λ none needs saves. (
           unharmed none,
           needs_room st v.failures o.kept o.resumed c call of (length bodies) (65 + records_size bodies) stored front bodies
               (ap (λ (ks : List Entry). last_order ks (snapshots_of call)) known.kept ∙ ap (last_order (stored_order start)) (sym once) ∙ last_behind (stored_order start) added

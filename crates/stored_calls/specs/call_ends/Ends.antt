@@ -8,7 +8,7 @@ pub use Rattle.recovery.specs.Journals.{records_size, stored_order}
 pub use Rattle.stored_answers.specs.Ends.{RunEndsSo}
 pub use Rattle.stored_courses.specs.Stores.{Header, IsKnownCourse}
 pub use Rattle.whole_laws.specs.whole_calls.Telling.{NeedsMoreStore}
-use Rattle.std.specs.Prelude.{List, length, sum_by, ℕ, ◌+◌, ◌++◌, ◌≡◌, ◌≤◌}
+use Rattle.std.specs.Prelude.{Bool, List, false, length, sum_by, ℕ, ◌+◌, ◌++◌, ◌≡◌, ◌≤◌}
 use Rattle.whole_laws.specs.attempts.EngineCalls.{EngineCall}
 use Rattle.whole_laws.specs.attempts.Stores.{snapshots_of}
 use Rattle.stored_calls.specs.call_ends.Gathered.{CallOpening, Cluster, CourseView, Event, IsTaskIn, Machine, RunLists, Setting}
@@ -17,9 +17,9 @@ use Rattle.gl_base.specs.declared.numbers.Vertex.{Vertex}
 use Rattle.stored_answers.specs.declared.runs.StoredEnd.{StoredEnd}
 use Rattle.stored_answers.specs.declared.runs.StoredEnd.TheVariants as end
 
--- the run of this call ends so
-abbrev pub CallEndsSo : {M : Type 0} → CourseView M → Setting → CallOpening → EngineCall → RunLists → StoredEnd → Type 0
-CallEndsSo v st o call lists how = RunEndsSo (shared_of st v.failures) st.machines st.window o.first.left o.kept (snapshots_of call) call.last.struck lists how
+-- the run of this call, whose end is saved or not, ends so
+abbrev pub CallEndsSo : {M : Type 0} → Bool → CourseView M → Setting → CallOpening → EngineCall → RunLists → StoredEnd → Type 0
+CallEndsSo saves v st o call lists how = RunEndsSo saves (shared_of st v.failures) st.machines st.window o.first.left o.kept (snapshots_of call) call.last.struck lists how
 
 -- The course makes this call, whose lists are those of a run with failures that keeps to the window and makes no more updates than there were
 -- tickets. A store with these snapshots has its snapshots behind those with which it began; and as the course pauses the run ends.
@@ -32,6 +32,7 @@ pub record IsEndedRun {M : Type 0} (stands : Setting → ℕ → Machine → M �
   pub is : IsRunWithFailures (shared_of st v.failures) st.machines o.kept o.resumed call.last.struck lists
   pub keeps : KeepsToWindow st.window o.kept (snapshots_of call) lists
   pub few : sum_by (λ count. count) lists.done ≤ o.first.left
-  pub finished : PausesSo stands v pause.Ended → CallEndsSo v st o call lists end.Finished
-  pub spent : PausesSo stands v pause.Spent → (left : Vertex) → IsTaskIn st c left.0 → CallEndsSo v st o call lists (end.Spent left)
-  pub full : NoneReached stands v → NeedsMoreStore st c.coordinator call → CallEndsSo v st o call lists (end.Full (length bodies) (65 + records_size bodies))
+  pub finished : (saves : Bool) → PausesSo stands v pause.Ended → CallEndsSo saves v st o call lists end.Finished
+  pub quiet : PausesSo stands v pause.Quiet → CallEndsSo false v st o call lists end.Finished
+  pub spent : PausesSo stands v pause.Spent → (left : Vertex) → IsTaskIn st c left.0 → (saves : Bool) → CallEndsSo saves v st o call lists (end.Spent left)
+  pub full : NoneReached stands v → NeedsMoreStore st c.coordinator call → (saves : Bool) → CallEndsSo saves v st o call lists (end.Full (length bodies) (65 + records_size bodies))

@@ -17,7 +17,7 @@ returns-clause-run g c told =
     IfOk-two c.run_stored-run.result _ _ _
     (λ run said by.
     run-from job c.args.graph.now (g.P.Program.meaning c.args.program) bodies old new c.plan_of.result c.deref.result.now c.args.journal.now.header after.header
-    c.run_stored-run.ensures.header c.plan_of.ensures c.deref.ensures.value c.args.window c.args.resumed c.args.journal.now.count c.args.journal.now.length run
+    c.run_stored-run.ensures.header c.plan_of.ensures c.deref.ensures.value c.args.saves_end c.args.window c.args.resumed c.args.journal.now.count c.args.journal.now.length run
     (sym c.length-short.ensures.length ∙ c.length-short.ensures.stored told c.requires.well) said.0.0 said.0.1 said.1.0 said.1.1
     (full-by g.D.Disk.past (IsTrue g.D.Disk.told) after c.count-stored.result c.length-long.result _ _ c.count-stored.ensures.count c.count-stored.ensures.stored c.length-long.ensures.length c.length-long.ensures.stored told run.end by))
     says c.run_stored-run.ensures.by

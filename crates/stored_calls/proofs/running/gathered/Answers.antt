@@ -12,7 +12,7 @@ returns-in-Ok-clause-run g c = λ program header start added st o runs at.
     let graph = c.args.graph.now in
     let call = c.args.call in
     let lists = c.in-Ok.lists in
-    subst (IsRunSo st c.args.failures.now o start added) (sym c.run_of.ensures)
+    subst (IsRunSo c.args.call.saves_end st c.args.failures.now o start added) (sym c.run_of.ensures)
     (run_so meaning graph program call header start added st o c.args.end runs at c.args.failures.now c.requires.failures c.requires.running lists
     (c.in-Ok.ensures.gathered st o at.known.was.events at.known.was.cluster at.now (gathers meaning graph program call header start added st o c.args.end runs at))
     (c.calls_end_so.ensures at.paused header start (start ++ added) call.lost.items call.restarts.stored.items call.restarts.front.items call.order.items st o at.known (gathered_lists lists)))

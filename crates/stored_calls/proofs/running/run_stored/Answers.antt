@@ -36,7 +36,7 @@ returns-in-Ok-clause-run g c = λ told.
     (λ run is. runs_owner g.P.Program.meaning g.D.Disk.past graph (g.P.Program.meaning c.args.program) c.args.plan c.args.failures.now c.args.journal.now c.begin.new.journal c.play_to_end.new.journal c.in_ok-call.call c.play_to_end.new.call c.args.resumed
     sound c.in_ok-call.ensures.places (λ owner other. c.placements_are_one.ensures graph c.args.plan.run.atoms c.args.plan.run.machines owner other sound c.requires.plan.machines) (c.in_ok-call.ensures.begun told)
     (c.in-Ok.ensures.call.failures ∙ c.in_ok-call.ensures.failures) (c.in-Ok.ensures.header ∙ c.in_ok-call.ensures.header)
-    c.in-Ok.end run c.args.journal.now.count (c.in-Ok.ensures.ends told) c.in-Ok.ensures.call.places counted is)
+    c.in-Ok.end run c.args.journal.now.count (c.in-Ok.ensures.ends told) c.in-Ok.ensures.call.places counted (c.in-Ok.ensures.call.saves ∙ c.in_ok-call.ensures.saves) is)
     c.gathered.ensures.run
 
 pub returns-in-Ok-clause-placed : goal.returns-in-Ok-clause-placed

@@ -1,7 +1,7 @@
 -- The call goes on to its next pause, and is led on or ended there.
 use Rattle.std.proofs.Common.{subst}
 use Rattle.stored_calls.specs.Calls.{IsEngineSaverOf, PausesSo}
-use Rattle.stored_calls.proofs.Pausing.{ends_from, finished, on_at, spent, then_ends, then_keeps}
+use Rattle.stored_calls.proofs.Pausing.{ends_from, finished, on_at, quiet, spent, then_ends, then_keeps}
 use Rattle.stored_calls.proofs.Refusing.{bounds_on}
 use Rattle.stored_calls.proofs.steps.step.Goals as goal
 
@@ -39,6 +39,15 @@ pub returns-in-Ended-clause-ends : goal.returns-in-Ended-clause-ends
 returns-in-Ended-clause-ends g c = λ told.
     finished g.P.Program.meaning g.D.Disk.past c.args.graph.now (g.P.Program.meaning c.args.program) c.args.call.now c.go_on.new.call c.args.journal.now c.go_on.ensures.same c.go_on.ensures.attempt c.go_on.ensures.known c.requires.can.well
     (subst (PausesSo (IsEngineSaverOf g.P.Program.meaning) c.go_on.new.call.course) c.in-Ended.is c.in_ok-go_on.ensures.pause)
+
+pub returns-in-Quiet-clause-keeps : goal.returns-in-Quiet-clause-keeps
+returns-in-Quiet-clause-keeps g c = λ told start first st o runs at.
+    on_at g.P.Program.meaning g.D.Disk.past c.args.graph.now (g.P.Program.meaning c.args.program) c.args.call.now c.go_on.new.call c.args.journal.now c.go_on.ensures.same c.go_on.ensures.attempt c.go_on.ensures.known c.requires.can.well start first st o at
+
+pub returns-in-Quiet-clause-ends : goal.returns-in-Quiet-clause-ends
+returns-in-Quiet-clause-ends g c = λ told.
+    quiet g.P.Program.meaning g.D.Disk.past c.args.graph.now (g.P.Program.meaning c.args.program) c.args.call.now c.go_on.new.call c.args.journal.now c.go_on.ensures.same c.go_on.ensures.attempt c.go_on.ensures.known c.requires.can.well
+    (c.in_ok-go_on.ensures.unsaved c.in-Quiet.is) (subst (PausesSo (IsEngineSaverOf g.P.Program.meaning) c.go_on.new.call.course) c.in-Quiet.is c.in_ok-go_on.ensures.pause)
 
 pub returns-in-Spent-clause-keeps : goal.returns-in-Spent-clause-keeps
 returns-in-Spent-clause-keeps g c = λ told start first st o runs at.
