@@ -19,7 +19,7 @@ use Rattle.cluster_laws.specs.cluster_model.Events as law
 use Rattle.cluster_laws.specs.cluster_model.Working.{admits, grants, prompt}
 use Rattle.whole_laws.specs.cluster_records.LineOfFour.{after_events}
 use Rattle.whole_laws.specs.cluster_whole.Whole.{setting_behind}
-use Rattle.snap_clusters.specs.AtOnce.{CanNotTakePlaceAtOnce, CanTakePlaceAtOnce, IsMadeAtOnce, TakesPlaceAtOnce, events_at_once, own_vertices}
+use Rattle.snap_clusters.specs.AtOnce.{CanNotTakePlaceAtOnce, CanTakePlaceAtOnce, IsMadeAtOnce, TakesPlaceAtOnce, events_at_once, locks_at_once}
 use Rattle.snap_clusters.specs.Clusters.{StandsForSameSaving}
 use Rattle.call_courses.specs.AtOnce.{CanHappenAtOnceInCall, CanNotHappenAtOnceInCall, HappensAtOnceInCall}
 use Rattle.call_courses.specs.Courses.{ArePassing, CallOpening, Cluster, CourseGoesOn, CourseView, HasCourse, InEachCourse, IsCourseNow, IsSavingClusterOf, Machine, Parts, Setting, as_since, first_cluster, first_setting, newest_setting}
@@ -91,7 +91,7 @@ module _ (st : Setting) (failures : List FailureAt) (a : ℕ) where
 
   -- they follow the job
   follow_at_once : (c : Cluster) (v : ℕ) → has_reached failures c a ≡ false → FollowJob st failures c (events_at_once st a v (c.machine a))
-  follow_at_once c v free = (tt, grants_follow (own_vertices st v a) (next_scope a (c.machine a).part) refl (law.after_event st c (law.Admit a v)) (admit_reached c v ∙ free))
+  follow_at_once c v free = (tt, grants_follow (locks_at_once st v a) (next_scope a (c.machine a).part) refl (law.after_event st c (law.Admit a v)) (admit_reached c v ∙ free))
 
 -- ---- what these events are
 
@@ -100,7 +100,7 @@ grants_pass a [] s = ((λ is. cc, λ base is. cc), tt)
 grants_pass a (x ∷ xs) s = ((λ is. cc, λ base is. cc), grants_pass a xs s)
 
 pass_at_once : (st : Setting) (a v : ℕ) (m : Machine) → ArePassing (events_at_once st a v m)
-pass_at_once st a v m = ((λ is. cc, λ base is. cc), grants_pass a (own_vertices st v a) (next_scope a m.part))
+pass_at_once st a v m = ((λ is. cc, λ base is. cc), grants_pass a (locks_at_once st v a) (next_scope a m.part))
 
 passing_both : (xs ys : List law.Event) → ArePassing xs → ArePassing ys → ArePassing (xs ++ ys)
 passing_both [] ys one other = other

@@ -165,7 +165,7 @@ module _ {P : Type 0} (x : ColorSnapView P) (orderly : IsOrderly x.core) (places
     due_colour : (pick : Pick) → IsDueInStep x pick → (v : Vertex) → slice_get x.core.by_place.items pick.vertex.0 ≡ Some v → is.engine.colour v.0 ≡ x.colour
     due_colour pick due v at = some_is (is.engine.colour v.0) x.colour (sym (is.engine.here pick.vertex.0 v at) ∙ due.colour)
 
-    may_admit : x.closed ≡ false → (pick : Pick) → IsDueInStep x pick → (v : Vertex) → slice_get x.core.by_place.items pick.vertex.0 ≡ Some v → MayAdmit st x.core.numbers.local.me.0 v.0 (part_of_steps x)
+    pub may_admit : x.closed ≡ false → (pick : Pick) → IsDueInStep x pick → (v : Vertex) → slice_get x.core.by_place.items pick.vertex.0 ≡ Some v → MayAdmit st x.core.numbers.local.me.0 v.0 (part_of_steps x)
     may_admit goes_on pick due v at =
         let here = places.vertices.place pick.vertex.0 v at in
         let low = own_low (with_locking st) x.core v.0 pick.vertex.0 orderly is.part here due.can.within in
@@ -331,7 +331,7 @@ taken_flags t u place snapshot is =
     pending_by_pick true = refl
     pending_by_pick false = refl
 
-taken_in_line : (which : Which) (t u : TasksView) (p : ℕ) (old new : LinesView) → p < length t.admitted → u.admitted ≡ set t.admitted p true → length u.task ≡ length t.task → ((k : ℕ) → is_such which u k ≡ is_such which t k) → AreJustInLine which t old
+pub taken_in_line : (which : Which) (t u : TasksView) (p : ℕ) (old new : LinesView) → p < length t.admitted → u.admitted ≡ set t.admitted p true → length u.task ≡ length t.task → ((k : ℕ) → is_such which u k ≡ is_such which t k) → AreJustInLine which t old
     → ((k : ℕ) → is_in_line new k ≡ (not (k == p) && is_in_line old k)) → AreJustInLine which u new
 taken_in_line which t u p old new inside flags many flag was is k low =
     is k ∙ elim (cases_eq k p) [

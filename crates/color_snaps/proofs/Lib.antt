@@ -11,3 +11,4 @@ pub mod SideLemmas
 pub mod PartLemmas
 pub mod AdmitLemmas
 pub mod FreshLemmas
+pub mod AtOnceLemmas

@@ -35,7 +35,7 @@ use Rattle.color_snaps.proofs.KeepLemmas.{none_pending, own_low, stand_apart}
 use Rattle.color_snaps.proofs.LineLemmas.{AreAmong, HasLeft, StandApart, back_in_line, fresh_stands, left_in_line, near_in_line, near_sound, old_stands, seed_in_line}
 
 -- who is at the other end of a side stands among the ends
-end_among : (sides : List Side) (u : ℕ) → list_any (λ (s : Side). s.other.0 == u) sides ≡ true → (i : ℕ) × (i < length sides) × ((d : Vertex) → (get_or (ends_of sides) i d).0 ≡ u)
+pub end_among : (sides : List Side) (u : ℕ) → list_any (λ (s : Side). s.other.0 == u) sides ≡ true → (i : ℕ) × (i < length sides) × ((d : Vertex) → (get_or (ends_of sides) i d).0 ≡ u)
 end_among [] u is = absurd (true≢false (sym is))
 end_among (s ∷ sides) u is = elim (or_cases (s.other.0 == u) (list_any (λ (t : Side). t.other.0 == u) sides) is) [
   | inl here ↦ (zero, omega arith, λ d. eqb-true s.other.0 u here)

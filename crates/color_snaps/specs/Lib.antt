@@ -2,5 +2,6 @@ pub mod Machines
 pub mod Admitting
 pub mod Steps
 pub mod Updating
+pub mod AtOnce
 pub mod Snapshots
 pub mod Inner

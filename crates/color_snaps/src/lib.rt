@@ -2,6 +2,7 @@
 #![tactic(auto)]
 
 mod admitting;
+mod at_once;
 mod machines;
 mod reading;
 mod snapshots;

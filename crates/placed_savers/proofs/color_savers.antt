@@ -7,3 +7,4 @@ pub mod HearLemmas
 pub mod NewsLemmas
 pub mod ReadLemmas
 pub mod AnswerLemmas
+pub mod AtOnceLemmas

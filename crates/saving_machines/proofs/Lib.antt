@@ -1,1 +1,2 @@
 mod StayLemmas
+mod FoundLemmas

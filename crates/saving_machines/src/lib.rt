@@ -1,6 +1,7 @@
 //! A machine with its program, which takes part in snapshots.
 #![tactic(auto)]
 
+mod founds;
 mod machines;
 mod reading;
 mod scopes;

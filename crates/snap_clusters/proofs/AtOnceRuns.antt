@@ -13,7 +13,7 @@ use Rattle.cluster_laws.specs.cluster_model.Clusters.{with_machine}
 use Rattle.cluster_laws.specs.cluster_model.Events as law
 use Rattle.whole_laws.specs.cluster_whole.Whole.{IsNoRecovery}
 use Rattle.interior_scopes.proofs.Walking.{set_at-twice}
-use Rattle.snap_members.specs.AtOnce.{AreDone, CanNotUpdateAtOnce, CanUpdateAtOnce, HasUpdatedAtOnce, MayUpdateWithin, deeds_at_once, own_vertices}
+use Rattle.snap_members.specs.AtOnce.{AreDone, CanNotUpdateAtOnce, CanUpdateAtOnce, HasUpdatedAtOnce, MayUpdateWithin, deeds_at_once, locks_at_once}
 use Rattle.snap_members.specs.Promises.{Admit, Deed, Grant, MayBeDone, StandsStill, Update, does}
 use Rattle.snap_clusters.specs.AtOnce.{AnswersAtOnce, CanNotTakePlaceAtOnce, CanTakePlaceAtOnce, TakesPlaceAtOnce, events_at_once}
 use Rattle.snap_clusters.specs.Clusters.{Cluster, IsSavingClusterOf, IsSnapSetting, Machine, Parts, Setting, StandsForSaving}
@@ -32,7 +32,7 @@ grants_no_recovery a (x ∷ xs) s = (λ base is. cc, grants_no_recovery a xs s)
 
 -- none of them is a recovery
 pub no_recoveries : (st : Setting) (a v : ℕ) (m : Machine) → AllByRecursion IsNoRecovery (events_at_once st a v m)
-no_recoveries st a v m = (λ base is. cc, grants_no_recovery a (own_vertices st v a) _)
+no_recoveries st a v m = (λ base is. cc, grants_no_recovery a (locks_at_once st v a) _)
 
 done_runs : (st : Setting) (a : ℕ) (deeds : List Deed) (m after : Machine) → AreDone st a deeds m after → after.failed ≡ m.failed
 done_runs st a [] m after done = ap (λ (n : Machine). n.failed) done
@@ -82,7 +82,7 @@ module _ (st : Setting) (c : Cluster) (a : ℕ) (runs : c.stopped ≡ false) (lo
       → law.IsCourse st c (events_at_once st a v (c.machine a)) (law.draws_ticket (with_machine c a after))
   at_once_course awake v after done = (
     (runs, (awake, done.0)),
-    grants_run (own_vertices st v a) _ (does st a (Admit v) (c.machine a)) after (still_runs st a (Admit v) (c.machine a) ∙ awake.runs) done.1,
+    grants_run (locks_at_once st v a) _ (does st a (Admit v) (c.machine a)) after (still_runs st a (Admit v) (c.machine a) ∙ awake.runs) done.1,
   )
 
 -- ---- what the machine answers, the cluster does
@@ -181,14 +181,13 @@ module _ {M : Type 0} (stands : Setting → ℕ → Machine → M → Type 0) (o
         inr (inl (never stands old runs (event.Local (local.Admit at)) (λ st c setting of e is_e may.
         let there : law.MayDo st c (law.Admit at.0 is_e.0) = subst (law.MayDo st c) is_e.1 may in
         none st at.0 (c.machine at.0) setting (here st c setting of) is_e.0 there.1)))
-    at_once_cannot (inr (inl one)) =
-        inr (inr (inl (
+    at_once_cannot (inr one) =
+        inr (inr (
           one.0,
           λ st c setting of.
               let both = one.1 st at.0 (c.machine at.0) setting (here st c setting of) in
               ((going stands old runs st c of, (awake_now st c setting of, both.0)), both.1),
-        )))
-    at_once_cannot (inr (inr without)) = inr (inr (inr (λ st c setting of. without st at.0 (c.machine at.0) setting (here st c setting of))))
+        ))
 
     pub at_once_refused : (e : Refused) (y : M) → (e ≡ NotNow → CanNotUpdateAtOnce stands x) → (e ≡ NoMemory → CanUpdateAtOnce stands x) → StandsStill stands x y
         → AnswersAtOnce stands old at (Err e) (record old { machines = with_item old.machines at.0 y })

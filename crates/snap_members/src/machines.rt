@@ -43,9 +43,9 @@ pub trait SavingMachine: Drop {
         ensures unchanged { OnErr result (StandsStill stands self.old self.new) };
 
     /// Makes the update of a vertex that is a task and not pending where the window has room, all of whose scope is this machine's, and of
-    /// whose scope nobody holds or waits for a lock: a scope of it is admitted, takes each lock in turn and makes its update. It is
-    /// logged under the ticket, and the coordinator is asked for a snapshot where it has to be. Of the vertices that may be admitted the
-    /// machine looks at one of its choice. A machine whose scopes take no locks makes none.
+    /// whose scope nobody holds or waits for a lock: a scope of it is admitted, takes each lock in turn, or none where scopes take none, and
+    /// makes its update. It is logged under the ticket, and the coordinator is asked for a snapshot where it has to be. Of the vertices that
+    /// may be admitted the machine looks at one of its choice.
     fn update_at_once(&mut self, ticket: u64) -> Result<Vertex, Refused>
         ensures updated { IfOk result (λ v. HasUpdatedAtOnce stands self.old v.0 ticket self.new) }
         ensures not_now { IsErrOf result Refused.NotNow → CanNotUpdateAtOnce stands self.old }

@@ -25,7 +25,7 @@ use Rattle.machine_core.specs.machine_parts.Parts.{flight_at}
 use Rattle.machine_core.specs.machine_parts.Settings.{SameSettings}
 use Rattle.machine_core.proofs.machine_scopes.LawLemmas.{some_number}
 use Rattle.saving_machines.specs.Machines.{SnapMachineView, outside_of}
-use Rattle.saving_machines.specs.Updates.{HasLoggedAtOnce}
+use Rattle.saving_machines.specs.Updates.{HasLoggedAtOnce, HasUpdatedFound}
 use Rattle.seen_parts.specs.Alike.{IsSetting}
 use Rattle.seen_parts.proofs.MadeLemmas.{update_alike}
 use Rattle.seen_parts.proofs.SeenLemmas.{own_seen, seen_of}
@@ -64,17 +64,17 @@ at_once_alike st a v entry one other is low own alike =
 -- ---- guards don't look at numbers, nor at what is kept for snapshots
 
 -- what an update at once asks of scopes, locks and tasks is the same
-record HasSameLocks (one other : Part) : Type 0 where
-  serial : one.serial ≡ other.serial
-  task : one.task ≡ other.task
-  pending : one.pending ≡ other.pending
-  flight : one.flight ≡ other.flight
-  stand : one.stand ≡ other.stand
-  ready : one.ready ≡ other.ready
-  holder : one.holder ≡ other.holder
-  queue : one.queue ≡ other.queue
+pub record HasSameLocks (one other : Part) : Type 0 where
+  pub serial : one.serial ≡ other.serial
+  pub task : one.task ≡ other.task
+  pub pending : one.pending ≡ other.pending
+  pub flight : one.flight ≡ other.flight
+  pub stand : one.stand ≡ other.stand
+  pub ready : one.ready ≡ other.ready
+  pub holder : one.holder ≡ other.holder
+  pub queue : one.queue ≡ other.queue
 
-turned : (one other : Part) → HasSameLocks one other → HasSameLocks other one
+pub turned : (one other : Part) → HasSameLocks one other → HasSameLocks other one
 turned one other same =
     record {
       serial = sym same.serial;
@@ -87,7 +87,7 @@ turned one other same =
       queue = sym same.queue;
     }
 
-may_with : (st : Setting) (a b v : ℕ) (one other : Part) → a ≡ b → HasSameLocks one other → MayAdmit st b v other → MayUpdateAtOnce st a v one 1 → MayUpdateAtOnce st b v other 1
+pub may_with : (st : Setting) (a b v : ℕ) (one other : Part) → a ≡ b → HasSameLocks one other → MayAdmit st b v other → MayUpdateAtOnce st a v one 1 → MayUpdateAtOnce st b v other 1
 may_with st a b v one other number same admit may =
     let s : ScopeId = next_scope a one in
     let unseen : IsUnseen other s = record {
@@ -138,7 +138,6 @@ module _ {P : Type 0} (meaning : P → Update) (x : SaverView P) (orderly : IsOr
   can_at_once can = (
     can.vertex.0,
     λ st a m snap is. record {
-      locks = is.here.engine;
       may = at_once_here meaning st a m x is can.vertex.0 (can.may st snap.is is.here);
       room = room_is meaning st a m x is snap counted ∙ can.opened;
     },
@@ -146,7 +145,7 @@ module _ {P : Type 0} (meaning : P → Update) (x : SaverView P) (orderly : IsOr
 
   pub can_not_at_once : HasNoneAtOnce x.machine.core → CanNotUpdateAtOnce (IsSaverOf meaning) x
   can_not_at_once (inl none) = inl (can_not_admit meaning x orderly places counted none)
-  can_not_at_once (inr one) = inr (inl (
+  can_not_at_once (inr one) = inr (
     one.0.0,
     λ st a m snap is. (
       record {
@@ -158,7 +157,7 @@ module _ {P : Type 0} (meaning : P → Update) (x : SaverView P) (orderly : IsOr
       },
       λ may. one.2 st snap.is is.here (at_once_there meaning st a m x is one.0.0 may.may),
     ),
-  ))
+  )
 
 -- ---- where one is
 
@@ -166,8 +165,8 @@ flag_kept : (old now : TasksView) → HasRunAtOnce old now → (o : Option ℕ) 
 flag_kept old now run None set = refl
 flag_kept old now run (Some k) set = run.planned k set
 
-module _ {P : Type 0} (meaning : P → Update) (x : SaverView P) (now : SnapMachineView P) (reports : ReportsView) (orderly : IsOrderly x.machine.core) (counted : x.machine.core.numbers.tasks.outside ≡ outside_of x.machine.kept)
-    (v : Vertex) (ticket : ℕ) (has : HasUpdatedPick (meaning x.machine.program) x.machine.core now.core v ticket) (run : HasRunAtOnce x.machine.core.numbers.tasks now.core.numbers.tasks)
+module _ {P : Type 0} (meaning : P → Update) (x : SaverView P) (now : SnapMachineView P) (reports : ReportsView) (orderly : IsOrderly x.machine.core) (v : Vertex) (ticket : ℕ)
+    (made : HasUpdatedFound (meaning x.machine.program) x.machine.core now.core v ticket) (run : HasRunAtOnce x.machine.core.numbers.tasks now.core.numbers.tasks)
     (logged : HasLoggedAtOnce x.machine.core x.machine.kept now.kept v ticket)
     (local : let old = x.machine.core.numbers.local in let new = now.core.numbers.local in new ≡ record old { kept = new.kept; rows = new.rows; numbers = new.numbers })
     (program : now.program ≡ x.machine.program) (settings : SameSettings x.machine.core now.core) (told : reports.messages ≡ x.reports.messages) where
@@ -186,29 +185,23 @@ module _ {P : Type 0} (meaning : P → Update) (x : SaverView P) (now : SnapMach
   rest : HasOtherEntries w now.kept
   rest = entry_kept (Go old.numbers.local.me v ticket) mark w now.kept logged
 
-  module _ (st : Setting) (a : ℕ) (m : Machine) (snap : IsSnapSetting st) (is : IsSaverOf meaning st a m x) where
+  module _ (st : Setting) (a : ℕ) (m : Machine) (snap : IsSnapSetting st) (is : IsSaverOf meaning st a m x) (low : v.0 < size st.graph) (owned : st.owner v.0 ≡ a) (unflown : m.part.flight (next_scope a m.part) ≡ None) where
     abbrev entry : Entry
     entry = entry_at_once a v.0 ticket
 
     abbrev new : Machine
     new = worked_at_once st a v.0 ticket m
 
-    may : MayUpdateAtOnce st a v.0 m.part 1
-    may = at_once_here meaning st a m x is v.0 (has.may st snap.is is.here)
-
-    within : MayUpdateWithin st a v.0 m
-    within = record { locks = is.here.engine; may = may; room = room_is meaning st a m x is snap counted ∙ has.opened }
-
     held_is : part_held worked ≡ at_once st a v.0 entry (part_held x)
     held_is =
         other_snaps w now.kept (part_of now.core) rest
-        ∙ ap (with_snaps w) (has.after st snap.is is.here is.program ∙ ap (λ (k : ℕ). at_once st k v.0 (entry_at_once k v.0 ticket) (part_of old)) is.number)
+        ∙ ap (with_snaps w) (made st snap.is is.here is.program ∙ ap (λ (k : ℕ). at_once st k v.0 (entry_at_once k v.0 ticket) (part_of old)) is.number)
 
     alike : LooksAlike st a new.part (part_held worked)
-    alike = alike_to st a new.part (at_once st a v.0 entry (part_held x)) (part_held worked) (at_once_alike st a v.0 entry m.part (part_held x) snap.is may.admit.vertex may.admit.owned is.part) held_is
+    alike = alike_to st a new.part (at_once st a v.0 entry (part_held x)) (part_held worked) (at_once_alike st a v.0 entry m.part (part_held x) snap.is low owned is.part) held_is
 
     datum_is : m.part.datum v.0 ≡ datum_here old.numbers v.0
-    datum_is = own_seen st a snap.is m.part.datum m.part.edge (part_held x) (seen_of st a m.part (part_held x) is.part) v.0 may.admit.vertex may.admit.owned
+    datum_is = own_seen st a snap.is m.part.datum m.part.edge (part_held x) (seen_of st a m.part (part_held x) is.part) v.0 low owned
 
     test_same : nat_lt (m.part.datum v.0).mark m.part.known ≡ nat_lt mark w.known
     test_same = λ i. nat_lt (datum_is i).mark (is.kept.known i)
@@ -222,7 +215,7 @@ module _ {P : Type 0} (meaning : P → Update) (x : SaverView P) (now : SnapMach
     -- a scope in flight is another one
     apart : (t : ScopeId) (u : ℕ) → m.part.flight t ≡ Some u → is_scope t (next_scope a m.part) ≡ false
     apart t u flies = ⊎_elim
-        (λ (same : t ≡ next_scope a m.part). absurd (none_some u (sym may.is_new.flight ∙ ap m.part.flight (sym same) ∙ flies)))
+        (λ (same : t ≡ next_scope a m.part). absurd (none_some u (sym unflown ∙ ap m.part.flight (sym same) ∙ flies)))
         (λ (other : is_scope t (next_scope a m.part) ≡ false). other)
         (scope_cases t (next_scope a m.part))
       where
@@ -256,8 +249,8 @@ module _ {P : Type 0} (meaning : P → Update) (x : SaverView P) (now : SnapMach
             by true = refl
             by false = refl
 
-    worked_standing : IsSaverOf meaning st a new worked
-    worked_standing =
+    pub at_once_standing : IsSaverOf meaning st a new worked
+    at_once_standing =
         record {
           here = settings st is.here;
           number = ap (λ (l : LocalView). l.me.0) local ∙ is.number;
@@ -276,12 +269,20 @@ module _ {P : Type 0} (meaning : P → Update) (x : SaverView P) (now : SnapMach
           reports = subst (λ ms. AreToldReports ms m.out) (sym told) is.reports;
         }
 
+module _ {P : Type 0} (meaning : P → Update) (x : SaverView P) (now : SnapMachineView P) (reports : ReportsView) (orderly : IsOrderly x.machine.core) (counted : x.machine.core.numbers.tasks.outside ≡ outside_of x.machine.kept)
+    (v : Vertex) (ticket : ℕ) (has : HasUpdatedPick (meaning x.machine.program) x.machine.core now.core v ticket) (run : HasRunAtOnce x.machine.core.numbers.tasks now.core.numbers.tasks)
+    (logged : HasLoggedAtOnce x.machine.core x.machine.kept now.kept v ticket)
+    (local : let old = x.machine.core.numbers.local in let new = now.core.numbers.local in new ≡ record old { kept = new.kept; rows = new.rows; numbers = new.numbers })
+    (program : now.program ≡ x.machine.program) (settings : SameSettings x.machine.core now.core) (told : reports.messages ≡ x.reports.messages) where
   -- it is what the machine of the law makes of it in turn, and it asks for a snapshot where it has to
-  pub updated_at_once : (behind : SaverView P) → HasWanted worked behind → HasUpdatedAtOnce (IsSaverOf meaning) x v.0 ticket behind
+  pub updated_at_once : (behind : SaverView P) → HasWanted (record x { machine = now; reports = reports }) behind → HasUpdatedAtOnce (IsSaverOf meaning) x v.0 ticket behind
   updated_at_once behind asked st a m snap is =
+      let may : MayUpdateAtOnce st a v.0 m.part 1 = at_once_here meaning st a m x is v.0 (has.may st snap.is is.here) in
+      let within : MayUpdateWithin st a v.0 m = record { may = may; room = room_is meaning st a m x is snap counted ∙ has.opened } in
+      let worked = at_once_standing meaning x now reports orderly v ticket has.after run logged local program settings told st a m snap is may.admit.vertex may.admit.owned may.is_new.flight in
       record {
-        may = within st a m snap is;
+        may = within;
         after = asks st (worked_at_once st a v.0 ticket m);
-        done = done_at_once st a v.0 ticket m snap.is is.here.engine (may st a m snap is) is.none_held (closed_is meaning st a m x is) (within st a m snap is);
-        here = asked_standing meaning st a (worked_at_once st a v.0 ticket m) worked (worked_standing st a m snap is) snap behind asked;
+        done = done_at_once st a v.0 ticket m snap.is is.here.engine may is.none_held (closed_is meaning st a m x is) within;
+        here = asked_standing meaning st a (worked_at_once st a v.0 ticket m) (record x { machine = now; reports = reports }) worked snap behind asked;
       }

@@ -13,19 +13,19 @@ use Rattle.cluster_laws.specs.cluster_core.Messages.{Message}
 use Rattle.cluster_laws.specs.cluster_core.Parts.{Part}
 use Rattle.cluster_laws.specs.cluster_core.Ranges.{all_passing, first_passing}
 use Rattle.cluster_laws.specs.cluster_core.Scopes.{set_for}
-use Rattle.cluster_laws.specs.cluster_core.Settings.{IsSetting, Locking, Setting, is_in_scope}
+use Rattle.cluster_laws.specs.cluster_core.Settings.{Engine, IsSetting, Locking, Setting, is_in_scope}
 use Rattle.cluster_laws.proofs.cluster_core.Basics.{set_at-same, set_for-same}
 use Rattle.cluster_laws.specs.cluster_model.Machines.{Machine, gained}
 use Rattle.cluster_laws.specs.cluster_model.Working.{asks, prompt, works_on}
 use Rattle.whole_laws.proofs.cluster_whole.Flows.{total_from-none}
-use Rattle.interior_scopes.specs.AtOnce.{MayUpdateAtOnce, at_once, entry_at_once}
+use Rattle.interior_scopes.specs.AtOnce.{MayUpdateAtOnce, at_once, entry_at_once, locks_by}
 use Rattle.interior_scopes.proofs.Walking.{admitted_walks, claim_for, granted_walks, held_below, held_past, is_its, its, not_yet, updated_walks, walks}
 use Rattle.snap_members.specs.AtOnce.{AreDone, MayUpdateWithin, deeds_at_once}
 use Rattle.snap_members.specs.Deeds.{Admit, Grant, Update, does, updates_centre}
 use Rattle.snap_savers.proofs.StandLemmas.{prompt_still}
 
 -- where nothing is put out, as many messages were
-none_gained : (st : Setting) (old new : Part) (sent : ℕ) → new.out ≡ old.out → sent + gained st old new ≡ sent
+pub none_gained : (st : Setting) (old new : Part) (sent : ℕ) → new.out ≡ old.out → sent + gained st old new ≡ sent
 none_gained st old new sent same =
     let none : gained st old new ≡ 0 =
     total_from-none 0 st.machines (λ q. length (new.out q) - length (old.out q)) (λ q. ap (λ (out : ℕ → List Message). length (out q) - length (old.out q)) same ∙ nothing_left (length (old.out q))) in
@@ -168,9 +168,10 @@ module _ (st : Setting) (a v ticket : ℕ) (m : Machine) where
             later
 
     pub done_at_once : MayUpdateWithin st a v m → AreDone st a (deeds_at_once st a v ticket m) m (asks st worked_at_once)
-    done_at_once within = (
-      record { may = may.admit; room = inr within.room },
-      subst (λ (n : Machine). AreDone st a (map Grant (all_passing own 0 (size st.graph)) ++ Update scope ticket ∷ []) n (asks st worked_at_once))
-          (sym admits_is)
-          (goes (size st.graph) 0 (omega arith)),
-    )
+    done_at_once within =
+        subst (λ (e : Engine). AreDone st a (Admit v ∷ map Grant (locks_by e st v a) ++ Update scope ticket ∷ []) m (asks st worked_at_once)) (sym locking) (
+          record { may = may.admit; room = inr within.room },
+          subst (λ (n : Machine). AreDone st a (map Grant (all_passing own 0 (size st.graph)) ++ Update scope ticket ∷ []) n (asks st worked_at_once))
+              (sym admits_is)
+              (goes (size st.graph) 0 (omega arith)),
+        )

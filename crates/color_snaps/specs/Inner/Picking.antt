@@ -1,10 +1,13 @@
--- The vertex that is admitted next in a step.
+-- The vertex that is admitted next in a step, and the one that is updated at once.
 pub use Rattle.machine_core.specs.machine_scopes.Admitting.{CanTake}
+pub use Rattle.saving_machines.specs.Updates.{WaitsAt}
 use Rattle.std.specs.Prelude.{◌≡◌, ℕ, ◌<◌, true, false, Some, length, slice_get}
 use Rattle.machine_core.specs.color_parts.Enlisting.{is_free_such}
 use Rattle.machine_core.specs.declared.color_parts.enlisting.Which.TheVariants.{Pending, Tasks}
 use Rattle.task_sched.specs.Tasks.{is_open}
+use Rattle.machine_core.specs.declared.machine_at_once.finding.Found.{Found}
 use Rattle.task_sched.specs.declared.task_sets.Pick.{Pick}
+use Rattle.color_snaps.specs.AtOnce.{MayUpdateByColour}
 use Rattle.color_snaps.specs.Machines.{ColorSnapView}
 
 -- of the vertices of the step's colour none that is pending waits
@@ -21,3 +24,8 @@ pub record IsDueInStep {P : Type 0} (x : ColorSnapView P) (pick : Pick) : Type 0
 pub record IsNoneDueInStep {P : Type 0} (x : ColorSnapView P) : Type 0 where
   pub pending : WaitsNonePending x
   pub tasks : is_open x.core.numbers.tasks ≡ true → (place : ℕ) → place < length x.core.numbers.tasks.task → slice_get x.colours place ≡ Some x.colour → is_free_such Tasks x.core.numbers.tasks place ≡ false
+
+-- the vertex that was found waits for its update at its place, and may be updated at once
+pub record IsFoundInStep {P : Type 0} (x : ColorSnapView P) (f : Found) : Type 0 where
+  pub waits : WaitsAt x.core.numbers f.place f.vertex
+  pub may : MayUpdateByColour x f.vertex

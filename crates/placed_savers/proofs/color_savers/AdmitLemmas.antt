@@ -51,7 +51,7 @@ some_flying : (n : ℕ) → suc n ≡ 0 → ⊥
 some_flying n is = omega (arith, is)
 
 -- a machine that has just admitted a scope isn't done with its step
-busy : (e : Engine) (colour : ℕ → ℕ) (colours : ℕ) → e ≡ Chromatic colour colours → (st : Setting) (a v : ℕ) (part : Part) (n : Machine) → n.part ≡ admitted_by e st a v part → IsItsTurn e st.pipeline v part → is_done e st a n ≡ false
+pub busy : (e : Engine) (colour : ℕ → ℕ) (colours : ℕ) → e ≡ Chromatic colour colours → (st : Setting) (a v : ℕ) (part : Part) (n : Machine) → n.part ≡ admitted_by e st a v part → IsItsTurn e st.pipeline v part → is_done e st a n ≡ false
 busy e colour colours chromatic st a v part n same turn =
     let made : n.part ≡ admitted_by (Chromatic colour colours) st a v part = same ∙ ap (λ (k : Engine). admitted_by k st a v part) chromatic in
     let its : (colour v ≡ part.colour) × (part.closed ≡ false) = subst (λ (k : Engine). IsItsTurn k st.pipeline v part) chromatic turn in
@@ -78,17 +78,17 @@ module _ {P : Type 0} (meaning : P → Update) (x : ColorSaverView P) (orderly :
   old = x.machine.core
 
   module _ (st : Setting) (a : ℕ) (m : Machine) (is : IsColorSaverOf meaning st a m x) where
-    admit_here : (v : ℕ) → MayAdmit st old.numbers.local.me.0 v (part_of_steps x.machine) → MayAdmit st a v m.part
+    pub admit_here : (v : ℕ) → MayAdmit st old.numbers.local.me.0 v (part_of_steps x.machine) → MayAdmit st a v m.part
     admit_here v may =
         admit_may st a (part_of_steps x.machine) m.part (alike_turned st a m.part (part_of_steps x.machine) is.part) v (subst (λ (k : ℕ). MayAdmit st k v (part_of_steps x.machine)) is.number may)
 
-    admit_there : (v : ℕ) → MayAdmit st a v m.part → MayAdmit st old.numbers.local.me.0 v (part_of_steps x.machine)
+    pub admit_there : (v : ℕ) → MayAdmit st a v m.part → MayAdmit st old.numbers.local.me.0 v (part_of_steps x.machine)
     admit_there v may = subst (λ (k : ℕ). MayAdmit st k v (part_of_steps x.machine)) (sym is.number) (admit_may st a m.part (part_of_steps x.machine) is.part v may)
 
     pending_is : (v : ℕ) → m.part.pending v ≡ pending_here old.numbers v
     pending_is v = ap (λ (p : Part). p.pending v) is.part.rest
 
-    may_now : IsSnapSetting st → (can : CanAdmitByColour x.machine) → MayAdmitNow st a can.vertex.0 m
+    pub may_now : IsSnapSetting st → (can : CanAdmitByColour x.machine) → MayAdmitNow st a can.vertex.0 m
     may_now snap can =
         record {
           may = admit_here can.vertex.0 (can.may st is.here.part);

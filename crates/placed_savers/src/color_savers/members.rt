@@ -29,9 +29,8 @@ impl<P: Program> SavingMachine for ColorSaver<P> {
         self.update_one(scope, ticket)
     }
 
-    /// A scope that takes no locks is admitted first.
-    fn update_at_once(&mut self, _ticket: u64) -> Result<Vertex, Refused> {
-        Err(Refused::NotNow)
+    fn update_at_once(&mut self, ticket: u64) -> Result<Vertex, Refused> {
+        self.update_pick(ticket)
     }
 
     fn mark(&mut self, scope: ScopeId) -> Result<(), Refused> {
