@@ -2,6 +2,7 @@
 #![tactic(auto)]
 
 mod comparing;
+mod cuts;
 mod forms;
 mod gathering;
 mod index_form;
@@ -9,6 +10,7 @@ mod laws;
 mod owners;
 
 pub use comparing::check_same;
+pub use cuts::Cut;
 pub use forms::fault_in;
 pub use gathering::{AtomsReading, check_atom, gathered};
 pub use index_form::check_index;

@@ -4,6 +4,7 @@ use Rattle.std.proofs.lemmas.Bool.{cond-true, le-leb}
 use Rattle.std.specs.List.{AllByRecursion, list_any}
 use Rattle.std.specs.List.Sorted.{IsPermutation}
 use Rattle.std.specs.Prelude.{MatchOption, sum_by}
+use Rattle.atom_gather.specs.declared.cuts.Cut.{Cut}
 use Rattle.gl_base.specs.Lists.{AreEach}
 use Rattle.gl_base.specs.declared.entries.Entry.{Entry}
 use Rattle.gl_base.specs.declared.entries.Entry.TheVariants.{Go, Restart}
@@ -85,7 +86,7 @@ module _ (shared : Shared) (machines : ℕ) (lists : RunLists) (is : IsRunWithFa
 
 -- ---- the run of a job
 
-module _ (job : JobSayings) (g : DataGraph) (run : StoredRun) (through : RunsThroughFailures job g run) (none : job.failures ≡ []) where
+module _ (job : JobSayings) (g : DataGraph) (cut : Cut) (run : StoredRun) (through : RunsThroughFailures job g cut run) (none : job.failures ≡ []) where
   abbrev owner : ℕ → ℕ
   owner = through.placed.0
 
@@ -95,7 +96,7 @@ module _ (job : JobSayings) (g : DataGraph) (run : StoredRun) (through : RunsThr
   order_is : run.order.items ≡ again.is.updates
   order_is = made_all (shared_by job g owner) job.fields.machines (lists_of run) again.is none
 
-  pub runs_alone : RunsAlone job.fields g run
+  pub runs_alone : RunsAlone job.fields g cut run
   runs_alone =
       let long : length run.order.items ≡ length again.is.updates = ap length order_is in
       record {
@@ -135,9 +136,9 @@ module _ (job : JobSayings) (g : DataGraph) (run : StoredRun) (through : RunsThr
       ended end.DiskFault alone finished spent = absurd alone
 
 -- so it is one without a store, whatever failures the job orders
-pub without_store : (job : JobSayings) (g : DataGraph) (run : StoredRun) → RunsThroughFailures job g run → RunsWithoutStore job g run job.failures
-without_store job g run through = go job.failures refl
+pub without_store : (job : JobSayings) (g : DataGraph) (cut : Cut) (run : StoredRun) → RunsThroughFailures job g cut run → RunsWithoutStore job g cut run job.failures
+without_store job g cut run through = go job.failures refl
   where
-    go : (failures : List FailureAt) → job.failures ≡ failures → RunsWithoutStore job g run failures
-    go [] none = runs_alone job g run through none
+    go : (failures : List FailureAt) → job.failures ≡ failures → RunsWithoutStore job g cut run failures
+    go [] none = runs_alone job g cut run through none
     go (failure ∷ failures) some = through

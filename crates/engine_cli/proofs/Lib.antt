@@ -20,3 +20,4 @@ pub mod Bounds
 pub mod EntriesInside
 pub mod OneGraph
 pub mod OneStore
+pub mod AlikeStores

@@ -20,14 +20,14 @@ use Rattle.gl_outside.specs.FilesState.{FilesState}
 use Rattle.seq_run.specs.StepBound.{step_bound}
 use Rattle.whole_files.specs.AtomNames.{index_name}
 use Rattle.job_files.specs.declared.jobs.JobVerb.{JobVerb}
-use Rattle.job_files.specs.Atoms.{FindsInAtoms, HasAtoms, OfGraph, RefusesAtoms, atom_files, atoms_fault, given_bytes}
+use Rattle.job_files.specs.Atoms.{FindsInAtoms, HasAtoms, OfJobCut, OfGraph, RefusesAtoms, atom_files, atoms_fault, given_bytes}
 use Rattle.engine_cli.specs.Says.{IsReadable}
 use Rattle.engine_cli.specs.declared.status.Status.TheVariants.{Done, Usage, BadJob, BadGraph, BadAtoms, ReadFault, WriteFault, DiskFault, BadStore, BudgetSpent, SnapshotsFull, NoMemory}
 use Rattle.engine_cli.specs.Status.{IsDoneOrNoMemory}
 use Rattle.job_files.specs.JobTexts.{LacksSource, RefusesEdges, is_weighted, OfJob, OfSaid, OfTexts, RefusesSource, RefusesTexts, DescribeJobGraph, RefusesJob}
 use Rattle.engine_cli.specs.Answer.{IsValid}
-use Rattle.engine_cli.specs.JobRuns.{CallLists, HasEnough, IsEndAlone, MakesRun, RunsSo, RunsWithoutStore, is_resumed, left_at}
-use Rattle.engine_cli.specs.JobStores.{IsOtherStore, RefusesStore}
+use Rattle.engine_cli.specs.JobRuns.{CallLists, HasEnough, HasNamedMachines, IsEndAlone, MakesRun, RunsSo, RunsWithoutStore, is_resumed, left_at}
+use Rattle.engine_cli.specs.JobStores.{IsNotRunFrom, RefusesStore}
 use Rattle.engine_cli.specs.Plays.{IsSpent, update_of}
 use Rattle.gl_outside.specs.Disk.{DiskPast}
 use Rattle.job_stores.specs.JobHeaders.{header_for}
@@ -152,9 +152,11 @@ no_bad_atoms asked files file fault input atoms says =
 
 -- the run of a job that names no store is one without a store
 without : (told : Bool) (asked : JobVerb) (old : FilesState) (new : List ℕ → DiskPast) (job : JobSayings) (lists : CallLists) (ending : StoredEnd) (vertices edges : List ℕ)
-    → (made : MakesRun told asked old new job lists ending vertices edges) → job.fields.store ≡ None → RunsWithoutStore job made.graph made.run job.failures
+    → (made : MakesRun told asked old new job lists ending vertices edges) → job.fields.store ≡ None → RunsWithoutStore job made.graph made.cut made.run job.failures
 without told asked old new job lists ending vertices edges made none =
-    subst (λ (s : Option (List ℕ)). RunsSo told asked old new job made.graph made.run s) none made.runs
+    let found : RunsWithoutStore job made.graph made.cut made.run job.failures × HasNamedMachines job made.graph made.cut made.run =
+    subst (λ (s : Option (List ℕ)). RunsSo told asked old new job made.graph made.cut made.run s) none made.runs in
+    found.0
 
 -- so it ends as such a run does
 ends_alone : (told : Bool) (asked : JobVerb) (old : FilesState) (new : List ℕ → DiskPast) (job : JobSayings) (lists : CallLists) (ending : StoredEnd) (vertices edges : List ℕ)
@@ -162,7 +164,7 @@ ends_alone : (told : Bool) (asked : JobVerb) (old : FilesState) (new : List ℕ 
 ends_alone told asked old new job lists ending vertices edges made none =
     subst IsEndAlone made.ended (go job.failures (without told asked old new job lists ending vertices edges made none))
   where
-    go : (failures : List FailureAt) → RunsWithoutStore job made.graph made.run failures → IsEndAlone made.run.end
+    go : (failures : List FailureAt) → RunsWithoutStore job made.graph made.cut made.run failures → IsEndAlone made.run.end
     go [] runs = runs.ended
     go (failure ∷ failures) runs = runs.ended
 
@@ -184,7 +186,7 @@ unspent told asked old new job lists left vertices edges none enough made =
     next : Entry
     next = Go (record { 0 = 0 }) left 0
 
-    go : (failures : List FailureAt) → job.failures ≡ failures → RunsWithoutStore job g made.run failures → ⊥
+    go : (failures : List FailureAt) → job.failures ≡ failures → RunsWithoutStore job g made.cut made.run failures → ⊥
     go [] none was =
         let ends : StoredEnd → Type 0 = λ e. MatchOption (left_at e) (IsFinished g p order) (IsSpent g p job.fields.budget order) in
         let spent : IsSpent g p job.fields.budget order left = subst ends made.ended was.runs.ended in
@@ -259,7 +261,7 @@ not_refused told asked file before now (BadStore fault) says sound =
     (λ job. (name : List ℕ) × (job.fields.store ≡ Some name) × OfTexts old job.fields (OfGraph job.fields (λ g. IfDisksTold told old (RefusesStore (is_resumed asked) (header_for job.fields g) (old.pasts name).now.seen fault))))
     sound.input in
     let other = of_said asked old file
-    (λ job. (name : List ℕ) × (job.fields.store ≡ Some name) × OfTexts old job.fields (OfGraph job.fields (λ g. IfDisksTold told old (IsOtherStore job g (old.pasts name)))))
+    (λ job. (name : List ℕ) × (job.fields.store ≡ Some name) × OfTexts old job.fields (OfGraph job.fields (λ g. OfJobCut old job.fields g (λ cut. IfDisksTold told old (IsNotRunFrom (is_resumed asked) job g cut (old.pasts name) (now.files.pasts name) fault)))))
     sound.input in
     ⊎_elim
     (λ refused. let at = named refused.0 in no_store at.0 sound.input.job.fields.store sound.alone at.1)

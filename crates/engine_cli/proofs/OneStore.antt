@@ -1,11 +1,12 @@
 -- A valid job on a store that is sound, over valid texts, has no fault.
 use Rattle.std.proofs.Common.{◌≡◌, ℕ, ◌+◌, ◌≤◌, ◌^◌, Bool, false, IsTrue, is_some, List, length, Option, None, Some, IfSome, Ok, Err, refl, sym, ap, ◌∙◌, subst, arith, ⊎_elim}
+use Rattle.atom_gather.specs.declared.cuts.Cut.{Cut}
 use Rattle.gl_base.specs.declared.numbers.Vertex.{Vertex}
 use Rattle.gl_outside.specs.Disk.{DiskPast}
 use Rattle.gl_outside.specs.FilesState.{FilesState}
 use Rattle.graph_core.specs.DataGraph.{DataGraph}
 use Rattle.job_config.specs.Jobs.{JobSayings}
-use Rattle.job_files.specs.Atoms.{HasAtoms, OfGraph}
+use Rattle.job_files.specs.Atoms.{HasAtoms, IsCutOf, OfJobCut, OfGraph}
 use Rattle.job_files.specs.JobTexts.{DescribeJobGraph, OfTexts}
 use Rattle.job_files.specs.declared.jobs.JobVerb.{JobVerb}
 use Rattle.job_stores.specs.JobHeaders.{header_for}
@@ -16,8 +17,8 @@ use Rattle.stored_answers.specs.declared.runs.StoredEnd.TheVariants as end
 use Rattle.engine_cli.specs.declared.status.Status.{Status}
 use Rattle.engine_cli.specs.declared.status.Status.TheVariants.{Done, Usage, BadJob, BadGraph, BadAtoms, ReadFault, WriteFault, DiskFault, BadStore, BudgetSpent, SnapshotsFull, NoMemory}
 use Rattle.engine_cli.specs.JobRuns.{CallLists, GoesOnFrom, MakesRun, RunsOnStore, RunsSo, is_resumed, records_size, shared_by, snapshots_on}
-use Rattle.engine_cli.specs.JobStores.{IsOtherStore, OfStoredJob, RefusesStore}
-use Rattle.engine_cli.specs.Says.{EndsRun, HasSoundStore, IsReadable, IsSoundOnStore, Moment, Refuses, Says, SaysOfRun}
+use Rattle.engine_cli.specs.JobStores.{IsNotRunFrom, IsOtherStore, OfStoredJob, RefusesStore}
+use Rattle.engine_cli.specs.Says.{EndsRun, HasSoundStore, HasStoreOfJob, IsReadable, IsSoundOnStore, Moment, Refuses, Says, SaysOfRun}
 use Rattle.engine_cli.specs.Status.{IsDoneOrNoMemory}
 use Rattle.engine_cli.proofs.OneGraph.{no_bad_atoms, no_bad_graph, no_bad_job, of_said, of_texts}
 use Rattle.engine_cli.proofs.StoreRuns.{one_store}
@@ -38,9 +39,9 @@ first-part : (a b c most : ℕ) → a + b + c ≤ most → a ≤ most
 first-part a b c most small = omega (arith, small)
 
 -- a sound store is not refused
-no_bad_store : (resumed : Bool) (job : JobSayings) (g : DataGraph) (past : DiskPast) (fault : StoreFault) → HasSoundStore resumed job g past
+no_bad_store : (resumed : Bool) (files : FilesState) (job : JobSayings) (g : DataGraph) (past : DiskPast) (fault : StoreFault) → HasSoundStore resumed files job g past
     → RefusesStore resumed (header_for job.fields g) past.now.seen fault → ⊥
-no_bad_store resumed job g past fault sound refused =
+no_bad_store resumed files job g past fault sound refused =
     ⊎_elim
     (λ bad. ok_is_no_err (sym sound.stands ∙ bad))
     (λ used.
@@ -52,9 +53,10 @@ no_bad_store resumed job g past fault sound refused =
     ok_is_no_err e = cc
 
 -- nor is it one that calls don't leave
-no_other_store : (resumed : Bool) (job : JobSayings) (g : DataGraph) (past : DiskPast) → HasSoundStore resumed job g past → IsOtherStore job g past → ⊥
-no_other_store resumed job g past sound other =
-    other sound.owner sound.placed sound.front sound.good (first-part (65 + records_size (snapshots_on job g past)) _ _ (2 ^ 30) sound.room.short)
+no_other_store : (resumed : Bool) (files : FilesState) (job : JobSayings) (g : DataGraph) (cut : Cut) (past : DiskPast) → HasSoundStore resumed files job g past → IsCutOf files job.fields g cut → IsOtherStore job g cut past → ⊥
+no_other_store resumed files job g cut past sound cut_is other =
+    let good = sound.good cut cut_is in
+    other good.owner good.front good.good (first-part (65 + records_size (snapshots_on job g past)) _ _ (2 ^ 30) sound.room.short)
 
 module _ (told : Bool) (asked : JobVerb) (file : List ℕ) (before now : Moment) (sound : IsSoundOnStore told asked file before now) where
   abbrev pub old : FilesState
@@ -88,16 +90,19 @@ module _ (told : Bool) (asked : JobVerb) (file : List ℕ) (before now : Moment)
       of_texts asked old file (MakesRun told asked old new job lists ending) input made.1
 
   module _ (lists : CallLists) (ending : StoredEnd) (made : MakesRun told asked old now.files.pasts job lists ending input.vertices input.edges) where
-    abbrev pub store : HasSoundStore (is_resumed asked) job made.graph (old.pasts sound.name)
+    abbrev pub store : HasSoundStore (is_resumed asked) old job made.graph (old.pasts sound.name)
     store = sound.store made.graph made.graph_is
 
+    abbrev pub of_job : HasStoreOfJob job made.graph made.cut (old.pasts sound.name)
+    of_job = store.good made.cut made.cut_is
+
     -- it went on from the store
-    goes : GoesOnFrom job (shared_by job made.graph store.owner) (is_resumed asked) (header_for job.fields made.graph) store.front (snapshots_on job made.graph (old.pasts sound.name)) (old.pasts sound.name)
+    goes : GoesOnFrom job (shared_by job made.graph of_job.owner) (is_resumed asked) (header_for job.fields made.graph) of_job.front (snapshots_on job made.graph (old.pasts sound.name)) (old.pasts sound.name)
         (now.files.pasts sound.name) made.run
     goes =
         let new : List ℕ → DiskPast = now.files.pasts in
-        let runs : RunsSo told asked old new job made.graph made.run (Some sound.name) = subst (λ (s : Option (List ℕ)). RunsSo told asked old new job made.graph made.run s) sound.name_is made.runs in
-        (of-disk (RunsOnStore (is_resumed asked) job made.graph (old.pasts sound.name) (new sound.name) made.run) runs).goes_on store.owner store.placed store.front store.good
+        let runs : RunsSo told asked old new job made.graph made.cut made.run (Some sound.name) = subst (λ (s : Option (List ℕ)). RunsSo told asked old new job made.graph made.cut made.run s) sound.name_is made.runs in
+        (of-disk (RunsOnStore (is_resumed asked) job made.graph made.cut (old.pasts sound.name) (new sound.name) made.run) runs).goes_on of_job.owner of_job.front of_job.good
 
     -- neither its budget nor the room of the store was too little
     unspent : (left : Vertex) → ending ≡ end.Spent left → ⊥
@@ -135,11 +140,13 @@ module _ (told : Bool) (asked : JobVerb) (file : List ℕ) (before now : Moment)
       ⊎_elim
       (λ refused.
       let at = of-store (λ name j g. IfDisksTold told old (RefusesStore (is_resumed asked) (header_for j.fields g) (old.pasts name).now.seen fault)) refused.0 in
-      no_bad_store (is_resumed asked) job at.0 (old.pasts sound.name) fault (sound.store at.0 at.1)
+      no_bad_store (is_resumed asked) old job at.0 (old.pasts sound.name) fault (sound.store at.0 at.1)
       (of-disk (RefusesStore (is_resumed asked) (header_for job.fields at.0) (old.pasts sound.name).now.seen fault) at.2))
       (λ other.
-      let at = of-store (λ name j g. IfDisksTold told old (IsOtherStore j g (old.pasts name))) other in
-      no_other_store (is_resumed asked) job at.0 (old.pasts sound.name) (sound.store at.0 at.1) (of-disk (IsOtherStore job at.0 (old.pasts sound.name)) at.2))
+      let at = of-store (λ name j g. OfJobCut old j.fields g (λ cut. IfDisksTold told old (IsNotRunFrom (is_resumed asked) j g cut (old.pasts name) (now.files.pasts name) fault))) other in
+      let other_is = at.2.2 in
+      let found = of-disk (IsNotRunFrom (is_resumed asked) job at.0 at.2.0 (old.pasts sound.name) (now.files.pasts sound.name) fault) other_is in
+      no_other_store (is_resumed asked) old job at.0 at.2.0 (old.pasts sound.name) (sound.store at.0 at.1) at.2.1 found.other)
       says
   not_refused (BudgetSpent left) says = says
   not_refused (SnapshotsFull stored length) says = says

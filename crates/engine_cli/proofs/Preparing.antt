@@ -2,6 +2,9 @@
 use Rattle.std.proofs.Common.{◌≡◌, inl, inr, ℕ, ◌≤◌, Bool, true, false, IsTrue, is_some, List, [], ◌∷◌, Option, None, Some, IfSome, Result, Err, refl, sym, ap, ◌∙◌, subst, ⊎_elim, arith}
 use Rattle.std.specs.Prelude.{bytes_eq, ◌⊎◌}
 use Rattle.std.proofs.lemmas.Slice.Eq.{bytes_eq-Decides}
+use Rattle.atom_gather.specs.Cuts.{CanBeCut}
+use Rattle.atom_gather.specs.declared.cuts.Cut.{Cut}
+use Rattle.atom_gather.specs.declared.cuts.Cut.TheVariants.{Grown, Told}
 use Rattle.gl_outside.specs.Disk.{DiskPast}
 use Rattle.gl_outside.specs.Faults.{Rose}
 use Rattle.gl_outside.specs.FilesState.{FilesState, Opened}
@@ -10,6 +13,7 @@ use Rattle.gl_outside.specs.Inner.Laws.{decide, differs}
 use Rattle.graph_core.specs.DataGraph.{DataGraph}
 use Rattle.job_config.specs.Jobs.{JobSayings}
 use Rattle.job_config.specs.Views.{job_view}
+use Rattle.job_files.specs.Atoms.{IsCutAt, IsCutOf, OfJobCut}
 use Rattle.job_files.specs.Inputs.{IsInputFrom, IsRunInput, RefusesEarly}
 use Rattle.job_files.specs.JobTexts.{SaysJob}
 use Rattle.job_files.specs.NamesRead.{HandsForRun, names_of}
@@ -28,12 +32,22 @@ use Rattle.whole_files.specs.FilesUsed.{HandsOver}
 use Rattle.engine_cli.specs.Inner.Prepares.{ChangesInput, IsWhyNoneMade, UsesNamed}
 use Rattle.engine_cli.specs.Inner.Storing.{IsWhyNoStoredRun}
 use Rattle.engine_cli.specs.JobRuns.{RunsOnStore, RunsSo, is_resumed}
-use Rattle.engine_cli.specs.JobStores.{IsOtherStore, KeepsAllImages, KeepsGoing, KeepsImages, NamesStore, OfStoredJob, RefusesStore, UsesStore}
+use Rattle.engine_cli.specs.JobStores.{IsNotRunFrom, KeepsAllImages, KeepsGoing, KeepsImages, NamesStore, OfStoredJob, RefusesStore, UsesStore}
 use Rattle.engine_cli.specs.NamesWritten.{order_names}
 use Rattle.engine_cli.specs.Says.{Refuses}
 use Rattle.engine_cli.specs.Status.{IsBeforeMaking, IsRefusedInput, status_of_no_input, status_of_no_store}
 use Rattle.engine_cli.proofs.DisksLeft.{leaves-same}
 use Rattle.engine_cli.proofs.NamesHanded.{hands-no-store, hands-store}
+
+-- ---- what is read tells a cut of the graph
+
+pub can-cut : (input : Input) (files : FilesState) → 1 ≤ input.job.atoms → IsCutOf files (job_view input.job).fields input.graph input.cut → CanBeCut input.graph input.cut
+can-cut input files some is = go input.job.atoms_at input.job.atoms input.cut some is
+  where
+    go : (named : Option (List ℕ)) (atoms : ℕ) (cut : Cut) → 1 ≤ atoms → IsCutAt files named atoms input.graph cut → CanBeCut input.graph cut
+    go None atoms cut some is = subst (CanBeCut input.graph) (sym is) some
+    go (Some prefix) atoms (Grown n) some is = absurd is
+    go (Some prefix) atoms (Told n of) some is = is.0
 
 -- ---- what is read changes no disk
 
@@ -95,9 +109,9 @@ module _ (told : Bool) (asked : JobVerb) (file : List ℕ) (old mid new : FilesS
       let P : (List ℕ → DiskPast) → Type 0 = λ p. IfSome old.disks.names (λ n. IsTrue told → Q p) in
       subst P pasts (subst D disks holds)
 
-  pub runs-since : (job : JobSayings) (g : DataGraph) (run : StoredRun) (store : Option (List ℕ)) → RunsSo told asked mid new.pasts job g run store → RunsSo told asked old new.pasts job g run store
-  runs-since job g run None runs = runs
-  runs-since job g run (Some name) runs = since (λ p. RunsOnStore (is_resumed asked) job g (p name) (new.pasts name) run) runs
+  pub runs-since : (job : JobSayings) (g : DataGraph) (cut : Cut) (run : StoredRun) (store : Option (List ℕ)) → RunsSo told asked mid new.pasts job g cut run store → RunsSo told asked old new.pasts job g cut run store
+  runs-since job g cut run None runs = runs
+  runs-since job g cut run (Some name) runs = since (λ p. RunsOnStore (is_resumed asked) job g cut (p name) (new.pasts name) run) runs
 
   pub rose-since : Rose mid.disks.faults new.disks.faults → Rose old.disks.faults new.disks.faults
   rose-since rose = subst (λ (d : Opened (Option (List ℕ))). Rose d.faults new.disks.faults) disks rose
@@ -183,7 +197,7 @@ module _ (told : Bool) (asked : JobVerb) (file : List ℕ) (old mid new : FilesS
       go None holds = tt
       go (Some n) holds = λ is. (holds is).1
 
-  module _ (input : Input) (is : IsInputFrom asked old file input) where
+  module _ (input : Input) (is : IsInputFrom asked old file input) (cut : IsCutOf old (job_view input.job).fields input.graph input.cut) where
     abbrev pub job : JobSayings
     job = job_view input.job
 
@@ -200,23 +214,23 @@ module _ (told : Bool) (asked : JobVerb) (file : List ℕ) (old mid new : FilesS
     stored-refuses name (no_store.BadStore fault) named used refused =
         let R : DiskPast → Type 0 = λ p. RefusesStore (is_resumed asked) (header_for job.fields input.graph) p.now.seen fault in
         let K = KeepsImages (old.pasts name) (new.pasts name) in
-        let said = since (λ p. (R (p name) × KeepsImages (p name) (new.pasts name)) ⊎ IsOtherStore job input.graph (p name)) refused in
+        let said = since (λ p. (R (p name) × KeepsImages (p name) (new.pasts name)) ⊎ IsNotRunFrom (is_resumed asked) job input.graph input.cut (p name) (new.pasts name) fault) refused in
         ⊎_elim
         (λ refuses.
         inl (
           of-store name named (λ n j g. IfDisksTold told old (RefusesStore (is_resumed asked) (header_for j.fields g) (old.pasts n).now.seen fault)) (both-first (R (old.pasts name)) K refuses),
           all-images name used (both-second (R (old.pasts name)) K refuses),
         ))
-        (λ other. inr (of-store name named (λ n j g. IfDisksTold told old (IsOtherStore j g (old.pasts n))) other))
-        (either (R (old.pasts name) × K) (IsOtherStore job input.graph (old.pasts name)) said)
+        (λ other. inr (of-store name named (λ n j g. OfJobCut old j.fields g (λ c. IfDisksTold told old (IsNotRunFrom (is_resumed asked) j g c (old.pasts n) (new.pasts n) fault))) (input.cut, cut, other)))
+        (either (R (old.pasts name) × K) (IsNotRunFrom (is_resumed asked) job input.graph input.cut (old.pasts name) (new.pasts name) fault) said)
     stored-refuses name no_store.DiskFault named used refused =
         (rose-since refused.0, names-store name named, all-images name used (since (λ p. KeepsImages (p name) (new.pasts name)) refused.1))
     stored-refuses name no_store.NoMemory named used refused =
-        let said = since (λ p. KeepsImages (p name) (new.pasts name) ⊎ KeepsGoing job input.graph (p name) (new.pasts name)) refused in
+        let said = since (λ p. KeepsImages (p name) (new.pasts name) ⊎ KeepsGoing job input.graph input.cut (p name) (new.pasts name)) refused in
         ⊎_elim
         (λ kept. inl (all-images name used kept))
-        (λ going. inr (of-store name named (λ n j g. IfDisksTold told old (KeepsGoing j g (old.pasts n) (new.pasts n))) going))
-        (either (KeepsImages (old.pasts name) (new.pasts name)) (KeepsGoing job input.graph (old.pasts name) (new.pasts name)) said)
+        (λ going. inr (of-store name named (λ n j g. OfJobCut old j.fields g (λ c. IfDisksTold told old (KeepsGoing j g c (old.pasts n) (new.pasts n)))) (input.cut, cut, going)))
+        (either (KeepsImages (old.pasts name) (new.pasts name)) (KeepsGoing job input.graph input.cut (old.pasts name) (new.pasts name)) said)
 
     pub none-made : (cause : NoStore) → UsesNamed job.fields.store mid new → IsWhyNoneMade told asked input mid new job.fields.store cause → Refuses told asked file old new (status_of_no_store cause)
     none-made cause used refused = go job.fields.store refl used refused

@@ -35,6 +35,7 @@ use Rattle.engine_cli.specs.Says.{EndsRun, FailsAtOrder, FailsAtOut, LeavesOrder
 use Rattle.engine_cli.specs.Status.{IsBeforeMaking, IsBeforeWriting, IsRefusedInput}
 use Rattle.engine_cli.specs.StoreJobs.{HandsStore}
 use Rattle.engine_cli.specs.Verbs.{IsRun}
+use Rattle.job_files.specs.Atoms.{OfJobCut}
 use Rattle.job_files.proofs.InputsRead.{of-graph}
 use Rattle.job_stores.specs.NewStores.{IfDisksTold}
 use Rattle.engine_cli.proofs.NamesHanded.{hands-no-name, hands-written-names}
@@ -51,13 +52,13 @@ module _ (told : Bool) (asked : JobVerb) (old mid : FilesState) (file : List ℕ
   abbrev pub lists : CallLists
   lists = lists_of_run prepared.run
 
-  pub runs-now : RunsSo told asked old new job prepared.graph prepared.run job.fields.store
-  runs-now = subst (λ (p : List ℕ → DiskPast). RunsSo told asked old p job prepared.graph prepared.run job.fields.store) (sym same) is.runs
+  pub runs-now : RunsSo told asked old new job prepared.graph is.cut prepared.run job.fields.store
+  runs-now = subst (λ (p : List ℕ → DiskPast). RunsSo told asked old p job prepared.graph is.cut prepared.run job.fields.store) (sym same) is.runs
 
   abbrev pub makes : (ending : StoredEnd) → prepared.run.end ≡ ending → (vertices edges : List ℕ) → DescribeJobGraph job.fields vertices edges prepared.graph
       → MakesRun told asked old new job lists ending vertices edges
   makes ending ended vertices edges described =
-      record { graph = prepared.graph; graph_is = described; start = is.start; run = prepared.run; lists_are = refl; ended = ended; runs = runs-now }
+      record { graph = prepared.graph; graph_is = described; start = is.start; cut = is.cut; cut_is = is.cut_is; run = prepared.run; lists_are = refl; ended = ended; runs = runs-now }
 
   -- how it ended
   pub ends-run : (ending : StoredEnd) → prepared.run.end ≡ ending → EndsRun told asked old new file lists ending
@@ -93,20 +94,20 @@ module _ (told : Bool) (asked : JobVerb) (old mid : FilesState) (file : List ℕ
   pub runs-out : KeepsAllImages told old new ⊎ RunsOutOnStore told asked old new file
   runs-out = go job.fields.store refl is.runs
     where
-      going : (name : List ℕ) → IfDisksTold told old (RunsOnStore (is_resumed asked) job prepared.graph (old.pasts name) (new name) prepared.run)
-          → IfDisksTold told old (KeepsGoing job prepared.graph (old.pasts name) (new name))
+      going : (name : List ℕ) → IfDisksTold told old (RunsOnStore (is_resumed asked) job prepared.graph is.cut (old.pasts name) (new name) prepared.run)
+          → IfDisksTold told old (KeepsGoing job prepared.graph is.cut (old.pasts name) (new name))
       going name runs = each old.disks.names runs
         where
-          each : (names : Option (List (List ℕ))) → IfSome names (λ n. IsTrue told → RunsOnStore (is_resumed asked) job prepared.graph (old.pasts name) (new name) prepared.run)
-              → IfSome names (λ n. IsTrue told → KeepsGoing job prepared.graph (old.pasts name) (new name))
+          each : (names : Option (List (List ℕ))) → IfSome names (λ n. IsTrue told → RunsOnStore (is_resumed asked) job prepared.graph is.cut (old.pasts name) (new name) prepared.run)
+              → IfSome names (λ n. IsTrue told → KeepsGoing job prepared.graph is.cut (old.pasts name) (new name))
           each None runs = tt
-          each (Some n) runs = λ yes owner placed front good. let goes = (runs yes).goes_on owner placed front good in (goes.snapshots, goes.keeps)
+          each (Some n) runs = λ yes owner front is_for. let goes = (runs yes).goes_on owner front is_for in (goes.snapshots, goes.keeps)
 
-      go : (store : Option (List ℕ)) → job.fields.store ≡ store → RunsSo told asked old mid.pasts job prepared.graph prepared.run store → KeepsAllImages told old new ⊎ RunsOutOnStore told asked old new file
+      go : (store : Option (List ℕ)) → job.fields.store ≡ store → RunsSo told asked old mid.pasts job prepared.graph is.cut prepared.run store → KeepsAllImages told old new ⊎ RunsOutOnStore told asked old new file
       go None named runs = inl (same-images told old new (same ∙ is.alone named))
       go (Some name) named runs =
-          let now : RunsSo told asked old new job prepared.graph prepared.run (Some name) = subst (λ (p : List ℕ → DiskPast). RunsSo told asked old p job prepared.graph prepared.run (Some name)) (sym same) runs in
-          inr (job, is.job, (name, named, of-graph old job.fields prepared.graph (λ g. IfDisksTold told old (KeepsGoing job g (old.pasts name) (new name))) is.texts is.start (going name now)))
+          let now : RunsSo told asked old new job prepared.graph is.cut prepared.run (Some name) = subst (λ (p : List ℕ → DiskPast). RunsSo told asked old p job prepared.graph is.cut prepared.run (Some name)) (sym same) runs in
+          inr (job, is.job, (name, named, of-graph old job.fields prepared.graph (λ g. OfJobCut old job.fields g (λ cut. IfDisksTold told old (KeepsGoing job g cut (old.pasts name) (new name)))) is.texts is.start (is.cut, is.cut_is, going name now)))
 
 -- ---- what is printed
 

@@ -1,6 +1,7 @@
 -- What a run on its store is, over the opening of the store and what it does with it.
 use Rattle.std.proofs.Common.{◌≡◌, inl, inr, ℕ, ◌+◌, ◌^◌, ◌≤◌, ◌++◌, Bool, false, true, List, [], length, Result, Ok, sym, ap, ◌∙◌, subst, ⊎_elim, append_assoc}
 use Rattle.std.specs.Result.{result_unwrap_or}
+use Rattle.atom_gather.specs.declared.cuts.Cut.{Cut}
 use Rattle.gl_base.specs.declared.entries.Entry.{Entry}
 use Rattle.gl_outside.specs.Disk.{DiskPast, IsImage, LeavesOnly}
 use Rattle.gl_outside.proofs.Fronts.{Rose-later}
@@ -16,6 +17,7 @@ use Rattle.snap_journal.specs.declared.faults.JournalFault.{JournalFault}
 use Rattle.snap_journal.specs.declared.faults.JournalFault.TheVariants as journal
 use Rattle.store_format.specs.Stores.{StandsFor, stored_in}
 use Rattle.store_format.specs.declared.faults.StoreFault.{StoreFault}
+use Rattle.store_format.specs.declared.faults.StoreFault.TheVariants.{BadByte}
 use Rattle.store_format.specs.declared.header.Header.{Header}
 use Rattle.stored_answers.specs.Images.{HoldsGood, IsGoodStore, KeepsGood}
 use Rattle.stored_answers.specs.Ends.{RunEndsSo}
@@ -24,9 +26,9 @@ use Rattle.stored_answers.specs.declared.runs.StoredEnd.{StoredEnd}
 use Rattle.stored_answers.specs.declared.runs.StoredEnd.TheVariants as end
 use Rattle.stored_answers.specs.declared.runs.StoredRun.{StoredRun}
 use Rattle.update_api.specs.Updates.{Update}
-use Rattle.engine_cli.specs.Inner.Storing.{IsStoreKept, IsNotGood, IsStoreRunFrom, IsWhyNotOnDisk, IsWhyNotOnJournal, IsWhyNoneStored, no_store_of_journal}
+use Rattle.engine_cli.specs.Inner.Storing.{IsStoreKept, IsNotGood, IsNotGoneOnFrom, IsStoreRunFrom, IsWhyNotOnDisk, IsWhyNotOnJournal, IsWhyNoneStored, no_store_of_journal, no_store_of_run}
 use Rattle.engine_cli.specs.JobRuns.{AreGoodImages, GoesOnFrom, KeepsStore, RunsOnStore, records_size, shared_by, snapshots_on}
-use Rattle.engine_cli.specs.JobStores.{IsOtherStore, KeepsGoing, KeepsImages}
+use Rattle.engine_cli.specs.JobStores.{IsNotRunFrom, IsOtherStore, KeepsGoing, KeepsImages}
 use Rattle.engine_cli.specs.Plays.{AreResults, update_of}
 use Rattle.engine_cli.proofs.Bounds.{bound-of}
 use Rattle.engine_cli.proofs.DisksLeft.{leaves-more, leaves-twice}
@@ -64,7 +66,7 @@ stored-results job g owner count kept resumed snapshots run is start ran finishe
     results-of job.fields.algorithm job.fields.source g run.order.items run.numbers.items is start ran.is.in_turn.valid ran.numbers_are ends.finished
 
 -- The store was opened, on a disk that reads as it did, and whatever a crash left of it as the call began was left since.
-module _ (job : JobSayings) (g : DataGraph) (old mid new : DiskPast) (bodies : List (List ℕ)) (seen : IsImage old.now old.now.seen) (stands : StandsFor (header_for job.fields g) bodies old.now.seen)
+module _ (job : JobSayings) (g : DataGraph) (cut : Cut) (old mid new : DiskPast) (bodies : List (List ℕ)) (seen : IsImage old.now old.now.seen) (stands : StandsFor (header_for job.fields g) bodies old.now.seen)
     (opened : LeavesOnly old mid (IsImage old.now)) where
   abbrev pub header : Header
   header = header_for job.fields g
@@ -97,92 +99,107 @@ module _ (job : JobSayings) (g : DataGraph) (old mid new : DiskPast) (bodies : L
 
   -- the run is one on its store
   pub runs-on-store : (resumed : Bool) (run : StoredRun) → IsDataGraph g → HasStart job.fields.algorithm job.fields.source g → (resumed ≡ false → length bodies ≡ 0)
-      → IsStoreRunFrom job g program header true job.fields.window resumed (length bodies) bodies mid new run → RunsOnStore resumed job g old new run
+      → IsStoreRunFrom job g cut program header true job.fields.window resumed (length bodies) bodies mid new run → RunsOnStore resumed job g cut old new run
   runs-on-store resumed run is start fresh from =
       let same : bodies ≡ snapshots_on job g old = sym (stands_are header old.now.seen bodies stands) in
       record {
         stands = subst (λ (b : List (List ℕ)). StandsFor header b old.now.seen) same stands;
         fresh = subst (λ (b : List (List ℕ)). resumed ≡ false → length b ≡ 0) same fresh;
         placed = from.placed;
-        goes_on = λ owner placed front good.
+        goes_on = λ owner front is_for.
             let shared = shared_by job g owner in
-            let found = front-opened shared front good in
-            let went = from.goes_on owner placed found.2 in
+            let found = front-opened shared front is_for.images in
+            let went = from.goes_on owner is_for.placed found.2 in
             let G : List (List ℕ) → Type 0 = λ b. GoesOnFrom job shared resumed header front b old new run in
             subst G same (record {
               snapshots = went.0;
               is = went.1;
-              keeps = keeps-store shared front went.0 good went.2;
+              keeps = keeps-store shared front went.0 is_for.images went.2;
               results = stored-results job g owner _ _ resumed went.0 run is start went.1;
-              enough = from.enough owner placed found.2 (step_bound g job.fields.algorithm) (λ order valid. bound-of job.fields.algorithm job.fields.source g order is start valid);
-              roomy = from.roomy owner placed found.2;
+              enough = from.enough owner is_for.placed found.2 (step_bound g job.fields.algorithm) (λ order valid. bound-of job.fields.algorithm job.fields.source g order is start valid);
+              roomy = from.roomy owner is_for.placed found.2;
             });
+        machines = λ owner front is_for. from.machines owner is_for.placed (front-opened (shared_by job g owner) front is_for.images).2;
         full = from.full;
       }
 
   -- memory ran out
-  keeps-going : IsStoreKept job g program header bodies mid new → KeepsGoing job g old new
-  keeps-going kept owner placed front good =
+  keeps-going : IsStoreKept job g cut program header bodies mid new → KeepsGoing job g cut old new
+  keeps-going kept owner front is_for =
       let same : bodies ≡ snapshots_on job g old = sym (stands_are header old.now.seen bodies stands) in
       let shared = shared_by job g owner in
-      let found = front-opened shared front good in
-      let went = kept owner placed found.2 in
+      let found = front-opened shared front is_for.images in
+      let went = kept owner is_for.placed found.2 in
       let K : List (List ℕ) → Type 0 = λ b. KeepsStore shared header front b went.0 old new in
-      (went.0, subst K same (keeps-store shared front went.0 good went.1))
+      (went.0, subst K same (keeps-store shared front went.0 is_for.images went.1))
 
   -- the store is none that calls leave
-  other-store : IsNotGood job g program header bodies → IsOtherStore job g old
-  other-store not owner placed front good short =
+  other-store : IsNotGood job g cut program header bodies → IsOtherStore job g cut old
+  other-store not owner front is_for short =
       let same : snapshots_on job g old ≡ bodies = stands_are header old.now.seen bodies stands in
-      not owner placed (front-opened (shared_by job g owner) front good).2 (subst (λ (b : List (List ℕ)). 65 + records_size b ≤ 2 ^ 30) same short)
+      not owner is_for.placed (front-opened (shared_by job g owner) front is_for.images).2 (subst (λ (b : List (List ℕ)). 65 + records_size b ≤ 2 ^ 30) same short)
 
   -- a disk that the run left as it was opened
   unchanged : new ≡ mid → KeepsImages old new
   unchanged same = subst (λ (p : DiskPast). KeepsImages old p) (sym same) opened
 
+  -- and no run came from it
+  not-run-from : (resumed : Bool) (fault : StoreFault) → IsNotGoneOnFrom resumed job g cut program header bodies mid new fault → IsNotRunFrom resumed job g cut old new fault
+  not-run-from resumed fault is =
+      let same : bodies ≡ snapshots_on job g old = sym (stands_are header old.now.seen bodies stands) in
+      record {
+        stands = subst (λ (b : List (List ℕ)). StandsFor header b old.now.seen) same stands;
+        fresh = subst (λ (b : List (List ℕ)). resumed ≡ false → length b ≡ 0) same is.fresh;
+        other = other-store is.other;
+        place = subst (λ (b : List (List ℕ)). fault ≡ BadByte (65 + records_size b)) same is.place;
+        kept = ⊎_elim (λ still. inl (unchanged still)) (λ kept. inr (keeps-going kept)) is.kept;
+      }
+
 -- why there is no run, where the store was opened
-pub not-on-disk : (told : Type 0) (resumed : Bool) (job : JobSayings) (g : DataGraph) (old mid new : DiskPast) (bodies : List (List ℕ)) (before between now : ℕ) (why : NoStore)
+pub not-on-disk : (told : Type 0) (resumed : Bool) (job : JobSayings) (g : DataGraph) (cut : Cut) (old mid new : DiskPast) (bodies : List (List ℕ)) (before between now : ℕ) (why : NoStore)
     → (told → IsImage old.now old.now.seen) → (told → StandsFor (header_for job.fields g) bodies old.now.seen) → (told → LeavesOnly old mid (IsImage old.now)) → before ≤ between
-    → IsWhyNotOnJournal told resumed job g (update_of job.fields.algorithm job.fields.source) (header_for job.fields g) bodies mid new between now why → IsWhyNotOnDisk told resumed job g old new before now why
-not-on-disk told resumed job g old mid new bodies before between now (no_store.BadStore fault) seen stands opened later refused = λ is.
+    → IsWhyNotOnJournal told resumed job g cut (update_of job.fields.algorithm job.fields.source) (header_for job.fields g) bodies mid new between now why → IsWhyNotOnDisk told resumed job g cut old new before now why
+not-on-disk told resumed job g cut old mid new bodies before between now (no_store.BadStore fault) seen stands opened later refused = λ is.
     ⊎_elim
-    (λ said. inl (inr (said.0, record { snapshots = bodies; stands = stands is; some = said.1; told = said.2 }), unchanged job g old mid new bodies (seen is) (stands is) (opened is) said.3))
-    (λ not. inr (other-store job g old mid new bodies (seen is) (stands is) (opened is) not))
+    (λ said. inl (inr (said.0, record { snapshots = bodies; stands = stands is; some = said.1; told = said.2 }), unchanged job g cut old mid new bodies (seen is) (stands is) (opened is) said.3))
+    (λ not. inr (not-run-from job g cut old mid new bodies (seen is) (stands is) (opened is) resumed fault not))
     (refused is)
-not-on-disk told resumed job g old mid new bodies before between now no_store.DiskFault seen stands opened later refused = (
+not-on-disk told resumed job g cut old mid new bodies before between now no_store.DiskFault seen stands opened later refused = (
   Rose-later before between now later refused.0,
-  λ is. unchanged job g old mid new bodies (seen is) (stands is) (opened is) (refused.1 is),
+  λ is. unchanged job g cut old mid new bodies (seen is) (stands is) (opened is) (refused.1 is),
 )
-not-on-disk told resumed job g old mid new bodies before between now no_store.NoMemory seen stands opened later refused = λ is.
-    ⊎_elim (λ same. inl (unchanged job g old mid new bodies (seen is) (stands is) (opened is) same))
-    (λ kept. inr (keeps-going job g old mid new bodies (seen is) (stands is) (opened is) kept)) (refused is)
+not-on-disk told resumed job g cut old mid new bodies before between now no_store.NoMemory seen stands opened later refused = λ is.
+    ⊎_elim (λ same. inl (unchanged job g cut old mid new bodies (seen is) (stands is) (opened is) same))
+    (λ kept. inr (keeps-going job g cut old mid new bodies (seen is) (stands is) (opened is) kept)) (refused is)
 
 -- why there is none, where it was not
-pub not-opened : (told : Type 0) (resumed : Bool) (job : JobSayings) (g : DataGraph) (old new : DiskPast) (before now : ℕ) (fault : JournalFault)
-    → IsWhyNotOpened told (header_for job.fields g) old.now.seen before now fault → (told → LeavesOnly old new (IsImage old.now)) → IsWhyNotOnDisk told resumed job g old new before now (no_store_of_journal fault)
-not-opened told resumed job g old new before now journal.DiskFault refused left = (refused, left)
-not-opened told resumed job g old new before now (journal.BadStore fault) refused left = λ is. inl (inl (refused is), left is)
-not-opened told resumed job g old new before now (journal.Full stored length) refused left = absurd refused
-not-opened told resumed job g old new before now journal.Failed refused left = absurd refused
-not-opened told resumed job g old new before now journal.NoMemory refused left = λ is. inl (left is)
+pub not-opened : (told : Type 0) (resumed : Bool) (job : JobSayings) (g : DataGraph) (cut : Cut) (old new : DiskPast) (before now : ℕ) (fault : JournalFault)
+    → IsWhyNotOpened told (header_for job.fields g) old.now.seen before now fault → (told → LeavesOnly old new (IsImage old.now)) → IsWhyNotOnDisk told resumed job g cut old new before now (no_store_of_journal fault)
+not-opened told resumed job g cut old new before now journal.DiskFault refused left = (refused, left)
+not-opened told resumed job g cut old new before now (journal.BadStore fault) refused left = λ is. inl (inl (refused is), left is)
+not-opened told resumed job g cut old new before now (journal.Full stored length) refused left = absurd refused
+not-opened told resumed job g cut old new before now journal.Failed refused left = absurd refused
+not-opened told resumed job g cut old new before now journal.NoMemory refused left = λ is. inl (left is)
 
--- why there is none, where the run could not begin or wanted memory
-pub not-stored : (told : Type 0) (resumed : Bool) (job : JobSayings) (g : DataGraph) (header : Header) (bodies : List (List ℕ)) (old new : DiskPast) (before now : ℕ) (fault : JournalFault)
-    → IsWhyNoneStored told job g (update_of job.fields.algorithm job.fields.source) header bodies old new before now fault
-    → IsWhyNotOnJournal told resumed job g (update_of job.fields.algorithm job.fields.source) header bodies old new before now (no_store_of_journal fault)
-not-stored told resumed job g header bodies old new before now journal.DiskFault refused = refused
-not-stored told resumed job g header bodies old new before now (journal.BadStore fault) refused = λ is. inr (refused is)
-not-stored told resumed job g header bodies old new before now (journal.Full stored length) refused = absurd refused
-not-stored told resumed job g header bodies old new before now journal.Failed refused = absurd refused
-not-stored told resumed job g header bodies old new before now journal.NoMemory refused = refused
+-- why there is none, where the run could not begin or go on, or wanted memory
+pub not-stored : (told : Type 0) (resumed : Bool) (job : JobSayings) (g : DataGraph) (cut : Cut) (header : Header) (bodies : List (List ℕ)) (old new : DiskPast) (before now : ℕ) (fault : JournalFault) (long : ℕ)
+    → (told → long ≡ 65 + records_size bodies) → (told → resumed ≡ false → length bodies ≡ 0)
+    → IsWhyNoneStored told job g cut (update_of job.fields.algorithm job.fields.source) header bodies old new before now fault
+    → IsWhyNotOnJournal told resumed job g cut (update_of job.fields.algorithm job.fields.source) header bodies old new before now (no_store_of_run fault long)
+not-stored told resumed job g cut header bodies old new before now journal.DiskFault long measured fresh refused = refused
+not-stored told resumed job g cut header bodies old new before now (journal.BadStore fault) long measured fresh refused = λ is.
+    inr (record { fresh = fresh is; other = (refused is).0; place = ap (λ (n : ℕ). BadByte n) (measured is); kept = (refused is).1 })
+not-stored told resumed job g cut header bodies old new before now (journal.Full stored bytes) long measured fresh refused = absurd refused
+not-stored told resumed job g cut header bodies old new before now journal.Failed long measured fresh refused = absurd refused
+not-stored told resumed job g cut header bodies old new before now journal.NoMemory long measured fresh refused = refused
 
 -- the same of another name of the header
-pub run-of-header : (job : JobSayings) (g : DataGraph) (p : Update) (one other : Header) (saves : Bool) (window : ℕ) (resumed : Bool) (count : ℕ) (bodies : List (List ℕ)) (old new : DiskPast) (run : StoredRun) → one ≡ other
-    → IsStoreRunFrom job g p one saves window resumed count bodies old new run → IsStoreRunFrom job g p other saves window resumed count bodies old new run
-run-of-header job g p one other saves window resumed count bodies old new run same from =
-    subst (λ (h : Header). IsStoreRunFrom job g p h saves window resumed count bodies old new run) same from
+pub run-of-header : (job : JobSayings) (g : DataGraph) (cut : Cut) (p : Update) (one other : Header) (saves : Bool) (window : ℕ) (resumed : Bool) (count : ℕ) (bodies : List (List ℕ)) (old new : DiskPast) (run : StoredRun) → one ≡ other
+    → IsStoreRunFrom job g cut p one saves window resumed count bodies old new run → IsStoreRunFrom job g cut p other saves window resumed count bodies old new run
+run-of-header job g cut p one other saves window resumed count bodies old new run same from =
+    subst (λ (h : Header). IsStoreRunFrom job g cut p h saves window resumed count bodies old new run) same from
 
-pub why-of-header : (told : Type 0) (resumed : Bool) (job : JobSayings) (g : DataGraph) (p : Update) (one other : Header) (bodies : List (List ℕ)) (old new : DiskPast) (before now : ℕ) (why : NoStore) → one ≡ other
-    → IsWhyNotOnJournal told resumed job g p one bodies old new before now why → IsWhyNotOnJournal told resumed job g p other bodies old new before now why
-why-of-header told resumed job g p one other bodies old new before now why same is =
-    subst (λ (h : Header). IsWhyNotOnJournal told resumed job g p h bodies old new before now why) same is
+pub why-of-header : (told : Type 0) (resumed : Bool) (job : JobSayings) (g : DataGraph) (cut : Cut) (p : Update) (one other : Header) (bodies : List (List ℕ)) (old new : DiskPast) (before now : ℕ) (why : NoStore) → one ≡ other
+    → IsWhyNotOnJournal told resumed job g cut p one bodies old new before now why → IsWhyNotOnJournal told resumed job g cut p other bodies old new before now why
+why-of-header told resumed job g cut p one other bodies old new before now why same is =
+    subst (λ (h : Header). IsWhyNotOnJournal told resumed job g cut p h bodies old new before now why) same is

@@ -1,6 +1,7 @@
 -- What the run of a program on an opened store says of the job.
 use Rattle.std.proofs.Common.{◌≡◌, ◌≤◌, ◌^◌, inl, inr, ℕ, ◌+◌, ◌*◌, Bool, false, List, length, Result, Ok, Err, refl, sym, ◌∙◌, subst, ⊎_elim}
 use Rattle.std.specs.Prelude.{All, IfErr, IfOk}
+use Rattle.atom_gather.specs.declared.cuts.Cut.{Cut}
 use Rattle.gl_base.specs.declared.entries.Entry.{Entry}
 use Rattle.gl_base.specs.declared.jobs.EngineKind.{EngineKind}
 use Rattle.gl_base.specs.declared.jobs.FailureAt.{FailureAt}
@@ -27,7 +28,7 @@ use Rattle.stored_calls.specs.Runs.{IsWhyNoRun, owned_shared}
 use Rattle.update_api.specs.Updates.{Update}
 use Rattle.engine_cli.specs.Inner.Prepares.{IsPrintable}
 use Rattle.engine_cli.specs.Inner.Storing.{IsStoreKept, IsNotGood, IsStoreRunFrom, IsWhyNoneStored}
-use Rattle.engine_cli.specs.JobRuns.{BoundsSteps, HasRoomForRun, plan_for}
+use Rattle.engine_cli.specs.JobRuns.{BoundsSteps, HasRoomForRun, IsRunBy, lists_of, plan_for}
 
 pub IfOk-map : {T E : Type 0} (r : Result T E) (P Q : T → Type 0) → ((x : T) → P x → Q x) → IfOk r P → IfOk r Q
 IfOk-map (Ok x) P Q step p = step x p
@@ -57,34 +58,40 @@ printable-of r g numbers entries =
 -- ---- by the numbers of the job
 
 -- what is said of a program's run by this plan, with these failures, on a store for this header
-abbrev pub GoesBy : DataGraph → Update → Bool → ℕ → Bool → ℕ → List (List ℕ) → DiskPast → DiskPast → StoredRun → RunPlan → List FailureAt → Header → Type 0
-GoesBy g p saves window resumed count bodies old new run plan failures header =
-    (owner : ℕ → ℕ) → IsPlacement g plan.atoms plan.machines owner → IsGoodStore (owned_shared g p owner failures) header bodies →
+abbrev pub GoesBy : DataGraph → Cut → Update → Bool → ℕ → Bool → ℕ → List (List ℕ) → DiskPast → DiskPast → StoredRun → RunPlan → List FailureAt → Header → Type 0
+GoesBy g cut p saves window resumed count bodies old new run plan failures header =
+    (owner : ℕ → ℕ) → IsPlacement g cut plan.machines owner → IsGoodStore (owned_shared g p owner failures) header bodies →
     (snapshots : List (List Entry)) × IsStoredRun saves (owned_shared g p owner failures) plan.machines window plan.budget count (stored_order bodies) resumed snapshots run
     × KeepsGood (owned_shared g p owner failures) header bodies snapshots old new
 
 -- that a graph is placed for it, that it does not spend a budget that is enough, and that it does not fill a store with room for it
-abbrev pub PlacedBy : DataGraph → RunPlan → List FailureAt → Header → Type 0
-PlacedBy g plan failures header = (owner : ℕ → ℕ) × IsPlacement g plan.atoms plan.machines owner
+abbrev pub PlacedBy : DataGraph → Cut → RunPlan → List FailureAt → Header → Type 0
+PlacedBy g cut plan failures header = (owner : ℕ → ℕ) × IsPlacement g cut plan.machines owner
 
-abbrev pub EnoughBy : DataGraph → Update → List (List ℕ) → StoredRun → RunPlan → List FailureAt → Header → Type 0
-EnoughBy g p bodies run plan failures header =
-    (owner : ℕ → ℕ) → IsPlacement g plan.atoms plan.machines owner → IsGoodStore (owned_shared g p owner failures) header bodies →
+abbrev pub EnoughBy : DataGraph → Cut → Update → List (List ℕ) → StoredRun → RunPlan → List FailureAt → Header → Type 0
+EnoughBy g cut p bodies run plan failures header =
+    (owner : ℕ → ℕ) → IsPlacement g cut plan.machines owner → IsGoodStore (owned_shared g p owner failures) header bodies →
     (bound : ℕ) → BoundsSteps g p bound → (1 + length failures) * bound ≤ plan.budget → (left : Vertex) → run.end ≡ end.Spent left → ⊥
 
-abbrev pub RoomyBy : DataGraph → Update → Bool → ℕ → EngineKind → ℕ → ℕ → List (List ℕ) → StoredRun → RunPlan → List FailureAt → Header → Type 0
-RoomyBy g p saves window kind count long bodies run plan failures header =
-    (owner : ℕ → ℕ) → IsPlacement g plan.atoms plan.machines owner → IsGoodStore (owned_shared g p owner failures) header bodies →
+-- its machines are those of the plan
+abbrev pub MachinesBy : DataGraph → Cut → Update → Bool → ℕ → EngineKind → List (List ℕ) → StoredRun → RunPlan → List FailureAt → Header → Type 0
+MachinesBy g cut p saves window kind bodies run plan failures header =
+    (owner : ℕ → ℕ) → IsPlacement g cut plan.machines owner → IsGoodStore (owned_shared g p owner failures) header bodies →
+    IsRunBy g cut p (record { run = plan; window = window; engine = kind; saves_end = saves }) failures (lists_of run)
+
+abbrev pub RoomyBy : DataGraph → Cut → Update → Bool → ℕ → EngineKind → ℕ → ℕ → List (List ℕ) → StoredRun → RunPlan → List FailureAt → Header → Type 0
+RoomyBy g cut p saves window kind count long bodies run plan failures header =
+    (owner : ℕ → ℕ) → IsPlacement g cut plan.machines owner → IsGoodStore (owned_shared g p owner failures) header bodies →
     HasRoomForRun g (record { run = plan; window = window; engine = kind; saves_end = saves }) (length failures) count long → (stored bytes : ℕ) → run.end ≡ end.Full stored bytes → ⊥
 
-abbrev pub KeepsBy : DataGraph → Update → List (List ℕ) → DiskPast → DiskPast → RunPlan → List FailureAt → Header → Type 0
-KeepsBy g p bodies old new plan failures header =
-    (owner : ℕ → ℕ) → IsPlacement g plan.atoms plan.machines owner → IsGoodStore (owned_shared g p owner failures) header bodies →
+abbrev pub KeepsBy : DataGraph → Cut → Update → List (List ℕ) → DiskPast → DiskPast → RunPlan → List FailureAt → Header → Type 0
+KeepsBy g cut p bodies old new plan failures header =
+    (owner : ℕ → ℕ) → IsPlacement g cut plan.machines owner → IsGoodStore (owned_shared g p owner failures) header bodies →
     (snapshots : List (List Entry)) × KeepsGood (owned_shared g p owner failures) header bodies snapshots old new
 
-abbrev pub NotGoodBy : DataGraph → Update → List (List ℕ) → RunPlan → List FailureAt → Header → Type 0
-NotGoodBy g p bodies plan failures header =
-    (owner : ℕ → ℕ) → IsPlacement g plan.atoms plan.machines owner → IsGoodStore (owned_shared g p owner failures) header bodies → 65 + records_size bodies ≤ 2 ^ 30 → ⊥
+abbrev pub NotGoodBy : DataGraph → Cut → Update → List (List ℕ) → RunPlan → List FailureAt → Header → Type 0
+NotGoodBy g cut p bodies plan failures header =
+    (owner : ℕ → ℕ) → IsPlacement g cut plan.machines owner → IsGoodStore (owned_shared g p owner failures) header bodies → 65 + records_size bodies ≤ 2 ^ 30 → ⊥
 
 -- how many snapshots and bytes a full store has
 abbrev pub FullBy : Header → DiskPast → StoredEnd → Type 0
@@ -123,7 +130,7 @@ fault-by journal before now how by is =
     let rose : EndsBy journal before now end.DiskFault = subst E is by in
     rose.1
 
-module _ (job : JobSayings) (g : DataGraph) (p : Update) (bodies : List (List ℕ)) (old new : DiskPast) (plan : RunPlan) (failures : List FailureAt) (header after : Header)
+module _ (job : JobSayings) (g : DataGraph) (cut : Cut) (p : Update) (bodies : List (List ℕ)) (old new : DiskPast) (plan : RunPlan) (failures : List FailureAt) (header after : Header)
     (still : after ≡ header) (plan_is : plan ≡ plan_for job) (failures_are : failures ≡ job.failures) where
   -- the same of the job
   of-job : (F : RunPlan → List FailureAt → Header → Type 0) → F plan failures header → F (plan_for job) job.failures header
@@ -132,33 +139,34 @@ module _ (job : JobSayings) (g : DataGraph) (p : Update) (bodies : List (List �
       let B : List FailureAt → Type 0 = λ fs. F (plan_for job) fs header in
       subst B failures_are (subst A plan_is f)
 
-  pub run-from : (saves : Bool) (window : ℕ) (resumed : Bool) (count long : ℕ) (run : StoredRun) → long ≡ 65 + records_size bodies → GoesBy g p saves window resumed count bodies old new run plan failures header
-      → PlacedBy g plan failures header → EnoughBy g p bodies run plan failures header → RoomyBy g p saves window job.fields.engine count long bodies run plan failures header → FullBy after new run.end
-      → IsStoreRunFrom job g p header saves window resumed count bodies old new run
-  run-from saves window resumed count long run long_is goes placed enough roomy full = record {
-    goes_on = of-job (GoesBy g p saves window resumed count bodies old new run) goes;
-    placed = of-job (PlacedBy g) placed;
-    enough = of-job (EnoughBy g p bodies run) enough;
-    roomy = of-job (RoomyBy g p saves window job.fields.engine count (65 + records_size bodies) bodies run)
-        (subst (λ (l : ℕ). RoomyBy g p saves window job.fields.engine count l bodies run plan failures header) long_is roomy);
+  pub run-from : (saves : Bool) (window : ℕ) (resumed : Bool) (count long : ℕ) (run : StoredRun) → long ≡ 65 + records_size bodies → GoesBy g cut p saves window resumed count bodies old new run plan failures header
+      → PlacedBy g cut plan failures header → MachinesBy g cut p saves window job.fields.engine bodies run plan failures header → EnoughBy g cut p bodies run plan failures header → RoomyBy g cut p saves window job.fields.engine count long bodies run plan failures header → FullBy after new run.end
+      → IsStoreRunFrom job g cut p header saves window resumed count bodies old new run
+  run-from saves window resumed count long run long_is goes placed machines enough roomy full = record {
+    goes_on = of-job (GoesBy g cut p saves window resumed count bodies old new run) goes;
+    placed = of-job (PlacedBy g cut) placed;
+    machines = of-job (MachinesBy g cut p saves window job.fields.engine bodies run) machines;
+    enough = of-job (EnoughBy g cut p bodies run) enough;
+    roomy = of-job (RoomyBy g cut p saves window job.fields.engine count (65 + records_size bodies) bodies run)
+        (subst (λ (l : ℕ). RoomyBy g cut p saves window job.fields.engine count l bodies run plan failures header) long_is roomy);
     full = subst (λ (h : Header). FullBy h new run.end) still full;
   }
 
-  kept-by : KeepsBy g p bodies old new plan failures header → IsStoreKept job g p header bodies old new
-  kept-by keeps = of-job (KeepsBy g p bodies old new) keeps
+  kept-by : KeepsBy g cut p bodies old new plan failures header → IsStoreKept job g cut p header bodies old new
+  kept-by keeps = of-job (KeepsBy g cut p bodies old new) keeps
 
-  not-good-by : NotGoodBy g p bodies plan failures header → IsNotGood job g p header bodies
-  not-good-by not = of-job (NotGoodBy g p bodies) not
+  not-good-by : NotGoodBy g cut p bodies plan failures header → IsNotGood job g cut p header bodies
+  not-good-by not = of-job (NotGoodBy g cut p bodies) not
 
-  pub why-not-stored : (told : Type 0) (before now : ℕ) (fault : JournalFault) → IsWhyNoRun told old new before now (KeepsBy g p bodies old new plan failures header) fault
-      → ((why : StoreFault) → fault ≡ journal.BadStore why → told → NotGoodBy g p bodies plan failures header) → IsWhyNoneStored told job g p header bodies old new before now fault
+  pub why-not-stored : (told : Type 0) (before now : ℕ) (fault : JournalFault) → IsWhyNoRun told old new before now (KeepsBy g cut p bodies old new plan failures header) fault
+      → ((why : StoreFault) → fault ≡ journal.BadStore why → told → NotGoodBy g cut p bodies plan failures header) → IsWhyNoneStored told job g cut p header bodies old new before now fault
   why-not-stored told before now journal.DiskFault refused not = refused
-  why-not-stored told before now (journal.BadStore why) refused not = λ is. not-good-by (not why refl is)
+  why-not-stored told before now (journal.BadStore why) refused not = λ is. (not-good-by (not why refl is), ⊎_elim (λ same. inl same) (λ keeps. inr (kept-by keeps)) (refused is))
   why-not-stored told before now (journal.Full stored length) refused not = refused
   why-not-stored told before now journal.Failed refused not = refused
   why-not-stored told before now journal.NoMemory refused not = λ is. ⊎_elim (λ same. inl same) (λ keeps. inr (kept-by keeps)) (refused is)
 
 -- the same of another name of the program
-pub by-program : (r : Result StoredRun JournalFault) (told : Type 0) (job : JobSayings) (g : DataGraph) (p q : Update) (header : Header) (bodies : List (List ℕ)) (old new : DiskPast) (before now : ℕ) → p ≡ q
-    → IfErr r (IsWhyNoneStored told job g p header bodies old new before now) → IfErr r (IsWhyNoneStored told job g q header bodies old new before now)
-by-program r told job g p q header bodies old new before now same refused = subst (λ (u : Update). IfErr r (IsWhyNoneStored told job g u header bodies old new before now)) same refused
+pub by-program : (r : Result StoredRun JournalFault) (told : Type 0) (job : JobSayings) (g : DataGraph) (cut : Cut) (p q : Update) (header : Header) (bodies : List (List ℕ)) (old new : DiskPast) (before now : ℕ) → p ≡ q
+    → IfErr r (IsWhyNoneStored told job g cut p header bodies old new before now) → IfErr r (IsWhyNoneStored told job g cut q header bodies old new before now)
+by-program r told job g cut p q header bodies old new before now same refused = subst (λ (u : Update). IfErr r (IsWhyNoneStored told job g cut u header bodies old new before now)) same refused

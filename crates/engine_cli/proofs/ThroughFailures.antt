@@ -1,5 +1,6 @@
 -- A run on a store in memory as one without a store.
 use Rattle.std.proofs.Common.{◌≡◌, ℕ, Bool, List, [], false, sym, subst}
+use Rattle.atom_gather.specs.declared.cuts.Cut.{Cut}
 use Rattle.gl_base.specs.declared.entries.Entry.{Entry}
 use Rattle.gl_base.specs.declared.numbers.Vertex.{Vertex}
 use Rattle.gl_outside.specs.Disk.{DiskPast}
@@ -21,7 +22,7 @@ use Rattle.stored_answers.specs.declared.runs.StoredRun.{StoredRun}
 use Rattle.engine_cli.specs.Inner.Failing.{IsRunWithoutSnapshots}
 use Rattle.engine_cli.specs.Inner.Prepares.{IsPrintable}
 use Rattle.engine_cli.specs.Inner.Storing.{IsStoreRunFrom}
-use Rattle.engine_cli.specs.JobRuns.{BeginsAgain, HasEnough, IsEndAlone, IsRunWithFailures, IsStoredRun, RunsThroughFailures, lists_of, shared_by}
+use Rattle.engine_cli.specs.JobRuns.{BeginsAgain, HasEnough, HasNamedMachines, IsEndAlone, IsRunWithFailures, IsStoredRun, RunsAsNamed, RunsThroughFailures, lists_of, shared_by}
 use Rattle.engine_cli.specs.Plays.{update_of}
 use Rattle.engine_cli.proofs.Bounds.{bound-of}
 use Rattle.engine_cli.proofs.Results.{results-of}
@@ -60,11 +61,11 @@ module _ (job : JobSayings) (g : DataGraph) (owner : ℕ → ℕ) (saves : Bool)
       }
 
 -- a run from a store that has no snapshot
-pub through-failures : (job : JobSayings) (g : DataGraph) (header : Header) (saves : Bool) (window count : ℕ) (bodies : List (List ℕ)) (old new : DiskPast) (was run : StoredRun) → IsDataGraph g
-    → HasStart job.fields.algorithm job.fields.source g → bodies ≡ [] → IsStoreRunFrom job g (update_of job.fields.algorithm job.fields.source) header saves window false count bodies old new was
-    → IsRunWithoutSnapshots was run → RunsThroughFailures job g run
-through-failures job g header saves window count bodies old new was run is start none from alone =
-    let R : StoredRun → Type 0 = λ r. (owner : ℕ → ℕ) → IsPlacement g job.fields.atoms job.fields.machines owner → BeginsAgain job (shared_by job g owner) r in
+pub through-failures : (job : JobSayings) (g : DataGraph) (cut : Cut) (header : Header) (saves : Bool) (window count : ℕ) (bodies : List (List ℕ)) (old new : DiskPast) (was run : StoredRun) → IsDataGraph g
+    → HasStart job.fields.algorithm job.fields.source g → bodies ≡ [] → IsStoreRunFrom job g cut (update_of job.fields.algorithm job.fields.source) header saves window false count bodies old new was
+    → IsRunWithoutSnapshots was run → RunsThroughFailures job g cut run
+through-failures job g cut header saves window count bodies old new was run is start none from alone =
+    let R : StoredRun → Type 0 = λ r. (owner : ℕ → ℕ) → IsPlacement g cut job.fields.machines owner → BeginsAgain job (shared_by job g owner) r in
     let again : R (record was { snapshots = run.snapshots }) = λ owner placed.
     let shared = shared_by job g owner in
     let G : List (List ℕ) → Type 0 = λ b. (snapshots : List (List Entry)) × IsStoredRun saves shared job.fields.machines window job.fields.budget count (stored_order b) false snapshots was in
@@ -80,6 +81,15 @@ through-failures job g header saves window count bodies old new was run is start
       ended = subst (λ (r : StoredRun). IsEndAlone r.end) (sym alone.is) alone.ended;
       snapshots = alone.none;
     }
+
+-- its machines are those that the job names
+pub machines-without : (job : JobSayings) (g : DataGraph) (cut : Cut) (header : Header) (window count : ℕ) (bodies : List (List ℕ)) (old new : DiskPast) (was run : StoredRun) → bodies ≡ []
+    → IsStoreRunFrom job g cut (update_of job.fields.algorithm job.fields.source) header false window false count bodies old new was → IsRunWithoutSnapshots was run → HasNamedMachines job g cut run
+machines-without job g cut header window count bodies old new was run none from alone =
+    let shared = shared_by job g from.placed.0 in
+    let good : IsGoodStore shared header bodies = subst (IsGoodStore shared header) (sym none) (none_good shared header) in
+    let named : RunsAsNamed job g cut false window (record was { snapshots = run.snapshots }) = from.machines from.placed.0 from.placed.1 good in
+    (window, subst (RunsAsNamed job g cut false window) (sym alone.is) named)
 
 pub printable-without : (g : DataGraph) (was run : StoredRun) → IsPrintable g was → IsRunWithoutSnapshots was run → IsPrintable g run
 printable-without g was run printable alone =

@@ -2,8 +2,9 @@
 pub use Rattle.recovery.specs.Journals.{records_size, stored_in, stored_order}
 pub use Rattle.stored_answers.specs.Images.{HoldsGood, orders_behind}
 pub use Rattle.stored_answers.specs.Runs.{IsRunWithFailures, IsStoredRun, Shared, lists_of}
-pub use Rattle.stored_calls.specs.Runs.{BoundsSteps, HasRoomForRun}
+pub use Rattle.stored_calls.specs.Runs.{BoundsSteps, HasRoomForRun, IsRunBy}
 use Rattle.std.specs.Prelude.{◌≡◌, ◌≤◌, ◌+◌, ◌*◌, ◌++◌, ◌∷◌, ℕ, Bool, true, false, List, [], length, sum_by, ⊤, Option, None, Some}
+use Rattle.atom_gather.specs.declared.cuts.Cut.{Cut}
 use Rattle.gl_base.specs.declared.entries.Entry.{Entry}
 use Rattle.gl_base.specs.declared.jobs.FailureAt.{FailureAt}
 use Rattle.gl_base.specs.declared.numbers.Vertex.{Vertex}
@@ -13,6 +14,7 @@ use Rattle.call_answers.specs.Ends.{SpendsRun}
 use Rattle.graph_core.specs.DataGraph.{DataGraph, size}
 use Rattle.job_config.specs.Fields.{JobFields}
 use Rattle.job_config.specs.Jobs.{JobSayings}
+use Rattle.job_files.specs.Atoms.{IsCutOf}
 use Rattle.job_files.specs.JobTexts.{DescribeJobGraph, HasStart}
 use Rattle.job_files.specs.declared.jobs.JobVerb.{JobVerb}
 use Rattle.job_files.specs.declared.jobs.JobVerb.TheVariants as verb
@@ -62,11 +64,16 @@ HasEnough job g = (1 + length job.failures) * step_bound g job.fields.algorithm 
 
 -- how the job is run
 abbrev pub plan_for : JobSayings → RunPlan
-plan_for job = record { atoms = job.fields.atoms; machines = job.fields.machines; pipeline = job.fields.pipeline; budget = job.fields.budget }
+plan_for job = record { machines = job.fields.machines; pipeline = job.fields.pipeline; budget = job.fields.budget }
 
 -- and with this window, its end saved or not
 abbrev pub plan_with : JobSayings → Bool → ℕ → StoredPlan
 plan_with job saves window = record { run = plan_for job; window = window; engine = job.fields.engine; saves_end = saves }
+
+-- The machines that ran are of the engine that the job names, with its pipeline: the run has the lists of a course of such a cluster, with this window, its end
+-- saved or not.
+abbrev pub RunsAsNamed : JobSayings → DataGraph → Cut → Bool → ℕ → StoredRun → Type 0
+RunsAsNamed job g cut saves window run = IsRunBy g cut (update_of job.fields.algorithm job.fields.source) (plan_with job saves window) job.failures (lists_of run)
 
 -- the store with these snapshots has room for the job's run on this graph
 abbrev pub HasRoomForJob : JobSayings → DataGraph → List (List ℕ) → Type 0
@@ -88,10 +95,10 @@ IsEndAlone (Spent left) = ⊤
 IsEndAlone (Full stored bytes) = ⊥
 IsEndAlone DiskFault = ⊥
 
--- A run without a store, of a job that orders no failure. Its updates are counted by machine, no update is lost, no failure fires and no snapshot is taken; and where it left no
+-- A run without a store, of a job that orders no failure, on a graph that is cut so. Its updates are counted by machine, no update is lost, no failure fires and no snapshot is taken; and where it left no
 -- task, the numbers are what the algorithm is to find.
-pub record RunsAlone (job : JobFields) (g : DataGraph) (run : StoredRun) : Type 0 where
-  pub runs : RunsTo g (update_of job.algorithm job.source) job.atoms job.machines job.budget run.order.items run.numbers.items (left_at run.end)
+pub record RunsAlone (job : JobFields) (g : DataGraph) (cut : Cut) (run : StoredRun) : Type 0 where
+  pub runs : RunsTo g (update_of job.algorithm job.source) cut job.machines job.budget run.order.items run.numbers.items (left_at run.end)
   pub ended : IsEndAlone run.end
   pub counts : CountsByMachine job.machines run.order.items run.done.items
   pub lost : run.lost.items ≡ []
@@ -115,23 +122,43 @@ pub record BeginsAgain (job : JobSayings) (shared : Shared) (run : StoredRun) : 
   pub spent : (left : Vertex) → run.end ≡ Spent left → SpendsRun shared job.fields.budget left.0 0 (lists_of run)
   pub enough : HasEnough job shared.graph → (left : Vertex) → run.end ≡ Spent left → ⊥
 
--- A run without a store in which machines fail as the job orders, on a graph that is placed. No snapshot is taken, so after each failure it begins again from the start.
-pub record RunsThroughFailures (job : JobSayings) (g : DataGraph) (run : StoredRun) : Type 0 where
-  pub placed : (owner : ℕ → ℕ) × IsPlacement g job.fields.atoms job.fields.machines owner
-  pub goes : (owner : ℕ → ℕ) → IsPlacement g job.fields.atoms job.fields.machines owner → BeginsAgain job (shared_by job g owner) run
+-- A run without a store in which machines fail as the job orders, on a graph that is cut so and placed. No snapshot is taken, so after each failure it begins again from the start.
+pub record RunsThroughFailures (job : JobSayings) (g : DataGraph) (cut : Cut) (run : StoredRun) : Type 0 where
+  pub placed : (owner : ℕ → ℕ) × IsPlacement g cut job.fields.machines owner
+  pub goes : (owner : ℕ → ℕ) → IsPlacement g cut job.fields.machines owner → BeginsAgain job (shared_by job g owner) run
   pub ended : IsEndAlone run.end
   pub snapshots : run.snapshots.items ≡ []
 
--- a run without a store, where the job orders these failures
-abbrev pub RunsWithoutStore : JobSayings → DataGraph → StoredRun → List FailureAt → Type 0
-RunsWithoutStore job g run [] = RunsAlone job.fields g run
-RunsWithoutStore job g run (failure ∷ failures) = RunsThroughFailures job g run
+-- its machines are those that the job names, whatever their window
+abbrev pub HasNamedMachines : JobSayings → DataGraph → Cut → StoredRun → Type 0
+HasNamedMachines job g cut run = (window : ℕ) × RunsAsNamed job g cut false window run
+
+-- a run without a store on a graph that is cut so, where the job orders these failures
+abbrev pub RunsWithoutStore : JobSayings → DataGraph → Cut → StoredRun → List FailureAt → Type 0
+RunsWithoutStore job g cut run [] = RunsAlone job.fields g cut run
+RunsWithoutStore job g cut run (failure ∷ failures) = RunsThroughFailures job g cut run
 
 -- ---- on a store
 
 -- whatever a crash would leave of the disk is a good store that begins with these snapshots
 abbrev pub AreGoodImages : Shared → Header → List (List ℕ) → DiskPast → Type 0
 AreGoodImages shared header front past = (image : List ℕ) → IsImage past.now image → HoldsGood shared header front image
+
+-- The disk has a store of the job, on a graph that is cut so and whose vertices have these owners by its placement: whatever a crash would leave is a good store for them that begins with
+-- these snapshots.
+pub record IsStoreOfJob (job : JobSayings) (g : DataGraph) (cut : Cut) (owner : ℕ → ℕ) (front : List (List ℕ)) (past : DiskPast) : Type 0 where
+  pub placed : IsPlacement g cut job.fields.machines owner
+  pub images : AreGoodImages (shared_by job g owner) (header_for job.fields g) front past
+
+-- They name the same algorithm, source and machines. All else that they say may differ: atoms, failures, engine, window, pipeline and budget, and names of files.
+pub record AreAlikeJobs (one other : JobSayings) : Type 0 where
+  pub algorithm : one.fields.algorithm ≡ other.fields.algorithm
+  pub source : one.fields.source ≡ other.fields.source
+  pub machines : one.fields.machines ≡ other.fields.machines
+
+-- a store of one job is one of the other, on each graph that is cut so
+abbrev pub HaveSameStores : JobSayings → JobSayings → Type 0
+HaveSameStores one other = (g : DataGraph) (cut : Cut) (owner : ℕ → ℕ) (front : List (List ℕ)) (past : DiskPast) → IsStoreOfJob one g cut owner front past → IsStoreOfJob other g cut owner front past
 
 -- The store was found to have some snapshots as it was opened, and got others, whose orders are these. Whatever a crash left at any moment
 -- of the call is a good store that begins with the front ones; and whatever one leaves as the call has ended has the opened ones and the others.
@@ -156,16 +183,16 @@ pub record GoesOnFrom (job : JobSayings) (shared : Shared) (resumed : Bool) (hea
 abbrev pub snapshots_on : JobSayings → DataGraph → DiskPast → List (List ℕ)
 snapshots_on job g past = stored_in (header_for job.fields g) past.now.seen
 
--- A run of the job on its store, on a graph that is placed. The bytes are those of a store for it, and those of one without snapshots unless the
--- run is resumed. If whatever a crash would have left as the call began is a good store, for the graph as it is placed, that begins with some
--- snapshots, it is a run that goes on from the store. If it ended as the store has no room, that has so many snapshots and bytes.
-pub record RunsOnStore (resumed : Bool) (job : JobSayings) (g : DataGraph) (old new : DiskPast) (run : StoredRun) : Type 0 where
+-- A run of the job on its store, on a graph that is cut so and placed. The bytes are those of a store for it, and those of one without snapshots unless the
+-- run is resumed. If that was a store of the job as the call began, it is a run that goes on from it, of the machines that the job names. If it ended as the store has no room, that has so
+-- many snapshots and bytes.
+pub record RunsOnStore (resumed : Bool) (job : JobSayings) (g : DataGraph) (cut : Cut) (old new : DiskPast) (run : StoredRun) : Type 0 where
   pub stands : StandsFor (header_for job.fields g) (snapshots_on job g old) old.now.seen
   pub fresh : resumed ≡ false → length (snapshots_on job g old) ≡ 0
-  pub placed : (owner : ℕ → ℕ) × IsPlacement g job.fields.atoms job.fields.machines owner
-  pub goes_on : (owner : ℕ → ℕ) → IsPlacement g job.fields.atoms job.fields.machines owner
-      → (front : List (List ℕ)) → AreGoodImages (shared_by job g owner) (header_for job.fields g) front old
+  pub placed : (owner : ℕ → ℕ) × IsPlacement g cut job.fields.machines owner
+  pub goes_on : (owner : ℕ → ℕ) (front : List (List ℕ)) → IsStoreOfJob job g cut owner front old
       → GoesOnFrom job (shared_by job g owner) resumed (header_for job.fields g) front (snapshots_on job g old) old new run
+  pub machines : (owner : ℕ → ℕ) (front : List (List ℕ)) → IsStoreOfJob job g cut owner front old → RunsAsNamed job g cut true job.fields.window run
   pub full : (stored bytes : ℕ) → run.end ≡ Full stored bytes → (stored ≡ length (snapshots_on job g new)) × (bytes ≡ 65 + records_size (snapshots_on job g new))
 
 -- ---- either way
@@ -177,18 +204,20 @@ is_resumed verb.Resume = true
 is_resumed verb.Cut = false
 is_resumed verb.Init = false
 
--- The run is one of the job on this graph, where the job names this store, if any, and `told` says whether it is told what disks hold. `new` is what
+-- The run is one of the job on this graph, which is cut so, where the job names this store, if any, and `told` says whether it is told what disks hold. `new` is what
 -- disks hold as it has ended.
-abbrev pub RunsSo : Bool → JobVerb → FilesState → (List ℕ → DiskPast) → JobSayings → DataGraph → StoredRun → Option (List ℕ) → Type 0
-RunsSo told asked old new job g run None = RunsWithoutStore job g run job.failures
-RunsSo told asked old new job g run (Some name) = IfDisksTold told old (RunsOnStore (is_resumed asked) job g (old.pasts name) (new name) run)
+abbrev pub RunsSo : Bool → JobVerb → FilesState → (List ℕ → DiskPast) → JobSayings → DataGraph → Cut → StoredRun → Option (List ℕ) → Type 0
+RunsSo told asked old new job g cut run None = RunsWithoutStore job g cut run job.failures × HasNamedMachines job g cut run
+RunsSo told asked old new job g cut run (Some name) = IfDisksTold told old (RunsOnStore (is_resumed asked) job g cut (old.pasts name) (new name) run)
 
--- The two texts tell a graph, this run of the job was made on it and ended so, and its lists are those that the call leaves.
+-- The two texts tell a graph, which is cut as the job says and the files of its atoms tell, this run of the job was made on it and ended so, and its lists are those that the call leaves.
 pub record MakesRun (told : Bool) (asked : JobVerb) (old : FilesState) (new : List ℕ → DiskPast) (job : JobSayings) (lists : CallLists) (end : StoredEnd) (vertices edges : List ℕ) : Type 0 where
   pub graph : DataGraph
   pub graph_is : DescribeJobGraph job.fields vertices edges graph
   pub start : HasStart job.fields.algorithm job.fields.source graph
+  pub cut : Cut
+  pub cut_is : IsCutOf old job.fields graph cut
   pub run : StoredRun
   pub lists_are : lists ≡ lists_of_run run
   pub ended : run.end ≡ end
-  pub runs : RunsSo told asked old new job graph run job.fields.store
+  pub runs : RunsSo told asked old new job graph cut run job.fields.store

@@ -1,21 +1,21 @@
 -- What a run finds and leaves of the job's store where none is made, or memory ran out.
 use Rattle.std.specs.Prelude.{◌≡◌, ◌⊎◌, ◌+◌, ◌^◌, ◌<◌, ◌≤◌, ℕ, Bool, IsTrue, is_some, false, List, length, Some, Err}
+use Rattle.atom_gather.specs.declared.cuts.Cut.{Cut}
 use Rattle.gl_base.specs.declared.entries.Entry.{Entry}
 use Rattle.gl_outside.specs.Disk.{DiskPast, IsImage, LeavesOnly}
 use Rattle.gl_outside.specs.FilesState.{FilesState}
 use Rattle.graph_core.specs.DataGraph.{DataGraph}
 use Rattle.job_config.specs.Jobs.{JobSayings}
-use Rattle.job_files.specs.Atoms.{OfGraph}
+use Rattle.job_files.specs.Atoms.{OfJobCut, OfGraph}
 use Rattle.job_files.specs.JobTexts.{OfJob, OfSaid, OfTexts}
 use Rattle.job_files.specs.declared.jobs.JobVerb.{JobVerb}
-use Rattle.job_runs.specs.Plays.{IsPlacement}
 use Rattle.job_stores.specs.JobHeaders.{header_for}
 use Rattle.job_stores.specs.NewStores.{IfDisksTold}
 use Rattle.store_format.specs.Stores.{StandsFor, read_store}
 use Rattle.store_format.specs.declared.faults.StoreFault.{StoreFault}
-use Rattle.store_format.specs.declared.faults.StoreFault.TheVariants.{Used}
+use Rattle.store_format.specs.declared.faults.StoreFault.TheVariants.{BadByte, Used}
 use Rattle.store_format.specs.declared.header.Header.{Header}
-use Rattle.engine_cli.specs.JobRuns.{AreGoodImages, KeepsStore, is_resumed, records_size, shared_by, snapshots_on}
+use Rattle.engine_cli.specs.JobRuns.{IsStoreOfJob, KeepsStore, is_resumed, records_size, shared_by, snapshots_on}
 use Rattle.engine_cli.specs.StoreJobs.{HandsStore, IsStoreName}
 
 -- the bytes are those of a store that has snapshots, and the fault tells how many
@@ -29,13 +29,10 @@ pub record IsUsed (header : Header) (seen : List ℕ) (fault : StoreFault) : Typ
 abbrev pub RefusesStore : Bool → Header → List ℕ → StoreFault → Type 0
 RefusesStore resumed header seen fault = (read_store header seen ≡ Err fault) ⊎ ((resumed ≡ false) × IsUsed header seen fault)
 
--- The store is none that calls leave: it is longer than one may grow, or whatever a crash would have left is not a good one, wherever the
--- graph is placed.
-abbrev pub IsOtherStore : JobSayings → DataGraph → DiskPast → Type 0
-IsOtherStore job g past =
-    (owner : ℕ → ℕ) → IsPlacement g job.fields.atoms job.fields.machines owner
-    → (front : List (List ℕ)) → AreGoodImages (shared_by job g owner) (header_for job.fields g) front past
-    → 65 + records_size (snapshots_on job g past) ≤ 2 ^ 30 → ⊥
+-- the store is none that calls leave: it is longer than one may grow, or it is not one of the job, wherever the graph is placed
+abbrev pub IsOtherStore : JobSayings → DataGraph → Cut → DiskPast → Type 0
+IsOtherStore job g cut past =
+    (owner : ℕ → ℕ) (front : List (List ℕ)) → IsStoreOfJob job g cut owner front past → 65 + records_size (snapshots_on job g past) ≤ 2 ^ 30 → ⊥
 
 -- a crash at any moment of the call left what one as it began would have left
 abbrev pub KeepsImages : DiskPast → DiskPast → Type 0
@@ -46,11 +43,19 @@ abbrev pub KeepsAllImages : Bool → FilesState → (List ℕ → DiskPast) → 
 KeepsAllImages told old new = (name : List ℕ) → IfDisksTold told old (KeepsImages (old.pasts name) (new name))
 
 -- A run that went on from a good store wanted memory: it may have got snapshots, and the store keeps all that it had.
-abbrev pub KeepsGoing : JobSayings → DataGraph → DiskPast → DiskPast → Type 0
-KeepsGoing job g old new =
-    (owner : ℕ → ℕ) → IsPlacement g job.fields.atoms job.fields.machines owner
-    → (front : List (List ℕ)) → AreGoodImages (shared_by job g owner) (header_for job.fields g) front old
+abbrev pub KeepsGoing : JobSayings → DataGraph → Cut → DiskPast → DiskPast → Type 0
+KeepsGoing job g cut old new =
+    (owner : ℕ → ℕ) (front : List (List ℕ)) → IsStoreOfJob job g cut owner front old
     → (snapshots : List (List Entry)) × KeepsStore (shared_by job g owner) (header_for job.fields g) front (snapshots_on job g old) snapshots old new
+
+-- The store has the form of one for the job, with no snapshots unless the run is resumed; but it is none that calls leave, and no run came from it. The fault is
+-- a bad byte where it ended as it was opened. What a crash left is what one as the call began would have left; or from a good store it has all that it had.
+pub record IsNotRunFrom (resumed : Bool) (job : JobSayings) (g : DataGraph) (cut : Cut) (old new : DiskPast) (fault : StoreFault) : Type 0 where
+  pub stands : StandsFor (header_for job.fields g) (snapshots_on job g old) old.now.seen
+  pub fresh : resumed ≡ false → length (snapshots_on job g old) ≡ 0
+  pub other : IsOtherStore job g cut old
+  pub place : fault ≡ BadByte (65 + records_size (snapshots_on job g old))
+  pub kept : KeepsImages old new ⊎ KeepsGoing job g cut old new
 
 -- this holds of the name of the job's store, and of all that the job says and its graph
 abbrev pub OfStoredJob : JobVerb → FilesState → List ℕ → (List ℕ → JobSayings → DataGraph → Type 0) → Type 0
@@ -62,13 +67,14 @@ abbrev pub RefusesJobStore : Bool → JobVerb → FilesState → List ℕ → St
 RefusesJobStore told asked old file fault =
     OfStoredJob asked old file (λ name job g. IfDisksTold told old (RefusesStore (is_resumed asked) (header_for job.fields g) (old.pasts name).now.seen fault))
 
--- the job's store has its form, and is not a good one
-abbrev pub HasOtherStore : Bool → JobVerb → FilesState → List ℕ → Type 0
-HasOtherStore told asked old file = OfStoredJob asked old file (λ name job g. IfDisksTold told old (IsOtherStore job g (old.pasts name)))
+-- the job's store has its form, is not a good one, and no run came from it
+abbrev pub HasOtherStore : Bool → JobVerb → FilesState → (List ℕ → DiskPast) → List ℕ → StoreFault → Type 0
+HasOtherStore told asked old new file fault =
+    OfStoredJob asked old file (λ name job g. OfJobCut old job.fields g (λ cut. IfDisksTold told old (IsNotRunFrom (is_resumed asked) job g cut (old.pasts name) (new name) fault)))
 
 -- memory ran out, of a run that went on from the job's store
 abbrev pub RunsOutOnStore : Bool → JobVerb → FilesState → (List ℕ → DiskPast) → List ℕ → Type 0
-RunsOutOnStore told asked old new file = OfStoredJob asked old file (λ name job g. IfDisksTold told old (KeepsGoing job g (old.pasts name) (new name)))
+RunsOutOnStore told asked old new file = OfStoredJob asked old file (λ name job g. OfJobCut old job.fields g (λ cut. IfDisksTold told old (KeepsGoing job g cut (old.pasts name) (new name))))
 
 -- the job names a store
 abbrev pub NamesStore : JobVerb → FilesState → List ℕ → Type 0

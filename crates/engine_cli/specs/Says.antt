@@ -2,6 +2,7 @@
 -- what `out` gained.
 use Rattle.std.specs.Prelude.{◌≡◌, ◌⊎◌, ℕ, Bool, IsTrue, false, is_some, length, List, Option, None, Some, Ok, IfSome, take}
 use Rattle.std.specs.Io.KnownBytes.{Appends}
+use Rattle.atom_gather.specs.declared.cuts.Cut.{Cut}
 use Rattle.gl_outside.specs.Disk.{DiskPast}
 use Rattle.gl_outside.specs.Faults.{Rose}
 use Rattle.gl_outside.specs.FilesState.{FilesState}
@@ -9,20 +10,19 @@ use Rattle.gl_outside.specs.Fronts.{AppendsFront}
 use Rattle.graph_core.specs.DataGraph.{DataGraph}
 use Rattle.job_config.specs.Fields.{JobFields}
 use Rattle.job_config.specs.Jobs.{JobSayings}
-use Rattle.job_runs.specs.Plays.{IsPlacement}
 use Rattle.job_stores.specs.JobHeaders.{header_for}
 use Rattle.store_format.specs.Stores.{StandsFor}
 use Rattle.stored_answers.specs.declared.runs.StoredEnd.{StoredEnd}
 use Rattle.whole_files.specs.AtomNames.{index_name}
 use Rattle.whole_files.specs.Leaves.{KeepsOrGives}
-use Rattle.job_files.specs.Atoms.{HasAtoms, RefusesAtoms, atom_files, atoms_fault, given_bytes}
+use Rattle.job_files.specs.Atoms.{HasAtoms, IsCutOf, RefusesAtoms, atom_files, atoms_fault, given_bytes}
 use Rattle.job_files.specs.DoableJobs.{job_for}
 use Rattle.job_files.specs.JobTexts.{DescribeJobGraph, OfJob, OfSaid, OfTexts, RefusesTexts, RefusesJob}
 use Rattle.job_files.specs.declared.jobs.JobVerb.{JobVerb}
 use Rattle.engine_cli.specs.declared.status.Status.{Status}
 use Rattle.engine_cli.specs.declared.status.Status.TheVariants.{Done, Usage, BadJob, BadGraph, BadAtoms, ReadFault, WriteFault, DiskFault, BadStore, BudgetSpent, SnapshotsFull, NoMemory}
 use Rattle.engine_cli.specs.Answer.{IsAnswer, IsValid, Printed}
-use Rattle.engine_cli.specs.JobRuns.{AreGoodImages, CallLists, HasEnough, HasRoomForJob, MakesRun, is_resumed, no_lists, shared_by, snapshots_on}
+use Rattle.engine_cli.specs.JobRuns.{CallLists, HasEnough, HasRoomForJob, IsStoreOfJob, MakesRun, is_resumed, no_lists, snapshots_on}
 use Rattle.engine_cli.specs.JobStores.{HasOtherStore, KeepsAllImages, NamesStore, RefusesJobStore, RunsOutOnStore}
 use Rattle.stored_answers.specs.declared.runs.StoredEnd.TheVariants as end
 
@@ -94,7 +94,7 @@ Refuses told asked file old new (BadAtoms fault) = OfJob asked old file (Refuses
 Refuses told asked file old new ReadFault = Rose old.sources.faults new.sources.faults
 Refuses told asked file old new WriteFault = ⊥
 Refuses told asked file old new DiskFault = Rose old.disks.faults new.disks.faults × NamesStore asked old file × KeepsAllImages told old new.pasts
-Refuses told asked file old new (BadStore fault) = (RefusesJobStore told asked old file fault × KeepsAllImages told old new.pasts) ⊎ HasOtherStore told asked old file
+Refuses told asked file old new (BadStore fault) = (RefusesJobStore told asked old file fault × KeepsAllImages told old new.pasts) ⊎ HasOtherStore told asked old new.pasts file fault
 Refuses told asked file old new (BudgetSpent left) = ⊥
 Refuses told asked file old new (SnapshotsFull stored length) = ⊥
 Refuses told asked file old new NoMemory = KeepsAllImages told old new.pasts ⊎ RunsOutOnStore told asked old new.pasts file
@@ -133,15 +133,18 @@ pub record IsSound (asked : JobVerb) (file : List ℕ) (before now : Moment) : T
   pub no_write_fault : Rose before.files.sinks.faults now.files.sinks.faults → ⊥
   pub no_fault_of_out : Rose before.faults now.faults → ⊥
 
+-- the disk has a store of the job on the graph, which is cut so and placed
+pub record HasStoreOfJob (job : JobSayings) (g : DataGraph) (cut : Cut) (past : DiskPast) : Type 0 where
+  pub owner : ℕ → ℕ
+  pub front : List (List ℕ)
+  pub good : IsStoreOfJob job g cut owner front past
+
 -- A disk is a store from which the job's run on this graph can come to its end, resumed or not. Its bytes are those of a store for them, without snapshots unless the
--- run is resumed; whatever a crash would leave is good for the placed graph; and budget and room are enough.
-pub record HasSoundStore (resumed : Bool) (job : JobSayings) (g : DataGraph) (past : DiskPast) : Type 0 where
+-- run is resumed; it is one of the job on the graph, cut as the job says and the files of its atoms tell; and budget and room are enough.
+pub record HasSoundStore (resumed : Bool) (files : FilesState) (job : JobSayings) (g : DataGraph) (past : DiskPast) : Type 0 where
   pub stands : StandsFor (header_for job.fields g) (snapshots_on job g past) past.now.seen
   pub fresh : resumed ≡ false → length (snapshots_on job g past) ≡ 0
-  pub owner : ℕ → ℕ
-  pub placed : IsPlacement g job.fields.atoms job.fields.machines owner
-  pub front : List (List ℕ)
-  pub good : AreGoodImages (shared_by job g owner) (header_for job.fields g) front past
+  pub good : (cut : Cut) → IsCutOf files job.fields g cut → HasStoreOfJob job g cut past
   pub enough : HasEnough job g
   pub room : HasRoomForJob job g (snapshots_on job g past)
 
@@ -153,7 +156,7 @@ pub record IsSoundOnStore (told : Bool) (asked : JobVerb) (file : List ℕ) (bef
   pub named : IsTrue (is_some before.files.disks.names)
   pub name : List ℕ
   pub name_is : input.job.fields.store ≡ Some name
-  pub store : (g : DataGraph) → DescribeJobGraph input.job.fields input.vertices input.edges g → HasSoundStore (is_resumed asked) input.job g (before.files.pasts name)
+  pub store : (g : DataGraph) → DescribeJobGraph input.job.fields input.vertices input.edges g → HasSoundStore (is_resumed asked) before.files input.job g (before.files.pasts name)
   pub atoms : HasSoundAtoms before.files input.job.fields input.vertices input.edges
   pub no_read_fault : Rose before.files.sources.faults now.files.sources.faults → ⊥
   pub no_write_fault : Rose before.files.sinks.faults now.files.sinks.faults → ⊥

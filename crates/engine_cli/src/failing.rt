@@ -1,5 +1,6 @@
 //! Runs the job's algorithm on its graph without a store, through the failures that the job orders.
 ghost use Rattle.std.specs.Prelude.{◌≡◌, ◌≤◌, [], IfOk, IsTrue, length};
+ghost use Rattle.atom_gather.specs.Cuts.{CanBeCut};
 ghost use Rattle.graph_core.specs.DataGraph.{IsDataGraph};
 ghost use Rattle.job_config.specs.Ranges.{HasNumbers};
 ghost use Rattle.job_config.specs.Views.{job_view};
@@ -8,11 +9,12 @@ ghost use Rattle.recovery.specs.Recovered.{IsHeaderOf};
 ghost use Rattle.store_format.specs.Headers.{IsAllowed};
 ghost use Rattle.store_format.specs.Stores.{StandsFor};
 ghost use Rattle.whole_laws.specs.whole_calls.Following.{AreJobFailures};
-ghost use Rattle.engine_cli.specs.JobRuns.{IsEndAlone, RunsThroughFailures, RunsWithoutStore};
+ghost use Rattle.engine_cli.specs.JobRuns.{HasNamedMachines, IsEndAlone, RunsThroughFailures, RunsWithoutStore};
 ghost use Rattle.engine_cli.specs.Inner.Failing.{IsRunWithoutSnapshots};
 ghost use Rattle.engine_cli.specs.Inner.Prepares.{IsPrintable};
 
 use crate::storing::run_stored_on;
+use atom_gather::Cut;
 use gl_base::{Job, NoMemory};
 use gl_outside::{Disk, MemDisk};
 use graph_core::Graph;
@@ -25,20 +27,23 @@ use stored_answers::{StoredEnd, StoredRun};
 /// A window in which a run takes no snapshot: half of it is the greatest budget that a job may have.
 const WIDEST_WINDOW: u32 = 33_554_432;
 
-/// Runs the job's algorithm without a store. A store in memory, which gets no snapshot, stands in for one: so a machine that fails takes all
+/// Runs the job's algorithm on the graph, which is cut so, without a store. A store in memory, which gets no snapshot, stands in for one: so a machine that fails takes all
 /// back to the start.
 pub fn run_without_store<R: Wait>(
     rt: &R,
     alloc: Global,
     graph: &Graph,
+    cut: &Cut,
     job: &Job,
 ) -> Result<StoredRun, NoMemory>
     requires graph { IsDataGraph graph.now }
+    requires cut { CanBeCut graph.now cut.now }
     requires start { HasStart job.now.algorithm job.now.source graph.now }
     requires numbers { HasNumbers (job_view job.now).fields }
     requires failures { AreJobFailures job.now.machines job.now.failures.items }
     requires few { length job.now.failures.items ≤ 64 }
-    ensures run { IfOk result (λ run. RunsWithoutStore (job_view job.now) graph.now run job.now.failures.items) }
+    ensures run { IfOk result (λ run. RunsWithoutStore (job_view job.now) graph.now cut.now run job.now.failures.items) }
+    ensures machines { IfOk result (HasNamedMachines (job_view job.now) graph.now cut.now) }
     ensures ended { IfOk result (λ run. IsEndAlone run.end) }
     ensures printable { IfOk result (IsPrintable graph.now) }
 {
@@ -46,7 +51,7 @@ pub fn run_without_store<R: Wait>(
     let mut bytes = Vec::new(alloc);
     bytes.extend_from_slice(&new_store(header))?;
     let disk = MemDisk::new(alloc, bytes, Vec::new(alloc), u64::MAX);
-    run_through_failures(rt, alloc, graph, job, &header, disk)
+    run_through_failures(rt, alloc, graph, cut, job, &header, disk)
 }
 
 /// What a store in memory is for, that nobody else reads: the machines and the size of the graph alone.
@@ -72,11 +77,13 @@ fn run_through_failures<R: Wait, D: Disk + Drop>(
     rt: &R,
     alloc: Global,
     graph: &Graph,
+    cut: &Cut,
     job: &Job,
     header: &Header,
     disk: D,
 ) -> Result<StoredRun, NoMemory>
     requires graph { IsDataGraph graph.now }
+    requires cut { CanBeCut graph.now cut.now }
     requires start { HasStart job.now.algorithm job.now.source graph.now }
     requires numbers { HasNumbers (job_view job.now).fields }
     requires failures { AreJobFailures job.now.machines job.now.failures.items }
@@ -85,23 +92,24 @@ fn run_through_failures<R: Wait, D: Disk + Drop>(
     requires machines { header.now.machines ≡ job.now.machines }
     requires told { IsTrue D.told }
     requires empty { StandsFor header.now [] (D.past disk).now.seen }
-    ensures run { IfOk result (RunsThroughFailures (job_view job.now) graph.now) }
+    ensures run { IfOk result (RunsThroughFailures (job_view job.now) graph.now cut.now) }
+    ensures machines { IfOk result (HasNamedMachines (job_view job.now) graph.now cut.now) }
     ensures printable { IfOk result (IsPrintable graph.now) }
 {
     let Ok(mut journal) = Journal::open(alloc, disk, header) else {
         return Err(NoMemory);
     };
-    let run = run_stored_on(
+    match run_stored_on(
         rt,
         alloc,
         graph,
+        cut,
         job,
         false,
         WIDEST_WINDOW,
         &mut journal,
         false,
-    );
-    match run {
+    ) {
         Ok(run) => without_snapshots(alloc, run),
         Err(_) => Err(NoMemory),
     }

@@ -69,7 +69,7 @@ fn cut_job<F: Files>(alloc: Global, files: &mut F, file: &str) -> Status
     ensures reads { (F.state files.old).sources.faults ≤ (F.state files.new).sources.faults }
     ensures writes { (F.state files.old).sinks.faults ≤ (F.state files.new).sinks.faults }
 {
-    let Input { job, graph } = match read_input(alloc, files, file, JobVerb::Cut) {
+    let Input { job, graph, .. } = match read_input(alloc, files, file, JobVerb::Cut) {
         Ok(input) => input,
         Err(why) => return why.into(),
     };
@@ -88,7 +88,7 @@ fn init_job<F: Files>(alloc: Global, files: &mut F, file: &str) -> Status
     ensures reads { (F.state files.old).sources.faults ≤ (F.state files.new).sources.faults }
     ensures writes { (F.state files.old).sinks.faults ≤ (F.state files.new).sinks.faults }
 {
-    let Input { job, graph } = match read_input(alloc, files, file, JobVerb::Init) {
+    let Input { job, graph, .. } = match read_input(alloc, files, file, JobVerb::Init) {
         Ok(input) => input,
         Err(why) => return why.into(),
     };

@@ -4,6 +4,7 @@
 mod ended;
 mod failing;
 mod file_verbs;
+mod laws;
 mod notes;
 mod playing;
 mod printing;
@@ -14,6 +15,7 @@ mod top;
 
 pub use ended::Ended;
 pub use file_verbs::files_only;
+pub use laws::stores_serve_alike_jobs;
 pub use status::Status;
 pub use stored_answers::SnapLine;
 pub use top::engine;

@@ -6,12 +6,11 @@ use gl_base::{INF, Job};
 use job_programs::JobProgram;
 use job_runs::RunPlan;
 
-/// How the job's graph is placed and its program run on it.
+/// How the job's program is run on its graph.
 pub fn plan_of(job: &Job) -> RunPlan
-    ensures { result ≡ record { atoms = job.now.atoms; machines = job.now.machines; pipeline = job.now.pipeline; budget = job.now.budget } }
+    ensures { result ≡ record { machines = job.now.machines; pipeline = job.now.pipeline; budget = job.now.budget } }
 {
     RunPlan {
-        atoms: job.atoms,
         machines: job.machines,
         pipeline: job.pipeline,
         budget: job.budget,

@@ -117,7 +117,7 @@ fn run_input<R: Wait, F: Files>(
     ensures used { UsesNamed input.now.job.store (F.state files.old) (F.state files.new) }
 {
     match &input.job.store {
-        None => match run_without_store(rt, alloc, &input.graph, &input.job) {
+        None => match run_without_store(rt, alloc, &input.graph, &input.cut, &input.job) {
             Ok(run) => Ok(run),
             Err(NoMemory) => Err(NoStore::NoMemory),
         },

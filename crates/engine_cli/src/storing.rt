@@ -1,5 +1,6 @@
 //! Runs the job's algorithm on its graph, from the job's store and into it.
-ghost use Rattle.std.specs.Prelude.{◌≡◌, ◌≤◌, IfErr, IfOk, IsTrue, false, length};
+ghost use Rattle.std.specs.Prelude.{true, ◌≡◌, ◌≤◌, IfErr, IfOk, IsTrue, false, length};
+ghost use Rattle.atom_gather.specs.Cuts.{CanBeCut};
 ghost use Rattle.job_config.specs.Ranges.{HasNumbers};
 ghost use Rattle.job_config.specs.Views.{job_view};
 ghost use Rattle.job_files.specs.JobTexts.{HasStart};
@@ -13,10 +14,11 @@ ghost use Rattle.gl_outside.specs.Frames.{ChangesDisk};
 ghost use Rattle.whole_laws.specs.whole_calls.Following.{AreJobFailures};
 ghost use Rattle.engine_cli.specs.JobRuns.{RunsOnStore};
 ghost use Rattle.engine_cli.specs.Inner.Prepares.{IsPrintable, IsRunnable};
-ghost use Rattle.engine_cli.specs.Inner.Storing.{IsStoreRunFrom, IsRunIntoStore, IsWhyNoStoredRun, IsWhyNotOnDisk, IsWhyNotOnJournal, IsWhyNoneStored, no_store_of_open, no_store_of_journal};
+ghost use Rattle.engine_cli.specs.Inner.Storing.{IsStoreRunFrom, IsRunIntoStore, IsWhyNoStoredRun, IsWhyNotOnDisk, IsWhyNotOnJournal, IsWhyNoneStored, no_store_of_open, no_store_of_journal, no_store_of_run};
 ghost use Rattle.engine_cli.specs.Plays.{update_of};
 
 use crate::playing::{plan_of, program_of};
+use atom_gather::Cut;
 use gl_base::Job;
 use gl_outside::{Disk, DiskOf, Files, OpenFault};
 use graph_core::Graph;
@@ -31,7 +33,8 @@ use stored_calls::run_stored;
 use update_api::Program;
 
 /// Opens the job's store in the file of this name, and runs the job's algorithm from it and into it. `BadStore` comes where its bytes are
-/// none of a store for this job and graph, and, unless the run is resumed, by `Used` where it has snapshots.
+/// none of a store for this job and graph, and, unless the run is resumed, by `Used` where it has snapshots. A store in form that no call leaves
+/// may be refused too, at the byte where it ends.
 pub fn run_on_store<R: Wait, F: Files>(
     rt: &R,
     alloc: Global,
@@ -73,10 +76,10 @@ fn run_on_disk<R: Wait, D: Disk>(
     made: &mut Result<StoredRun, NoStore>,
 ) -> D
     requires { IsRunnable input.now }
-    ensures run { IsTrue D.told → IfOk made.new (RunsOnStore resumed (job_view input.now.job) input.now.graph (D.past disk) (D.past result)) }
+    ensures run { IsTrue D.told → IfOk made.new (RunsOnStore resumed (job_view input.now.job) input.now.graph input.now.cut (D.past disk) (D.past result)) }
     ensures fault { IfOk made.new (λ run. run.end ≡ DiskFault → Rose (D.faults disk) (D.faults result)) }
     ensures printable { IfOk made.new (IsPrintable input.now.graph) }
-    ensures refused { IfErr made.new (IsWhyNotOnDisk (IsTrue D.told) resumed (job_view input.now.job) input.now.graph (D.past disk) (D.past result) (D.faults disk) (D.faults result)) }
+    ensures refused { IfErr made.new (IsWhyNotOnDisk (IsTrue D.told) resumed (job_view input.now.job) input.now.graph input.now.cut (D.past disk) (D.past result) (D.faults disk) (D.faults result)) }
     ensures same { D.same disk result }
     ensures later { D.faults disk ≤ D.faults result }
 {
@@ -106,16 +109,17 @@ fn run_on_journal<R: Wait, D: Disk>(
     requires machines { journal.old.header.machines ≡ input.now.job.machines }
     requires well { journal.old.failed ≡ false }
     ensures fresh { IsTrue D.told → IfOk result (λ run. resumed ≡ false → length (snapshots_in D.past journal.old) ≡ 0) }
-    ensures run { IsTrue D.told → IfOk result (IsStoreRunFrom (job_view input.now.job) input.now.graph (update_of input.now.job.algorithm input.now.job.source) journal.old.header true input.now.job.window resumed
+    ensures run { IsTrue D.told → IfOk result (IsStoreRunFrom (job_view input.now.job) input.now.graph input.now.cut (update_of input.now.job.algorithm input.now.job.source) journal.old.header true input.now.job.window resumed
         (length (snapshots_in D.past journal.old)) (snapshots_in D.past journal.old) (D.past journal.old.disk) (D.past journal.new.disk)) }
     ensures fault { IfOk result (λ run. run.end ≡ DiskFault → Rose (D.faults journal.old.disk) (D.faults journal.new.disk)) }
     ensures printable { IfOk result (IsPrintable input.now.graph) }
-    ensures refused { IfErr result (IsWhyNotOnJournal (IsTrue D.told) resumed (job_view input.now.job) input.now.graph (update_of input.now.job.algorithm input.now.job.source) journal.old.header
+    ensures refused { IfErr result (IsWhyNotOnJournal (IsTrue D.told) resumed (job_view input.now.job) input.now.graph input.now.cut (update_of input.now.job.algorithm input.now.job.source) journal.old.header
         (snapshots_in D.past journal.old) (D.past journal.old.disk) (D.past journal.new.disk) (D.faults journal.old.disk) (D.faults journal.new.disk)) }
     ensures same { D.same journal.old.disk journal.new.disk }
     ensures later { D.faults journal.old.disk ≤ D.faults journal.new.disk }
 {
     let count = journal.count();
+    let length = journal.length();
     if !resumed && count > 0 {
         return Err(NoStore::BadStore(StoreFault::Used(count)));
     }
@@ -124,6 +128,7 @@ fn run_on_journal<R: Wait, D: Disk>(
         rt,
         alloc,
         &input.graph,
+        &input.cut,
         &input.job,
         true,
         window,
@@ -131,21 +136,24 @@ fn run_on_journal<R: Wait, D: Disk>(
         resumed,
     ) {
         Ok(run) => Ok(run),
-        Err(fault) => Err(why_not_run(fault)),
+        Err(fault) => Err(why_not_run_from(fault, length)),
     }
 }
 
-/// Runs the job's algorithm by its program, with snapshots as this window asks, and one of the end where that is saved.
+/// Runs the job's algorithm by its program on the graph, which is cut so, with snapshots as this window asks, and one of the end where that
+/// is saved.
 pub fn run_stored_on<R: Wait, D: Disk>(
     rt: &R,
     alloc: Global,
     graph: &Graph,
+    cut: &Cut,
     job: &Job,
     saves_end: bool,
     window: u32,
     journal: &mut Journal<D>,
     resumed: bool,
 ) -> Result<StoredRun, JournalFault>
+    requires cut { CanBeCut graph.now cut.now }
     requires start { HasStart job.now.algorithm job.now.source graph.now }
     requires numbers { HasNumbers (job_view job.now).fields }
     requires failures { AreJobFailures job.now.machines job.now.failures.items }
@@ -154,33 +162,36 @@ pub fn run_stored_on<R: Wait, D: Disk>(
     requires machines { journal.old.header.machines ≡ job.now.machines }
     requires fresh { resumed ≡ false → journal.old.count ≡ 0 }
     requires well { journal.old.failed ≡ false }
-    ensures run { IsTrue D.told → IfOk result (IsStoreRunFrom (job_view job.now) graph.now (update_of job.now.algorithm job.now.source) journal.old.header saves_end window resumed
+    ensures run { IsTrue D.told → IfOk result (IsStoreRunFrom (job_view job.now) graph.now cut.now (update_of job.now.algorithm job.now.source) journal.old.header saves_end window resumed
         journal.old.count (snapshots_in D.past journal.old) (D.past journal.old.disk) (D.past journal.new.disk)) }
     ensures fault { IfOk result (λ run. run.end ≡ DiskFault → Rose (D.faults journal.old.disk) (D.faults journal.new.disk)) }
     ensures printable { IfOk result (IsPrintable graph.now) }
-    ensures refused { IfErr result (IsWhyNoneStored (IsTrue D.told) (job_view job.now) graph.now (update_of job.now.algorithm job.now.source) journal.old.header
+    ensures refused { IfErr result (IsWhyNoneStored (IsTrue D.told) (job_view job.now) graph.now cut.now (update_of job.now.algorithm job.now.source) journal.old.header
         (snapshots_in D.past journal.old) (D.past journal.old.disk) (D.past journal.new.disk) (D.faults journal.old.disk) (D.faults journal.new.disk)) }
     ensures same { D.same journal.old.disk journal.new.disk }
     ensures later { D.faults journal.old.disk ≤ D.faults journal.new.disk }
 {
     let program = program_of(job);
     run_stored_by(
-        rt, alloc, graph, program, job, saves_end, window, journal, resumed,
+        rt, alloc, graph, program, cut, job, saves_end, window, journal, resumed,
     )
 }
 
-/// Runs a program by the numbers of the job and its failures, with snapshots as this window asks, and one of the end where that is saved.
+/// Runs a program on the graph, which is cut so, by the numbers of the job and its failures, with snapshots as this window asks, and one of
+/// the end where that is saved.
 fn run_stored_by<R: Wait, D: Disk, P: Program>(
     rt: &R,
     alloc: Global,
     graph: &Graph,
     program: P,
+    cut: &Cut,
     job: &Job,
     saves_end: bool,
     window: u32,
     journal: &mut Journal<D>,
     resumed: bool,
 ) -> Result<StoredRun, JournalFault>
+    requires cut { CanBeCut graph.now cut.now }
     requires start { HasStart job.now.algorithm job.now.source graph.now }
     requires numbers { HasNumbers (job_view job.now).fields }
     requires failures { AreJobFailures job.now.machines job.now.failures.items }
@@ -189,11 +200,11 @@ fn run_stored_by<R: Wait, D: Disk, P: Program>(
     requires machines { journal.old.header.machines ≡ job.now.machines }
     requires fresh { resumed ≡ false → journal.old.count ≡ 0 }
     requires well { journal.old.failed ≡ false }
-    ensures run { IsTrue D.told → IfOk result (IsStoreRunFrom (job_view job.now) graph.now (P.meaning program) journal.old.header saves_end window resumed
+    ensures run { IsTrue D.told → IfOk result (IsStoreRunFrom (job_view job.now) graph.now cut.now (P.meaning program) journal.old.header saves_end window resumed
         journal.old.count (snapshots_in D.past journal.old) (D.past journal.old.disk) (D.past journal.new.disk)) }
     ensures fault { IfOk result (λ run. run.end ≡ DiskFault → Rose (D.faults journal.old.disk) (D.faults journal.new.disk)) }
     ensures printable { IfOk result (IsPrintable graph.now) }
-    ensures refused { IfErr result (IsWhyNoneStored (IsTrue D.told) (job_view job.now) graph.now (P.meaning program) journal.old.header
+    ensures refused { IfErr result (IsWhyNoneStored (IsTrue D.told) (job_view job.now) graph.now cut.now (P.meaning program) journal.old.header
         (snapshots_in D.past journal.old) (D.past journal.old.disk) (D.past journal.new.disk) (D.faults journal.old.disk) (D.faults journal.new.disk)) }
     ensures same { D.same journal.old.disk journal.new.disk }
     ensures later { D.faults journal.old.disk ≤ D.faults journal.new.disk }
@@ -211,6 +222,7 @@ fn run_stored_by<R: Wait, D: Disk, P: Program>(
         alloc,
         graph,
         program,
+        cut,
         plan,
         &job.failures,
         journal,
@@ -231,7 +243,20 @@ fn not_opened(fault: OpenFault) -> NoStore
     }
 }
 
-/// Why there is no run where the store could not be used.
+/// Why no run came from an open store of so many bytes. One that is not as calls leave it is bad where it ends.
+fn why_not_run_from(fault: JournalFault, length: u64) -> NoStore
+    ensures { result ≡ no_store_of_run fault length }
+{
+    match fault {
+        JournalFault::BadStore(_) => NoStore::BadStore(StoreFault::BadByte(length)),
+        JournalFault::DiskFault | JournalFault::Failed | JournalFault::Full { .. } => {
+            NoStore::DiskFault
+        }
+        JournalFault::NoMemory => NoStore::NoMemory,
+    }
+}
+
+/// Why there is no run where the store could not be opened.
 fn why_not_run(fault: JournalFault) -> NoStore
     ensures { result ≡ no_store_of_journal fault }
 {

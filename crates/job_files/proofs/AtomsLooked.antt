@@ -10,9 +10,14 @@ use Rattle.gl_outside.specs.Names.{AppendsNames}
 use Rattle.gl_outside.proofs.Fronts.{Rose-later}
 use Rattle.graph_core.specs.DataGraph.{DataGraph}
 use Rattle.atom_file.specs.declared.faults.AtomFault.{AtomFault}
-use Rattle.atom_gather.specs.Files.{atom_file_at, form_fault, form_of}
-use Rattle.atom_gather.specs.Gathered.{gather_fault}
+use Rattle.atom_cut.specs.Index.{index_bytes}
+use Rattle.atom_gather.specs.Cuts.{atom_numbers}
+use Rattle.atom_gather.specs.Files.{AreFiles, atom_file_at, form_fault, form_of}
+use Rattle.atom_gather.specs.Gathered.{IsAssignment, gather_fault}
 use Rattle.atom_gather.specs.IndexForm.{atoms_in, index_fault}
+use Rattle.atom_gather.specs.declared.cuts.Cut.{Cut}
+use Rattle.atom_gather.specs.declared.cuts.Cut.TheVariants.{Grown, Told}
+use Rattle.gl_base.specs.declared.numbers.AtomNo.{AtomNo}
 use Rattle.whole_files.specs.AtomNames.{atom_name, index_name}
 use Rattle.whole_files.specs.FilesUsed.{HandsOver, ReadsFiles}
 use Rattle.whole_files.specs.InTurn.{first_names}
@@ -21,7 +26,7 @@ use Rattle.whole_files.proofs.NamesHanded.{HandsOver-then}
 use Rattle.whole_files.proofs.TextsRead.{reads-after, reads-more}
 use Rattle.job_files.specs.declared.inputs.NoInput.{NoInput}
 use Rattle.job_files.specs.declared.inputs.NoInput.TheVariants as why
-use Rattle.job_files.specs.Atoms.{FindsInAtoms, atom_files, atom_forms, atoms_fault, bytes_or_none, given_bytes, index_form, long_or}
+use Rattle.job_files.specs.Atoms.{FindsInAtoms, IsToldCut, atom_files, atom_forms, atoms_fault, bytes_or_none, given_bytes, index_form, long_or}
 use Rattle.job_files.specs.Inner.AtomsRead.{HaveAtoms, LooksAtAtoms, TakesAtoms, TakesFile, TakesNamedAtoms, named_atoms}
 use Rattle.job_files.specs.NamesRead.{atoms_names, atoms_of_index, unless_fault}
 use Rattle.job_files.proofs.AtomsTaken.{not-long}
@@ -134,6 +139,27 @@ looks-gathered files prefix g index atoms read fault count formed have gathered 
     go None formed have = tt
     go (Some told) formed have = all formed.0 formed.1 have
 
+-- they tell how the graph is cut
+pub tells-gathered : (files : FilesState) (prefix : List ℕ) (g : DataGraph) (index : List ℕ) (atoms : ℕ) (of : Vec AtomNo Global) (read : List (Vec ℕ Global)) → atoms ≡ atoms_in index → IsFormed files prefix index
+    → IfSome files.sources.names (λ told. HaveAtoms files prefix atoms read) → IsAssignment g (atoms_in index) (atom_numbers of.items) → AreFiles g (atoms_in index) (atom_numbers of.items) index (atom_file_at read)
+    → IsToldCut files prefix g (Told atoms of)
+tells-gathered files prefix g index atoms of read count formed have assigned are =
+    (subst (λ (n : ℕ). IsAssignment g n (atom_numbers of.items)) (sym count) assigned, go files.sources.names formed have)
+  where
+    given : List ℕ
+    given = given_bytes files (index_name prefix)
+
+    all : index ≡ given → HaveAtoms files prefix atoms read → AreFiles g atoms (atom_numbers of.items) given (atom_files files prefix)
+    all is h = record {
+      index_is = sym is ∙ are.index_is ∙ ap (λ (n : ℕ). index_bytes g (atom_numbers of.items) n) (sym count);
+      files_are = λ a inside. sym (h.each a inside) ∙ are.files_are a (subst (λ (n : ℕ). a < n) count inside);
+    }
+
+    go : (names : Option (List (List ℕ))) → IfSome names (λ told. (index ≡ given) × (index_form given ≡ None)) → IfSome names (λ told. HaveAtoms files prefix atoms read)
+        → IfSome names (λ told. AreFiles g atoms (atom_numbers of.items) given (atom_files files prefix))
+    go None formed have = tt
+    go (Some told) formed have = all formed.0 have
+
 -- the index alone was read
 pub reads-index : (old new : FilesState) (prefix opened : List ℕ) → opened ≡ index_name prefix → ReadsFiles (opened ∷ []) old new → ReadsFiles (atoms_names old prefix) old new
 reads-index old new prefix opened is read =
@@ -165,19 +191,29 @@ finds-before old mid names prefix g fault frame noted finds =
     gives-before old.sources.names mid.sources.names names (P old.contents) noted
     (subst (λ (c : List ℕ → Option (List ℕ)). IfSome mid.sources.names (λ told. P c)) (ap (λ (s : FilesState). s.contents) frame) finds)
 
-looks-before : (old mid : FilesState) (now : ℕ) (names : List (List ℕ)) (prefix : List ℕ) (g : DataGraph) (r : Result (Unit {0}) NoInput) → ChangesSources old mid → AppendsNames old.sources.names mid.sources.names names
+tells-before : (old mid : FilesState) (names : List (List ℕ)) (prefix : List ℕ) (g : DataGraph) (cut : Cut) → ChangesSources old mid → AppendsNames old.sources.names mid.sources.names names
+    → IsToldCut mid prefix g cut → IsToldCut old prefix g cut
+tells-before old mid names prefix g (Grown atoms) frame noted tells = tells
+tells-before old mid names prefix g (Told atoms of) frame noted tells =
+    let P : (List ℕ → Option (List ℕ)) → Type 0 = λ c. AreFiles g atoms (atom_numbers of.items) (bytes_or_none (c (index_name prefix))) (λ b. bytes_or_none (c (atom_name prefix b))) in (
+      tells.0,
+      gives-before old.sources.names mid.sources.names names (P old.contents) noted
+          (subst (λ (c : List ℕ → Option (List ℕ)). IfSome mid.sources.names (λ told. P c)) (ap (λ (s : FilesState). s.contents) frame) tells.1),
+    )
+
+looks-before : (old mid : FilesState) (now : ℕ) (names : List (List ℕ)) (prefix : List ℕ) (g : DataGraph) (r : Result Cut NoInput) → ChangesSources old mid → AppendsNames old.sources.names mid.sources.names names
     → old.sources.faults ≤ mid.sources.faults → LooksAtAtoms mid now prefix g r → LooksAtAtoms old now prefix g r
-looks-before old mid now names prefix g (Ok done) frame noted later looks = finds-before old mid names prefix g None frame noted looks
+looks-before old mid now names prefix g (Ok cut) frame noted later looks = (finds-before old mid names prefix g None frame noted looks.0, tells-before old mid names prefix g cut frame noted looks.1)
 looks-before old mid now names prefix g (Err (why.BadJob fault)) frame noted later looks = looks
 looks-before old mid now names prefix g (Err (why.BadGraph fault)) frame noted later looks = looks
 looks-before old mid now names prefix g (Err (why.BadAtoms fault)) frame noted later looks = finds-before old mid names prefix g (Some fault) frame noted looks
 looks-before old mid now names prefix g (Err why.ReadFault) frame noted later looks = Rose-later old.sources.faults mid.sources.faults now later looks
 looks-before old mid now names prefix g (Err why.NoMemory) frame noted later looks = tt
 
-pub named-before : (old mid : FilesState) (now : ℕ) (names : List (List ℕ)) (prefix : Option (List ℕ)) (g : DataGraph) (r : Result (Unit {0}) NoInput) → ChangesSources old mid → AppendsNames old.sources.names mid.sources.names names
-    → old.sources.faults ≤ mid.sources.faults → TakesNamedAtoms prefix mid now g r → TakesNamedAtoms prefix old now g r
-named-before old mid now names None g r frame noted later takes = takes
-named-before old mid now names (Some prefix) g r frame noted later takes = looks-before old mid now names prefix g r frame noted later takes
+pub named-before : (old mid : FilesState) (now : ℕ) (names : List (List ℕ)) (prefix : Option (List ℕ)) (atoms : ℕ) (g : DataGraph) (r : Result Cut NoInput) → ChangesSources old mid → AppendsNames old.sources.names mid.sources.names names
+    → old.sources.faults ≤ mid.sources.faults → TakesNamedAtoms prefix atoms mid now g r → TakesNamedAtoms prefix atoms old now g r
+named-before old mid now names None atoms g r frame noted later takes = takes
+named-before old mid now names (Some prefix) atoms g r frame noted later takes = looks-before old mid now names prefix g r frame noted later takes
 
 -- the names of the files of atoms, as they were before others were read
 pub atoms-names-before : (old mid : FilesState) (prefix : Option (List ℕ)) → ChangesSources old mid → named_atoms mid prefix ≡ named_atoms old prefix

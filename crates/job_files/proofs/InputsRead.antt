@@ -2,6 +2,7 @@
 use Rattle.std.proofs.Common.{◌≡◌, ◌≤◌, ◌+◌, ◌++◌, inl, inr, ℕ, List, [], ◌∷◌, length, take, Option, None, Some, Result, Ok, Err, refl, sym, ap, subst, ⊎_elim, append-nil}
 use Rattle.std.specs.Prelude.{⊤}
 use Rattle.std.proofs.Math.Seq.{take-append-add}
+use Rattle.atom_gather.specs.declared.cuts.Cut.{Cut}
 use Rattle.gl_base.specs.declared.job_faults.JobFault.TheVariants.{OutOfRange}
 use Rattle.gl_base.specs.declared.job_faults.Key.TheVariants.{Source}
 use Rattle.gl_outside.specs.FilesState.{FilesState}
@@ -24,7 +25,7 @@ use Rattle.job_files.specs.declared.inputs.NoInput.TheVariants as why
 use Rattle.job_files.specs.declared.jobs.JobVerb.{JobVerb}
 use Rattle.job_files.specs.declared.jobs.NoJob.{NoJob}
 use Rattle.job_files.specs.declared.jobs.NoJob.TheVariants as no_job
-use Rattle.job_files.specs.Atoms.{FindsInAtoms, OfGraph}
+use Rattle.job_files.specs.Atoms.{FindsInAtoms, IsCutAt, OfGraph}
 use Rattle.job_files.specs.Inner.AtomsRead.{LooksAtAtoms, TakesNamedAtoms, named_atoms}
 use Rattle.job_files.specs.Inner.Causes.{no_input_of_graph, no_input_of_job}
 use Rattle.job_files.specs.Inner.Graphs.{TakesGraph}
@@ -97,19 +98,30 @@ of-graph files job g P texts start p =
     (λ v e t. (g, t, start, p)) texts
 
 -- the atoms are those of the graph, where there is a prefix
-named-atoms : (files : FilesState) (now : ℕ) (g : DataGraph) (named : Option (List ℕ)) (prefix : List ℕ) → named ≡ Some prefix → TakesNamedAtoms named files now g (Ok tt) → FindsInAtoms files prefix g None
-named-atoms files now g named prefix is takes = subst (λ (o : Option (List ℕ)). TakesNamedAtoms o files now g (Ok tt)) is takes
+named-atoms : (files : FilesState) (now : ℕ) (g : DataGraph) (named : Option (List ℕ)) (atoms : ℕ) (cut : Cut) (prefix : List ℕ) → named ≡ Some prefix → TakesNamedAtoms named atoms files now g (Ok cut)
+    → FindsInAtoms files prefix g None
+named-atoms files now g named atoms cut prefix is takes =
+    let looks : LooksAtAtoms files now prefix g (Ok cut) = subst (λ (o : Option (List ℕ)). TakesNamedAtoms o atoms files now g (Ok cut)) is takes in
+    looks.0
 
-pub run-read : (asked : JobVerb) (files : FilesState) (now : ℕ) (file : List ℕ) (input : Input) → IsInputFrom asked files file input → TakesNamedAtoms input.job.atoms_at files now input.graph (Ok tt)
-    → IsRunInput asked files now file (Ok input)
-run-read asked files now file input is takes = (
-  is,
+pub run-read : (asked : JobVerb) (files : FilesState) (now : ℕ) (file : List ℕ) (input : Input) (cut : Cut) → IsInputFrom asked files file input
+    → TakesNamedAtoms input.job.atoms_at input.job.atoms files now input.graph (Ok cut) → IsRunInput asked files now file (Ok (record { job = input.job; graph = input.graph; cut = cut }))
+run-read asked files now file input cut is takes = (
+  record { ready = is.ready; job = is.job; texts = is.texts; graph = is.graph; start = is.start },
   λ prefix named. of-graph files (job_view input.job).fields input.graph (λ g. FindsInAtoms files prefix g None) is.texts is.start
-      (named-atoms files now input.graph input.job.atoms_at prefix named takes),
+      (named-atoms files now input.graph input.job.atoms_at input.job.atoms cut prefix named takes),
 )
 
+-- how the graph is cut
+pub run-cut : (files : FilesState) (now : ℕ) (g : DataGraph) (named : Option (List ℕ)) (atoms : ℕ) (cut : Cut) → TakesNamedAtoms named atoms files now g (Ok cut) → IsCutAt files named atoms g cut
+run-cut files now g None atoms cut takes = same takes
+  where
+    same : {E : Type 0} → {grown : Cut} → (let r : Result Cut E = Ok cut in r) ≡ Ok grown → cut ≡ grown
+    same e = cc
+run-cut files now g (Some prefix) atoms cut takes = takes.1
+
 -- they are refused, or were not read
-pub run-refused : (asked : JobVerb) (files : FilesState) (now : ℕ) (file : List ℕ) (input : Input) (cause : NoInput) → IsInputFrom asked files file input → TakesNamedAtoms input.job.atoms_at files now input.graph (Err cause)
+pub run-refused : (asked : JobVerb) (files : FilesState) (now : ℕ) (file : List ℕ) (input : Input) (cause : NoInput) → IsInputFrom asked files file input → TakesNamedAtoms input.job.atoms_at input.job.atoms files now input.graph (Err cause)
     → IsRunInput asked files now file (Err cause)
 run-refused asked files now file input cause is takes = go input.job.atoms_at refl takes
   where
@@ -127,7 +139,7 @@ run-refused asked files now file input cause is takes = go input.job.atoms_at re
     no_error : {A : Type 0} → {x : A} → {why : NoInput} → Err why ≡ Ok x → ⊥
     no_error e = cc
 
-    go : (named : Option (List ℕ)) → input.job.atoms_at ≡ named → TakesNamedAtoms named files now input.graph (Err cause) → IsRunInput asked files now file (Err cause)
+    go : (named : Option (List ℕ)) → input.job.atoms_at ≡ named → TakesNamedAtoms named input.job.atoms files now input.graph (Err cause) → IsRunInput asked files now file (Err cause)
     go None named takes = absurd (no_error takes)
     go (Some prefix) named takes = refused prefix cause named takes
 
@@ -170,24 +182,24 @@ refuses-early asked old new now file why.ReadFault hands = tt
 refuses-early asked old new now file why.NoMemory hands = tt
 
 -- the atoms were refused, which is told of nothing else
-pub refuses-late : (asked : JobVerb) (files old new : FilesState) (now : ℕ) (file : List ℕ) (g : DataGraph) (named : Option (List ℕ)) (cause : NoInput) → TakesNamedAtoms named files now g (Err cause)
+pub refuses-late : (asked : JobVerb) (files old new : FilesState) (now : ℕ) (file : List ℕ) (g : DataGraph) (named : Option (List ℕ)) (atoms : ℕ) (cause : NoInput) → TakesNamedAtoms named atoms files now g (Err cause)
     → RefusesEarly asked file old new (let r : Result Input NoInput = Err cause in r)
-refuses-late asked files old new now file g named (why.BadJob fault) takes = absurd (none named takes)
+refuses-late asked files old new now file g named atoms (why.BadJob fault) takes = absurd (none named takes)
   where
-    no_error : {x : Unit {0}} → {cause : NoInput} → Err cause ≡ Ok x → ⊥
+    no_error : {x : Cut} → {cause : NoInput} → Err cause ≡ Ok x → ⊥
     no_error e = cc
 
-    none : (named : Option (List ℕ)) → TakesNamedAtoms named files now g (Err (why.BadJob fault)) → ⊥
+    none : (named : Option (List ℕ)) → TakesNamedAtoms named atoms files now g (Err (why.BadJob fault)) → ⊥
     none None takes = no_error takes
     none (Some prefix) takes = takes
-refuses-late asked files old new now file g named (why.BadGraph fault) takes = absurd (none named takes)
+refuses-late asked files old new now file g named atoms (why.BadGraph fault) takes = absurd (none named takes)
   where
-    no_error : {x : Unit {0}} → {cause : NoInput} → Err cause ≡ Ok x → ⊥
+    no_error : {x : Cut} → {cause : NoInput} → Err cause ≡ Ok x → ⊥
     no_error e = cc
 
-    none : (named : Option (List ℕ)) → TakesNamedAtoms named files now g (Err (why.BadGraph fault)) → ⊥
+    none : (named : Option (List ℕ)) → TakesNamedAtoms named atoms files now g (Err (why.BadGraph fault)) → ⊥
     none None takes = no_error takes
     none (Some prefix) takes = takes
-refuses-late asked files old new now file g named (why.BadAtoms fault) takes = tt
-refuses-late asked files old new now file g named why.ReadFault takes = tt
-refuses-late asked files old new now file g named why.NoMemory takes = tt
+refuses-late asked files old new now file g named atoms (why.BadAtoms fault) takes = tt
+refuses-late asked files old new now file g named atoms why.ReadFault takes = tt
+refuses-late asked files old new now file g named atoms why.NoMemory takes = tt

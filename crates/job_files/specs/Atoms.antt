@@ -8,9 +8,12 @@ use Rattle.gl_outside.specs.FilesState.{FilesState}
 use Rattle.graph_core.specs.DataGraph.{DataGraph}
 use Rattle.job_config.specs.Fields.{JobFields}
 use Rattle.atom_file.specs.Faults.{atom_fault}
-use Rattle.atom_gather.specs.Files.{form_of}
-use Rattle.atom_gather.specs.Gathered.{gather_fault}
+use Rattle.atom_gather.specs.Cuts.{atom_numbers}
+use Rattle.atom_gather.specs.Files.{AreFiles, form_of}
+use Rattle.atom_gather.specs.Gathered.{IsAssignment, gather_fault}
 use Rattle.atom_gather.specs.IndexForm.{atoms_in, index_fault}
+use Rattle.atom_gather.specs.declared.cuts.Cut.{Cut}
+use Rattle.atom_gather.specs.declared.cuts.Cut.TheVariants.{Grown, Told}
 use Rattle.whole_files.specs.AtomNames.{atom_name, index_name}
 use Rattle.job_files.specs.JobTexts.{DescribeJobGraph, HasStart, OfTexts}
 
@@ -51,6 +54,26 @@ atom_files files prefix a = given_bytes files (atom_name prefix a)
 -- where names are told, this is the first fault of the files at the prefix, or there is none
 abbrev pub FindsInAtoms : FilesState → List ℕ → DataGraph → Option AtomsFault → Type 0
 FindsInAtoms files prefix g fault = IfSome files.sources.names (λ told. atoms_fault g (given_bytes files (index_name prefix)) (atom_files files prefix) ≡ fault)
+
+-- the graph is cut as the files at the prefix tell: they are those of the graph, each vertex in its atom, where names are told
+abbrev pub IsToldCut : FilesState → List ℕ → DataGraph → Cut → Type 0
+IsToldCut files prefix g (Grown atoms) = ⊥
+IsToldCut files prefix g (Told atoms of) =
+    IsAssignment g atoms (atom_numbers of.items)
+    × IfSome files.sources.names (λ told. AreFiles g atoms (atom_numbers of.items) (given_bytes files (index_name prefix)) (atom_files files prefix))
+
+-- the graph is cut as the files at the prefix tell, where there is one, and else by its growth into so many atoms
+abbrev pub IsCutAt : FilesState → Option (List ℕ) → ℕ → DataGraph → Cut → Type 0
+IsCutAt files None atoms g cut = cut ≡ Grown atoms
+IsCutAt files (Some prefix) atoms g cut = IsToldCut files prefix g cut
+
+-- how a run of the job cuts its graph
+abbrev pub IsCutOf : FilesState → JobFields → DataGraph → Cut → Type 0
+IsCutOf files job g cut = IsCutAt files job.atoms_at job.atoms g cut
+
+-- this holds of how it cuts it
+abbrev pub OfJobCut : FilesState → JobFields → DataGraph → (Cut → Type 0) → Type 0
+OfJobCut files job g P = (cut : Cut) × IsCutOf files job g cut × P cut
 
 -- the two texts tell a graph that has the source which the algorithm needs, and this holds of it
 abbrev pub OfGraph : JobFields → (DataGraph → Type 0) → List ℕ → List ℕ → Type 0

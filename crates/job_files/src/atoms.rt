@@ -11,20 +11,21 @@ ghost use Rattle.job_files.specs.NamesRead.{atoms_names};
 
 use crate::NoInput;
 use atom_file::AtomView;
-use atom_gather::{AtomsReading, check_index, fault_in, gathered};
+use atom_gather::{AtomsReading, Cut, check_index, fault_in, gathered};
 use gl_base::{AtomsFault, AtomsKind, MAX_ATOM_BYTES, MAX_ATOMS, NoMemory};
 use gl_outside::Files;
 use graph_core::Graph;
 use std::alloc::Global;
 use whole_files::{atom_name, front_of, index_name};
 
-/// Reads the index and the atoms at a prefix, and looks whether they are those of the graph. The first fault is answered.
-pub fn check_atoms<F: Files>(
+/// Reads the index and the atoms at a prefix, looks whether they are those of the graph, and tells how they cut it. The first fault is
+/// answered.
+pub fn read_cut<F: Files>(
     alloc: Global,
     files: &mut F,
     prefix: &str,
     graph: &Graph,
-) -> Result<(), NoInput>
+) -> Result<Cut, NoInput>
     ensures answer { LooksAtAtoms (F.state files.old) (F.state files.new).sources.faults prefix.now graph.now result }
     ensures read { ReadsFiles (atoms_names (F.state files.old) prefix.now) (F.state files.old) (F.state files.new) }
 {
@@ -36,7 +37,7 @@ pub fn check_atoms<F: Files>(
     };
     let read = read_atoms(alloc, files, prefix, atoms)?;
     match gathered(alloc, graph, &index, &read) {
-        Ok(_) => Ok(()),
+        Ok(made) => Ok(Cut::Told { atoms, of: made.of }),
         Err(AtomsReading::Fault(fault)) => Err(NoInput::BadAtoms(fault)),
         Err(AtomsReading::NoMemory) => Err(NoInput::NoMemory),
     }

@@ -1,19 +1,23 @@
 //! The job of a verb, with its graph.
-ghost use Rattle.std.specs.Prelude.{◌≡◌, ◌≤◌, OnOk};
+ghost use Rattle.std.specs.Prelude.{◌≡◌, ◌≤◌, IfOk, OnOk};
 ghost use Rattle.gl_outside.specs.Frames.{ChangesSources};
 ghost use Rattle.gl_outside.specs.Names.{AppendsNames};
 ghost use Rattle.whole_files.specs.FilesUsed.{ReadsFiles};
 ghost use Rattle.job_files.specs.declared.inputs.NoInput.TheVariants.{NoMemory};
 ghost use Rattle.job_files.specs.Inner.Causes.{no_input_of_file, no_input_of_graph, no_input_of_job};
 ghost use Rattle.job_files.specs.Inner.AtomsRead.{TakesNamedAtoms, named_atoms};
+ghost use Rattle.atom_gather.specs.declared.cuts.Cut.TheVariants.{Grown};
+ghost use Rattle.job_config.specs.Views.{job_view};
+ghost use Rattle.job_files.specs.Atoms.{IsCutOf};
 ghost use Rattle.job_files.specs.Inputs.{IsInput, IsRunInput, RefusesEarly};
 ghost use Rattle.job_files.specs.NamesRead.{HandsForRun, names_of};
 
 use crate::JobVerb;
-use crate::atoms::check_atoms;
+use crate::atoms::read_cut;
 use crate::graphs::graph_of;
 use crate::jobs::{NoJob, job_of};
 use crate::sources::lacked_source;
+use atom_gather::Cut;
 use gl_base::{AtomsFault, Job, JobFault, Key, TextFault};
 use gl_outside::Files;
 use graph_core::Graph;
@@ -21,11 +25,12 @@ use graph_text::Reading;
 use std::alloc::Global;
 use whole_files::NotRead;
 
-/// A job with its graph.
+/// A job with its graph, and how a run of it cuts the graph into atoms.
 #[derive(Drop)]
 pub struct Input {
     pub job: Job,
     pub graph: Graph,
+    pub cut: Cut,
 }
 
 /// Why a job or its graph was not read.
@@ -88,7 +93,7 @@ impl From<gl_base::NoMemory> for NoInput {
 
 /// Reads the job in the file of this name and the graph that it names. The job's file is looked at first, then what it says
 /// and the key that the verb needs, then the vertex text, the edge text, and last whether the source that the algorithm
-/// needs is a vertex.
+/// needs is a vertex. The graph is cut by its growth into as many atoms as the job says.
 pub fn read_input<F: Files>(
     alloc: Global,
     files: &mut F,
@@ -98,18 +103,22 @@ pub fn read_input<F: Files>(
     ensures answer { IsInput verb (F.state files.old) (F.state files.new).sources.faults file.now result }
     ensures read { ReadsFiles (names_of verb (F.state files.old) file.now) (F.state files.old) (F.state files.new) }
     ensures handed { OnOk result (AppendsNames (F.state files.old).sources.names (F.state files.new).sources.names (names_of verb (F.state files.old) file.now)) }
+    ensures cut { IfOk result (λ input. input.cut ≡ Grown input.job.atoms) }
 {
     let job = job_of(alloc, files, file, verb)?;
     let graph = graph_of(alloc, files, &job)?;
     match lacked_source(&graph, &job) {
-        None => Ok(Input { job, graph }),
+        None => {
+            let cut = Cut::Grown(job.atoms);
+            Ok(Input { job, graph, cut })
+        }
         Some(source) => Err(NoInput::BadJob(JobFault::OutOfRange(Key::Source, source))),
     }
 }
 
 /// Reads the job in the file of this name and the graph that it names, as `read_input` does, and then, where the job names
 /// a prefix of atoms, the index there and the atoms of its number. They are refused where they are not those of the graph
-/// under any assignment of its vertices.
+/// under any assignment of its vertices; else the graph is cut by that assignment, into as many atoms as the index says.
 pub fn read_run_input<F: Files>(
     alloc: Global,
     files: &mut F,
@@ -121,21 +130,22 @@ pub fn read_run_input<F: Files>(
     ensures handed { HandsForRun verb (F.state files.old) (F.state files.new) file.now }
     ensures refused { RefusesEarly verb file.now (F.state files.old) (F.state files.new) result }
     ensures later { (F.state files.old).sources.faults ≤ (F.state files.new).sources.faults }
+    ensures cut { IfOk result (λ input. IsCutOf (F.state files.old) (job_view input.job).fields input.graph input.cut) }
 {
     let input = read_input(alloc, files, file, verb)?;
-    match check_named(alloc, files, &input) {
-        Ok(()) => Ok(input),
+    match cut_of(alloc, files, &input) {
+        Ok(cut) => Ok(Input { cut, ..input }),
         Err(why) => Err(why),
     }
 }
 
-/// Looks at the atoms at the prefix that the job names, if it names one.
-fn check_named<F: Files>(alloc: Global, files: &mut F, input: &Input) -> Result<(), NoInput>
-    ensures answer { TakesNamedAtoms input.now.job.atoms_at (F.state files.old) (F.state files.new).sources.faults input.now.graph result }
+/// How a run of the job cuts the graph: by the atoms at the prefix that the job names, if it names one.
+fn cut_of<F: Files>(alloc: Global, files: &mut F, input: &Input) -> Result<Cut, NoInput>
+    ensures answer { TakesNamedAtoms input.now.job.atoms_at input.now.job.atoms (F.state files.old) (F.state files.new).sources.faults input.now.graph result }
     ensures read { ReadsFiles (named_atoms (F.state files.old) input.now.job.atoms_at) (F.state files.old) (F.state files.new) }
 {
     match &input.job.atoms_at {
-        None => Ok(()),
-        Some(prefix) => check_atoms(alloc, files, prefix.as_str(), &input.graph),
+        None => Ok(Cut::Grown(input.job.atoms)),
+        Some(prefix) => read_cut(alloc, files, prefix.as_str(), &input.graph),
     }
 }

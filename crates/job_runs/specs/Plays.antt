@@ -1,5 +1,5 @@
 -- Runs of a program on a graph that is placed on machines.
-pub use Rattle.atom_cut.specs.Cuts.{IsGrowthCut, atom_numbers}
+pub use Rattle.atom_gather.specs.Cuts.{IsCutBy, IsGrowthCut, atom_numbers, atoms_of}
 pub use Rattle.atom_place.specs.Placing.{IsPlacing}
 pub use Rattle.cluster_laws.specs.cluster_cuts.Goings.{AreUpdatesFrom, IsByOwner}
 pub use Rattle.local_graph.specs.Locals.{machine_numbers}
@@ -8,6 +8,7 @@ pub use Rattle.placed_graphs.specs.Placed.{placed_owner}
 pub use Rattle.placed_graphs.specs.Weights.{atom_weights}
 use Rattle.std.specs.List.{AllByRecursion}
 use Rattle.std.specs.Prelude.{◌≡◌, ℕ, ◌<◌, ◌≤◌, true, List, length, Option, MatchOption, count_by}
+use Rattle.atom_gather.specs.declared.cuts.Cut.{Cut}
 use Rattle.gl_base.specs.Lists.{AreEach}
 use Rattle.gl_base.specs.declared.entries.Entry.{Entry}
 use Rattle.gl_base.specs.declared.numbers.AtomNo.{AtomNo}
@@ -18,26 +19,26 @@ use Rattle.seq_run.specs.Orders.{IsFinished, IsValidOrder, replay, tasks_after}
 use Rattle.seq_run.specs.Runs.{AreNumbers}
 use Rattle.update_api.specs.Updates.{Update}
 
--- The graph is cut by its growth into so many atoms, and these are placed on so many machines by what they weigh. Each machine owns
--- the vertices of its atoms.
-pub record IsCutAndPlaced (g : DataGraph) (atoms machines : ℕ) (owner : ℕ → ℕ) : Type 0 where
+-- The graph is cut so into atoms, and these are placed on so many machines by what they weigh. Each machine owns the vertices of its
+-- atoms.
+pub record IsCutAndPlaced (g : DataGraph) (cut : Cut) (machines : ℕ) (owner : ℕ → ℕ) : Type 0 where
   pub of : List AtomNo
   pub on : List MachineNo
-  pub cut : IsGrowthCut g atoms (atom_numbers of)
-  pub placing : IsPlacing (atom_weights g (atom_numbers of) atoms) machines (machine_numbers on)
+  pub by : IsCutBy g cut (atom_numbers of)
+  pub placing : IsPlacing (atom_weights g (atom_numbers of) (atoms_of cut)) machines (machine_numbers on)
   pub owns : (v : ℕ) → owner v ≡ placed_owner of on v
 
 -- the owner of each vertex: one machine owns all of them, and several own those of their atoms
-pub record IsPlacement (g : DataGraph) (atoms machines : ℕ) (owner : ℕ → ℕ) : Type 0 where
+pub record IsPlacement (g : DataGraph) (cut : Cut) (machines : ℕ) (owner : ℕ → ℕ) : Type 0 where
   pub one : machines ≡ 1 → (v : ℕ) → owner v ≡ 0
-  pub several : 1 < machines → IsCutAndPlaced g atoms machines owner
+  pub several : 1 < machines → IsCutAndPlaced g cut machines owner
 
 -- The order is valid, its tickets are 0, 1, 2 and so on, the owner of its vertex made each update, and its replay gives the numbers.
-pub record IsPlay (g : DataGraph) (p : Update) (atoms machines : ℕ) (order : List Entry) (numbers : List ℕ) : Type 0 where
+pub record IsPlay (g : DataGraph) (p : Update) (cut : Cut) (machines : ℕ) (order : List Entry) (numbers : List ℕ) : Type 0 where
   pub valid : IsValidOrder g p order
   pub tickets : AreUpdatesFrom 0 order
   pub owner : ℕ → ℕ
-  pub placement : IsPlacement g atoms machines owner
+  pub placement : IsPlacement g cut machines owner
   pub owners : AllByRecursion (IsByOwner owner) order
   pub numbers_are : AreNumbers (size g) (replay g p order).vertex numbers
 
@@ -48,8 +49,8 @@ pub record IsSpent (g : DataGraph) (p : Update) (budget : ℕ) (order : List Ent
   pub task : tasks_after g p order left.0 ≡ true
 
 -- A run of no more updates than the budget has: it left no task, or its budget is spent.
-pub record RunsTo (g : DataGraph) (p : Update) (atoms machines budget : ℕ) (order : List Entry) (numbers : List ℕ) (left : Option Vertex) : Type 0 where
-  pub play : IsPlay g p atoms machines order numbers
+pub record RunsTo (g : DataGraph) (p : Update) (cut : Cut) (machines budget : ℕ) (order : List Entry) (numbers : List ℕ) (left : Option Vertex) : Type 0 where
+  pub play : IsPlay g p cut machines order numbers
   pub few : length order ≤ budget
   pub ended : MatchOption left (IsFinished g p order) (IsSpent g p budget order)
 

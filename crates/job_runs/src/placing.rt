@@ -1,41 +1,80 @@
 //! Where a plan places a graph, and at which vertex a run begins.
-ghost use Rattle.std.specs.Prelude.{◌≡◌, ℕ, ◌<◌, ◌≤◌, length, slice_index, IfOk};
+ghost use Rattle.std.specs.Prelude.{◌≡◌, ℕ, ◌<◌, ◌≤◌, length, slice_index, All, IfOk};
+ghost use Rattle.atom_gather.specs.Cuts.{IsAssignment};
+ghost use Rattle.atom_gather.specs.declared.cuts.Cut.{Cut};
+ghost use Rattle.placed_graphs.specs.Placed.{atom_numbers, machine_numbers};
+ghost use Rattle.placed_graphs.specs.Weights.{IsPlacing, atom_weights};
 ghost use Rattle.graph_core.specs.DataGraph.{IsDataGraph, size};
 ghost use Rattle.placed_graphs.specs.Beginnings.{IsBaseFor};
-ghost use Rattle.job_runs.specs.Plans.{IsInRange, IsPlaced};
+ghost use Rattle.job_runs.specs.Plans.{CanBeCut, IsInRange, IsPlaced};
 
 use crate::runs::RunPlan;
+use atom_gather::Cut;
 use gl_base::{AtomNo, Base, MachineNo, NoMemory, Vertex};
 use graph_core::Graph;
-use placed_graphs::{Placement, placement_by_cut};
+use placed_graphs::{Placement, owners_by_weight, placement_by_cut};
 use std::alloc::Global;
 
-/// Where the plan places the graph. One machine has all of it, so it isn't cut.
-pub fn placement_of(alloc: Global, graph: &Graph, plan: RunPlan) -> Result<Placement, NoMemory>
+/// Where the plan places the graph, which is cut so. One machine has all of it, so it isn't cut.
+pub fn placement_of(
+    alloc: Global,
+    graph: &Graph,
+    cut: &Cut,
+    plan: RunPlan,
+) -> Result<Placement, NoMemory>
+    requires cut { CanBeCut graph.now cut.now }
     requires plan { IsInRange plan }
-    ensures { IfOk result (IsPlaced graph.now plan) }
+    ensures { IfOk result (IsPlaced graph.now cut.now plan) }
 {
     if plan.machines == 1 {
         whole_placement(alloc, graph, plan)
     } else {
-        cut_placement(alloc, graph, plan)
+        cut_placement(alloc, graph, cut, plan)
     }
 }
 
-/// The graph cut by its growth, and its atoms placed by what they weigh.
-fn cut_placement(alloc: Global, graph: &Graph, plan: RunPlan) -> Result<Placement, NoMemory>
+/// The graph cut so, and its atoms placed by what they weigh.
+fn cut_placement(
+    alloc: Global,
+    graph: &Graph,
+    cut: &Cut,
+    plan: RunPlan,
+) -> Result<Placement, NoMemory>
+    requires cut { CanBeCut graph.now cut.now }
     requires plan { IsInRange plan }
     requires several { 1 < plan.machines }
-    ensures { IfOk result (IsPlaced graph.now plan) }
+    ensures { IfOk result (IsPlaced graph.now cut.now plan) }
 {
-    let placed = placement_by_cut(alloc, graph, plan.atoms, plan.machines)?;
-    Ok(placed)
+    match cut {
+        Cut::Grown(atoms) => placement_by_cut(alloc, graph, *atoms, plan.machines),
+        Cut::Told { atoms, of } => told_placement(alloc, graph, *atoms, of, plan.machines),
+    }
+}
+
+/// Each vertex in the atom that was told, of so many, and these placed by what they weigh.
+fn told_placement(
+    alloc: Global,
+    graph: &Graph,
+    atoms: u16,
+    told: &[AtomNo],
+    machines: u16,
+) -> Result<Placement, NoMemory>
+    requires told { IsAssignment graph.now atoms (atom_numbers told.now) }
+    requires some { 1 ≤ machines }
+    ensures of { IfOk result (λ made. made.of.items ≡ told.now) }
+    ensures placing { IfOk result (λ made. IsPlacing (atom_weights graph.now (atom_numbers told.now) atoms) machines (machine_numbers made.owner.items)) }
+    ensures machines { IfOk result (λ made. All (λ m. m.0 < machines) made.owner.items) }
+{
+    let owner = owners_by_weight(alloc, graph, told, atoms, machines)?;
+    let mut of = Vec::new(alloc);
+    of.extend_from_slice(told)?;
+    Ok(Placement { of, owner })
 }
 
 /// All vertices in one atom, and that on the one machine.
 fn whole_placement(alloc: Global, graph: &Graph, plan: RunPlan) -> Result<Placement, NoMemory>
     requires one { plan.machines ≡ 1 }
-    ensures { IfOk result (IsPlaced graph.now plan) }
+    ensures { (cut : Cut) → IfOk result (IsPlaced graph.now cut plan) }
 {
     let of = Vec::from_elem(alloc, AtomNo(0), graph.n() as usize)?;
     let owner = Vec::from_elem(alloc, MachineNo(0), 1)?;

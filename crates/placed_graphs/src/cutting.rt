@@ -75,8 +75,9 @@ pub fn placed_by_cut(
     Ok(PlacedGraph { of, owner, parts })
 }
 
-/// The machine of each atom, where `of` says in which atom each vertex is.
-fn owners_by_weight(
+/// The machine of each of so many atoms, where `of` says in which atom each vertex is: they are placed on so many machines by their
+/// weights.
+pub fn owners_by_weight(
     alloc: Global,
     graph: &Graph,
     of: &[AtomNo],

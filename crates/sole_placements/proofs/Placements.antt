@@ -3,6 +3,9 @@ use Rattle.std.proofs.Common.{◌≡◌, ℕ, ◌<◌, ◌≤◌, inl, inr, List
 use Rattle.std.proofs.lemmas.Bool.{cases_lt}
 use Rattle.std.proofs.lemmas.Grind.{same_number_lists}
 use Rattle.atom_cut.specs.Cuts.{IsGrowthCut, atom_numbers}
+use Rattle.atom_gather.specs.Cuts.{IsCutBy, atoms_of}
+use Rattle.atom_gather.specs.declared.cuts.Cut.{Cut}
+use Rattle.atom_gather.specs.declared.cuts.Cut.TheVariants.{Grown, Told}
 use Rattle.atom_place.specs.Placing.{IsPlacing}
 use Rattle.graph_core.specs.DataGraph.{DataGraph}
 use Rattle.job_runs.specs.Plays.{IsCutAndPlaced, IsPlacement, atom_weights, machine_numbers}
@@ -16,18 +19,23 @@ cuts_are_one g atoms of other cut too =
     let at = place_in_growth g v (subst (λ (n : ℕ). v < n) cut.each low) in
     subst (λ (u : ℕ). slice_index of u ≡ slice_index other u) at.2 (cut.place at.0 at.1 ∙ sym (too.place at.0 at.1)))
 
-module _ (g : DataGraph) (atoms machines : ℕ) (owner other : ℕ → ℕ) where
-  -- each vertex is in the same atom, and the atom on the same machine
-  several_agree : IsCutAndPlaced g atoms machines owner → IsCutAndPlaced g atoms machines other → (v : ℕ) → owner v ≡ other v
-  several_agree placed too v =
-      let cut : atom_numbers placed.of ≡ atom_numbers too.of = cuts_are_one g atoms (atom_numbers placed.of) (atom_numbers too.of) placed.cut too.cut in
-      let placing : IsPlacing (atom_weights g (atom_numbers too.of) atoms) machines (machine_numbers placed.on) =
-      subst (λ (of : List ℕ). IsPlacing (atom_weights g of atoms) machines (machine_numbers placed.on)) cut placed.placing in
-      let on : machine_numbers placed.on ≡ machine_numbers too.on =
-      placings_are_one (atom_weights g (atom_numbers too.of) atoms) machines (machine_numbers placed.on) (machine_numbers too.on) placing too.placing in
-      placed.owns v ∙ ap₂ (λ (hosts of : List ℕ). slice_index hosts (slice_index of v)) on cut ∙ sym (too.owns v)
+-- whether the graph was cut by its growth or as it was told
+same_cut : (g : DataGraph) (cut : Cut) (of other : List ℕ) → IsCutBy g cut of → IsCutBy g cut other → of ≡ other
+same_cut g (Grown atoms) of other by too = cuts_are_one g atoms of other by too
+same_cut g (Told atoms told) of other by too = by ∙ sym too
 
-  pub owners_agree : 1 ≤ machines → IsPlacement g atoms machines owner → IsPlacement g atoms machines other → (v : ℕ) → owner v ≡ other v
+module _ (g : DataGraph) (cut : Cut) (machines : ℕ) (owner other : ℕ → ℕ) where
+  -- each vertex is in the same atom, and the atom on the same machine
+  several_agree : IsCutAndPlaced g cut machines owner → IsCutAndPlaced g cut machines other → (v : ℕ) → owner v ≡ other v
+  several_agree placed too v =
+      let one : atom_numbers placed.of ≡ atom_numbers too.of = same_cut g cut (atom_numbers placed.of) (atom_numbers too.of) placed.by too.by in
+      let placing : IsPlacing (atom_weights g (atom_numbers too.of) (atoms_of cut)) machines (machine_numbers placed.on) =
+      subst (λ (of : List ℕ). IsPlacing (atom_weights g of (atoms_of cut)) machines (machine_numbers placed.on)) one placed.placing in
+      let on : machine_numbers placed.on ≡ machine_numbers too.on =
+      placings_are_one (atom_weights g (atom_numbers too.of) (atoms_of cut)) machines (machine_numbers placed.on) (machine_numbers too.on) placing too.placing in
+      placed.owns v ∙ ap₂ (λ (hosts of : List ℕ). slice_index hosts (slice_index of v)) on one ∙ sym (too.owns v)
+
+  pub owners_agree : 1 ≤ machines → IsPlacement g cut machines owner → IsPlacement g cut machines other → (v : ℕ) → owner v ≡ other v
   owners_agree some placement too v = elim (cases_lt 1 machines) [
     | inl many ↦ several_agree (placement.several many) (too.several many) v
     | inr few ↦

@@ -1,15 +1,16 @@
 //! Laws of placements and of owners. Each is the contract of a function that does nothing.
 ghost use Rattle.std.specs.Prelude.{List, ℕ, ◌<◌, ◌≡◌, ◌≤◌};
+ghost use Rattle.atom_gather.specs.declared.cuts.Cut.{Cut};
 ghost use Rattle.cluster_laws.specs.cluster_runs.Attempts.{Shared};
 ghost use Rattle.graph_core.specs.DataGraph.{DataGraph, IsDataGraph, size};
 ghost use Rattle.job_runs.specs.Plays.{IsPlacement};
 ghost use Rattle.recovery.specs.GoodStores.{IsGoodStore};
 ghost use Rattle.store_format.specs.declared.header.Header.{Header};
 
-/// A graph that is cut into so many atoms and placed on so many machines is placed in one way: two owners of its vertices agree.
+/// A graph that is cut so into atoms and placed on so many machines is placed in one way: two owners of its vertices agree.
 pub fn placements_are_one()
-    ensures { (g : DataGraph) (atoms machines : ℕ) (owner other : ℕ → ℕ) → IsDataGraph g → 1 ≤ machines →
-        IsPlacement g atoms machines owner → IsPlacement g atoms machines other → (v : ℕ) → v < size g → owner v ≡ other v }
+    ensures { (g : DataGraph) (cut : Cut) (machines : ℕ) (owner other : ℕ → ℕ) → IsDataGraph g → 1 ≤ machines →
+        IsPlacement g cut machines owner → IsPlacement g cut machines other → (v : ℕ) → v < size g → owner v ≡ other v }
 {}
 
 /// A store that is good by one owner of the vertices is good by any that agrees with it on the graph, whatever failures a job orders.

@@ -16,7 +16,7 @@ use Rattle.stored_answers.specs.Ends.{RunEndsSo}
 use Rattle.stored_answers.specs.declared.runs.StoredEnd.{StoredEnd}
 use Rattle.stored_answers.specs.declared.runs.StoredEnd.TheVariants as end
 use Rattle.stored_calls.specs.Calls.{AreSnapLines, CallOpening, Cluster, Header, IsEngineSaverOf, IsRunAt, PauseGives, Setting, orders_behind, shared_of, stored_order}
-use Rattle.stored_calls.specs.Runs.{IsEndAt, IsRunSo}
+use Rattle.stored_calls.specs.Runs.{HasCourseOf, IsEndAt, IsRunSo}
 use Rattle.stored_calls.specs.declared.calls.StoredCall.{StoredCall}
 use Rattle.update_api.specs.Updates.{Update}
 
@@ -30,6 +30,10 @@ module _ {P : Type 0} (meaning : P → Update) (g : DataGraph) (program : Update
   -- the lists are gathered from this course
   pub gathers : GathersFrom g call.places call.order.items call.lost.items st o events c
   gathers = record { graph = runs.placed.graph; owners = runs.placed.owners; base = at.known.base; taken = at.known.was.taken }
+
+  -- and they are its lists
+  pub course_so : (failures : List FailureAt) → call.course.failures ≡ failures → (lists : CallLists) → IsGathered call.course.failures st o events c lists → HasCourseOf failures st o events c (gathered_lists lists)
+  course_so failures same lists is = subst (λ (fs : List FailureAt). HasCourseOf fs st o events c (gathered_lists lists)) same (at.now.course, is.are)
 
   module _ (failures : List FailureAt) (same : call.course.failures ≡ failures) (running : call.course.now.stopped ≡ false) (lists : CallLists) (is : IsGathered call.course.failures st o events c lists)
       (ended : ListsOfCourse st at.paused.failures o.base o.first events c (gathered_lists lists) → IsEndedRun (IsEngineSaverOf meaning) at.paused start (start ++ added) st o events c (gathered_lists lists)) where

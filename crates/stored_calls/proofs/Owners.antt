@@ -1,5 +1,6 @@
 -- A run with a store, by whatever owners the placement gives.
 use Rattle.std.proofs.Common.{◌≡◌, ◌<◌, ℕ, ◌++◌, Bool, List, length, refl, subst, subst₂, sym, true}
+use Rattle.atom_gather.specs.declared.cuts.Cut.{Cut}
 use Rattle.gl_base.specs.declared.jobs.FailureAt.{FailureAt}
 use Rattle.graph_core.specs.DataGraph.{DataGraph, IsDataGraph, size}
 use Rattle.machine_places.proofs.OwnerLemmas.{owner_low}
@@ -37,9 +38,9 @@ owned_setting g program places owner =
       base = 0;
     }
 
-pub with_owner : (g : DataGraph) (program : Update) (plan : StoredPlan) (places : Places) (owner : ℕ → ℕ) (failures : List FailureAt) → IsDataGraph g → ArePlacedFor g plan places →
+pub with_owner : (g : DataGraph) (program : Update) (cut : Cut) (plan : StoredPlan) (places : Places) (owner : ℕ → ℕ) (failures : List FailureAt) → IsDataGraph g → ArePlacedFor g cut plan places →
     ((v : ℕ) → v < size g → owner v ≡ placed_owner places.of.items places.owner.items v) → HasOwner g program places owner failures
-with_owner g program plan places owner failures graph are same = record {
+with_owner g program cut plan places owner failures graph are same = record {
   st = owned_setting g program places owner;
   runs = record {
     setting = record {

@@ -1,5 +1,6 @@
 -- A run with a store, from its beginning to its end.
 use Rattle.std.proofs.Common.{◌≡◌, ◌≤◌, ◌<◌, ◌^◌, ◌*◌, ◌+◌, ◌/◌, ◌++◌, ◌∙◌, ◌⊎◌, ℕ, subst₂, Bool, Err, IfErr, IfOk, List, Ok, Result, ap, false, inl, inr, length, refl, subst, sym, true≢false, arith}
+use Rattle.atom_gather.specs.declared.cuts.Cut.{Cut}
 use Rattle.gl_base.specs.declared.entries.Entry.{Entry}
 use Rattle.gl_base.specs.declared.jobs.FailureAt.{FailureAt}
 use Rattle.gl_base.specs.declared.numbers.Vertex.{Vertex}
@@ -22,30 +23,30 @@ use Rattle.stored_answers.specs.declared.runs.StoredPlan.{StoredPlan}
 use Rattle.stored_answers.specs.declared.runs.StoredRun.{StoredRun}
 use Rattle.stored_calls.proofs.Owners.{HasOwner, end_at, kept_good, run_named, with_owner}
 use Rattle.stored_calls.specs.Calls.{CallOpening, DiskPast, EndsBy, EndsCall, Header, IsCallAt, IsCallEnded, IsEngineSaverOf, IsNotRefused, IsRunAt, IsWhyStopped, JournalState, KeepsCall, KeepsToBounds, Setting, orders_behind, shared_of, snapshots_in, stored_order}
-use Rattle.stored_calls.specs.Runs.{ArePlacedFor, BoundsSteps, HasCallBegun, HasRoomForRun, half_of, IsEndAt, IsFinishedOrNoMemory, IsGoodStore, IsPlacement, IsRunSo, IsStoredRun, IsWhyNoRun, IsWhyNotBegun, KeepsByOwner, KeepsGood, Shared, owned_shared}
+use Rattle.stored_calls.specs.Runs.{ArePlacedFor, BoundsSteps, HasCallBegun, HasCourseOf, HasRoomForRun, half_of, IsEndAt, IsFinishedOrNoMemory, IsGoodStore, IsPlacement, IsRunBy, IsRunSo, IsStoredRun, IsWhyNoRun, IsWhyNotBegun, KeepsByOwner, KeepsGood, RunLists, Shared, owned_shared}
 use Rattle.stored_calls.specs.declared.calls.StoredCall.{StoredCall}
 use Rattle.update_api.specs.Updates.{Update}
 
-module _ {D P : Type 0} (meaning : P → Update) (past : D → DiskPast) (g : DataGraph) (program : Update) (plan : StoredPlan) (failures : List FailureAt) (journal mid after : JournalState D) (call later : StoredCall P) (resumed : Bool)
-    (graph : IsDataGraph g) (placed : ArePlacedFor g plan call.places)
-    (one : (owner other : ℕ → ℕ) → IsPlacement g plan.run.atoms plan.run.machines owner → IsPlacement g plan.run.atoms plan.run.machines other → (v : ℕ) → v < size g → owner v ≡ other v)
+module _ {D P : Type 0} (meaning : P → Update) (past : D → DiskPast) (g : DataGraph) (program : Update) (cut : Cut) (plan : StoredPlan) (failures : List FailureAt) (journal mid after : JournalState D) (call later : StoredCall P) (resumed : Bool)
+    (graph : IsDataGraph g) (placed : ArePlacedFor g cut plan call.places)
+    (one : (owner other : ℕ → ℕ) → IsPlacement g cut plan.run.machines owner → IsPlacement g cut plan.run.machines other → (v : ℕ) → v < size g → owner v ≡ other v)
     (begun : (st : Setting) → IsRunAt g program call.places st → IsGoodStore (shared_of st failures) journal.header (snapshots_in past journal) → HasCallBegun meaning past call journal mid resumed plan.run.budget st)
     (same : later.course.failures ≡ failures) (header : after.header ≡ journal.header) where
   abbrev bodies : List (List ℕ)
   bodies = snapshots_in past journal
 
-  has : (owner : ℕ → ℕ) → IsPlacement g plan.run.atoms plan.run.machines owner → HasOwner g program call.places owner failures
-  has owner placement = with_owner g program plan call.places owner failures graph placed (one owner (placed_owner call.places.of.items call.places.owner.items) placement placed.placement)
+  has : (owner : ℕ → ℕ) → IsPlacement g cut plan.run.machines owner → HasOwner g program call.places owner failures
+  has owner placement = with_owner g program cut plan call.places owner failures graph placed (one owner (placed_owner call.places.of.items call.places.owner.items) placement placed.placement)
 
-  abbrev starts : (owner : ℕ → ℕ) (placement : IsPlacement g plan.run.atoms plan.run.machines owner) → IsGoodStore (owned_shared g program owner failures) journal.header bodies → HasCallBegun meaning past call journal mid resumed plan.run.budget (has owner placement).st
+  abbrev starts : (owner : ℕ → ℕ) (placement : IsPlacement g cut plan.run.machines owner) → IsGoodStore (owned_shared g program owner failures) journal.header bodies → HasCallBegun meaning past call journal mid resumed plan.run.budget (has owner placement).st
   starts owner placement good =
       begun (has owner placement).st (has owner placement).runs (subst (λ (s : Shared). IsGoodStore s journal.header bodies) (sym (has owner placement).shared_is) good)
 
-  shared_later : (owner : ℕ → ℕ) (placement : IsPlacement g plan.run.atoms plan.run.machines owner) → shared_of (has owner placement).st later.course.failures ≡ owned_shared g program owner failures
+  shared_later : (owner : ℕ → ℕ) (placement : IsPlacement g cut plan.run.machines owner) → shared_of (has owner placement).st later.course.failures ≡ owned_shared g program owner failures
   shared_later owner placement = ap (λ (fs : List FailureAt). shared_of (has owner placement).st fs) same ∙ (has owner placement).shared_is
 
   -- what crashes leave, wherever it stopped
-  pub keeps_owner : KeepsCall meaning past g program call mid later after → KeepsByOwner past g program plan.run.atoms plan.run.machines failures journal after
+  pub keeps_owner : KeepsCall meaning past g program call mid later after → KeepsByOwner past g program cut plan.run.machines failures journal after
   keeps_owner keeps owner placement good =
       let start : HasCallBegun meaning past call journal mid resumed plan.run.budget (has owner placement).st = starts owner placement good in
       let at : IsCallAt meaning past later after bodies (past journal.disk) (has owner placement).st start.opening = keeps bodies (past journal.disk) (has owner placement).st start.opening (has owner placement).runs start.at in (
@@ -56,7 +57,7 @@ module _ {D P : Type 0} (meaning : P → Update) (past : D → DiskPast) (g : Da
   -- what the run is, and what crashes leave, where it has ended
   pub runs_owner : (how : StoredEnd) (run : StoredRun) (count : ℕ) → EndsCall meaning past g program call mid later after how → later.places ≡ call.places → length bodies ≡ count → later.saves_end ≡ plan.saves_end →
       ((program : Update) (header : Header) (start added : List (List ℕ)) (st : Setting) (o : CallOpening) → IsRunAt g program later.places st → IsEndAt meaning later header start added st o how → IsRunSo later.saves_end st failures o start added run) →
-      (owner : ℕ → ℕ) → IsPlacement g plan.run.atoms plan.run.machines owner → IsGoodStore (owned_shared g program owner failures) journal.header bodies →
+      (owner : ℕ → ℕ) → IsPlacement g cut plan.run.machines owner → IsGoodStore (owned_shared g program owner failures) journal.header bodies →
       (snapshots : List (List Entry)) × IsStoredRun plan.saves_end (owned_shared g program owner failures) plan.run.machines plan.window plan.run.budget count (stored_order bodies) resumed snapshots run
       × KeepsGood (owned_shared g program owner failures) journal.header bodies snapshots (past journal.disk) (past after.disk)
   runs_owner how run count ends places counted saves gathered owner placement good =
@@ -71,9 +72,30 @@ module _ {D P : Type 0} (meaning : P → Update) (past : D → DiskPast) (g : Da
         kept_good meaning past later after bodies (past journal.disk) (has owner placement).st start.opening (owned_shared g program owner failures) journal.header (shared_later owner placement) header e.at,
       )
 
+  -- which machines ran
+  pub run_by : (how : StoredEnd) (lists : RunLists) → EndsCall meaning past g program call mid later after how → later.places ≡ call.places →
+      ((program : Update) (header : Header) (start added : List (List ℕ)) (st : Setting) (o : CallOpening) → IsRunAt g program later.places st → (at : IsEndAt meaning later header start added st o how) →
+      HasCourseOf failures st o at.known.was.events at.known.was.cluster lists) →
+      (owner : ℕ → ℕ) → IsPlacement g cut plan.run.machines owner → IsGoodStore (owned_shared g program owner failures) journal.header bodies → IsRunBy g cut program plan failures lists
+  run_by how lists ends places gathered owner placement good =
+      let start : HasCallBegun meaning past call journal mid resumed plan.run.budget (has owner placement).st = starts owner placement good in
+      let e : IsCallEnded meaning past later after bodies (past journal.disk) (has owner placement).st start.opening how = ends bodies (past journal.disk) (has owner placement).st start.opening (has owner placement).runs start.at in
+      let there : IsRunAt g program later.places (has owner placement).st = subst (λ (p : Places). IsRunAt g program p (has owner placement).st) (sym places) (has owner placement).runs in
+      let at : IsEndAt meaning later after.header bodies e.at.added (has owner placement).st start.opening how = end_at meaning past later after bodies (past journal.disk) (has owner placement).st start.opening how e in
+      record {
+        places = call.places;
+        placed = placed;
+        setting = (has owner placement).st;
+        runs = (has owner placement).runs;
+        opening = start.opening;
+        events = at.known.was.events;
+        cluster = at.known.was.cluster;
+        course = gathered program after.header bodies e.at.added (has owner placement).st start.opening there at;
+      }
+
   -- ---- how it doesn't end
 
-  module _ (stays : later.places ≡ call.places) (owner : ℕ → ℕ) (placement : IsPlacement g plan.run.atoms plan.run.machines owner) (good : IsGoodStore (owned_shared g program owner failures) journal.header bodies) where
+  module _ (stays : later.places ≡ call.places) (owner : ℕ → ℕ) (placement : IsPlacement g cut plan.run.machines owner) (good : IsGoodStore (owned_shared g program owner failures) journal.header bodies) where
     abbrev st : Setting
     st = (has owner placement).st
 
@@ -126,7 +148,7 @@ module _ {D P : Type 0} (meaning : P → Update) (past : D → DiskPast) (g : Da
   -- ---- why it is not refused
 
   module _ (budget_low : plan.run.budget ≤ 16777216) (machines_low : plan.run.machines < 65535) (failures_low : length failures ≤ 65536) (began : call.course.failures ≡ failures) (long : mid.length ≡ journal.length) (short : journal.length ≤ 2 ^ 30)
-      (owner : ℕ → ℕ) (placement : IsPlacement g plan.run.atoms plan.run.machines owner) (good : IsGoodStore (owned_shared g program owner failures) journal.header bodies) where
+      (owner : ℕ → ℕ) (placement : IsPlacement g cut plan.run.machines owner) (good : IsGoodStore (owned_shared g program owner failures) journal.header bodies) where
     bounded : KeepsToBounds call mid (has owner placement).st (starts owner placement good).opening
     bounded =
         record {

@@ -1,19 +1,23 @@
 -- How a run with a store begins, and what it is as it ends.
 pub use Rattle.stored_calls.specs.call_ends.Ends.{IsEndedRun}
 pub use Rattle.stored_calls.specs.call_starts.Starting.{ArePlacedFor, run_shared}
-pub use Rattle.job_runs.specs.Plans.{IsInRange}
+pub use Rattle.job_runs.specs.Plans.{CanBeCut, IsInRange}
 pub use Rattle.job_runs.specs.Plays.{IsPlacement}
 pub use Rattle.order_text.specs.Orders.{IsEntryOf}
 pub use Rattle.call_budgets.specs.Enough.{BoundsSteps}
 pub use Rattle.stored_answers.specs.Ends.{half_of}
 pub use Rattle.stored_answers.specs.declared.runs.StoredPlan.{StoredPlan}
 pub use Rattle.stored_answers.specs.Images.{HoldsGood, IsGoodStore, KeepsGood, stored_order}
-pub use Rattle.stored_answers.specs.Runs.{IsStoredRun, Shared}
+pub use Rattle.stored_answers.specs.Runs.{IsStoredRun, RunLists, Shared, lists_of}
 pub use Rattle.whole_laws.specs.whole_calls.Following.{AreJobFailures}
 use Rattle.std.specs.Prelude.{Bool, Err, List, Ok, Result, length, suc, true, ⊤, ℕ, ◌*◌, ◌++◌, ◌+◌, ◌/◌, ◌<◌, ◌^◌, ◌≡◌, ◌≤◌, ◌⊎◌}
+use Rattle.atom_gather.specs.declared.cuts.Cut.{Cut}
 use Rattle.gl_base.specs.declared.entries.Entry.{Entry}
 use Rattle.gl_base.specs.declared.jobs.FailureAt.{FailureAt}
+use Rattle.call_answers.specs.Courses.{ListsOfCourse}
+use Rattle.cluster_laws.specs.cluster_model.Events.{Event}
 use Rattle.graph_core.specs.DataGraph.{DataGraph, size}
+use Rattle.placed_savers.specs.declared.savers.Places.{Places}
 use Rattle.snap_journal.specs.Disks.{DiskPast, Rose}
 use Rattle.snap_journal.specs.declared.faults.JournalFault.{JournalFault}
 use Rattle.snap_journal.specs.declared.faults.JournalFault.TheVariants as fault
@@ -21,9 +25,10 @@ use Rattle.store_format.specs.declared.faults.StoreFault.TheVariants.{BadByte}
 use Rattle.stored_answers.specs.declared.runs.StoredEnd.{StoredEnd}
 use Rattle.stored_answers.specs.declared.runs.StoredEnd.TheVariants as end
 use Rattle.stored_answers.specs.declared.runs.StoredRun.{StoredRun}
-use Rattle.stored_calls.specs.Calls.{AreSnapLines, CallOpening, CourseView, EngineSaver, Header, IsCallAt, IsCourseNow, IsEngineSaverOf, IsKnownAt, JournalState, PauseGives, Setting, orders_behind, shared_of, snapshots_in}
+use Rattle.stored_calls.specs.Calls.{AreSnapLines, CallOpening, Cluster, CourseView, EngineSaver, Header, IsCallAt, IsCourseNow, IsEngineSaverOf, IsKnownAt, IsRunAt, JournalState, PauseGives, Setting, orders_behind, shared_of, snapshots_in}
 use Rattle.stored_calls.specs.declared.calls.StoredCall.{StoredCall}
 use Rattle.update_api.specs.Updates.{Update}
+use Rattle.whole_laws.specs.whole_calls.Opened.{IsCourseOfCall}
 
 -- In this setting the call has begun, resumed or not as this says, with so many tickets, from the store that the journal had.
 pub record HasCallBegun {D P : Type 0} (meaning : P → Update) (past : D → DiskPast) (call : StoredCall P) (journal after : JournalState D) (resumed : Bool) (budget : ℕ) (st : Setting) : Type 0 where
@@ -46,14 +51,31 @@ abbrev pub IsRunSo : Bool → Setting → List FailureAt → CallOpening → Lis
 IsRunSo saves st failures o start added run =
     IsStoredRun saves (shared_of st failures) st.machines st.window o.first.left (length start) (stored_order start) o.resumed (orders_behind (stored_order start) added) run
 
+-- these events are a course of the call, which led to this cluster, and these are its lists
+abbrev pub HasCourseOf : List FailureAt → Setting → CallOpening → List Event → Cluster → RunLists → Type 0
+HasCourseOf failures st o events c lists =
+    IsCourseOfCall st failures o.kept o.resumed o.base o.first events c × ListsOfCourse st failures o.base o.first events c lists
+
+-- The machines that ran are those that the plan asks for: the graph was placed for it, so that engine, pipeline and window of their cluster are the plan's,
+-- and these are the lists of a course of that cluster.
+pub record IsRunBy (g : DataGraph) (cut : Cut) (program : Update) (plan : StoredPlan) (failures : List FailureAt) (lists : RunLists) : Type 0 where
+  pub places : Places
+  pub placed : ArePlacedFor g cut plan places
+  pub setting : Setting
+  pub runs : IsRunAt g program places setting
+  pub opening : CallOpening
+  pub events : List Event
+  pub cluster : Cluster
+  pub course : HasCourseOf failures setting opening events cluster lists
+
 -- what a run shares on this graph, with this owner of each vertex
 abbrev pub owned_shared : DataGraph → Update → (ℕ → ℕ) → List FailureAt → Shared
 owned_shared g program owner failures = record { graph = g; program = program; owner = owner; failures = failures }
 
 -- For each owner that is the placement and by which the store was good: whatever crashes left and leave is good, with the snapshots that were added.
-abbrev pub KeepsByOwner : {D : Type 0} → (D → DiskPast) → DataGraph → Update → ℕ → ℕ → List FailureAt → JournalState D → JournalState D → Type 0
-KeepsByOwner past g program atoms machines failures journal after =
-    (owner : ℕ → ℕ) → IsPlacement g atoms machines owner → IsGoodStore (owned_shared g program owner failures) journal.header (snapshots_in past journal) →
+abbrev pub KeepsByOwner : {D : Type 0} → (D → DiskPast) → DataGraph → Update → Cut → ℕ → List FailureAt → JournalState D → JournalState D → Type 0
+KeepsByOwner past g program cut machines failures journal after =
+    (owner : ℕ → ℕ) → IsPlacement g cut machines owner → IsGoodStore (owned_shared g program owner failures) journal.header (snapshots_in past journal) →
     (snapshots : List (List Entry)) × KeepsGood (owned_shared g program owner failures) journal.header (snapshots_in past journal) snapshots (past journal.disk) (past after.disk)
 
 -- Why no run was made. There was a fault of the disk before the run began, and the disk is as it was; or memory ran out, or the store or a record

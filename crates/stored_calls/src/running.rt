@@ -9,13 +9,14 @@ ghost use Rattle.store_format.specs.declared.faults.StoreFault.{StoreFault};
 ghost use Rattle.store_format.specs.declared.faults.StoreFault.TheVariants.{BadByte};
 ghost use Rattle.stored_calls.specs.Calls.{ArePlacesOf, CallOpening, CanCallGoOn, EndsBy, Header, IsHeaderOf, IsRunAt, Setting, shared_of, snapshots_in};
 ghost use Rattle.stored_answers.specs.declared.runs.StoredEnd.TheVariants as ending;
-ghost use Rattle.stored_calls.specs.Runs.{AreJobFailures, ArePlacedFor, BoundsSteps, HasCallBegun, HasRoomForRun, IsEndAt, IsFinishedOrNoMemory, IsEntryOf, IsGoodStore, IsInRange, IsRunSo, IsPlacement, IsStoredRun, IsWhyNoRun, IsWhyNotBegun, KeepsByOwner, KeepsGood, owned_shared, refused_by, run_shared, stored_order};
+ghost use Rattle.stored_calls.specs.Runs.{AreJobFailures, ArePlacedFor, BoundsSteps, CanBeCut, HasCallBegun, HasCourseOf, HasRoomForRun, IsEndAt, IsFinishedOrNoMemory, IsEntryOf, IsGoodStore, IsInRange, IsRunBy, IsRunSo, IsPlacement, IsStoredRun, IsWhyNoRun, IsWhyNotBegun, KeepsByOwner, KeepsGood, lists_of, owned_shared, refused_by, run_shared, stored_order};
 ghost use Rattle.update_api.specs.Updates.{Update};
 
 use crate::call_ends::{CallLists, GatherFault, calls_end_so, gather_call};
 use crate::call_starts::{Started, start_call};
 use crate::calls::StoredCall;
 use crate::steps::play_to_end;
+use atom_gather::Cut;
 use gl_base::FailureAt;
 use gl_outside::Disk;
 use graph_core::Graph;
@@ -28,9 +29,9 @@ use store_format::StoreFault;
 use stored_answers::{SnapLine, StoredEnd, StoredPlan, StoredRun};
 use update_api::Program;
 
-/// Runs a program from what the store has to the end of the run. Machines fail as the failures order, and all go back to the last snapshot that was
-/// acknowledged; snapshots are taken as the window asks, and where the plan says so one of the end. Where it resumes, the run goes on from the order of
-/// the store's last snapshot, behind which stands a restart; else the store has no snapshot yet.
+/// Runs a program on the graph, which is cut so, from what the store has to the end of the run. Machines fail as the failures order, and all
+/// go back to the last snapshot that was acknowledged; snapshots are taken as the window asks, and where the plan says so one of the end. Where
+/// it resumes, the run goes on from the order of the store's last snapshot, behind which stands a restart; else the store has no snapshot yet.
 ///
 /// The run ends finished, at its budget, at a store that is full, or at a fault of the disk while it goes on. `DiskFault` comes where the
 /// disk failed before the run began.
@@ -39,11 +40,13 @@ pub fn run_stored<R: Wait, D: Disk, P: Program>(
     alloc: Global,
     graph: &Graph,
     program: P,
+    cut: &Cut,
     plan: StoredPlan,
     failures: &[FailureAt],
     journal: &mut Journal<D>,
     resumed: bool,
 ) -> Result<StoredRun, JournalFault>
+    requires cut { CanBeCut graph.now cut.now }
     requires plan { IsInRange plan.run }
     requires few { plan.run.machines < 65535 }
     requires failures { AreJobFailures plan.run.machines failures.now }
@@ -54,39 +57,44 @@ pub fn run_stored<R: Wait, D: Disk, P: Program>(
     requires well { journal.old.failed ≡ false }
 
     // From a store that is good by the owners that the placement gives: what the run is, and what crashes leave.
-    ensures run { IsTrue D.told → IfOk result (λ run. (owner : ℕ → ℕ) → IsPlacement graph.now plan.run.atoms plan.run.machines owner →
+    ensures run { IsTrue D.told → IfOk result (λ run. (owner : ℕ → ℕ) → IsPlacement graph.now cut.now plan.run.machines owner →
         IsGoodStore (owned_shared graph.now (P.meaning program) owner failures.now) journal.old.header (snapshots_in D.past journal.old) →
         (snapshots : List (List Entry)) × IsStoredRun plan.saves_end (owned_shared graph.now (P.meaning program) owner failures.now) plan.run.machines plan.window plan.run.budget journal.old.count
         (stored_order (snapshots_in D.past journal.old)) resumed snapshots run
         × KeepsGood (owned_shared graph.now (P.meaning program) owner failures.now) journal.old.header (snapshots_in D.past journal.old) snapshots (D.past journal.old.disk) (D.past journal.new.disk)) }
 
+    // From such a store it is a run of machines that the plan asks for: of its kind of engine, with its pipeline.
+    ensures engine { IsTrue D.told → IfOk result (λ run. (owner : ℕ → ℕ) → IsPlacement graph.now cut.now plan.run.machines owner →
+        IsGoodStore (owned_shared graph.now (P.meaning program) owner failures.now) journal.old.header (snapshots_in D.past journal.old) →
+        IsRunBy graph.now cut.now (P.meaning program) plan failures.now (lists_of run)) }
+
     // From such a store, that is as long as one may grow or shorter, no run is refused for the store or a record: memory ran out, or the disk failed before the run began.
-    ensures good { IsTrue D.told → (owner : ℕ → ℕ) → IsPlacement graph.now plan.run.atoms plan.run.machines owner →
+    ensures good { IsTrue D.told → (owner : ℕ → ℕ) → IsPlacement graph.now cut.now plan.run.machines owner →
         IsGoodStore (owned_shared graph.now (P.meaning program) owner failures.now) journal.old.header (snapshots_in D.past journal.old) → journal.old.length ≤ 2 ^ 30 →
         (why : StoreFault) → IsErrOf result (fault.BadStore why) → ⊥ }
 
     // And its budget is not spent, where each attempt has as many tickets as it may need; and the store is not full, where it has room for the run.
-    ensures enough { IsTrue D.told → IfOk result (λ run. (owner : ℕ → ℕ) → IsPlacement graph.now plan.run.atoms plan.run.machines owner →
+    ensures enough { IsTrue D.told → IfOk result (λ run. (owner : ℕ → ℕ) → IsPlacement graph.now cut.now plan.run.machines owner →
         IsGoodStore (owned_shared graph.now (P.meaning program) owner failures.now) journal.old.header (snapshots_in D.past journal.old) →
         (bound : ℕ) → BoundsSteps graph.now (P.meaning program) bound → (1 + length failures.now) * bound ≤ plan.run.budget → (left : Vertex) → run.end ≡ ending.Spent left → ⊥) }
-    ensures roomy { IsTrue D.told → IfOk result (λ run. (owner : ℕ → ℕ) → IsPlacement graph.now plan.run.atoms plan.run.machines owner →
+    ensures roomy { IsTrue D.told → IfOk result (λ run. (owner : ℕ → ℕ) → IsPlacement graph.now cut.now plan.run.machines owner →
         IsGoodStore (owned_shared graph.now (P.meaning program) owner failures.now) journal.old.header (snapshots_in D.past journal.old) →
         HasRoomForRun graph.now plan (length failures.now) journal.old.count journal.old.length → (stored long : ℕ) → run.end ≡ ending.Full stored long → ⊥) }
 
     // So it finishes, or memory runs out, where the disk does not fail.
-    ensures complete { IsTrue D.told → (owner : ℕ → ℕ) → IsPlacement graph.now plan.run.atoms plan.run.machines owner →
+    ensures complete { IsTrue D.told → (owner : ℕ → ℕ) → IsPlacement graph.now cut.now plan.run.machines owner →
         IsGoodStore (owned_shared graph.now (P.meaning program) owner failures.now) journal.old.header (snapshots_in D.past journal.old) →
         (bound : ℕ) → BoundsSteps graph.now (P.meaning program) bound → (1 + length failures.now) * bound ≤ plan.run.budget →
         HasRoomForRun graph.now plan (length failures.now) journal.old.count journal.old.length → (Rose (D.faults journal.old.disk) (D.faults journal.new.disk) → ⊥) → IsFinishedOrNoMemory result }
 
     // The graph is placed for it, in the one way that there is.
-    ensures placed { IfOk result (λ run. (owner : ℕ → ℕ) × IsPlacement graph.now plan.run.atoms plan.run.machines owner) }
+    ensures placed { IfOk result (λ run. (owner : ℕ → ℕ) × IsPlacement graph.now cut.now plan.run.machines owner) }
 
     ensures by { IfOk result (λ run. EndsBy journal.new (D.faults journal.old.disk) (D.faults journal.new.disk) run.end) }
     ensures numbers { IfOk result (λ run. length run.numbers.items ≡ size graph.now) }
     ensures entries { IfOk result (λ run. All (IsEntryOf graph.now) run.order.items) }
     ensures refused { IfErr result (IsWhyNoRun (IsTrue D.told) (D.past journal.old.disk) (D.past journal.new.disk) (D.faults journal.old.disk) (D.faults journal.new.disk)
-        (KeepsByOwner D.past graph.now (P.meaning program) plan.run.atoms plan.run.machines failures.now journal.old journal.new)) }
+        (KeepsByOwner D.past graph.now (P.meaning program) cut.now plan.run.machines failures.now journal.old journal.new)) }
     ensures header { journal.new.header ≡ journal.old.header }
     ensures same { D.same journal.old.disk journal.new.disk }
     ensures later { D.faults journal.old.disk ≤ D.faults journal.new.disk }
@@ -95,7 +103,7 @@ pub fn run_stored<R: Wait, D: Disk, P: Program>(
     // The reader tells how many snapshots and bytes the store has.
     let _stored = journal.count();
     let _length = journal.length();
-    let mut call = begin(alloc, graph, program, plan, failures, journal, resumed)?;
+    let mut call = begin(alloc, graph, program, cut, plan, failures, journal, resumed)?;
     match play_to_end(rt, alloc, graph, program, &mut call, journal) {
         Ok(end) => {
             let long = journal.length();
@@ -113,11 +121,13 @@ fn begin<D: Disk, P: Program>(
     alloc: Global,
     graph: &Graph,
     program: P,
+    cut: &Cut,
     plan: StoredPlan,
     failures: &[FailureAt],
     journal: &mut Journal<D>,
     resumed: bool,
 ) -> Result<StoredCall<P>, JournalFault>
+    requires cut { CanBeCut graph.now cut.now }
     requires plan { IsInRange plan.run }
     requires few { plan.run.machines < 65535 }
     requires failures { AreJobFailures plan.run.machines failures.now }
@@ -128,7 +138,7 @@ fn begin<D: Disk, P: Program>(
     ensures begun { IsTrue D.told → IfOk result (λ call. (st : Setting) → IsRunAt graph.now (P.meaning program) call.places st →
         IsGoodStore (shared_of st failures.now) journal.old.header (snapshots_in D.past journal.old) → HasCallBegun P.meaning D.past call journal.old journal.new resumed plan.run.budget st) }
     ensures setting { IfOk result (λ call. (st : Setting) × IsRunAt graph.now (P.meaning program) call.places st × (shared_of st failures.now ≡ run_shared graph.now (P.meaning program) call.places failures.now)) }
-    ensures places { IfOk result (λ call. ArePlacedFor graph.now plan call.places) }
+    ensures places { IfOk result (λ call. ArePlacedFor graph.now cut.now plan call.places) }
     ensures failures { IfOk result (λ call. call.course.failures ≡ failures.now) }
     ensures saves { IfOk result (λ call. call.saves_end ≡ plan.saves_end) }
     ensures refused { IfErr result (IsWhyNotBegun journal.old.failed (D.faults journal.old.disk) (D.faults journal.new.disk)) }
@@ -141,7 +151,7 @@ fn begin<D: Disk, P: Program>(
 {
     let _stored = journal.count();
     let length = journal.length();
-    match start_call(alloc, graph, program, plan, failures, journal, resumed) {
+    match start_call(alloc, graph, program, cut, plan, failures, journal, resumed) {
         Ok(started) => Ok(call_of(alloc, started, plan.saves_end)),
         Err(why) => Err(refused_by(why, length)),
     }
@@ -199,6 +209,8 @@ fn gathered<P: Program>(
     requires running { call.course.now.stopped ≡ false }
     ensures run { IfOk result (λ run. (program : Update) (header : Header) (start added : List (List ℕ)) (st : Setting) (o : CallOpening) → IsRunAt graph.now program call.places st →
         IsEndAt P.meaning call header start added st o end → IsRunSo call.saves_end st failures.now o start added run) }
+    ensures course { IfOk result (λ run. (program : Update) (header : Header) (start added : List (List ℕ)) (st : Setting) (o : CallOpening) → IsRunAt graph.now program call.places st →
+        (at : IsEndAt P.meaning call header start added st o end) → HasCourseOf failures.now st o at.known.was.events at.known.was.cluster (lists_of run)) }
     ensures end { IfOk result (λ run. run.end ≡ end) }
     ensures numbers { IfOk result (λ run. length run.numbers.items ≡ size graph.now) }
     ensures entries { IfOk result (λ run. All (IsEntryOf graph.now) run.order.items) }

@@ -1,11 +1,13 @@
 -- What reading a job and its graph and running it answers.
 use Rattle.std.specs.Prelude.{◌≡◌, ◌≤◌, ℕ, Bool, All, List, length, ⊤, Option, None, Some, Result, Ok, Err}
+use Rattle.atom_gather.specs.Cuts.{CanBeCut}
+use Rattle.atom_gather.specs.declared.cuts.Cut.{Cut}
 use Rattle.gl_outside.specs.Faults.{Rose}
 use Rattle.gl_outside.specs.FilesState.{FilesState}
 use Rattle.graph_core.specs.DataGraph.{DataGraph, IsDataGraph, size}
 use Rattle.job_config.specs.Ranges.{HasNumbers}
 use Rattle.job_config.specs.Views.{job_view}
-use Rattle.job_files.specs.Atoms.{HasAtoms}
+use Rattle.job_files.specs.Atoms.{HasAtoms, IsCutOf}
 use Rattle.job_files.specs.JobTexts.{DescribeJobGraph, HasStart, OfTexts, SaysJob}
 use Rattle.job_files.specs.declared.inputs.Input.{Input}
 use Rattle.job_files.specs.declared.jobs.JobVerb.{JobVerb}
@@ -32,13 +34,14 @@ IsOfRun verb.Resume = ⊤
 IsOfRun verb.Cut = ⊥
 IsOfRun verb.Init = ⊥
 
--- The job's numbers and failures are those that a job may have, and its source is there.
+-- The job's numbers and failures are those that a job may have, its source is there, and its graph can be cut so.
 pub record IsRunnable (input : Input) : Type 0 where
   pub numbers : HasNumbers (job_view input.job).fields
   pub failures : AreJobFailures input.job.machines input.job.failures.items
   pub few : length input.job.failures.items ≤ 64
   pub graph : IsDataGraph input.graph
   pub start : HasStart input.job.algorithm input.job.source input.graph
+  pub cut : CanBeCut input.graph input.cut
 
 -- there is a number for each vertex, and each update is of one
 pub record IsPrintable (g : DataGraph) (run : StoredRun) : Type 0 where
@@ -47,7 +50,7 @@ pub record IsPrintable (g : DataGraph) (run : StoredRun) : Type 0 where
 
 -- it is one of the job, and ended by a fault of the disk only where there was one
 pub record IsMadeRun (told : Bool) (asked : JobVerb) (input : Input) (old new : FilesState) (run : StoredRun) : Type 0 where
-  pub runs : RunsSo told asked old new.pasts (job_view input.job) input.graph run input.job.store
+  pub runs : RunsSo told asked old new.pasts (job_view input.job) input.graph input.cut run input.job.store
   pub fault : run.end ≡ end.DiskFault → Rose old.disks.faults new.disks.faults
 
 -- why none was made, without a store or with this one
@@ -67,7 +70,9 @@ pub record IsPreparedFrom (told : Bool) (asked : JobVerb) (old new : FilesState)
   pub atoms : HasAtoms old (job_view prepared.job).fields
   pub graph : IsDataGraph prepared.graph
   pub start : HasStart prepared.job.algorithm prepared.job.source prepared.graph
-  pub runs : RunsSo told asked old new.pasts (job_view prepared.job) prepared.graph prepared.run prepared.job.store
+  pub cut : Cut
+  pub cut_is : IsCutOf old (job_view prepared.job).fields prepared.graph cut
+  pub runs : RunsSo told asked old new.pasts (job_view prepared.job) prepared.graph cut prepared.run prepared.job.store
   pub fault : prepared.run.end ≡ end.DiskFault → Rose old.disks.faults new.disks.faults
   pub printable : IsPrintable prepared.graph prepared.run
   pub alone : prepared.job.store ≡ None → new.pasts ≡ old.pasts

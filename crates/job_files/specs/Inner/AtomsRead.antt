@@ -8,9 +8,11 @@ use Rattle.gl_outside.specs.Faults.{Rose}
 use Rattle.gl_outside.specs.FilesState.{FilesState}
 use Rattle.graph_core.specs.DataGraph.{DataGraph}
 use Rattle.atom_gather.specs.Files.{atom_file_at}
+use Rattle.atom_gather.specs.declared.cuts.Cut.{Cut}
+use Rattle.atom_gather.specs.declared.cuts.Cut.TheVariants.{Grown}
 use Rattle.job_files.specs.declared.inputs.NoInput.{NoInput}
 use Rattle.job_files.specs.declared.inputs.NoInput.TheVariants as why
-use Rattle.job_files.specs.Atoms.{FindsInAtoms, atom_files, atom_form, atom_forms, given_bytes, long_or}
+use Rattle.job_files.specs.Atoms.{FindsInAtoms, IsToldCut, atom_files, atom_form, atom_forms, given_bytes, long_or}
 use Rattle.job_files.specs.NamesRead.{atoms_names}
 
 -- where names are told, this holds of what the name gives
@@ -50,14 +52,14 @@ TakesAtoms files now prefix atoms (Err why) =
     FindsFault files now (λ fault. IfSome files.sources.names (λ told. atom_forms (atom_files files prefix) atoms 0 ≡ Some fault)) why
 
 -- what looking at the files at a prefix answers
-abbrev pub LooksAtAtoms : FilesState → ℕ → List ℕ → DataGraph → Result (Unit {0}) NoInput → Type 0
-LooksAtAtoms files now prefix g (Ok done) = FindsInAtoms files prefix g None
+abbrev pub LooksAtAtoms : FilesState → ℕ → List ℕ → DataGraph → Result Cut NoInput → Type 0
+LooksAtAtoms files now prefix g (Ok cut) = FindsInAtoms files prefix g None × IsToldCut files prefix g cut
 LooksAtAtoms files now prefix g (Err why) = FindsFault files now (λ fault. FindsInAtoms files prefix g (Some fault)) why
 
--- the same, where there is a prefix
-abbrev pub TakesNamedAtoms : Option (List ℕ) → FilesState → ℕ → DataGraph → Result (Unit {0}) NoInput → Type 0
-TakesNamedAtoms None files now g result = result ≡ Ok tt
-TakesNamedAtoms (Some prefix) files now g result = LooksAtAtoms files now prefix g result
+-- the same, where there is a prefix; else the graph is cut by its growth into so many atoms
+abbrev pub TakesNamedAtoms : Option (List ℕ) → ℕ → FilesState → ℕ → DataGraph → Result Cut NoInput → Type 0
+TakesNamedAtoms None atoms files now g result = result ≡ Ok (Grown atoms)
+TakesNamedAtoms (Some prefix) atoms files now g result = LooksAtAtoms files now prefix g result
 
 -- the names of the files at it
 abbrev pub named_atoms : FilesState → Option (List ℕ) → List (List ℕ)

@@ -1,7 +1,7 @@
 -- How a call starts from what the journal of a store has.
 pub use Rattle.call_courses.specs.Courses.{CallOpening, CourseView, IsCourseNow, OpensCall, Setting, first_cluster}
 pub use Rattle.call_returns.specs.Missing.{Begins}
-pub use Rattle.job_runs.specs.Plans.{IsInRange}
+pub use Rattle.job_runs.specs.Plans.{CanBeCut, IsInRange}
 pub use Rattle.gl_base.specs.declared.snapshots.Base.{Base}
 pub use Rattle.job_runs.specs.Plays.{IsPlacement}
 pub use Rattle.placed_savers.specs.Beginning.{AreColoursFor, ArePlacesOf, IsBaseFor, IsEngineSaverOf, IsRunAt, placed_owner}
@@ -14,6 +14,7 @@ pub use Rattle.stored_courses.specs.Stores.{IsKnownCourse}
 pub use Rattle.whole_laws.specs.whole_calls.Following.{AreJobFailures}
 use Rattle.std.specs.Prelude.{All, Bool, List, [], false, if◌then◌else◌, length, true, ℕ, ◌+◌, ◌≡◌, ◌≤◌}
 use Rattle.stored_calls.specs.declared.call_starts.starting.Started.{Started}
+use Rattle.atom_gather.specs.declared.cuts.Cut.{Cut}
 use Rattle.cluster_laws.specs.cluster_runs.Attempts.{Shared}
 use Rattle.coord_core.specs.declared.steps.Engine.{Engine}
 use Rattle.coord_core.specs.declared.steps.Engine.TheVariants as by
@@ -40,10 +41,10 @@ abbrev pub IsEngineAsked : EngineKind → ℕ → Engine → ℕ → List ℕ �
 IsEngineAsked Locking asked engine pipeline colours = (engine ≡ by.Locking) × (pipeline ≡ asked)
 IsEngineAsked Chromatic asked engine pipeline colours = (greatest : ℕ) × (engine ≡ by.Chromatic greatest) × All (λ colour. colour ≤ greatest) colours
 
--- The graph is placed as the plan says, and attempts run there as it says.
-pub record ArePlacedFor (g : DataGraph) (plan : StoredPlan) (places : Places) : Type 0 where
+-- The graph is cut so and placed as the plan says, and attempts run there as it says.
+pub record ArePlacedFor (g : DataGraph) (cut : Cut) (plan : StoredPlan) (places : Places) : Type 0 where
   pub are : ArePlacesOf g plan.run.machines places
-  pub placement : IsPlacement g plan.run.atoms plan.run.machines (placed_owner places.of.items places.owner.items)
+  pub placement : IsPlacement g cut plan.run.machines (placed_owner places.of.items places.owner.items)
   pub window : places.run.window ≡ plan.window
   pub engine : IsEngineAsked plan.engine plan.run.pipeline places.run.engine places.run.pipeline places.colours.items
 

@@ -1,9 +1,10 @@
 //! Where a call places its graph.
 ghost use Rattle.std.specs.Prelude.{IfOk};
-ghost use Rattle.stored_calls.specs.call_starts.Starting.{ArePlacedFor, IsBaseFor, IsInRange};
+ghost use Rattle.stored_calls.specs.call_starts.Starting.{ArePlacedFor, CanBeCut, IsBaseFor, IsInRange};
 ghost use Rattle.stored_calls.specs.call_starts.Inner.Openings.{KeepsApart};
 ghost use Rattle.graph_core.specs.DataGraph.{IsDataGraph};
 
+use atom_gather::Cut;
 use call_courses::Engine;
 use color_steps::{greatest_colour, greedy_colouring};
 use gl_base::{Base, EngineKind, NoMemory};
@@ -17,21 +18,23 @@ use stored_answers::StoredPlan;
 /// there only while its own update is made, or as long as its update has to wait for another attempt or a ticket.
 const WIDE_PIPELINE: u16 = 256;
 
-/// The places that the plan gives the graph. A machine's order of vertices begins at the vertex that has the least number of the base, where
-/// the machine owns that. Where the plan's engine is chromatic, the graph is coloured.
+/// The places that the plan gives the graph, which is cut so. A machine's order of vertices begins at the vertex that has the least number of
+/// the base, where the machine owns that. Where the plan's engine is chromatic, the graph is coloured.
 pub(crate) fn places_of(
     alloc: Global,
     graph: &Graph,
     base: &Base,
+    cut: &Cut,
     plan: StoredPlan,
 ) -> Result<Places, NoMemory>
+    requires cut { CanBeCut graph.now cut.now }
     requires plan { IsInRange plan.run }
     requires base { IsBaseFor graph.now base.now }
-    ensures placed { IfOk result (ArePlacedFor graph.now plan) }
+    ensures placed { IfOk result (ArePlacedFor graph.now cut.now plan) }
     ensures graph { IsDataGraph graph.now }
 {
     let first = first_of(graph, base);
-    let placed = placement_of(alloc, graph, plan.run)?;
+    let placed = placement_of(alloc, graph, cut, plan.run)?;
     let (engine, pipeline, colours) = kept_apart(alloc, graph, plan)?;
     let run = SavingRun {
         machines: plan.run.machines,

@@ -1,10 +1,11 @@
 //! A call starts.
 ghost use Rattle.std.specs.Prelude.{◌≡◌, ◌<◌, ◌≤◌, false, length, IfErr, IfOk, IsTrue};
-ghost use Rattle.stored_calls.specs.call_starts.Starting.{AreJobFailures, ArePlacedFor, Begins, HasStarted, IsGoodStore, IsHeaderOf, IsInRange, IsRunAt, IsWhyNotStarted, Setting, opening_from, restart_room, run_shared, shared_of, snapshots_in};
+ghost use Rattle.stored_calls.specs.call_starts.Starting.{AreJobFailures, ArePlacedFor, Begins, CanBeCut, HasStarted, IsGoodStore, IsHeaderOf, IsInRange, IsRunAt, IsWhyNotStarted, Setting, opening_from, restart_room, run_shared, shared_of, snapshots_in};
 
 use crate::call_starts::courses::course_of;
 use crate::call_starts::openings::{Opening, opening_of};
 use crate::call_starts::placing::places_of;
+use atom_gather::Cut;
 use call_courses::Course;
 use call_returns::Restarts;
 use gl_base::{Entry, FailureAt};
@@ -28,19 +29,21 @@ pub struct Started<P: Program> {
     pub restarts: Restarts,
 }
 
-/// Starts a call from the last snapshot of the journal, or from the start where there is none: places the graph as the plan says, makes the
-/// machines, of the engine that the plan asks for, and opens the course with the ticket behind the greatest of that order, and with as many
-/// tickets as the budget has. Where the call resumes, a restart of that ticket stands behind the order. `Full` comes where the store would
-/// have 2^32 bytes or more with that, which is far more than a journal adds up to. After `DiskFault` open the store again.
+/// Starts a call from the last snapshot of the journal, or from the start where there is none: places the graph, which is cut so, as the plan
+/// says, makes the machines, of the engine that the plan asks for, and opens the course with the ticket behind the greatest of that order, and
+/// with as many tickets as the budget has. Where the call resumes, a restart of that ticket stands behind the order. `Full` comes where the
+/// store would have 2^32 bytes or more with that, which is far more than a journal adds up to. After `DiskFault` open the store again.
 pub fn start_call<D: Disk, P: Program>(
     alloc: Global,
     graph: &Graph,
     program: P,
+    cut: &Cut,
     plan: StoredPlan,
     failures: &[FailureAt],
     journal: &mut Journal<D>,
     resumed: bool,
 ) -> Result<Started<P>, JournalFault>
+    requires cut { CanBeCut graph.now cut.now }
     requires plan { IsInRange plan.run }
     requires few { plan.run.machines < 65535 }
     requires failures { AreJobFailures plan.run.machines failures.now }
@@ -55,7 +58,7 @@ pub fn start_call<D: Disk, P: Program>(
     // There is such a setting, with just this owner of each vertex.
     ensures setting { IfOk result (λ started. (st : Setting) × IsRunAt graph.now (P.meaning program) started.places st × (shared_of st failures.now ≡ run_shared graph.now (P.meaning program) started.places failures.now)) }
 
-    ensures places { IfOk result (λ started. ArePlacedFor graph.now plan started.places) }
+    ensures places { IfOk result (λ started. ArePlacedFor graph.now cut.now plan started.places) }
     ensures failures { IfOk result (λ started. started.course.failures ≡ failures.now) }
     ensures machines { IfOk result (λ started. length started.course.now.machines.items ≡ plan.run.machines) }
     ensures runs { IfOk result (λ started. started.course.now.stopped ≡ false) }
@@ -71,7 +74,7 @@ pub fn start_call<D: Disk, P: Program>(
     let stored = journal.count();
     let base = recover(alloc, journal, graph, &program)?;
     let opening = opening_of(alloc, base, stored, resumed)?;
-    let Ok(places) = places_of(alloc, graph, &opening.base, plan) else {
+    let Ok(places) = places_of(alloc, graph, &opening.base, cut, plan) else {
         drop(opening);
         return Err(JournalFault::NoMemory);
     };

@@ -15,7 +15,7 @@ run_through_failures-requires-clause-empty g c =
 
 pub returns-clause-run : goal.returns-clause-run
 returns-clause-run g c =
-    IfOk-map c.run_through_failures.result _ _ (λ run through. without_store (job_view c.args.job.now) c.args.graph.now run through) c.run_through_failures.ensures.run
+    IfOk-map c.run_through_failures.result _ _ (λ run through. without_store (job_view c.args.job.now) c.args.graph.now c.args.cut.now run through) c.run_through_failures.ensures.run
 
 pub returns-clause-ended : goal.returns-clause-ended
 returns-clause-ended g c = IfOk-map c.run_through_failures.result _ _ (λ run through. through.ended) c.run_through_failures.ensures.run

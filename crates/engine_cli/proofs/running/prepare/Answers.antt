@@ -1,7 +1,7 @@
 use Rattle.std.proofs.lemmas.Result.{err_from_is_err_and}
 use Rattle.job_config.specs.Views.{job_view}
 use Rattle.engine_cli.proofs.JobFailures.{few-failures, job-failures}
-use Rattle.engine_cli.proofs.Preparing.{alone-used, handed-used, input-names, input-refuses, input-used, none-made, reads-used, rose-since, runs-since, sources-input, store-late, store-unused, store-used}
+use Rattle.engine_cli.proofs.Preparing.{alone-used, can-cut, handed-used, input-names, input-refuses, input-used, none-made, reads-used, rose-since, runs-since, sources-input, store-late, store-unused, store-used}
 use Rattle.engine_cli.proofs.running.prepare.Goals as goal
 
 pub returns-in_err-input-clause-answer : goal.returns-in_err-input-clause-answer
@@ -29,7 +29,7 @@ pub run_input-requires : goal.run_input-requires
 run_input-requires g c =
     let input = c.in_ok-input.input in
     let was = c.in_ok-input.ensures.answer.0 in
-    record { numbers = was.ready.numbers; failures = job-failures input.job.machines input.job.failures.items was.ready.failures; few = few-failures input.job.machines input.job.failures.items was.ready.failures; graph = was.graph; start = was.start }
+    record { numbers = was.ready.numbers; failures = job-failures input.job.machines input.job.failures.items was.ready.failures; few = few-failures input.job.machines input.job.failures.items was.ready.failures; graph = was.graph; start = was.start; cut = can-cut c.in_ok-input.input (g.F.Files.state c.args.files.now) was.ready.numbers.atoms.0 c.in_ok-input.ensures.cut }
 
 pub returns-in-Ok-clause-answer : goal.returns-in-Ok-clause-answer
 returns-in-Ok-clause-answer g c =
@@ -47,7 +47,9 @@ returns-in-Ok-clause-answer g c =
       atoms = c.in_ok-input.ensures.answer.1;
       graph = was.graph;
       start = was.start;
-      runs = runs-since g.F.Files.disks_told c.args.asked c.args.file.now old mid new frame job input.graph c.in-Ok.run' job.fields.store made.runs;
+      cut = input.cut;
+      cut_is = c.in_ok-input.ensures.cut;
+      runs = runs-since g.F.Files.disks_told c.args.asked c.args.file.now old mid new frame job input.graph input.cut c.in-Ok.run' job.fields.store made.runs;
       fault = λ is. rose-since g.F.Files.disks_told c.args.asked c.args.file.now old mid new frame (made.fault is);
       printable = c.in-Ok.ensures.printable;
       alone = λ none. alone-used g.F.Files.disks_told c.args.asked c.args.file.now old mid new frame job.fields.store c.in-Ok.ensures.used none;
@@ -77,7 +79,7 @@ pub returns-in-Err-clause-answer : goal.returns-in-Err-clause-answer
 returns-in-Err-clause-answer g c =
     rw c.into.ensures
     (none-made g.F.Files.disks_told c.args.asked c.args.file.now (g.F.Files.state c.args.files.now) (g.F.Files.state c.read_run_input.new.files) (g.F.Files.state c.run_input.new.files) c.in_ok-input.ensures.frame
-    c.in_ok-input.input c.in_ok-input.ensures.answer.0 c.in-Err.why c.in-Err.ensures.used c.in-Err.ensures.refused)
+    c.in_ok-input.input c.in_ok-input.ensures.answer.0 c.in_ok-input.ensures.cut c.in-Err.why c.in-Err.ensures.used c.in-Err.ensures.refused)
 
 pub returns-in-Err-clause-frame : goal.returns-in-Err-clause-frame
 returns-in-Err-clause-frame g c =

@@ -12,6 +12,7 @@ pub returns-in-Ok-clause-run : goal.returns-in-Ok-clause-run
 returns-in-Ok-clause-run g c told =
     let job = job_view c.args.input.now.job in
     let graph = c.args.input.now.graph in
+    let cut = c.args.input.now.cut in
     let old = g.D.Disk.past c.args.disk in
     let bodies = snapshots_in g.D.Disk.past c.in-Ok.journal in
     let same : c.in-Ok.journal.header ≡ header_for job.fields graph = c.in-Ok.ensures.header.0 ∙ c.header_of-header.ensures.header in
@@ -19,14 +20,15 @@ returns-in-Ok-clause-run g c told =
     rw c.into_disk.ensures
     (IfOk-two c.run_on_journal.result _ _ _
     (λ run fresh from.
-    runs-on-store job graph old (g.D.Disk.past c.in-Ok.journal.disk) (g.D.Disk.past c.run_on_journal.new.journal.disk) bodies (g.met.D.Disk.reads_an_image c.args.disk told) stands (c.in-Ok.ensures.any_moment told)
-    c.args.resumed run c.requires.graph c.requires.start fresh (run-of-header job graph _ c.in-Ok.journal.header (header_for job.fields graph) _ _ c.args.resumed _ bodies _ _ run same from))
+    runs-on-store job graph cut old (g.D.Disk.past c.in-Ok.journal.disk) (g.D.Disk.past c.run_on_journal.new.journal.disk) bodies (g.met.D.Disk.reads_an_image c.args.disk told) stands (c.in-Ok.ensures.any_moment told)
+    c.args.resumed run c.requires.graph c.requires.start fresh (run-of-header job graph cut _ c.in-Ok.journal.header (header_for job.fields graph) _ _ c.args.resumed _ bodies _ _ run same from))
     (c.run_on_journal.ensures.fresh told) (c.run_on_journal.ensures.run told))
 
 pub returns-in-Ok-clause-refused : goal.returns-in-Ok-clause-refused
 returns-in-Ok-clause-refused g c =
     let job = job_view c.args.input.now.job in
     let graph = c.args.input.now.graph in
+    let cut = c.args.input.now.cut in
     let old = g.D.Disk.past c.args.disk in
     let bodies = snapshots_in g.D.Disk.past c.in-Ok.journal in
     let T : Type 0 = IsTrue g.D.Disk.told in
@@ -36,9 +38,9 @@ returns-in-Ok-clause-refused g c =
     rw c.into_disk.ensures
     (IfErr-map c.run_on_journal.result _ _
     (λ why refused.
-    not-on-disk T c.args.resumed job graph old (g.D.Disk.past c.in-Ok.journal.disk) (g.D.Disk.past c.run_on_journal.new.journal.disk) bodies (g.D.Disk.faults c.args.disk) (g.D.Disk.faults c.in-Ok.journal.disk) _ why
+    not-on-disk T c.args.resumed job graph cut old (g.D.Disk.past c.in-Ok.journal.disk) (g.D.Disk.past c.run_on_journal.new.journal.disk) bodies (g.D.Disk.faults c.args.disk) (g.D.Disk.faults c.in-Ok.journal.disk) _ why
     (λ told. g.met.D.Disk.reads_an_image c.args.disk told) stands (λ told. c.in-Ok.ensures.any_moment told) c.in-Ok.ensures.later
-    (why-of-header T c.args.resumed job graph _ c.in-Ok.journal.header (header_for job.fields graph) bodies _ _ _ _ why same refused))
+    (why-of-header T c.args.resumed job graph cut _ c.in-Ok.journal.header (header_for job.fields graph) bodies _ _ _ _ why same refused))
     c.run_on_journal.ensures.refused)
 
 pub returns-in-Ok-clause-same : goal.returns-in-Ok-clause-same

@@ -12,13 +12,14 @@ returns-clause-run g c told =
     let old = g.D.Disk.past c.args.journal.now.disk in
     let after = c.run_stored-run.new.journal in
     let new = g.D.Disk.past after.disk in
-    let says = IfOk-both c.run_stored-run.result _ _ (IfOk-both c.run_stored-run.result _ _ (c.run_stored-run.ensures.run told) c.run_stored-run.ensures.placed)
+    let says = IfOk-both c.run_stored-run.result _ _
+    (IfOk-both c.run_stored-run.result _ _ (IfOk-both c.run_stored-run.result _ _ (c.run_stored-run.ensures.run told) c.run_stored-run.ensures.placed) (c.run_stored-run.ensures.engine told))
     (IfOk-both c.run_stored-run.result _ _ (c.run_stored-run.ensures.enough told) (c.run_stored-run.ensures.roomy told)) in
     IfOk-two c.run_stored-run.result _ _ _
     (λ run said by.
-    run-from job c.args.graph.now (g.P.Program.meaning c.args.program) bodies old new c.plan_of.result c.deref.result.now c.args.journal.now.header after.header
+    run-from job c.args.graph.now c.args.cut.now (g.P.Program.meaning c.args.program) bodies old new c.plan_of.result c.deref.result.now c.args.journal.now.header after.header
     c.run_stored-run.ensures.header c.plan_of.ensures c.deref.ensures.value c.args.saves_end c.args.window c.args.resumed c.args.journal.now.count c.args.journal.now.length run
-    (sym c.length-short.ensures.length ∙ c.length-short.ensures.stored told c.requires.well) said.0.0 said.0.1 said.1.0 said.1.1
+    (sym c.length-short.ensures.length ∙ c.length-short.ensures.stored told c.requires.well) said.0.0.0 said.0.0.1 said.0.1 said.1.0 said.1.1
     (full-by g.D.Disk.past (IsTrue g.D.Disk.told) after c.count-stored.result c.length-long.result _ _ c.count-stored.ensures.count c.count-stored.ensures.stored c.length-long.ensures.length c.length-long.ensures.stored told run.end by))
     says c.run_stored-run.ensures.by
 
@@ -36,7 +37,7 @@ returns-clause-refused g c =
     λ told few. subst (λ (l : ℕ). l ≤ 2 ^ 30) (sym (c.length-short.ensures.stored told c.requires.well) ∙ c.length-short.ensures.length) few in
     IfErr-is c.run_stored-run.result _ _
     (λ fault is refused.
-    why-not-stored job c.args.graph.now (g.P.Program.meaning c.args.program) bodies old new c.plan_of.result c.deref.result.now c.args.journal.now.header c.run_stored-run.new.journal.header
+    why-not-stored job c.args.graph.now c.args.cut.now (g.P.Program.meaning c.args.program) bodies old new c.plan_of.result c.deref.result.now c.args.journal.now.header c.run_stored-run.new.journal.header
     c.run_stored-run.ensures.header c.plan_of.ensures c.deref.ensures.value _ _ _ fault refused
     (λ why same told owner placed good few. c.run_stored-run.ensures.good told owner placed good (short told few) why (is ∙ ap (λ (f : JournalFault). Err f) same)))
     c.run_stored-run.ensures.refused

@@ -1,7 +1,11 @@
-use Rattle.job_runs.proofs.PlacingLemmas.{is_cut}
+use Rattle.atom_gather.specs.Cuts.{CanBeCut}
+use Rattle.std.proofs.Common.{subst}
+use Rattle.job_runs.proofs.PlacingLemmas.{is_told}
 use Rattle.job_runs.proofs.placing.cut_placement.Goals as goal
 
-pub returns : goal.returns
-returns c =
-    let made = c.in_ok-placed.ensures in
-    is_cut c.args.graph.now c.args.plan c.in_ok-placed.placed c.requires.several made.each made.cut made.placing made.atoms made.machines
+pub returns-in-Told : goal.returns-in-Told
+returns-in-Told c =
+    let of = c.told_placement.ensures.of in
+    let placing = c.told_placement.ensures.placing in
+    is_told c.args.graph.now c.args.cut.now c.in-Told.atoms c.in-Told.of c.args.plan c.told_placement.result c.requires.several c.in-Told.is
+    (subst (CanBeCut c.args.graph.now) c.in-Told.is c.requires.cut) (rw c.deref.ensures.value at of) (rw c.deref.ensures.value at placing) c.told_placement.ensures.machines

@@ -1,9 +1,9 @@
 use Rattle.std.proofs.Common.{◌≡◌, ◌∷◌, [], Some, None, Ok, Err, ap, rules}
 use Rattle.std.proofs.lemmas.Result.{err_from_is_err_and}
 use Rattle.whole_files.specs.AtomNames.{index_name}
-use Rattle.job_files.proofs.AtomsLooked.{index-formed, index-unformed, index-untaken, looks-gathered, looks-untaken, reads-atoms, reads-index}
+use Rattle.job_files.proofs.AtomsLooked.{index-formed, index-unformed, index-untaken, looks-gathered, looks-untaken, reads-atoms, reads-index, tells-gathered}
 use Rattle.job_files.proofs.AtomsTaken.{atoms-before, file-renamed}
-use Rattle.job_files.proofs.atoms.check_atoms.Goals as goal
+use Rattle.job_files.proofs.atoms.read_cut.Goals as goal
 
 pub returns-in_err-index-clause-answer : goal.returns-in_err-index-clause-answer
 returns-in_err-index-clause-answer g c =
@@ -77,8 +77,13 @@ returns-in-Ok-gathered-clause-answer g c =
     let was = c.in_ok-index.ensures in
     let have = atoms-before files mid new.sources.faults (c.as_str.result.now ∷ []) c.args.prefix.now c.in-Ok.atoms (Ok c.in_ok-read.read.items) was.read.frame was.handed was.read.later c.in_ok-read.ensures.read_all in
     let found = c.in-Ok-gathered.ensures.none in
-    looks-gathered files c.args.prefix.now c.args.graph.now index.items c.in-Ok.atoms c.in_ok-read.read.items None (rw c.deref.ensures.value at count) formed have
-    (rw (c.deref-2.ensures.value, c.deref-3.ensures.value) at found)
+    let assigned = c.in-Ok-gathered.ensures.assignment in
+    let are = c.in-Ok-gathered.ensures.files in (
+      looks-gathered files c.args.prefix.now c.args.graph.now index.items c.in-Ok.atoms c.in_ok-read.read.items None (rw c.deref.ensures.value at count) formed have
+          (rw (c.deref-2.ensures.value, c.deref-3.ensures.value) at found),
+      tells-gathered files c.args.prefix.now c.args.graph.now index.items c.in-Ok.atoms c.in-Ok-gathered.made.of c.in_ok-read.read.items (rw c.deref.ensures.value at count) formed have
+          (rw c.deref-2.ensures.value at assigned) (rw (c.deref-2.ensures.value, c.deref-3.ensures.value) at are),
+    )
 
 pub returns-in-Err-Fault-clause-answer : goal.returns-in-Err-Fault-clause-answer
 returns-in-Err-Fault-clause-answer g c =
