@@ -131,13 +131,14 @@ class Fault(Exception):
 def read_graph(job: Job) -> Graph:
     """Reads the graph of a job from its two texts. The first faulty line is refused as glab refuses it."""
     identifiers = read_vertices(job.vertices)
-    edges = read_edges(job.edges, identifiers, job)
+    weight_at = read_edges(job.edges, identifiers, job)
+    pairs = sorted(weight_at)
     return Graph(
         directed=job.directed,
         identifiers=identifiers,
-        tails=array("I", (pair >> BITS_OF_A_VERTEX for pair in edges)),
-        heads=array("I", (pair & VERTEX_MASK for pair in edges)),
-        weights=array("I", edges.values()),
+        tails=array("I", (pair >> BITS_OF_A_VERTEX for pair in pairs)),
+        heads=array("I", (pair & VERTEX_MASK for pair in pairs)),
+        weights=array("I", map(weight_at.__getitem__, pairs)),
     )
 
 
@@ -153,7 +154,7 @@ def read_vertices(path: str) -> list[int]:
 
 
 def read_edges(path: str, identifiers: list[int], job: Job) -> dict[int, int]:
-    """Returns the weight of each edge by its pair of vertices, ascending."""
+    """Returns the weight of each edge by its pair of vertices."""
     names = {b"%d" % identifier: number for number, identifier in enumerate(identifiers)}
     found: dict[int, int] = {}
     is_weighted = job.algorithm == "paths"
@@ -168,7 +169,7 @@ def read_edges(path: str, identifiers: list[int], job: Job) -> dict[int, int]:
         except Fault as kind:
             raise Refused(f"graph: edges:{line}: {kind}") from None
         found[pair] = weight
-    return dict(sorted(found.items()))
+    return found
 
 
 def lines_of(path: str, name: str) -> Iterator[tuple[int, list[bytes]]]:
