@@ -4,3 +4,7 @@ pub mod cluster_places
 pub mod cluster_numbers
 pub mod cluster_cuts
 pub mod cluster_runs
+pub mod cluster_moves
+pub mod interior_scopes
+pub mod merged_logs
+pub mod known_parts

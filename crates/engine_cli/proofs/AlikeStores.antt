@@ -5,14 +5,14 @@ use Rattle.gl_base.specs.declared.entries.Entry.{Entry}
 use Rattle.gl_base.specs.declared.jobs.Algorithm.{Algorithm}
 use Rattle.gl_base.specs.declared.jobs.FailureAt.{FailureAt}
 use Rattle.graph_core.specs.DataGraph.{DataGraph}
-use Rattle.job_config.specs.Jobs.{JobSayings}
-use Rattle.job_runs.specs.Plays.{IsPlacement}
-use Rattle.job_stores.specs.JobHeaders.{header_for}
+use Rattle.job_io.specs.job_config.Jobs.{JobSayings}
+use Rattle.placement.specs.plans.Plays.{IsPlacement}
+use Rattle.job_io.specs.job_stores.JobHeaders.{header_for}
 use Rattle.recovery.specs.GoodStores.{AreReplayed, IsGoodStore, stored_orders}
 use Rattle.recovery.specs.Journals.{body_entries, with_entries}
 use Rattle.recovery.specs.Orders.{IsOrderInTurn, Shared}
-use Rattle.store_format.specs.declared.header.Header.{Header}
-use Rattle.stored_answers.specs.Images.{HoldsGood}
+use Rattle.store.specs.declared.store_format.header.Header.{Header}
+use Rattle.engine_runs.specs.answers.Images.{HoldsGood}
 use Rattle.update_api.specs.Updates.{Update}
 use Rattle.engine_cli.specs.JobRuns.{AreAlikeJobs, HaveSameStores}
 use Rattle.engine_cli.specs.Plays.{update_of}

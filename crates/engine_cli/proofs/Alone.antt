@@ -4,24 +4,24 @@ use Rattle.std.proofs.lemmas.Bool.{cond-true, le-leb}
 use Rattle.std.specs.List.{AllByRecursion, list_any}
 use Rattle.std.specs.List.Sorted.{IsPermutation}
 use Rattle.std.specs.Prelude.{MatchOption, sum_by}
-use Rattle.atom_gather.specs.declared.cuts.Cut.{Cut}
+use Rattle.graph_atoms.specs.declared.atom_gather.cuts.Cut.{Cut}
 use Rattle.gl_base.specs.Lists.{AreEach}
 use Rattle.gl_base.specs.declared.entries.Entry.{Entry}
 use Rattle.gl_base.specs.declared.entries.Entry.TheVariants.{Go, Restart}
 use Rattle.gl_base.specs.declared.jobs.FailureAt.{FailureAt}
 use Rattle.gl_base.specs.declared.numbers.Vertex.{Vertex}
-use Rattle.call_answers.specs.Answers.{IsRunWithFailures, RunLists, Shared, made_by, reached_places}
-use Rattle.call_answers.specs.Ends.{SpendsRun}
+use Rattle.call_laws.specs.call_answers.Answers.{IsRunWithFailures, RunLists, Shared, made_by, reached_places}
+use Rattle.call_laws.specs.call_answers.Ends.{SpendsRun}
 use Rattle.graph_core.specs.DataGraph.{DataGraph}
-use Rattle.job_config.specs.Jobs.{JobSayings}
-use Rattle.job_runs.specs.Plays.{AreUpdatesFrom}
+use Rattle.job_io.specs.job_config.Jobs.{JobSayings}
+use Rattle.placement.specs.plans.Plays.{AreUpdatesFrom}
 use Rattle.seq_run.specs.Orders.{IsFinished}
-use Rattle.stored_answers.specs.declared.runs.StoredEnd.{StoredEnd}
-use Rattle.stored_answers.specs.declared.runs.StoredEnd.TheVariants as end
-use Rattle.stored_answers.specs.declared.runs.StoredRun.{StoredRun}
-use Rattle.whole_laws.proofs.attempts.Standing.{stand_made}
+use Rattle.engine_runs.specs.declared.answers.runs.StoredEnd.{StoredEnd}
+use Rattle.engine_runs.specs.declared.answers.runs.StoredEnd.TheVariants as end
+use Rattle.engine_runs.specs.declared.answers.runs.StoredRun.{StoredRun}
+use Rattle.call_laws.proofs.attempts.Standing.{stand_made}
 use Rattle.whole_laws.proofs.cluster_records.Merging.{one_order}
-use Rattle.whole_laws.specs.attempts.Entries.{is_restart, is_restart_at, is_update_from}
+use Rattle.call_laws.specs.attempts.Entries.{is_restart, is_restart_at, is_update_from}
 use Rattle.engine_cli.specs.JobRuns.{BeginsAgain, IsEndAlone, RunsAlone, RunsThroughFailures, RunsWithoutStore, left_at, lists_of, shared_by}
 use Rattle.engine_cli.specs.Plays.{IsSpent, update_of}
 

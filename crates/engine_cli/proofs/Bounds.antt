@@ -7,13 +7,13 @@ use Rattle.gl_base.specs.declared.jobs.Algorithm.TheVariants.{Levels, Components
 use Rattle.gl_base.specs.declared.numbers.Vertex.{Vertex}
 use Rattle.graph_core.specs.DataGraph.{DataGraph, IsDataGraph}
 use Rattle.seq_run.specs.Orders.{IsValidOrder, all_tasks, tasks_after}
-use Rattle.job_runs.specs.Plays.{AreUpdatesFrom}
+use Rattle.placement.specs.plans.Plays.{AreUpdatesFrom}
 use Rattle.seq_run.specs.States.{start_state}
 use Rattle.seq_run.specs.StepBound.{step_bound, updates_from, updates_since_restart}
 use Rattle.seq_run.proofs.GoingOn.{updates_from-push, valid_append}
 use Rattle.seq_run.proofs.StepBounds.{levels_bound, components_bound, paths_bound, colours_bound}
 use Rattle.update_api.specs.Updates.{Update, update_of_levels, update_of_paths}
-use Rattle.job_files.specs.JobTexts.{HasStart}
+use Rattle.job_io.specs.job_files.JobTexts.{HasStart}
 use Rattle.engine_cli.specs.Plays.{update_of}
 use Rattle.engine_cli.proofs.Results.{named}
 

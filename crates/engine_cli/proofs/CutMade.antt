@@ -3,24 +3,24 @@ use Rattle.std.proofs.Common.{◌≡◌, ◌+◌, ◌⊎◌, inl, inr, ℕ, List
 use Rattle.std.specs.Prelude.{Contains}
 use Rattle.gl_outside.specs.Faults.{Rose}
 use Rattle.gl_outside.specs.FilesState.{FilesState, Opened, Written}
-use Rattle.made_graphs.specs.declared.making.Writing.{Writing}
-use Rattle.made_graphs.specs.declared.making.Writing.TheVariants as out
-use Rattle.job_config.specs.Views.{job_view}
-use Rattle.job_words.specs.declared.words.Words.{Words}
-use Rattle.job_words.specs.declared.words.Words.TheVariants.{Cut}
+use Rattle.graph_text.specs.declared.generate.making.Writing.{Writing}
+use Rattle.graph_text.specs.declared.generate.making.Writing.TheVariants as out
+use Rattle.job_io.specs.job_config.Views.{job_view}
+use Rattle.job_io.specs.declared.job_words.words.Words.{Words}
+use Rattle.job_io.specs.declared.job_words.words.Words.TheVariants.{Cut}
 use Rattle.gl_base.specs.declared.names.Name.{Name}
-use Rattle.whole_files.specs.AtomNames.{cut_name, cut_names}
-use Rattle.whole_files.specs.FilesUsed.{HandsOver, ReadsFiles, WritesFiles}
-use Rattle.whole_files.specs.InTurn.{LeavesFiles, LeavesFronts}
-use Rattle.graph_files.specs.Cuts.{OfCut}
-use Rattle.graph_files.specs.Made.{IsFault}
-use Rattle.job_files.specs.declared.inputs.Input.{Input}
-use Rattle.job_files.specs.declared.inputs.NoInput.{NoInput}
-use Rattle.job_files.specs.declared.inputs.NoInput.TheVariants as why
-use Rattle.job_files.specs.declared.jobs.JobVerb.TheVariants as verb
-use Rattle.job_files.specs.Inputs.{IsInput, IsInputFrom}
-use Rattle.job_files.specs.NamesRead.{names_of}
-use Rattle.job_files.proofs.InputsRead.{of-graph}
+use Rattle.job_io.specs.whole_files.AtomNames.{cut_name, cut_names}
+use Rattle.job_io.specs.whole_files.FilesUsed.{HandsOver, ReadsFiles, WritesFiles}
+use Rattle.job_io.specs.whole_files.InTurn.{LeavesFiles, LeavesFronts}
+use Rattle.job_io.specs.graph_files.Cuts.{OfCut}
+use Rattle.job_io.specs.graph_files.Made.{IsFault}
+use Rattle.job_io.specs.declared.job_files.inputs.Input.{Input}
+use Rattle.job_io.specs.declared.job_files.inputs.NoInput.{NoInput}
+use Rattle.job_io.specs.declared.job_files.inputs.NoInput.TheVariants as why
+use Rattle.job_io.specs.declared.job_files.jobs.JobVerb.TheVariants as verb
+use Rattle.job_io.specs.job_files.Inputs.{IsInput, IsInputFrom}
+use Rattle.job_io.specs.job_files.NamesRead.{names_of}
+use Rattle.job_io.proofs.job_files.InputsRead.{of-graph}
 use Rattle.engine_cli.specs.CutJobs.{Cuts, LeavesCutFronts, OfCutJob}
 use Rattle.engine_cli.specs.NamesWritten.{names_at}
 use Rattle.engine_cli.specs.Says.{IsReadable}

@@ -4,7 +4,7 @@ use Rattle.std.specs.List.{AllByRecursion}
 use Rattle.gl_base.specs.declared.entries.Entry.{Entry}
 use Rattle.gl_base.specs.declared.entries.Entry.TheVariants.{Go, Restart}
 use Rattle.graph_core.specs.DataGraph.{DataGraph, IsDataGraph}
-use Rattle.order_text.specs.Orders.{IsEntryOf}
+use Rattle.graph_text.specs.order_text.Orders.{IsEntryOf}
 use Rattle.seq_run.specs.Orders.{IsValidOrder, MayCome, all_tasks, tasks_after}
 use Rattle.seq_run.specs.States.{start_state}
 use Rattle.seq_run.proofs.EachOf.{each_is}

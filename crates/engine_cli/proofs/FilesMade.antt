@@ -3,20 +3,20 @@ use Rattle.std.proofs.Common.{◌≡◌, ℕ, List, [], ◌∷◌, Option, Some,
 use Rattle.gl_base.specs.declared.jobs.MakePlan.{MakePlan}
 use Rattle.gl_base.specs.declared.text_faults.TextFile.TheVariants.{Vertices, Edges}
 use Rattle.gl_outside.specs.Faults.{Rose}
-use Rattle.made_graphs.specs.declared.making.Writing.{Writing}
+use Rattle.graph_text.specs.declared.generate.making.Writing.{Writing}
 use Rattle.gl_outside.specs.FilesState.{FilesState}
 use Rattle.gl_base.specs.declared.names.Name.{Name}
-use Rattle.job_words.specs.declared.words.Words.{Words}
-use Rattle.job_words.specs.declared.words.Words.TheVariants.{Make}
-use Rattle.graph_files.specs.Made.{IsFault, LeavesFront, edges_name, vertices_name}
+use Rattle.job_io.specs.declared.job_words.words.Words.{Words}
+use Rattle.job_io.specs.declared.job_words.words.Words.TheVariants.{Make}
+use Rattle.job_io.specs.graph_files.Made.{IsFault, LeavesFront, edges_name, vertices_name}
 use Rattle.engine_cli.specs.NamesWritten.{order_names}
-use Rattle.whole_files.specs.FilesUsed.{WritesFiles}
+use Rattle.job_io.specs.whole_files.FilesUsed.{WritesFiles}
 use Rattle.engine_cli.specs.Made.{Makes}
 use Rattle.engine_cli.specs.Status.{IsDoneOrNoMemory, status_of_writing}
 use Rattle.engine_cli.specs.Verbs.{IsMaking}
 use Rattle.engine_cli.specs.declared.status.Status.{Status}
 use Rattle.engine_cli.specs.declared.status.Status.TheVariants.{Done, Usage, BadJob, BadGraph, BadAtoms, ReadFault, WriteFault, DiskFault, BadStore, BudgetSpent, SnapshotsFull, NoMemory}
-use Rattle.made_graphs.specs.declared.making.Writing.TheVariants as out
+use Rattle.graph_text.specs.declared.generate.making.Writing.TheVariants as out
 
 -- making files comes to an end where no count rose
 pub made-done : (plan : MakePlan) (prefix : List ℕ) (old new : FilesState) (status : Status)

@@ -5,8 +5,8 @@ use Rattle.std.proofs.lemmas.Bool.{cases_lt, eq-eqb, leb-false}
 use Rattle.std.proofs.lemmas.List.{length-append}
 use Rattle.std.proofs.lemmas.List.Folds.{list_any-append}
 use Rattle.gl_base.specs.declared.jobs.FailureAt.{FailureAt}
-use Rattle.job_config.specs.Failures.{first_faulty, is_faulty, same_failure}
-use Rattle.whole_laws.specs.whole_calls.Following.{AreJobFailures}
+use Rattle.job_io.specs.job_config.Failures.{first_faulty, is_faulty, same_failure}
+use Rattle.call_laws.specs.whole_calls.Following.{AreJobFailures}
 
 false-or-false : (a b : Bool) → (a || b) ≡ false → (a ≡ false) × (b ≡ false)
 false-or-false true b e = absurd (differ e)

@@ -3,12 +3,12 @@ use Rattle.std.proofs.Common.{◌≡◌, ℕ, List, [], Option, None, Some, Resu
 use Rattle.gl_base.specs.declared.job_faults.JobFault.{JobFault}
 use Rattle.gl_outside.specs.FilesState.{FilesState}
 use Rattle.gl_outside.specs.Names.{AppendsNames}
-use Rattle.job_config.specs.Jobs.{JobSayings}
-use Rattle.whole_files.specs.FilesUsed.{HandsOver, OfRead}
-use Rattle.whole_files.proofs.NamesHanded.{AppendsNames-nil}
-use Rattle.job_files.specs.DoableJobs.{job_for}
-use Rattle.job_files.specs.JobTexts.{SaysJob}
-use Rattle.job_files.specs.declared.jobs.JobVerb.{JobVerb}
+use Rattle.job_io.specs.job_config.Jobs.{JobSayings}
+use Rattle.job_io.specs.whole_files.FilesUsed.{HandsOver, OfRead}
+use Rattle.job_io.proofs.whole_files.NamesHanded.{AppendsNames-nil}
+use Rattle.job_io.specs.job_files.DoableJobs.{job_for}
+use Rattle.job_io.specs.job_files.JobTexts.{SaysJob}
+use Rattle.job_io.specs.declared.job_files.jobs.JobVerb.{JobVerb}
 use Rattle.engine_cli.specs.NamesWritten.{HandsWritten, names_for, order_names, written_for}
 use Rattle.engine_cli.specs.StoreJobs.{HandsStore, store_names}
 

@@ -1,12 +1,12 @@
 -- A call for which memory ran out before it did anything.
 use Rattle.std.proofs.Common.{◌≡◌, inl, inr, ◌<◌, ℕ, Bool, List, length, refl, arith}
-use Rattle.job_words.specs.declared.words.Words.{Words}
-use Rattle.job_words.specs.declared.words.Words.TheVariants.{Run, Resume, Make, Cut, Init}
-use Rattle.job_files.specs.declared.jobs.JobVerb.{JobVerb}
-use Rattle.job_files.specs.declared.jobs.JobVerb.TheVariants as verb
-use Rattle.job_stores.proofs.DisksUsed.{always-told}
-use Rattle.whole_files.proofs.FilesCreated.{writes-nothing}
-use Rattle.whole_files.proofs.NamesHanded.{AppendsNames-nil}
+use Rattle.job_io.specs.declared.job_words.words.Words.{Words}
+use Rattle.job_io.specs.declared.job_words.words.Words.TheVariants.{Run, Resume, Make, Cut, Init}
+use Rattle.job_io.specs.declared.job_files.jobs.JobVerb.{JobVerb}
+use Rattle.job_io.specs.declared.job_files.jobs.JobVerb.TheVariants as verb
+use Rattle.job_io.proofs.job_stores.DisksUsed.{always-told}
+use Rattle.job_io.proofs.whole_files.FilesCreated.{writes-nothing}
+use Rattle.job_io.proofs.whole_files.NamesHanded.{AppendsNames-nil}
 use Rattle.engine_cli.specs.declared.ended.Ended.{Ended}
 use Rattle.engine_cli.specs.declared.status.Status.{Status}
 use Rattle.engine_cli.specs.declared.status.Status.TheVariants.{NoMemory}

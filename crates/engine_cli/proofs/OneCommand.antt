@@ -1,9 +1,9 @@
 -- Words are one command line at most.
 use Rattle.std.proofs.Common.{◌≡◌, List, Result, Ok, Err, sym, ◌∙◌}
 use Rattle.gl_base.specs.declared.usage_faults.UsageFault.{UsageFault}
-use Rattle.job_words.specs.CommandLine.{command_line_of}
+use Rattle.job_io.specs.job_words.CommandLine.{command_line_of}
 use Rattle.gl_base.specs.Texts.{Text}
-use Rattle.job_words.specs.declared.words.Words.{Words}
+use Rattle.job_io.specs.declared.job_words.words.Words.{Words}
 
 pub one_command : (words : List Text) (a b : Words) → command_line_of words ≡ Ok a → command_line_of words ≡ Ok b → a ≡ b
 one_command words a b p q = same_ok (sym p ∙ q)

@@ -12,37 +12,37 @@ use Rattle.gl_base.specs.declared.text_faults.TextFault.{TextFault}
 use Rattle.graph_text.specs.Vertices.{vertices_of}
 use Rattle.graph_text.specs.Edges.{edges_of}
 use Rattle.graph_text.specs.GraphTexts.{ListsIds}
-use Rattle.job_config.specs.Fields.{JobFields}
-use Rattle.job_config.specs.Jobs.{JobSayings}
+use Rattle.job_io.specs.job_config.Fields.{JobFields}
+use Rattle.job_io.specs.job_config.Jobs.{JobSayings}
 use Rattle.engine_cli.specs.declared.status.Status.{Status}
 use Rattle.gl_base.specs.declared.atoms.AtomsFault.{AtomsFault}
 use Rattle.gl_outside.specs.FilesState.{FilesState}
 use Rattle.seq_run.specs.StepBound.{step_bound}
-use Rattle.whole_files.specs.AtomNames.{index_name}
-use Rattle.job_files.specs.declared.jobs.JobVerb.{JobVerb}
-use Rattle.job_files.specs.Atoms.{FindsInAtoms, HasAtoms, OfJobCut, OfGraph, RefusesAtoms, atom_files, atoms_fault, given_bytes}
+use Rattle.job_io.specs.whole_files.AtomNames.{index_name}
+use Rattle.job_io.specs.declared.job_files.jobs.JobVerb.{JobVerb}
+use Rattle.job_io.specs.job_files.Atoms.{FindsInAtoms, HasAtoms, OfJobCut, OfGraph, RefusesAtoms, atom_files, atoms_fault, given_bytes}
 use Rattle.engine_cli.specs.Says.{IsReadable}
 use Rattle.engine_cli.specs.declared.status.Status.TheVariants.{Done, Usage, BadJob, BadGraph, BadAtoms, ReadFault, WriteFault, DiskFault, BadStore, BudgetSpent, SnapshotsFull, NoMemory}
 use Rattle.engine_cli.specs.Status.{IsDoneOrNoMemory}
-use Rattle.job_files.specs.JobTexts.{LacksSource, RefusesEdges, is_weighted, OfJob, OfSaid, OfTexts, RefusesSource, RefusesTexts, DescribeJobGraph, RefusesJob}
+use Rattle.job_io.specs.job_files.JobTexts.{LacksSource, RefusesEdges, is_weighted, OfJob, OfSaid, OfTexts, RefusesSource, RefusesTexts, DescribeJobGraph, RefusesJob}
 use Rattle.engine_cli.specs.Answer.{IsValid}
 use Rattle.engine_cli.specs.JobRuns.{CallLists, HasEnough, HasNamedMachines, IsEndAlone, MakesRun, RunsSo, RunsWithoutStore, is_resumed, left_at}
 use Rattle.engine_cli.specs.JobStores.{IsNotRunFrom, RefusesStore}
 use Rattle.engine_cli.specs.Plays.{IsSpent, update_of}
 use Rattle.gl_outside.specs.Disk.{DiskPast}
-use Rattle.job_stores.specs.JobHeaders.{header_for}
-use Rattle.job_stores.specs.NewStores.{IfDisksTold}
+use Rattle.job_io.specs.job_stores.JobHeaders.{header_for}
+use Rattle.job_io.specs.job_stores.NewStores.{IfDisksTold}
 use Rattle.std.specs.Prelude.{MatchOption}
-use Rattle.stored_answers.specs.declared.runs.StoredEnd.{StoredEnd}
-use Rattle.stored_answers.specs.declared.runs.StoredEnd.TheVariants as end
-use Rattle.stored_answers.specs.declared.runs.StoredEnd.TheVariants.{Spent}
+use Rattle.engine_runs.specs.declared.answers.runs.StoredEnd.{StoredEnd}
+use Rattle.engine_runs.specs.declared.answers.runs.StoredEnd.TheVariants as end
+use Rattle.engine_runs.specs.declared.answers.runs.StoredEnd.TheVariants.{Spent}
 use Rattle.update_api.specs.Updates.{Update}
 use Rattle.engine_cli.specs.Says.{HasSoundAtoms, IsSound, Moment, Refuses, Says, SaysOfRun}
-use Rattle.whole_files.specs.FilesUsed.{OfRead}
-use Rattle.whole_files.proofs.TextsRead.{OfRead-bytes}
+use Rattle.job_io.specs.whole_files.FilesUsed.{OfRead}
+use Rattle.job_io.proofs.whole_files.TextsRead.{OfRead-bytes}
 use Rattle.engine_cli.proofs.Bounds.{bound-of, one-more, since-one-more}
-use Rattle.job_files.proofs.SortedOnce.{sorted_once}
-use Rattle.job_files.specs.DoableJobs.{job_for}
+use Rattle.job_io.proofs.job_files.SortedOnce.{sorted_once}
+use Rattle.job_io.specs.job_files.DoableJobs.{job_for}
 
 -- a text that lists identifiers has no fault
 lists_no_fault : (bytes : List ℕ) (ids : List ℕ) (fault : TextFault) → ListsIds bytes ids → vertices_of bytes ≡ Err fault → ⊥

@@ -9,14 +9,14 @@ use Rattle.gl_base.specs.declared.limits.TheConstants.{MAX_VERTICES}
 use Rattle.gl_base.specs.declared.usage_faults.Opt.TheVariants as opt
 use Rattle.gl_base.specs.declared.usage_faults.UsageFault.{UsageFault}
 use Rattle.gl_base.specs.declared.usage_faults.UsageFault.TheVariants as fault
-use Rattle.made_graphs.specs.Making.{IsPlanInRange}
-use Rattle.job_words.specs.CommandLine.{command_line_of, formed_means, line_means}
-use Rattle.job_words.specs.Lines.{Sayings, line_of}
+use Rattle.graph_text.specs.generate.Making.{IsPlanInRange}
+use Rattle.job_io.specs.job_words.CommandLine.{command_line_of, formed_means, line_means}
+use Rattle.job_io.specs.job_words.Lines.{Sayings, line_of}
 use Rattle.gl_base.specs.Results.{and_then}
-use Rattle.job_words.specs.Meanings.{has_option, plan_in_range, make_words, meaning_of, most_edges, option_number, plan_of, option_weight}
+use Rattle.job_io.specs.job_words.Meanings.{has_option, plan_in_range, make_words, meaning_of, most_edges, option_number, plan_of, option_weight}
 use Rattle.gl_base.specs.Texts.{Text}
-use Rattle.job_words.specs.WordForms.{word_forms, first_unformed}
-use Rattle.job_words.specs.declared.words.Words.TheVariants.{Run, Resume, Make, Cut, Init}
+use Rattle.job_io.specs.job_words.WordForms.{word_forms, first_unformed}
+use Rattle.job_io.specs.declared.job_words.words.Words.TheVariants.{Run, Resume, Make, Cut, Init}
 
 no_fault_ok : {X : Type 0} → {f : UsageFault} → {x : X} → Err f ≡ Ok x → ⊥
 no_fault_ok e = cc

@@ -2,33 +2,33 @@
 use Rattle.std.proofs.Common.{◌≡◌, inl, inr, ℕ, ◌≤◌, Bool, true, false, IsTrue, is_some, List, [], ◌∷◌, Option, None, Some, IfSome, Result, Err, refl, sym, ap, ◌∙◌, subst, ⊎_elim, arith}
 use Rattle.std.specs.Prelude.{bytes_eq, ◌⊎◌}
 use Rattle.std.proofs.lemmas.Slice.Eq.{bytes_eq-Decides}
-use Rattle.atom_gather.specs.Cuts.{CanBeCut}
-use Rattle.atom_gather.specs.declared.cuts.Cut.{Cut}
-use Rattle.atom_gather.specs.declared.cuts.Cut.TheVariants.{Grown, Told}
+use Rattle.graph_atoms.specs.atom_gather.Cuts.{CanBeCut}
+use Rattle.graph_atoms.specs.declared.atom_gather.cuts.Cut.{Cut}
+use Rattle.graph_atoms.specs.declared.atom_gather.cuts.Cut.TheVariants.{Grown, Told}
 use Rattle.gl_outside.specs.Disk.{DiskPast}
 use Rattle.gl_outside.specs.Faults.{Rose}
 use Rattle.gl_outside.specs.FilesState.{FilesState, Opened}
 use Rattle.gl_outside.specs.Frames.{ChangesSources}
 use Rattle.gl_outside.specs.Inner.Laws.{decide, differs}
 use Rattle.graph_core.specs.DataGraph.{DataGraph}
-use Rattle.job_config.specs.Jobs.{JobSayings}
-use Rattle.job_config.specs.Views.{job_view}
-use Rattle.job_files.specs.Atoms.{IsCutAt, IsCutOf, OfJobCut}
-use Rattle.job_files.specs.Inputs.{IsInputFrom, IsRunInput, RefusesEarly}
-use Rattle.job_files.specs.JobTexts.{SaysJob}
-use Rattle.job_files.specs.NamesRead.{HandsForRun, names_of}
-use Rattle.job_files.specs.declared.inputs.Input.{Input}
-use Rattle.job_files.specs.declared.inputs.NoInput.{NoInput}
-use Rattle.job_files.specs.declared.inputs.NoInput.TheVariants as why
-use Rattle.job_files.specs.declared.jobs.JobVerb.{JobVerb}
-use Rattle.job_files.proofs.InputsRead.{of-graph}
-use Rattle.job_stores.specs.JobHeaders.{header_for}
-use Rattle.job_stores.specs.NewStores.{IfDisksTold, UsesDisk}
-use Rattle.job_stores.specs.declared.making.NoStore.{NoStore}
-use Rattle.job_stores.specs.declared.making.NoStore.TheVariants as no_store
-use Rattle.job_stores.proofs.DisksUsed.{always-told}
-use Rattle.stored_answers.specs.declared.runs.StoredRun.{StoredRun}
-use Rattle.whole_files.specs.FilesUsed.{HandsOver}
+use Rattle.job_io.specs.job_config.Jobs.{JobSayings}
+use Rattle.job_io.specs.job_config.Views.{job_view}
+use Rattle.job_io.specs.job_files.Atoms.{IsCutAt, IsCutOf, OfJobCut}
+use Rattle.job_io.specs.job_files.Inputs.{IsInputFrom, IsRunInput, RefusesEarly}
+use Rattle.job_io.specs.job_files.JobTexts.{SaysJob}
+use Rattle.job_io.specs.job_files.NamesRead.{HandsForRun, names_of}
+use Rattle.job_io.specs.declared.job_files.inputs.Input.{Input}
+use Rattle.job_io.specs.declared.job_files.inputs.NoInput.{NoInput}
+use Rattle.job_io.specs.declared.job_files.inputs.NoInput.TheVariants as why
+use Rattle.job_io.specs.declared.job_files.jobs.JobVerb.{JobVerb}
+use Rattle.job_io.proofs.job_files.InputsRead.{of-graph}
+use Rattle.job_io.specs.job_stores.JobHeaders.{header_for}
+use Rattle.job_io.specs.job_stores.NewStores.{IfDisksTold, UsesDisk}
+use Rattle.job_io.specs.declared.job_stores.making.NoStore.{NoStore}
+use Rattle.job_io.specs.declared.job_stores.making.NoStore.TheVariants as no_store
+use Rattle.job_io.proofs.job_stores.DisksUsed.{always-told}
+use Rattle.engine_runs.specs.declared.answers.runs.StoredRun.{StoredRun}
+use Rattle.job_io.specs.whole_files.FilesUsed.{HandsOver}
 use Rattle.engine_cli.specs.Inner.Prepares.{ChangesInput, IsWhyNoneMade, UsesNamed}
 use Rattle.engine_cli.specs.Inner.Storing.{IsWhyNoStoredRun}
 use Rattle.engine_cli.specs.JobRuns.{RunsOnStore, RunsSo, is_resumed}

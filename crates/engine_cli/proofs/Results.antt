@@ -16,7 +16,7 @@ use Rattle.seq_run.proofs.Colours.{colours_at_rest}
 use Rattle.update_api.specs.Updates.{Update, update_of_levels, update_of_paths}
 use Rattle.gl_base.specs.Lists.{AreEach}
 use Rattle.engine_cli.specs.Plays.{AreResults, source_id, update_of}
-use Rattle.job_files.specs.JobTexts.{HasStart, IsVertexOf}
+use Rattle.job_io.specs.job_files.JobTexts.{HasStart, IsVertexOf}
 
 -- what holds of each number of the replay holds of the numbers that were kept
 each-of : (g : DataGraph) (number : ℕ → ℕ) (holds : ℕ → ℕ → Type 0) (numbers : List ℕ) → AreNumbers (size g) number numbers

@@ -9,19 +9,19 @@ use Rattle.gl_outside.specs.Faults.{Rose}
 use Rattle.gl_outside.specs.FilesState.{FilesState, Opened, Written}
 use Rattle.gl_outside.specs.Frames.{ChangesSources}
 use Rattle.gl_outside.specs.Fronts.{AppendsFront}
-use Rattle.made_graphs.specs.declared.making.Writing.TheVariants.{WriteFault as WriteFaultAtOut}
-use Rattle.job_config.specs.Fields.{JobFields}
-use Rattle.job_config.specs.Jobs.{JobSayings}
-use Rattle.job_config.specs.Views.{job_view}
-use Rattle.job_files.specs.JobTexts.{DescribeJobGraph, SaysJob}
-use Rattle.job_files.specs.NamesRead.{HandsForRun, names_of}
-use Rattle.job_files.specs.declared.jobs.JobVerb.{JobVerb}
-use Rattle.job_files.specs.declared.jobs.JobVerb.TheVariants as verb
-use Rattle.stored_answers.specs.declared.runs.StoredEnd.{StoredEnd}
-use Rattle.stored_answers.specs.declared.runs.StoredEnd.TheVariants as end
-use Rattle.whole_files.specs.FilesUsed.{HandsOver, WritesFiles}
-use Rattle.whole_files.specs.Leaves.{KeepsOrGives}
-use Rattle.whole_files.proofs.TextsRead.{OfRead-two}
+use Rattle.graph_text.specs.declared.generate.making.Writing.TheVariants.{WriteFault as WriteFaultAtOut}
+use Rattle.job_io.specs.job_config.Fields.{JobFields}
+use Rattle.job_io.specs.job_config.Jobs.{JobSayings}
+use Rattle.job_io.specs.job_config.Views.{job_view}
+use Rattle.job_io.specs.job_files.JobTexts.{DescribeJobGraph, SaysJob}
+use Rattle.job_io.specs.job_files.NamesRead.{HandsForRun, names_of}
+use Rattle.job_io.specs.declared.job_files.jobs.JobVerb.{JobVerb}
+use Rattle.job_io.specs.declared.job_files.jobs.JobVerb.TheVariants as verb
+use Rattle.engine_runs.specs.declared.answers.runs.StoredEnd.{StoredEnd}
+use Rattle.engine_runs.specs.declared.answers.runs.StoredEnd.TheVariants as end
+use Rattle.job_io.specs.whole_files.FilesUsed.{HandsOver, WritesFiles}
+use Rattle.job_io.specs.whole_files.Leaves.{KeepsOrGives}
+use Rattle.job_io.proofs.whole_files.TextsRead.{OfRead-two}
 use Rattle.engine_cli.specs.declared.running.Prepared.{Prepared}
 use Rattle.engine_cli.specs.declared.status.Status.{Status}
 use Rattle.engine_cli.specs.declared.status.Status.TheVariants.{Done, Usage, BadJob, BadGraph, BadAtoms, ReadFault, WriteFault, DiskFault, BadStore, BudgetSpent, SnapshotsFull, NoMemory}
@@ -35,9 +35,9 @@ use Rattle.engine_cli.specs.Says.{EndsRun, FailsAtOrder, FailsAtOut, LeavesOrder
 use Rattle.engine_cli.specs.Status.{IsBeforeMaking, IsBeforeWriting, IsRefusedInput}
 use Rattle.engine_cli.specs.StoreJobs.{HandsStore}
 use Rattle.engine_cli.specs.Verbs.{IsRun}
-use Rattle.job_files.specs.Atoms.{OfJobCut}
-use Rattle.job_files.proofs.InputsRead.{of-graph}
-use Rattle.job_stores.specs.NewStores.{IfDisksTold}
+use Rattle.job_io.specs.job_files.Atoms.{OfJobCut}
+use Rattle.job_io.proofs.job_files.InputsRead.{of-graph}
+use Rattle.job_io.specs.job_stores.NewStores.{IfDisksTold}
 use Rattle.engine_cli.proofs.NamesHanded.{hands-no-name, hands-written-names}
 use Rattle.engine_cli.proofs.OneGraph.{sound_is_done}
 use Rattle.engine_cli.proofs.OneStore.{sound_on_store_is_done}

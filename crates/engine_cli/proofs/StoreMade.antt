@@ -3,25 +3,25 @@ use Rattle.std.proofs.Common.{◌≡◌, ◌<◌, ℕ, Bool, false, IsTrue, is_s
 use Rattle.gl_outside.specs.Disk.{DiskPast}
 use Rattle.gl_outside.specs.Faults.{Rose}
 use Rattle.gl_outside.specs.FilesState.{FilesState, Opened}
-use Rattle.job_config.specs.Jobs.{JobSayings}
-use Rattle.job_config.specs.Views.{job_view}
-use Rattle.store_format.specs.declared.faults.StoreFault.{StoreFault}
-use Rattle.store_format.specs.declared.header.Header.{Header}
-use Rattle.whole_files.specs.FilesUsed.{HandsOver, ReadsFiles}
-use Rattle.job_files.specs.declared.inputs.Input.{Input}
-use Rattle.job_files.specs.declared.inputs.NoInput.{NoInput}
-use Rattle.job_files.specs.declared.inputs.NoInput.TheVariants as why
-use Rattle.job_files.specs.declared.jobs.JobVerb.TheVariants as verb
-use Rattle.job_files.specs.Atoms.{OfGraph}
-use Rattle.job_files.specs.Inputs.{IsInput, IsInputFrom}
-use Rattle.job_files.specs.JobTexts.{OfTexts}
-use Rattle.job_files.specs.NamesRead.{names_of}
-use Rattle.job_files.proofs.InputsRead.{of-graph}
-use Rattle.job_stores.specs.declared.making.NoStore.{NoStore}
-use Rattle.job_stores.specs.declared.making.NoStore.TheVariants as no_store
-use Rattle.job_stores.specs.JobHeaders.{header_for}
-use Rattle.job_stores.specs.NewStores.{HasBytes, IfDisksTold, IsNewStore, IsWhyNoStore, KeepsFilledDisks, UsesDisk}
-use Rattle.job_stores.proofs.DisksUsed.{always-told}
+use Rattle.job_io.specs.job_config.Jobs.{JobSayings}
+use Rattle.job_io.specs.job_config.Views.{job_view}
+use Rattle.store.specs.declared.store_format.faults.StoreFault.{StoreFault}
+use Rattle.store.specs.declared.store_format.header.Header.{Header}
+use Rattle.job_io.specs.whole_files.FilesUsed.{HandsOver, ReadsFiles}
+use Rattle.job_io.specs.declared.job_files.inputs.Input.{Input}
+use Rattle.job_io.specs.declared.job_files.inputs.NoInput.{NoInput}
+use Rattle.job_io.specs.declared.job_files.inputs.NoInput.TheVariants as why
+use Rattle.job_io.specs.declared.job_files.jobs.JobVerb.TheVariants as verb
+use Rattle.job_io.specs.job_files.Atoms.{OfGraph}
+use Rattle.job_io.specs.job_files.Inputs.{IsInput, IsInputFrom}
+use Rattle.job_io.specs.job_files.JobTexts.{OfTexts}
+use Rattle.job_io.specs.job_files.NamesRead.{names_of}
+use Rattle.job_io.proofs.job_files.InputsRead.{of-graph}
+use Rattle.job_io.specs.declared.job_stores.making.NoStore.{NoStore}
+use Rattle.job_io.specs.declared.job_stores.making.NoStore.TheVariants as no_store
+use Rattle.job_io.specs.job_stores.JobHeaders.{header_for}
+use Rattle.job_io.specs.job_stores.NewStores.{HasBytes, IfDisksTold, IsNewStore, IsWhyNoStore, KeepsFilledDisks, UsesDisk}
+use Rattle.job_io.proofs.job_stores.DisksUsed.{always-told}
 use Rattle.engine_cli.specs.NamesWritten.{order_names}
 use Rattle.engine_cli.specs.Says.{IsReadable}
 use Rattle.engine_cli.specs.Status.{IsBeforeMaking, IsDoneOrNoMemory, status_of_no_input, status_of_no_store}

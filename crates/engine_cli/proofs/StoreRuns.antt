@@ -1,30 +1,30 @@
 -- What a run on its store is, over the opening of the store and what it does with it.
 use Rattle.std.proofs.Common.{◌≡◌, inl, inr, ℕ, ◌+◌, ◌^◌, ◌≤◌, ◌++◌, Bool, false, true, List, [], length, Result, Ok, sym, ap, ◌∙◌, subst, ⊎_elim, append_assoc}
 use Rattle.std.specs.Result.{result_unwrap_or}
-use Rattle.atom_gather.specs.declared.cuts.Cut.{Cut}
+use Rattle.graph_atoms.specs.declared.atom_gather.cuts.Cut.{Cut}
 use Rattle.gl_base.specs.declared.entries.Entry.{Entry}
 use Rattle.gl_outside.specs.Disk.{DiskPast, IsImage, LeavesOnly}
 use Rattle.gl_outside.proofs.Fronts.{Rose-later}
 use Rattle.graph_core.specs.DataGraph.{DataGraph, IsDataGraph}
-use Rattle.job_config.specs.Jobs.{JobSayings}
-use Rattle.job_files.specs.JobTexts.{HasStart}
-use Rattle.job_stores.specs.JobHeaders.{header_for}
-use Rattle.job_stores.specs.declared.making.NoStore.{NoStore}
-use Rattle.job_stores.specs.declared.making.NoStore.TheVariants as no_store
+use Rattle.job_io.specs.job_config.Jobs.{JobSayings}
+use Rattle.job_io.specs.job_files.JobTexts.{HasStart}
+use Rattle.job_io.specs.job_stores.JobHeaders.{header_for}
+use Rattle.job_io.specs.declared.job_stores.making.NoStore.{NoStore}
+use Rattle.job_io.specs.declared.job_stores.making.NoStore.TheVariants as no_store
 use Rattle.seq_run.specs.StepBound.{step_bound}
-use Rattle.snap_journal.specs.Answers.{IsWhyNotOpened}
-use Rattle.snap_journal.specs.declared.faults.JournalFault.{JournalFault}
-use Rattle.snap_journal.specs.declared.faults.JournalFault.TheVariants as journal
-use Rattle.store_format.specs.Stores.{StandsFor, stored_in}
-use Rattle.store_format.specs.declared.faults.StoreFault.{StoreFault}
-use Rattle.store_format.specs.declared.faults.StoreFault.TheVariants.{BadByte}
-use Rattle.store_format.specs.declared.header.Header.{Header}
-use Rattle.stored_answers.specs.Images.{HoldsGood, IsGoodStore, KeepsGood}
-use Rattle.stored_answers.specs.Ends.{RunEndsSo}
-use Rattle.stored_answers.specs.Runs.{IsStoredRun, Shared, lists_of}
-use Rattle.stored_answers.specs.declared.runs.StoredEnd.{StoredEnd}
-use Rattle.stored_answers.specs.declared.runs.StoredEnd.TheVariants as end
-use Rattle.stored_answers.specs.declared.runs.StoredRun.{StoredRun}
+use Rattle.store.specs.snap_journal.Answers.{IsWhyNotOpened}
+use Rattle.store.specs.declared.snap_journal.faults.JournalFault.{JournalFault}
+use Rattle.store.specs.declared.snap_journal.faults.JournalFault.TheVariants as journal
+use Rattle.store.specs.store_format.Stores.{StandsFor, stored_in}
+use Rattle.store.specs.declared.store_format.faults.StoreFault.{StoreFault}
+use Rattle.store.specs.declared.store_format.faults.StoreFault.TheVariants.{BadByte}
+use Rattle.store.specs.declared.store_format.header.Header.{Header}
+use Rattle.engine_runs.specs.answers.Images.{HoldsGood, IsGoodStore, KeepsGood}
+use Rattle.engine_runs.specs.answers.Ends.{RunEndsSo}
+use Rattle.engine_runs.specs.answers.Runs.{IsStoredRun, Shared, lists_of}
+use Rattle.engine_runs.specs.declared.answers.runs.StoredEnd.{StoredEnd}
+use Rattle.engine_runs.specs.declared.answers.runs.StoredEnd.TheVariants as end
+use Rattle.engine_runs.specs.declared.answers.runs.StoredRun.{StoredRun}
 use Rattle.update_api.specs.Updates.{Update}
 use Rattle.engine_cli.specs.Inner.Storing.{IsStoreKept, IsNotGood, IsNotGoneOnFrom, IsStoreRunFrom, IsWhyNotOnDisk, IsWhyNotOnJournal, IsWhyNoneStored, no_store_of_journal, no_store_of_run}
 use Rattle.engine_cli.specs.JobRuns.{AreGoodImages, GoesOnFrom, KeepsStore, RunsOnStore, records_size, shared_by, snapshots_on}

@@ -9,15 +9,15 @@ use Rattle.gl_outside.specs.declared.files.FileNo.{FileNo}
 use Rattle.gl_outside.specs.declared.files.OpenFault.{OpenFault}
 use Rattle.gl_outside.specs.declared.files.OpenFault.TheVariants as open_fault
 use Rattle.gl_outside.proofs.Fronts.{Rose-later}
-use Rattle.job_config.specs.Views.{job_view}
-use Rattle.job_files.specs.declared.inputs.Input.{Input}
-use Rattle.job_stores.specs.JobHeaders.{header_for}
-use Rattle.job_stores.specs.NewStores.{IfDisksTold, UsesDisk}
-use Rattle.job_stores.specs.declared.making.NoStore.{NoStore}
-use Rattle.job_stores.specs.declared.making.NoStore.TheVariants as no_store
-use Rattle.job_stores.proofs.DisksUsed.{always-told, told-at-end}
-use Rattle.stored_answers.specs.declared.runs.StoredEnd.TheVariants as end
-use Rattle.stored_answers.specs.declared.runs.StoredRun.{StoredRun}
+use Rattle.job_io.specs.job_config.Views.{job_view}
+use Rattle.job_io.specs.declared.job_files.inputs.Input.{Input}
+use Rattle.job_io.specs.job_stores.JobHeaders.{header_for}
+use Rattle.job_io.specs.job_stores.NewStores.{IfDisksTold, UsesDisk}
+use Rattle.job_io.specs.declared.job_stores.making.NoStore.{NoStore}
+use Rattle.job_io.specs.declared.job_stores.making.NoStore.TheVariants as no_store
+use Rattle.job_io.proofs.job_stores.DisksUsed.{always-told, told-at-end}
+use Rattle.engine_runs.specs.declared.answers.runs.StoredEnd.TheVariants as end
+use Rattle.engine_runs.specs.declared.answers.runs.StoredRun.{StoredRun}
 use Rattle.engine_cli.specs.Inner.Storing.{IsRunIntoStore, IsWhyNoStoredRun, IsWhyNotOnDisk, no_store_of_open}
 use Rattle.engine_cli.specs.JobRuns.{RunsOnStore}
 use Rattle.engine_cli.specs.JobStores.{IsNotRunFrom, KeepsGoing, KeepsImages, RefusesStore}

@@ -1,7 +1,7 @@
 -- What the run of a program on an opened store says of the job.
 use Rattle.std.proofs.Common.{◌≡◌, ◌≤◌, ◌^◌, inl, inr, ℕ, ◌+◌, ◌*◌, Bool, false, List, length, Result, Ok, Err, refl, sym, ◌∙◌, subst, ⊎_elim}
 use Rattle.std.specs.Prelude.{All, IfErr, IfOk}
-use Rattle.atom_gather.specs.declared.cuts.Cut.{Cut}
+use Rattle.graph_atoms.specs.declared.atom_gather.cuts.Cut.{Cut}
 use Rattle.gl_base.specs.declared.entries.Entry.{Entry}
 use Rattle.gl_base.specs.declared.jobs.EngineKind.{EngineKind}
 use Rattle.gl_base.specs.declared.jobs.FailureAt.{FailureAt}
@@ -9,22 +9,22 @@ use Rattle.gl_base.specs.declared.numbers.Vertex.{Vertex}
 use Rattle.gl_outside.specs.Disk.{DiskPast}
 use Rattle.gl_outside.specs.Faults.{Rose}
 use Rattle.graph_core.specs.DataGraph.{DataGraph, size}
-use Rattle.job_config.specs.Jobs.{JobSayings}
-use Rattle.job_runs.specs.Plays.{IsPlacement}
-use Rattle.job_runs.specs.declared.runs.RunPlan.{RunPlan}
-use Rattle.order_text.specs.Orders.{IsEntryOf}
+use Rattle.job_io.specs.job_config.Jobs.{JobSayings}
+use Rattle.placement.specs.plans.Plays.{IsPlacement}
+use Rattle.placement.specs.declared.plans.runs.RunPlan.{RunPlan}
+use Rattle.graph_text.specs.order_text.Orders.{IsEntryOf}
 use Rattle.recovery.specs.Journals.{JournalState, records_size, snapshots_in, stored_in, stored_order}
-use Rattle.snap_journal.specs.declared.faults.JournalFault.{JournalFault}
-use Rattle.snap_journal.specs.declared.faults.JournalFault.TheVariants as journal
-use Rattle.store_format.specs.declared.faults.StoreFault.{StoreFault}
-use Rattle.store_format.specs.declared.header.Header.{Header}
-use Rattle.stored_answers.specs.Images.{IsGoodStore, KeepsGood}
-use Rattle.stored_answers.specs.Runs.{IsStoredRun}
-use Rattle.stored_answers.specs.declared.runs.StoredEnd.{StoredEnd}
-use Rattle.stored_answers.specs.declared.runs.StoredEnd.TheVariants as end
-use Rattle.stored_answers.specs.declared.runs.StoredRun.{StoredRun}
-use Rattle.stored_calls.specs.Calls.{EndsBy}
-use Rattle.stored_calls.specs.Runs.{IsWhyNoRun, owned_shared}
+use Rattle.store.specs.declared.snap_journal.faults.JournalFault.{JournalFault}
+use Rattle.store.specs.declared.snap_journal.faults.JournalFault.TheVariants as journal
+use Rattle.store.specs.declared.store_format.faults.StoreFault.{StoreFault}
+use Rattle.store.specs.declared.store_format.header.Header.{Header}
+use Rattle.engine_runs.specs.answers.Images.{IsGoodStore, KeepsGood}
+use Rattle.engine_runs.specs.answers.Runs.{IsStoredRun}
+use Rattle.engine_runs.specs.declared.answers.runs.StoredEnd.{StoredEnd}
+use Rattle.engine_runs.specs.declared.answers.runs.StoredEnd.TheVariants as end
+use Rattle.engine_runs.specs.declared.answers.runs.StoredRun.{StoredRun}
+use Rattle.engine_runs.specs.Calls.{EndsBy}
+use Rattle.engine_runs.specs.Runs.{IsWhyNoRun, owned_shared}
 use Rattle.update_api.specs.Updates.{Update}
 use Rattle.engine_cli.specs.Inner.Prepares.{IsPrintable}
 use Rattle.engine_cli.specs.Inner.Storing.{IsStoreKept, IsNotGood, IsStoreRunFrom, IsWhyNoneStored}

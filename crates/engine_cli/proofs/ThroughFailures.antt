@@ -1,24 +1,24 @@
 -- A run on a store in memory as one without a store.
 use Rattle.std.proofs.Common.{◌≡◌, ℕ, Bool, List, [], false, sym, subst}
-use Rattle.atom_gather.specs.declared.cuts.Cut.{Cut}
+use Rattle.graph_atoms.specs.declared.atom_gather.cuts.Cut.{Cut}
 use Rattle.gl_base.specs.declared.entries.Entry.{Entry}
 use Rattle.gl_base.specs.declared.numbers.Vertex.{Vertex}
 use Rattle.gl_outside.specs.Disk.{DiskPast}
-use Rattle.call_answers.specs.Ends.{SpendsRun}
+use Rattle.call_laws.specs.call_answers.Ends.{SpendsRun}
 use Rattle.graph_core.specs.DataGraph.{DataGraph, IsDataGraph}
-use Rattle.job_config.specs.Jobs.{JobSayings}
-use Rattle.job_files.specs.JobTexts.{HasStart}
-use Rattle.job_runs.specs.Plays.{IsPlacement}
+use Rattle.job_io.specs.job_config.Jobs.{JobSayings}
+use Rattle.job_io.specs.job_files.JobTexts.{HasStart}
+use Rattle.placement.specs.plans.Plays.{IsPlacement}
 use Rattle.recovery.specs.Journals.{stored_order}
 use Rattle.recovery.proofs.Goodness.{none_good}
 use Rattle.seq_run.specs.Orders.{IsFinished}
 use Rattle.seq_run.specs.StepBound.{step_bound}
-use Rattle.store_format.specs.declared.header.Header.{Header}
-use Rattle.stored_answers.specs.Ends.{RunEndsSo}
-use Rattle.stored_answers.specs.Images.{IsGoodStore}
-use Rattle.stored_answers.specs.declared.runs.StoredEnd.{StoredEnd}
-use Rattle.stored_answers.specs.declared.runs.StoredEnd.TheVariants as end
-use Rattle.stored_answers.specs.declared.runs.StoredRun.{StoredRun}
+use Rattle.store.specs.declared.store_format.header.Header.{Header}
+use Rattle.engine_runs.specs.answers.Ends.{RunEndsSo}
+use Rattle.engine_runs.specs.answers.Images.{IsGoodStore}
+use Rattle.engine_runs.specs.declared.answers.runs.StoredEnd.{StoredEnd}
+use Rattle.engine_runs.specs.declared.answers.runs.StoredEnd.TheVariants as end
+use Rattle.engine_runs.specs.declared.answers.runs.StoredRun.{StoredRun}
 use Rattle.engine_cli.specs.Inner.Failing.{IsRunWithoutSnapshots}
 use Rattle.engine_cli.specs.Inner.Prepares.{IsPrintable}
 use Rattle.engine_cli.specs.Inner.Storing.{IsStoreRunFrom}

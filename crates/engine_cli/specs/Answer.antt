@@ -3,15 +3,15 @@ use Rattle.std.specs.Prelude.{◌≡◌, ℕ, Bool, true, if◌then◌else◌, L
 use Rattle.gl_outside.specs.Disk.{DiskPast}
 use Rattle.gl_outside.specs.FilesState.{FilesState}
 use Rattle.graph_core.specs.DataGraph.{DataGraph}
-use Rattle.job_config.specs.Fields.{JobFields, needs_source}
-use Rattle.job_config.specs.Jobs.{JobSayings}
-use Rattle.job_files.specs.JobTexts.{DescribeJobGraph, IsVertexOf}
-use Rattle.job_files.specs.declared.jobs.JobVerb.{JobVerb}
-use Rattle.order_text.specs.Answers.{answer_text}
-use Rattle.order_text.specs.Orders.{order_text}
-use Rattle.order_text.specs.Reports.{report_text}
-use Rattle.stored_answers.specs.declared.runs.StoredEnd.TheVariants.{Finished}
-use Rattle.sync_folds.specs.Folds.{fold_of}
+use Rattle.job_io.specs.job_config.Fields.{JobFields, needs_source}
+use Rattle.job_io.specs.job_config.Jobs.{JobSayings}
+use Rattle.job_io.specs.job_files.JobTexts.{DescribeJobGraph, IsVertexOf}
+use Rattle.job_io.specs.declared.job_files.jobs.JobVerb.{JobVerb}
+use Rattle.graph_text.specs.order_text.Answers.{answer_text}
+use Rattle.graph_text.specs.order_text.Orders.{order_text}
+use Rattle.graph_text.specs.order_text.Reports.{report_text}
+use Rattle.engine_runs.specs.declared.answers.runs.StoredEnd.TheVariants.{Finished}
+use Rattle.graph_text.specs.sync_folds.Folds.{fold_of}
 use Rattle.engine_cli.specs.JobRuns.{CallLists, MakesRun}
 
 -- the report of an answer, where it is asked for, and else nothing

@@ -2,14 +2,14 @@
 use Rattle.std.specs.Prelude.{◌≡◌, ◌⊎◌, ◌+◌, ℕ, List, ⊤, Some}
 use Rattle.gl_outside.specs.Faults.{Rose}
 use Rattle.gl_outside.specs.FilesState.{FilesState}
-use Rattle.whole_files.specs.AtomNames.{cut_name}
-use Rattle.whole_files.specs.InTurn.{LeavesFiles, LeavesFronts}
-use Rattle.graph_files.specs.Cuts.{OfCut}
-use Rattle.job_files.specs.Atoms.{OfGraph}
-use Rattle.job_files.specs.JobTexts.{OfJob, OfTexts, RefusesJob, RefusesTexts}
+use Rattle.job_io.specs.whole_files.AtomNames.{cut_name}
+use Rattle.job_io.specs.whole_files.InTurn.{LeavesFiles, LeavesFronts}
+use Rattle.job_io.specs.graph_files.Cuts.{OfCut}
+use Rattle.job_io.specs.job_files.Atoms.{OfGraph}
+use Rattle.job_io.specs.job_files.JobTexts.{OfJob, OfTexts, RefusesJob, RefusesTexts}
 use Rattle.engine_cli.specs.declared.status.Status.{Status}
 use Rattle.engine_cli.specs.declared.status.Status.TheVariants.{Done, Usage, BadJob, BadGraph, BadAtoms, ReadFault, WriteFault, DiskFault, BadStore, BudgetSpent, SnapshotsFull, NoMemory}
-use Rattle.job_files.specs.declared.jobs.JobVerb.TheVariants as verb
+use Rattle.job_io.specs.declared.job_files.jobs.JobVerb.TheVariants as verb
 
 -- this holds of the job's prefix, of its number of atoms, and of the files of the cut of its graph
 abbrev pub OfCutJob : FilesState → List ℕ → (List ℕ → ℕ → (ℕ → List ℕ) → Type 0) → Type 0

@@ -1,37 +1,37 @@
 -- Runs of a job: without a store, and on the one that it names.
 pub use Rattle.recovery.specs.Journals.{records_size, stored_in, stored_order}
-pub use Rattle.stored_answers.specs.Images.{HoldsGood, orders_behind}
-pub use Rattle.stored_answers.specs.Runs.{IsRunWithFailures, IsStoredRun, Shared, lists_of}
-pub use Rattle.stored_calls.specs.Runs.{BoundsSteps, HasRoomForRun, IsRunBy}
+pub use Rattle.engine_runs.specs.answers.Images.{HoldsGood, orders_behind}
+pub use Rattle.engine_runs.specs.answers.Runs.{IsRunWithFailures, IsStoredRun, Shared, lists_of}
+pub use Rattle.engine_runs.specs.Runs.{BoundsSteps, HasRoomForRun, IsRunBy}
 use Rattle.std.specs.Prelude.{◌≡◌, ◌≤◌, ◌+◌, ◌*◌, ◌++◌, ◌∷◌, ℕ, Bool, true, false, List, [], length, sum_by, ⊤, Option, None, Some}
-use Rattle.atom_gather.specs.declared.cuts.Cut.{Cut}
+use Rattle.graph_atoms.specs.declared.atom_gather.cuts.Cut.{Cut}
 use Rattle.gl_base.specs.declared.entries.Entry.{Entry}
 use Rattle.gl_base.specs.declared.jobs.FailureAt.{FailureAt}
 use Rattle.gl_base.specs.declared.numbers.Vertex.{Vertex}
 use Rattle.gl_outside.specs.Disk.{DiskPast, IsImage, LeavesOnly}
 use Rattle.gl_outside.specs.FilesState.{FilesState}
-use Rattle.call_answers.specs.Ends.{SpendsRun}
+use Rattle.call_laws.specs.call_answers.Ends.{SpendsRun}
 use Rattle.graph_core.specs.DataGraph.{DataGraph, size}
-use Rattle.job_config.specs.Fields.{JobFields}
-use Rattle.job_config.specs.Jobs.{JobSayings}
-use Rattle.job_files.specs.Atoms.{IsCutOf}
-use Rattle.job_files.specs.JobTexts.{DescribeJobGraph, HasStart}
-use Rattle.job_files.specs.declared.jobs.JobVerb.{JobVerb}
-use Rattle.job_files.specs.declared.jobs.JobVerb.TheVariants as verb
-use Rattle.job_runs.specs.Plays.{IsPlacement}
-use Rattle.job_runs.specs.declared.runs.RunPlan.{RunPlan}
-use Rattle.job_stores.specs.JobHeaders.{header_for}
-use Rattle.job_stores.specs.NewStores.{IfDisksTold}
+use Rattle.job_io.specs.job_config.Fields.{JobFields}
+use Rattle.job_io.specs.job_config.Jobs.{JobSayings}
+use Rattle.job_io.specs.job_files.Atoms.{IsCutOf}
+use Rattle.job_io.specs.job_files.JobTexts.{DescribeJobGraph, HasStart}
+use Rattle.job_io.specs.declared.job_files.jobs.JobVerb.{JobVerb}
+use Rattle.job_io.specs.declared.job_files.jobs.JobVerb.TheVariants as verb
+use Rattle.placement.specs.plans.Plays.{IsPlacement}
+use Rattle.placement.specs.declared.plans.runs.RunPlan.{RunPlan}
+use Rattle.job_io.specs.job_stores.JobHeaders.{header_for}
+use Rattle.job_io.specs.job_stores.NewStores.{IfDisksTold}
 use Rattle.seq_run.specs.Orders.{IsFinished, replay}
 use Rattle.seq_run.specs.Runs.{AreNumbers}
 use Rattle.seq_run.specs.StepBound.{step_bound}
-use Rattle.store_format.specs.Stores.{StandsFor}
-use Rattle.store_format.specs.declared.header.Header.{Header}
-use Rattle.stored_answers.specs.declared.runs.SnapLine.{SnapLine}
-use Rattle.stored_answers.specs.declared.runs.StoredEnd.{StoredEnd}
-use Rattle.stored_answers.specs.declared.runs.StoredEnd.TheVariants.{DiskFault, Finished, Full, Spent}
-use Rattle.stored_answers.specs.declared.runs.StoredPlan.{StoredPlan}
-use Rattle.stored_answers.specs.declared.runs.StoredRun.{StoredRun}
+use Rattle.store.specs.store_format.Stores.{StandsFor}
+use Rattle.store.specs.declared.store_format.header.Header.{Header}
+use Rattle.engine_runs.specs.declared.answers.runs.SnapLine.{SnapLine}
+use Rattle.engine_runs.specs.declared.answers.runs.StoredEnd.{StoredEnd}
+use Rattle.engine_runs.specs.declared.answers.runs.StoredEnd.TheVariants.{DiskFault, Finished, Full, Spent}
+use Rattle.engine_runs.specs.declared.answers.runs.StoredPlan.{StoredPlan}
+use Rattle.engine_runs.specs.declared.answers.runs.StoredRun.{StoredRun}
 use Rattle.engine_cli.specs.declared.ended.Ended.{Ended}
 use Rattle.engine_cli.specs.Plays.{AreResults, CountsByMachine, RunsTo, update_of}
 

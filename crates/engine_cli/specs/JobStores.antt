@@ -1,20 +1,20 @@
 -- What a run finds and leaves of the job's store where none is made, or memory ran out.
 use Rattle.std.specs.Prelude.{◌≡◌, ◌⊎◌, ◌+◌, ◌^◌, ◌<◌, ◌≤◌, ℕ, Bool, IsTrue, is_some, false, List, length, Some, Err}
-use Rattle.atom_gather.specs.declared.cuts.Cut.{Cut}
+use Rattle.graph_atoms.specs.declared.atom_gather.cuts.Cut.{Cut}
 use Rattle.gl_base.specs.declared.entries.Entry.{Entry}
 use Rattle.gl_outside.specs.Disk.{DiskPast, IsImage, LeavesOnly}
 use Rattle.gl_outside.specs.FilesState.{FilesState}
 use Rattle.graph_core.specs.DataGraph.{DataGraph}
-use Rattle.job_config.specs.Jobs.{JobSayings}
-use Rattle.job_files.specs.Atoms.{OfJobCut, OfGraph}
-use Rattle.job_files.specs.JobTexts.{OfJob, OfSaid, OfTexts}
-use Rattle.job_files.specs.declared.jobs.JobVerb.{JobVerb}
-use Rattle.job_stores.specs.JobHeaders.{header_for}
-use Rattle.job_stores.specs.NewStores.{IfDisksTold}
-use Rattle.store_format.specs.Stores.{StandsFor, read_store}
-use Rattle.store_format.specs.declared.faults.StoreFault.{StoreFault}
-use Rattle.store_format.specs.declared.faults.StoreFault.TheVariants.{BadByte, Used}
-use Rattle.store_format.specs.declared.header.Header.{Header}
+use Rattle.job_io.specs.job_config.Jobs.{JobSayings}
+use Rattle.job_io.specs.job_files.Atoms.{OfJobCut, OfGraph}
+use Rattle.job_io.specs.job_files.JobTexts.{OfJob, OfSaid, OfTexts}
+use Rattle.job_io.specs.declared.job_files.jobs.JobVerb.{JobVerb}
+use Rattle.job_io.specs.job_stores.JobHeaders.{header_for}
+use Rattle.job_io.specs.job_stores.NewStores.{IfDisksTold}
+use Rattle.store.specs.store_format.Stores.{StandsFor, read_store}
+use Rattle.store.specs.declared.store_format.faults.StoreFault.{StoreFault}
+use Rattle.store.specs.declared.store_format.faults.StoreFault.TheVariants.{BadByte, Used}
+use Rattle.store.specs.declared.store_format.header.Header.{Header}
 use Rattle.engine_cli.specs.JobRuns.{IsStoreOfJob, KeepsStore, is_resumed, records_size, shared_by, snapshots_on}
 use Rattle.engine_cli.specs.StoreJobs.{HandsStore, IsStoreName}
 

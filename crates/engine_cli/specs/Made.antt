@@ -4,13 +4,13 @@ use Rattle.gl_base.specs.declared.jobs.MakePlan.{MakePlan}
 use Rattle.gl_base.specs.declared.text_faults.TextFile.TheVariants.{Vertices, Edges}
 use Rattle.gl_outside.specs.Faults.{Rose}
 use Rattle.gl_outside.specs.FilesState.{FilesState}
-use Rattle.job_words.specs.CommandLine.{IsCommandLine}
+use Rattle.job_io.specs.job_words.CommandLine.{IsCommandLine}
 use Rattle.gl_base.specs.Texts.{Text}
-use Rattle.job_words.specs.declared.words.Words.{Words}
-use Rattle.job_words.specs.declared.words.Words.TheVariants.{Run, Resume, Make, Cut, Init}
+use Rattle.job_io.specs.declared.job_words.words.Words.{Words}
+use Rattle.job_io.specs.declared.job_words.words.Words.TheVariants.{Run, Resume, Make, Cut, Init}
 use Rattle.engine_cli.specs.declared.status.Status.{Status}
 use Rattle.engine_cli.specs.declared.status.Status.TheVariants.{Done, Usage, BadJob, BadGraph, BadAtoms, ReadFault, WriteFault, DiskFault, BadStore, BudgetSpent, SnapshotsFull, NoMemory}
-use Rattle.graph_files.specs.Made.{vertices_name, edges_name, LeavesText}
+use Rattle.job_io.specs.graph_files.Made.{vertices_name, edges_name, LeavesText}
 
 -- a command line that some words are
 abbrev pub IsAsked : Words → Type 0

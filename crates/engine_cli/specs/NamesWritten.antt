@@ -2,14 +2,14 @@
 use Rattle.std.specs.Prelude.{ℕ, List, [], ◌∷◌, Contains, Option, None, Some, Result, Ok, Err, IfSome}
 use Rattle.gl_base.specs.declared.job_faults.JobFault.{JobFault}
 use Rattle.gl_outside.specs.FilesState.{FilesState}
-use Rattle.job_config.specs.Fields.{JobFields}
-use Rattle.job_config.specs.Jobs.{JobSayings}
-use Rattle.whole_files.specs.AtomNames.{cut_names}
-use Rattle.whole_files.specs.FilesUsed.{HandsOver}
-use Rattle.job_files.specs.DoableJobs.{job_for}
-use Rattle.job_files.specs.JobTexts.{OfJob}
-use Rattle.job_files.specs.declared.jobs.JobVerb.{JobVerb}
-use Rattle.job_files.specs.declared.jobs.JobVerb.TheVariants.{Run, Resume, Cut, Init}
+use Rattle.job_io.specs.job_config.Fields.{JobFields}
+use Rattle.job_io.specs.job_config.Jobs.{JobSayings}
+use Rattle.job_io.specs.whole_files.AtomNames.{cut_names}
+use Rattle.job_io.specs.whole_files.FilesUsed.{HandsOver}
+use Rattle.job_io.specs.job_files.DoableJobs.{job_for}
+use Rattle.job_io.specs.job_files.JobTexts.{OfJob}
+use Rattle.job_io.specs.declared.job_files.jobs.JobVerb.{JobVerb}
+use Rattle.job_io.specs.declared.job_files.jobs.JobVerb.TheVariants.{Run, Resume, Cut, Init}
 
 -- a name, or none
 abbrev pub order_names : Option (List ℕ) → List (List ℕ)

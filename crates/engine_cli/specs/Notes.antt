@@ -8,12 +8,12 @@ use Rattle.gl_base.specs.declared.job_faults.JobFault.TheVariants.{NotJson, TooL
 use Rattle.gl_base.specs.FaultNames.{key_name, text_file_name, text_kind_name}
 use Rattle.gl_base.specs.declared.text_faults.TextFault.{TextFault}
 use Rattle.gl_outside.specs.Faults.{Rose}
-use Rattle.store_format.specs.declared.faults.StoreFault.{StoreFault}
+use Rattle.store.specs.declared.store_format.faults.StoreFault.{StoreFault}
 use Rattle.engine_cli.specs.declared.status.Status.{Status}
 use Rattle.engine_cli.specs.declared.status.Status.TheVariants.{Done, Usage, BadJob, BadGraph, BadAtoms, ReadFault, WriteFault, DiskFault, BadStore, BudgetSpent, SnapshotsFull, NoMemory}
 use Rattle.gl_outside.specs.Fronts.{AppendsFront}
 use Rattle.gl_base.specs.declared.atoms.AtomsKind.TheVariants as kind
-use Rattle.store_format.specs.declared.faults.StoreFault.TheVariants as store
+use Rattle.store.specs.declared.store_format.faults.StoreFault.TheVariants as store
 
 -- texts one after another
 abbrev pub joined : List (List ℕ) → List ℕ

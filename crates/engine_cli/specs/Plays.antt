@@ -1,6 +1,6 @@
 -- Runs of a job's algorithm on a graph.
-pub use Rattle.job_programs.specs.ProgramUpdates.{update_of_program}
-pub use Rattle.job_runs.specs.Plays.{CountsByMachine, IsPlay, IsSpent, RunsTo}
+pub use Rattle.graph_programs.specs.selection.ProgramUpdates.{update_of_program}
+pub use Rattle.placement.specs.plans.Plays.{CountsByMachine, IsPlay, IsSpent, RunsTo}
 use Rattle.gl_base.specs.Lists.{AreEach}
 use Rattle.std.specs.Prelude.{◌≡◌, ℕ, List, length, slice_index, Option, None, Some}
 use Rattle.gl_base.specs.declared.jobs.Algorithm.{Algorithm}
@@ -10,9 +10,9 @@ use Rattle.graph_core.specs.Colourings.{IsProperColouring}
 use Rattle.graph_core.specs.Components.{IsComponentLabel}
 use Rattle.graph_core.specs.DataGraph.{DataGraph, size}
 use Rattle.graph_core.specs.Levels.{IsDistanceOrInf, IsLevelOrInf}
-use Rattle.job_programs.specs.ProgramUpdates.{update_of_algorithm}
+use Rattle.graph_programs.specs.selection.ProgramUpdates.{update_of_algorithm}
 use Rattle.update_api.specs.Updates.{Update}
-use Rattle.job_files.specs.JobTexts.{IsVertexOf}
+use Rattle.job_io.specs.job_files.JobTexts.{IsVertexOf}
 
 -- the source's identifier; INF is none
 abbrev pub source_id : Option ℕ → ℕ

@@ -2,29 +2,29 @@
 -- what `out` gained.
 use Rattle.std.specs.Prelude.{◌≡◌, ◌⊎◌, ℕ, Bool, IsTrue, false, is_some, length, List, Option, None, Some, Ok, IfSome, take}
 use Rattle.std.specs.Io.KnownBytes.{Appends}
-use Rattle.atom_gather.specs.declared.cuts.Cut.{Cut}
+use Rattle.graph_atoms.specs.declared.atom_gather.cuts.Cut.{Cut}
 use Rattle.gl_outside.specs.Disk.{DiskPast}
 use Rattle.gl_outside.specs.Faults.{Rose}
 use Rattle.gl_outside.specs.FilesState.{FilesState}
 use Rattle.gl_outside.specs.Fronts.{AppendsFront}
 use Rattle.graph_core.specs.DataGraph.{DataGraph}
-use Rattle.job_config.specs.Fields.{JobFields}
-use Rattle.job_config.specs.Jobs.{JobSayings}
-use Rattle.job_stores.specs.JobHeaders.{header_for}
-use Rattle.store_format.specs.Stores.{StandsFor}
-use Rattle.stored_answers.specs.declared.runs.StoredEnd.{StoredEnd}
-use Rattle.whole_files.specs.AtomNames.{index_name}
-use Rattle.whole_files.specs.Leaves.{KeepsOrGives}
-use Rattle.job_files.specs.Atoms.{HasAtoms, IsCutOf, RefusesAtoms, atom_files, atoms_fault, given_bytes}
-use Rattle.job_files.specs.DoableJobs.{job_for}
-use Rattle.job_files.specs.JobTexts.{DescribeJobGraph, OfJob, OfSaid, OfTexts, RefusesTexts, RefusesJob}
-use Rattle.job_files.specs.declared.jobs.JobVerb.{JobVerb}
+use Rattle.job_io.specs.job_config.Fields.{JobFields}
+use Rattle.job_io.specs.job_config.Jobs.{JobSayings}
+use Rattle.job_io.specs.job_stores.JobHeaders.{header_for}
+use Rattle.store.specs.store_format.Stores.{StandsFor}
+use Rattle.engine_runs.specs.declared.answers.runs.StoredEnd.{StoredEnd}
+use Rattle.job_io.specs.whole_files.AtomNames.{index_name}
+use Rattle.job_io.specs.whole_files.Leaves.{KeepsOrGives}
+use Rattle.job_io.specs.job_files.Atoms.{HasAtoms, IsCutOf, RefusesAtoms, atom_files, atoms_fault, given_bytes}
+use Rattle.job_io.specs.job_files.DoableJobs.{job_for}
+use Rattle.job_io.specs.job_files.JobTexts.{DescribeJobGraph, OfJob, OfSaid, OfTexts, RefusesTexts, RefusesJob}
+use Rattle.job_io.specs.declared.job_files.jobs.JobVerb.{JobVerb}
 use Rattle.engine_cli.specs.declared.status.Status.{Status}
 use Rattle.engine_cli.specs.declared.status.Status.TheVariants.{Done, Usage, BadJob, BadGraph, BadAtoms, ReadFault, WriteFault, DiskFault, BadStore, BudgetSpent, SnapshotsFull, NoMemory}
 use Rattle.engine_cli.specs.Answer.{IsAnswer, IsValid, Printed}
 use Rattle.engine_cli.specs.JobRuns.{CallLists, HasEnough, HasRoomForJob, IsStoreOfJob, MakesRun, is_resumed, no_lists, snapshots_on}
 use Rattle.engine_cli.specs.JobStores.{HasOtherStore, KeepsAllImages, NamesStore, RefusesJobStore, RunsOutOnStore}
-use Rattle.stored_answers.specs.declared.runs.StoredEnd.TheVariants as end
+use Rattle.engine_runs.specs.declared.answers.runs.StoredEnd.TheVariants as end
 
 -- The files, how many faults of `out` there were, and what it holds, as a call begins and as it ends.
 pub record Moment : Type 0 where

@@ -1,13 +1,13 @@
 -- The numbers of statuses, and what each says of `out`.
 use Rattle.std.specs.Prelude.{ℕ, ⊤}
-use Rattle.made_graphs.specs.declared.making.Writing.{Writing}
-use Rattle.job_files.specs.declared.inputs.NoInput.{NoInput}
-use Rattle.job_stores.specs.declared.making.NoStore.{NoStore}
+use Rattle.graph_text.specs.declared.generate.making.Writing.{Writing}
+use Rattle.job_io.specs.declared.job_files.inputs.NoInput.{NoInput}
+use Rattle.job_io.specs.declared.job_stores.making.NoStore.{NoStore}
 use Rattle.engine_cli.specs.declared.status.Status.{Status}
 use Rattle.engine_cli.specs.declared.status.Status.TheVariants.{Done, Usage, BadJob, BadGraph, BadAtoms, ReadFault, WriteFault, DiskFault, BadStore, BudgetSpent, SnapshotsFull, NoMemory}
-use Rattle.made_graphs.specs.declared.making.Writing.TheVariants as out
-use Rattle.job_files.specs.declared.inputs.NoInput.TheVariants as why
-use Rattle.job_stores.specs.declared.making.NoStore.TheVariants as no_store
+use Rattle.graph_text.specs.declared.generate.making.Writing.TheVariants as out
+use Rattle.job_io.specs.declared.job_files.inputs.NoInput.TheVariants as why
+use Rattle.job_io.specs.declared.job_stores.making.NoStore.TheVariants as no_store
 
 -- the number that a program ends with
 abbrev pub exit_number : Status → ℕ

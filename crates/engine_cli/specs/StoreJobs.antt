@@ -3,20 +3,20 @@ use Rattle.std.specs.Prelude.{◌≡◌, ℕ, Bool, IsTrue, is_some, List, [], l
 use Rattle.gl_base.specs.declared.job_faults.JobFault.{JobFault}
 use Rattle.gl_outside.specs.Faults.{Rose}
 use Rattle.gl_outside.specs.FilesState.{FilesState}
-use Rattle.job_config.specs.Fields.{JobFields}
-use Rattle.job_config.specs.Jobs.{JobSayings}
-use Rattle.whole_files.specs.FilesUsed.{HandsOver}
-use Rattle.job_files.specs.Atoms.{OfGraph}
-use Rattle.job_files.specs.DoableJobs.{job_for}
-use Rattle.job_files.specs.JobTexts.{OfJob, OfTexts, RefusesJob, RefusesTexts}
-use Rattle.store_format.specs.declared.header.Header.{Header}
-use Rattle.job_stores.specs.JobHeaders.{header_for}
-use Rattle.job_stores.specs.NewStores.{HasBytes, IfDisksTold, IsNewStore}
+use Rattle.job_io.specs.job_config.Fields.{JobFields}
+use Rattle.job_io.specs.job_config.Jobs.{JobSayings}
+use Rattle.job_io.specs.whole_files.FilesUsed.{HandsOver}
+use Rattle.job_io.specs.job_files.Atoms.{OfGraph}
+use Rattle.job_io.specs.job_files.DoableJobs.{job_for}
+use Rattle.job_io.specs.job_files.JobTexts.{OfJob, OfTexts, RefusesJob, RefusesTexts}
+use Rattle.store.specs.declared.store_format.header.Header.{Header}
+use Rattle.job_io.specs.job_stores.JobHeaders.{header_for}
+use Rattle.job_io.specs.job_stores.NewStores.{HasBytes, IfDisksTold, IsNewStore}
 use Rattle.engine_cli.specs.NamesWritten.{order_names}
 use Rattle.engine_cli.specs.declared.status.Status.{Status}
 use Rattle.engine_cli.specs.declared.status.Status.TheVariants.{Done, Usage, BadJob, BadGraph, BadAtoms, ReadFault, WriteFault, DiskFault, BadStore, BudgetSpent, SnapshotsFull, NoMemory}
-use Rattle.job_files.specs.declared.jobs.JobVerb.{JobVerb}
-use Rattle.job_files.specs.declared.jobs.JobVerb.TheVariants as verb
+use Rattle.job_io.specs.declared.job_files.jobs.JobVerb.{JobVerb}
+use Rattle.job_io.specs.declared.job_files.jobs.JobVerb.TheVariants as verb
 
 -- this holds of the name of the job's store, and of what a store of the job on its graph is for
 abbrev pub OfStoreJob : FilesState → List ℕ → (List ℕ → Header → Type 0) → Type 0

@@ -5,25 +5,25 @@ use Rattle.gl_base.specs.declared.text_faults.TextFile.TheVariants.{Vertices, Ed
 use Rattle.gl_outside.specs.Faults.{Rose}
 use Rattle.gl_outside.specs.FilesState.{FilesState}
 use Rattle.gl_outside.specs.Frames.{ChangesSources}
-use Rattle.job_words.specs.declared.words.Words.{Words}
-use Rattle.job_words.specs.declared.words.Words.TheVariants.{Run, Resume, Make, Cut, Init}
+use Rattle.job_io.specs.declared.job_words.words.Words.{Words}
+use Rattle.job_io.specs.declared.job_words.words.Words.TheVariants.{Run, Resume, Make, Cut, Init}
 use Rattle.engine_cli.specs.declared.ended.Ended.{Ended}
 use Rattle.engine_cli.specs.declared.status.Status.{Status}
 use Rattle.engine_cli.specs.declared.status.Status.TheVariants.{NoMemory}
-use Rattle.job_files.specs.declared.jobs.JobVerb.{JobVerb}
+use Rattle.job_io.specs.declared.job_files.jobs.JobVerb.{JobVerb}
 use Rattle.engine_cli.specs.JobRuns.{CallLists, lists_of_call, no_lists}
 use Rattle.engine_cli.specs.JobStores.{UsesStore}
-use Rattle.whole_files.specs.FilesUsed.{HandsOver, WritesFiles}
+use Rattle.job_io.specs.whole_files.FilesUsed.{HandsOver, WritesFiles}
 use Rattle.engine_cli.specs.CutJobs.{Cuts, LeavesCutFronts}
 use Rattle.engine_cli.specs.StoreJobs.{HandsStore, HasEmptyStore, IsStoreName, MakesStore}
-use Rattle.job_stores.specs.NewStores.{KeepsFilledDisks}
+use Rattle.job_io.specs.job_stores.NewStores.{KeepsFilledDisks}
 use Rattle.engine_cli.specs.NamesWritten.{HandsWritten, IsWrittenName}
-use Rattle.job_files.specs.NamesRead.{HandsForRun, names_of}
-use Rattle.graph_files.specs.Made.{LeavesFront, edges_name, vertices_name}
+use Rattle.job_io.specs.job_files.NamesRead.{HandsForRun, names_of}
+use Rattle.job_io.specs.graph_files.Made.{LeavesFront, edges_name, vertices_name}
 use Rattle.engine_cli.specs.Made.{Makes}
 use Rattle.engine_cli.specs.Says.{IsReadable, IsSound, IsSoundOnStore, Moment, Says}
 use Rattle.engine_cli.specs.Status.{IsBeforeMaking, IsBeforeWriting, IsDoneOrNoMemory, IsRefusedInput}
-use Rattle.job_files.specs.declared.jobs.JobVerb.TheVariants as verb
+use Rattle.job_io.specs.declared.job_files.jobs.JobVerb.TheVariants as verb
 
 -- What `run` and `resume` leave, where `told` says whether it is told what disks hold, and `tells` holds of what is reported. They hand the opens
 -- the names of the job's file, of the job's texts, of its atoms, of its store and of the order's file at most, in turn. Until the store is opened

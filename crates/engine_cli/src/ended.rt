@@ -1,7 +1,7 @@
 //! What a call of the engine leaves behind beside the printed answer.
 use crate::Status;
+use engine_runs::answers::SnapLine;
 use gl_base::Entry;
-use stored_answers::SnapLine;
 
 /// How a call ended, and what it leaves of its run.
 #[derive(Drop)]

@@ -1,28 +1,28 @@
 //! Runs the job's algorithm on its graph without a store, through the failures that the job orders.
 ghost use Rattle.std.specs.Prelude.{◌≡◌, ◌≤◌, [], IfOk, IsTrue, length};
-ghost use Rattle.atom_gather.specs.Cuts.{CanBeCut};
+ghost use Rattle.graph_atoms.specs.atom_gather.Cuts.{CanBeCut};
 ghost use Rattle.graph_core.specs.DataGraph.{IsDataGraph};
-ghost use Rattle.job_config.specs.Ranges.{HasNumbers};
-ghost use Rattle.job_config.specs.Views.{job_view};
-ghost use Rattle.job_files.specs.JobTexts.{HasStart};
+ghost use Rattle.job_io.specs.job_config.Ranges.{HasNumbers};
+ghost use Rattle.job_io.specs.job_config.Views.{job_view};
+ghost use Rattle.job_io.specs.job_files.JobTexts.{HasStart};
 ghost use Rattle.recovery.specs.Recovered.{IsHeaderOf};
-ghost use Rattle.store_format.specs.Headers.{IsAllowed};
-ghost use Rattle.store_format.specs.Stores.{StandsFor};
-ghost use Rattle.whole_laws.specs.whole_calls.Following.{AreJobFailures};
+ghost use Rattle.store.specs.store_format.Headers.{IsAllowed};
+ghost use Rattle.store.specs.store_format.Stores.{StandsFor};
+ghost use Rattle.call_laws.specs.whole_calls.Following.{AreJobFailures};
 ghost use Rattle.engine_cli.specs.JobRuns.{HasNamedMachines, IsEndAlone, RunsThroughFailures, RunsWithoutStore};
 ghost use Rattle.engine_cli.specs.Inner.Failing.{IsRunWithoutSnapshots};
 ghost use Rattle.engine_cli.specs.Inner.Prepares.{IsPrintable};
 
 use crate::storing::run_stored_on;
-use atom_gather::Cut;
+use engine_runs::answers::{StoredEnd, StoredRun};
 use gl_base::{Job, NoMemory};
 use gl_outside::{Disk, MemDisk};
+use graph_atoms::atom_gather::Cut;
 use graph_core::Graph;
-use snap_journal::Journal;
 use std::alloc::Global;
 use std::sync::Wait;
-use store_format::{Digest, Header, new_store};
-use stored_answers::{StoredEnd, StoredRun};
+use store::snap_journal::Journal;
+use store::store_format::{Digest, Header, new_store};
 
 /// A window in which a run takes no snapshot: half of it is the greatest budget that a job may have.
 const WIDEST_WINDOW: u32 = 33_554_432;

@@ -1,7 +1,7 @@
 //! The verbs that do their work on files alone: `make` writes a graph, `cut` the index and the atoms of one, and `init` a store.
 ghost use Rattle.std.specs.Prelude.{◌≡◌, ◌≤◌, List, ℕ};
 ghost use Rattle.gl_base.specs.declared.jobs.MakePlan.{MakePlan};
-ghost use Rattle.job_words.specs.declared.words.Words.TheVariants.{Cut, Init, Make};
+ghost use Rattle.job_io.specs.declared.job_words.words.Words.TheVariants.{Cut, Init, Make};
 ghost use Rattle.engine_cli.specs.declared.status.Status.TheVariants.{Done};
 ghost use Rattle.engine_cli.specs.Status.{IsRefusal};
 ghost use Rattle.engine_cli.specs.Made.{IsAsked, IsOfFiles};
@@ -12,10 +12,10 @@ use crate::Status;
 use crate::notes::refuse;
 use gl_base::UsageFault;
 use gl_outside::{Files, Sink};
-use graph_files::{make_files, write_cut};
-use job_files::{Input, JobVerb, read_input};
-use job_stores::{header_of, make_store};
-use job_words::Words;
+use job_io::graph_files::{make_files, write_cut};
+use job_io::job_files::{Input, JobVerb, read_input};
+use job_io::job_stores::{header_of, make_store};
+use job_io::job_words::Words;
 use std::alloc::Global;
 
 /// Does what a command line asks whose verb is neither `run` nor `resume`, as `engine` does it, and writes nothing to `out`. `make`

@@ -1,5 +1,5 @@
 //! Laws of a job's store. Each is the contract of a function that does nothing.
-ghost use Rattle.job_config.specs.Jobs.{JobSayings};
+ghost use Rattle.job_io.specs.job_config.Jobs.{JobSayings};
 ghost use Rattle.engine_cli.specs.JobRuns.{AreAlikeJobs, HaveSameStores};
 
 /// A store of a job is one of each job that names the same algorithm, source and machines, on a graph that is cut so. So failures, engine,

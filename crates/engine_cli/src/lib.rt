@@ -14,8 +14,8 @@ mod storing;
 mod top;
 
 pub use ended::Ended;
+pub use engine_runs::answers::SnapLine;
 pub use file_verbs::files_only;
 pub use laws::stores_serve_alike_jobs;
 pub use status::Status;
-pub use stored_answers::SnapLine;
 pub use top::engine;

@@ -1,7 +1,7 @@
 //! Writes on standard error why a call was refused.
 ghost use Rattle.std.specs.Prelude.{◌≡◌, ◌≤◌, [], ◌∷◌, codes, decimal, map};
 ghost use Rattle.gl_base.specs.declared.job_faults.JobFault.TheVariants.{OutOfRange};
-ghost use Rattle.store_format.specs.declared.faults.StoreFault.TheVariants.{Machines};
+ghost use Rattle.store.specs.declared.store_format.faults.StoreFault.TheVariants.{Machines};
 ghost use Rattle.engine_cli.specs.Notes.{WritesNote, atoms_kind_name, atoms_note, full_note, graph_note, job_note, note_of, joined, store_note};
 ghost use Rattle.engine_cli.specs.Inner.Writes.{WritesAll};
 ghost use Rattle.gl_base.specs.FaultNames.{key_name};
@@ -10,7 +10,7 @@ use crate::Status;
 use gl_base::{AtomsFault, AtomsKind, JobFault, Key, TextFault, TextFile, TextKind};
 use gl_outside::{Failed, Sink, write_all};
 use itoa::Buffer;
-use store_format::StoreFault;
+use store::store_format::StoreFault;
 
 /// The verbs and their words.
 const USAGE: &str =

@@ -3,8 +3,8 @@ ghost use Rattle.std.specs.Prelude.{◌≡◌};
 ghost use Rattle.engine_cli.specs.Plays.{source_id, update_of, update_of_program};
 
 use gl_base::{INF, Job};
-use job_programs::JobProgram;
-use job_runs::RunPlan;
+use graph_programs::selection::JobProgram;
+use placement::plans::RunPlan;
 
 /// How the job's program is run on its graph.
 pub fn plan_of(job: &Job) -> RunPlan

@@ -1,11 +1,11 @@
 //! Prints what a run left: its order, where the job names a file for it, and the answer.
 ghost use Rattle.std.specs.Prelude.{◌≡◌, ◌≤◌, length, All, Err, IfOk};
 ghost use Rattle.graph_core.specs.DataGraph.{size};
-ghost use Rattle.made_graphs.specs.declared.making.Writing.TheVariants.{NoMemory as NoMemoryAtOut};
-ghost use Rattle.job_config.specs.Views.{job_view};
-ghost use Rattle.order_text.specs.Orders.{IsEntryOf};
+ghost use Rattle.graph_text.specs.declared.generate.making.Writing.TheVariants.{NoMemory as NoMemoryAtOut};
+ghost use Rattle.job_io.specs.job_config.Views.{job_view};
+ghost use Rattle.graph_text.specs.order_text.Orders.{IsEntryOf};
 ghost use Rattle.engine_cli.specs.Answer.{report_of};
-ghost use Rattle.whole_files.specs.FilesUsed.{WritesFiles};
+ghost use Rattle.job_io.specs.whole_files.FilesUsed.{WritesFiles};
 ghost use Rattle.engine_cli.specs.NamesWritten.{order_names};
 ghost use Rattle.engine_cli.specs.Inner.Printing.{Prints, printed_of};
 ghost use Rattle.engine_cli.specs.Says.{moment};
@@ -14,11 +14,11 @@ use crate::running::Prepared;
 use gl_base::NoMemory;
 use gl_outside::{Files, Sink, write_all};
 use graph_core::Graph;
-use made_graphs::Writing;
-use order_text::{answer, order_bytes, report};
+use graph_text::generate::Writing;
+use graph_text::order_text::{answer, order_bytes, report};
+use graph_text::sync_folds::Fold;
+use job_io::whole_files::write_file;
 use std::alloc::Global;
-use sync_folds::Fold;
-use whole_files::write_file;
 
 /// Writes the order of a run to the file that the job names for it, and then prints a line for each vertex: its identifier
 /// and the number at its place. The report of the answer is handed back. All memory is taken before anything is

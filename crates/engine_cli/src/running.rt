@@ -1,8 +1,8 @@
 //! Runs the job in a file.
 ghost use Rattle.std.specs.Prelude.{◌≡◌, ℕ, ◌≤◌, [], false, List, IfErr, IfOk};
 ghost use Rattle.gl_outside.specs.Frames.{ChangesSources};
-ghost use Rattle.job_files.specs.NamesRead.{HandsForRun, names_of};
-ghost use Rattle.whole_files.specs.FilesUsed.{HandsOver};
+ghost use Rattle.job_io.specs.job_files.NamesRead.{HandsForRun, names_of};
+ghost use Rattle.job_io.specs.whole_files.FilesUsed.{HandsOver};
 ghost use Rattle.engine_cli.specs.Inner.Prepares.{ChangesInput, IsMadeRun, IsOfRun, IsPrepared, IsPrintable, IsRunnable, IsWhyNoneMade, UsesNamed, unfinished_status};
 ghost use Rattle.engine_cli.specs.JobRuns.{is_resumed, lists_of_call, lists_of_run, no_lists};
 ghost use Rattle.engine_cli.specs.JobStores.{UsesStore};
@@ -14,15 +14,15 @@ use crate::failing::run_without_store;
 use crate::printing::print_run;
 use crate::storing::run_on_store;
 use crate::{Ended, Status};
+use engine_runs::answers::{StoredEnd, StoredRun};
 use gl_base::{Job, NoMemory};
 use gl_outside::{Files, Sink};
 use graph_core::Graph;
-use job_files::{Input, JobVerb, read_run_input};
-use job_stores::NoStore;
-use made_graphs::Writing;
+use graph_text::generate::Writing;
+use job_io::job_files::{Input, JobVerb, read_run_input};
+use job_io::job_stores::NoStore;
 use std::alloc::Global;
 use std::sync::Wait;
-use stored_answers::{StoredEnd, StoredRun};
 
 /// How a run ended, what it leaves, and what is to be reported of it.
 #[derive(Drop)]

@@ -4,10 +4,10 @@ ghost use Rattle.engine_cli.specs.Status.{status_of_no_input, status_of_no_store
 ghost use Rattle.engine_cli.specs.Status.{exit_number};
 
 use gl_base::{AtomsFault, JobFault, TextFault, UsageFault, Vertex};
-use job_files::NoInput;
-use job_stores::NoStore;
-use made_graphs::Writing;
-use store_format::StoreFault;
+use graph_text::generate::Writing;
+use job_io::job_files::NoInput;
+use job_io::job_stores::NoStore;
+use store::store_format::StoreFault;
 
 /// How a call of the engine ended.
 #[derive(Debug, Drop)]

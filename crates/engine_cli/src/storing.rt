@@ -1,35 +1,35 @@
 //! Runs the job's algorithm on its graph, from the job's store and into it.
 ghost use Rattle.std.specs.Prelude.{true, ◌≡◌, ◌≤◌, IfErr, IfOk, IsTrue, false, length};
-ghost use Rattle.atom_gather.specs.Cuts.{CanBeCut};
-ghost use Rattle.job_config.specs.Ranges.{HasNumbers};
-ghost use Rattle.job_config.specs.Views.{job_view};
-ghost use Rattle.job_files.specs.JobTexts.{HasStart};
-ghost use Rattle.job_stores.specs.NewStores.{UsesDisk};
+ghost use Rattle.graph_atoms.specs.atom_gather.Cuts.{CanBeCut};
+ghost use Rattle.job_io.specs.job_config.Ranges.{HasNumbers};
+ghost use Rattle.job_io.specs.job_config.Views.{job_view};
+ghost use Rattle.job_io.specs.job_files.JobTexts.{HasStart};
+ghost use Rattle.job_io.specs.job_stores.NewStores.{UsesDisk};
 ghost use Rattle.recovery.specs.Journals.{snapshots_in};
 ghost use Rattle.recovery.specs.Recovered.{IsHeaderOf};
-ghost use Rattle.stored_answers.specs.declared.runs.StoredEnd.TheVariants.{DiskFault};
+ghost use Rattle.engine_runs.specs.declared.answers.runs.StoredEnd.TheVariants.{DiskFault};
 ghost use Rattle.gl_outside.specs.Faults.{Rose};
 ghost use Rattle.gl_outside.specs.FilesState.{disk_past};
 ghost use Rattle.gl_outside.specs.Frames.{ChangesDisk};
-ghost use Rattle.whole_laws.specs.whole_calls.Following.{AreJobFailures};
+ghost use Rattle.call_laws.specs.whole_calls.Following.{AreJobFailures};
 ghost use Rattle.engine_cli.specs.JobRuns.{RunsOnStore};
 ghost use Rattle.engine_cli.specs.Inner.Prepares.{IsPrintable, IsRunnable};
 ghost use Rattle.engine_cli.specs.Inner.Storing.{IsStoreRunFrom, IsRunIntoStore, IsWhyNoStoredRun, IsWhyNotOnDisk, IsWhyNotOnJournal, IsWhyNoneStored, no_store_of_open, no_store_of_journal, no_store_of_run};
 ghost use Rattle.engine_cli.specs.Plays.{update_of};
 
 use crate::playing::{plan_of, program_of};
-use atom_gather::Cut;
+use engine_runs::answers::{StoredPlan, StoredRun};
+use engine_runs::run_stored;
 use gl_base::Job;
 use gl_outside::{Disk, DiskOf, Files, OpenFault};
+use graph_atoms::atom_gather::Cut;
 use graph_core::Graph;
-use job_files::Input;
-use job_stores::{NoStore, header_of};
-use snap_journal::{Journal, JournalFault};
+use job_io::job_files::Input;
+use job_io::job_stores::{NoStore, header_of};
 use std::alloc::Global;
 use std::sync::Wait;
-use store_format::StoreFault;
-use stored_answers::{StoredPlan, StoredRun};
-use stored_calls::run_stored;
+use store::snap_journal::{Journal, JournalFault};
+use store::store_format::StoreFault;
 use update_api::Program;
 
 /// Opens the job's store in the file of this name, and runs the job's algorithm from it and into it. `BadStore` comes where its bytes are

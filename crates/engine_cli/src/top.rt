@@ -1,9 +1,9 @@
 //! The top call.
 ghost use Rattle.std.specs.Prelude.{◌≡◌, ◌⊎◌, ◌<◌, ◌≤◌, [], false, length, Err};
 ghost use Rattle.gl_base.specs.declared.usage_faults.UsageFault.{UsageFault};
-ghost use Rattle.job_words.specs.CommandLine.{IsCommandLine, command_line_of};
-ghost use Rattle.job_words.specs.WordForms.{texts};
-ghost use Rattle.job_words.specs.declared.words.Words.{Words};
+ghost use Rattle.job_io.specs.job_words.CommandLine.{IsCommandLine, command_line_of};
+ghost use Rattle.job_io.specs.job_words.WordForms.{texts};
+ghost use Rattle.job_io.specs.declared.job_words.words.Words.{Words};
 ghost use Rattle.engine_cli.specs.declared.status.Status.TheVariants.{Done, Usage, NoMemory};
 ghost use Rattle.engine_cli.specs.Status.{IsBeforeWriting, IsRefusal};
 ghost use Rattle.engine_cli.specs.Made.{IsAsked, IsOfFiles};
@@ -18,8 +18,8 @@ use crate::notes::refuse;
 use crate::running::{RunEnd, no_run, run_job};
 use crate::{Ended, Status};
 use gl_outside::{Files, Gate, Sink, write_all};
-use job_files::JobVerb;
-use job_words::{Words, WordsReading, read_words};
+use job_io::job_files::JobVerb;
+use job_io::job_words::{Words, WordsReading, read_words};
 use std::alloc::Global;
 use std::sync::Wait;
 

@@ -12,10 +12,12 @@ mod memory;
 mod names;
 mod numbers;
 mod refusals;
+pub mod scope_lists;
 mod scopes;
 mod snapshots;
 mod text_faults;
 mod usage_faults;
+pub mod vertex_places;
 
 pub use atoms::{AtomsFault, AtomsKind, EdgeLine, GhostLine, Lines, VertexLine};
 pub use digits::push_decimal;

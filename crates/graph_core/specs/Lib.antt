@@ -16,3 +16,4 @@ pub mod GraphLaws
 pub mod Digest
 pub mod Growth
 pub mod Inner
+pub mod color_steps

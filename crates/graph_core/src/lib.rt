@@ -1,6 +1,7 @@
 //! The data graph, and what walks, levels, distances, components and colourings of it are.
 #![tactic(auto)]
 
+pub mod color_steps;
 mod digesting;
 mod edge_lists;
 mod edges;

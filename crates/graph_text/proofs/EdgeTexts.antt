@@ -17,10 +17,10 @@ use Rattle.graph_core.specs.declared.graph_lists.GraphFault.{GraphFault}
 use Rattle.graph_core.specs.declared.graph_lists.GraphFault.TheVariants.{DoubleVertex, UnknownVertex, SelfLoop, DoubleEdge}
 use Rattle.graph_core.specs.DataGraph.{DataGraph}
 use Rattle.graph_core.specs.GraphLists.{first_fault, vertex_fault, edge_fault, same_ends, graph_fault, NamesFirstFault}
-use Rattle.graph_lines.specs.declared.said.Said.{Said}
-use Rattle.graph_lines.specs.declared.said.Said.TheVariants.{Passed, Wrong, Late, Item}
-use Rattle.graph_lines.specs.Says.{edge_said}
-use Rattle.graph_lines.specs.Found.{Found, FindsIn, found_in}
+use Rattle.graph_text.specs.declared.lines.said.Said.{Said}
+use Rattle.graph_text.specs.declared.lines.said.Said.TheVariants.{Passed, Wrong, Late, Item}
+use Rattle.graph_text.specs.lines.Says.{edge_said}
+use Rattle.graph_text.specs.lines.Found.{Found, FindsIn, found_in}
 use Rattle.graph_text.specs.declared.lists.Reading.{Reading}
 use Rattle.graph_text.specs.declared.lists.Reading.TheVariants.{Text, ReadFault, NoMemory}
 use Rattle.graph_text.specs.Firsts.{Rules}

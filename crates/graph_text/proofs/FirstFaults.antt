@@ -7,12 +7,12 @@ use Rattle.gl_base.specs.declared.limits.TheConstants.{MAX_TEXT_BYTES}
 use Rattle.gl_base.specs.declared.text_faults.TextFault.{TextFault}
 use Rattle.gl_base.specs.declared.text_faults.TextKind.{TextKind}
 use Rattle.gl_base.specs.declared.text_faults.TextKind.TheVariants.{TooMany, TooLong}
-use Rattle.graph_lines.specs.declared.said.Said.TheVariants.{Passed, Wrong, Late, Item}
-use Rattle.graph_lines.specs.declared.said.Ending.{Ending}
-use Rattle.graph_lines.specs.declared.said.Ending.TheVariants.{Fault, Late as LateAt, Full}
-use Rattle.graph_lines.specs.Lines.{lines, ended_lines, fields}
-use Rattle.graph_lines.specs.Rows.{row_of}
-use Rattle.graph_lines.specs.Found.{run, Kept, Found, found_with, collect, collect_line, nothing_kept, whole, cut, found_upto, found_in}
+use Rattle.graph_text.specs.declared.lines.said.Said.TheVariants.{Passed, Wrong, Late, Item}
+use Rattle.graph_text.specs.declared.lines.said.Ending.{Ending}
+use Rattle.graph_text.specs.declared.lines.said.Ending.TheVariants.{Fault, Late as LateAt, Full}
+use Rattle.graph_text.specs.lines.Lines.{lines, ended_lines, fields}
+use Rattle.graph_text.specs.lines.Rows.{row_of}
+use Rattle.graph_text.specs.lines.Found.{run, Kept, Found, found_with, collect, collect_line, nothing_kept, whole, cut, found_upto, found_in}
 use Rattle.gl_base.specs.Results.{and_then}
 use Rattle.graph_text.specs.Firsts.{Rules, Judged, text_fault, or_kind, put, judge, judge_line, items_within, items_of}
 use Rattle.graph_text.specs.Inner.Settled.{bad_or, first_bad, ended, settled_by, settled}

@@ -4,14 +4,14 @@ use Rattle.std.proofs.lemmas.Bool.Decides.{nat_tests}
 use Rattle.std.proofs.lemmas.List.Elements.{All-nil, All-push}
 use Rattle.gl_base.specs.declared.limits.TheConstants.{MAX_TEXT_BYTES}
 use Rattle.gl_base.specs.Results.{and_then}
-use Rattle.graph_lines.specs.declared.said.Row.{Row}
-use Rattle.graph_lines.specs.declared.said.Said.{Said}
-use Rattle.graph_lines.specs.declared.said.Said.TheVariants.{Passed, Wrong, Late, Item}
-use Rattle.graph_lines.specs.declared.said.Ending.{Ending}
-use Rattle.graph_lines.specs.declared.said.Ending.TheVariants.{Full}
-use Rattle.graph_lines.specs.Lines.{lines, ended_lines, fields}
-use Rattle.graph_lines.specs.Rows.{row_of}
-use Rattle.graph_lines.specs.Found.{run, Kept, Found, found_with, stop, collect, collect_line, nothing_kept, whole, cut, found_upto, found_in}
+use Rattle.graph_text.specs.declared.lines.said.Row.{Row}
+use Rattle.graph_text.specs.declared.lines.said.Said.{Said}
+use Rattle.graph_text.specs.declared.lines.said.Said.TheVariants.{Passed, Wrong, Late, Item}
+use Rattle.graph_text.specs.declared.lines.said.Ending.{Ending}
+use Rattle.graph_text.specs.declared.lines.said.Ending.TheVariants.{Full}
+use Rattle.graph_text.specs.lines.Lines.{lines, ended_lines, fields}
+use Rattle.graph_text.specs.lines.Rows.{row_of}
+use Rattle.graph_text.specs.lines.Found.{run, Kept, Found, found_with, stop, collect, collect_line, nothing_kept, whole, cut, found_upto, found_in}
 use Rattle.graph_text.specs.Inner.Settled.{AreInLimits}
 
 -- the item that is said, if any, is such a one

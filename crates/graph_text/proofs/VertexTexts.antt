@@ -13,11 +13,11 @@ use Rattle.gl_base.specs.Lists.{Ascends}
 use Rattle.graph_core.specs.declared.graph_lists.GraphFault.{GraphFault}
 use Rattle.graph_core.specs.declared.graph_lists.GraphFault.TheVariants.{DoubleVertex}
 use Rattle.graph_core.specs.GraphLists.{first_fault, vertex_fault, NamesFirstFault}
-use Rattle.graph_lines.specs.declared.said.Row.{Row}
-use Rattle.graph_lines.specs.declared.said.Row.TheVariants.{Nothing, One, Two, Three}
-use Rattle.graph_lines.specs.declared.said.Said.TheVariants.{Wrong, Item}
-use Rattle.graph_lines.specs.Says.{id_said, vertex_said}
-use Rattle.graph_lines.specs.Found.{Found, FindsIn, found_in}
+use Rattle.graph_text.specs.declared.lines.said.Row.{Row}
+use Rattle.graph_text.specs.declared.lines.said.Row.TheVariants.{Nothing, One, Two, Three}
+use Rattle.graph_text.specs.declared.lines.said.Said.TheVariants.{Wrong, Item}
+use Rattle.graph_text.specs.lines.Says.{id_said, vertex_said}
+use Rattle.graph_text.specs.lines.Found.{Found, FindsIn, found_in}
 use Rattle.graph_text.specs.declared.lists.VertexList.{VertexList}
 use Rattle.graph_text.specs.declared.lists.Reading.{Reading}
 use Rattle.graph_text.specs.declared.lists.Reading.TheVariants.{Text, ReadFault, NoMemory}

@@ -5,8 +5,8 @@ use Rattle.gl_outside.specs.Faults.{Rose}
 use Rattle.graph_core.specs.declared.graph_lists.EdgeIn.{EdgeIn}
 use Rattle.graph_core.specs.DataGraph.{DataGraph, IsDataGraph}
 use Rattle.graph_core.specs.GraphLists.{IsGraphOf}
-use Rattle.graph_lines.specs.declared.said.Unread.{Unread}
-use Rattle.graph_lines.specs.declared.said.Unread.TheVariants.{ReadFault as SourceFailed, NoMemory as OutOfMemory}
+use Rattle.graph_text.specs.declared.lines.said.Unread.{Unread}
+use Rattle.graph_text.specs.declared.lines.said.Unread.TheVariants.{ReadFault as SourceFailed, NoMemory as OutOfMemory}
 use Rattle.graph_text.specs.declared.lists.VertexList.{VertexList}
 use Rattle.graph_text.specs.declared.lists.Reading.{Reading}
 use Rattle.graph_text.specs.declared.lists.Reading.TheVariants.{Text, ReadFault, NoMemory}

@@ -7,7 +7,7 @@ use Rattle.gl_base.specs.declared.text_faults.TextKind.{TextKind}
 use Rattle.gl_base.specs.declared.text_faults.TextKind.TheVariants.{Double, Unknown, SelfLoop}
 use Rattle.graph_core.specs.declared.graph_lists.EdgeIn.{EdgeIn}
 use Rattle.graph_core.specs.GraphLists.{EdgeFaults, fault_of_ends, fault_of_edge}
-use Rattle.graph_lines.specs.Says.{edge_said}
+use Rattle.graph_text.specs.lines.Says.{edge_said}
 use Rattle.graph_text.specs.Firsts.{Rules, items_of}
 
 -- in a text faults are called by their kind

@@ -6,12 +6,12 @@ use Rattle.gl_base.specs.declared.text_faults.TextFault.{TextFault}
 use Rattle.gl_base.specs.declared.text_faults.TextFile.{TextFile}
 use Rattle.gl_base.specs.declared.text_faults.TextKind.{TextKind}
 use Rattle.gl_base.specs.declared.text_faults.TextKind.TheVariants.{TooMany, TooLong}
-use Rattle.graph_lines.specs.declared.said.Row.{Row}
-use Rattle.graph_lines.specs.declared.said.Said.{Said}
-use Rattle.graph_lines.specs.declared.said.Said.TheVariants.{Passed, Wrong, Late, Item}
-use Rattle.graph_lines.specs.Lines.{lines, ended_lines, fields}
-use Rattle.graph_lines.specs.Rows.{row_of}
-use Rattle.graph_lines.specs.Found.{run}
+use Rattle.graph_text.specs.declared.lines.said.Row.{Row}
+use Rattle.graph_text.specs.declared.lines.said.Said.{Said}
+use Rattle.graph_text.specs.declared.lines.said.Said.TheVariants.{Passed, Wrong, Late, Item}
+use Rattle.graph_text.specs.lines.Lines.{lines, ended_lines, fields}
+use Rattle.graph_text.specs.lines.Rows.{row_of}
+use Rattle.graph_text.specs.lines.Found.{run}
 
 -- What makes a text of items: what a line says, what is wrong with an item alone, and with an item behind others, and
 -- how many there may be.

@@ -5,3 +5,7 @@ pub mod GraphTexts
 pub mod Ids
 pub mod Answers
 pub mod Inner
+pub mod lines
+pub mod generate
+pub mod order_text
+pub mod sync_folds

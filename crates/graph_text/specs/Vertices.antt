@@ -6,7 +6,7 @@ use Rattle.gl_base.specs.declared.text_faults.TextFault.{TextFault}
 use Rattle.gl_base.specs.declared.text_faults.TextFile.TheVariants.{Vertices}
 use Rattle.gl_base.specs.declared.text_faults.TextKind.{TextKind}
 use Rattle.gl_base.specs.declared.text_faults.TextKind.TheVariants.{Double}
-use Rattle.graph_lines.specs.Says.{vertex_said}
+use Rattle.graph_text.specs.lines.Says.{vertex_said}
 use Rattle.graph_text.specs.Firsts.{Rules, items_of}
 
 -- an identifier stands once

@@ -3,19 +3,19 @@ ghost use Rattle.std.specs.Prelude.{◌≡◌, ℕ, ◌≤◌, Bool, List, Optio
 ghost use Rattle.std.specs.List.{list_any};
 ghost use Rattle.std.specs.Io.KnownBytes.{Consumes};
 ghost use Rattle.graph_core.specs.GraphLists.{lower_first, same_ends};
-ghost use Rattle.graph_lines.specs.Found.{found_of};
+ghost use Rattle.graph_text.specs.lines.Found.{found_of};
 ghost use Rattle.graph_text.specs.Inner.Settled.{ended as ended_by};
 ghost use Rattle.graph_text.specs.Edges.{edge_rules, edge_fault_alone, edge_fault_after};
 ghost use Rattle.graph_text.specs.Firsts.{or_kind};
 ghost use Rattle.graph_text.specs.Answers.{ReadsGraph};
 ghost use Rattle.graph_text.specs.Inner.FoundEdges.{AreFoundEdges, Builds, EndsEdges};
 
+use crate::lines::{Ending, FoundItems, read_lines};
 use crate::lists::{refusal, text_fault};
 use crate::{Reading, VertexList};
 use gl_base::{TextFault, TextFile, TextKind};
 use gl_outside::Source;
 use graph_core::{EdgeIn, Graph};
-use graph_lines::{Ending, FoundItems, read_lines};
 use std::alloc::Global;
 
 const FILE: TextFile = TextFile::Edges;

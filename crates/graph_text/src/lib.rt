@@ -2,7 +2,11 @@
 #![tactic(auto)]
 
 mod edges;
+pub mod generate;
+pub mod lines;
 mod lists;
+pub mod order_text;
+pub mod sync_folds;
 mod vertices;
 
 pub use edges::read_edges;

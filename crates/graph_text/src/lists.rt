@@ -3,9 +3,9 @@ ghost use Rattle.std.specs.Prelude.{◌≡◌, length};
 ghost use Rattle.graph_text.specs.Ids.{AreIds};
 ghost use Rattle.graph_text.specs.Inner.Settled.{place_of, IsPlacedIn, refused_at};
 
+use crate::lines::Unread;
 use gl_base::{TextFault, TextFile, TextKind};
 use graph_core::GraphFault;
-use graph_lines::Unread;
 use thiserror::Error;
 
 /// The identifiers of the vertices, ascending.

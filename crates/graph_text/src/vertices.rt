@@ -1,19 +1,19 @@
 //! Reads vertex texts.
 ghost use Rattle.std.specs.Prelude.{◌≡◌, ℕ, ◌≤◌, List, Option, Some, Err};
 ghost use Rattle.std.specs.Io.KnownBytes.{Consumes};
-ghost use Rattle.graph_lines.specs.Found.{found_of};
+ghost use Rattle.graph_text.specs.lines.Found.{found_of};
 ghost use Rattle.graph_text.specs.Inner.Settled.{ended as ended_by};
 ghost use Rattle.graph_text.specs.Vertices.{vertex_rules, vertex_fault_after};
 ghost use Rattle.graph_text.specs.Firsts.{or_kind};
 ghost use Rattle.graph_text.specs.Answers.{ReadsVertices};
 ghost use Rattle.graph_text.specs.Inner.FoundVertices.{AreFound, Lists, Ends};
 
+use crate::lines::{Ending, FoundItems, read_lines};
 use crate::lists::{refusal, text_fault};
 use crate::{Reading, VertexList};
 use gl_base::{TextFault, TextFile, TextKind};
 use gl_outside::Source;
 use graph_core::sorted_ids;
-use graph_lines::{Ending, FoundItems, read_lines};
 use std::alloc::Global;
 
 const FILE: TextFile = TextFile::Vertices;

@@ -1,5 +1,5 @@
 -- What a machine holds of the graph, as lists, and what is asked of them.
-pub use Rattle.vertex_places.specs.Placing.{place_of_vertex, AreTheirPlaces}
+pub use Rattle.gl_base.specs.vertex_places.Placing.{place_of_vertex, AreTheirPlaces}
 use Rattle.std.specs.Prelude.{ℕ, ◌==◌, ◌<◌, Bool, Option, Some, None, is_some, List, [], ◌∷◌, length, map, if◌then◌else◌, slice_get, slice_index, slice_index_or, slice_set}
 use Rattle.gl_base.specs.declared.atoms.GhostLine.{GhostLine}
 use Rattle.gl_base.specs.declared.numbers.MachineNo.{MachineNo}

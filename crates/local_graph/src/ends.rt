@@ -5,9 +5,9 @@ ghost use Rattle.local_graph.specs.Locals.{place_of_vertex};
 ghost use Rattle.local_graph.specs.Played.{place_owner, place_or, side_of};
 
 use crate::Side;
+use gl_base::vertex_places::Places;
 use gl_base::{EdgeLine, GhostLine, MachineNo, Vertex};
 use graph_core::{Half, Keyed};
-use vertex_places::Places;
 
 /// The half-edges of lines, each by the vertex where it is, and by `none` where that is not below it.
 #[derive(Drop)]

@@ -4,11 +4,11 @@ ghost use Rattle.local_graph.specs.Locals.{place_at, is_placed, is_own, own_datu
 
 use crate::numbers::EdgeNumbers;
 use crate::{Row, Side};
+use gl_base::vertex_places::Places;
 use gl_base::{Datum, EdgeNo, GhostLine, MachineNo, Vertex};
 use graph_core::Rows;
 use std::marker::Model;
 use update_api::Link;
-use vertex_places::Places;
 
 /// The part of the graph that a machine owns, with the data of its own vertices and the numbers of edges. Contracts see it by
 /// the vertex's number; what is kept stands in an order of the machine's own.

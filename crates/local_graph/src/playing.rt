@@ -13,10 +13,10 @@ use crate::numbers::EdgeNumbers;
 use crate::order::{growth_order, list_known};
 use crate::scopes::are_plain;
 use crate::{LocalGraph, Outline};
+use gl_base::vertex_places::Places;
 use gl_base::{Datum, GhostLine, Lines, MAX_VERTICES, MachineNo, NoMemory, Vertex, VertexLine};
 use graph_core::{Half, Rows};
 use std::alloc::Global;
-use vertex_places::Places;
 
 /// No number is set.
 const NO_DATUM: Datum = Datum {

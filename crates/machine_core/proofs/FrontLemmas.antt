@@ -5,8 +5,8 @@ use Rattle.std.proofs.lemmas.Option.{same_Some}
 use Rattle.gl_base.specs.declared.numbers.MachineNo.{MachineNo}
 use Rattle.gl_base.specs.declared.numbers.Vertex.{Vertex}
 use Rattle.gl_base.specs.declared.scopes.ScopeId.{ScopeId}
-use Rattle.scope_lists.specs.Scopes.{mode_at}
-use Rattle.scope_lists.proofs.SameScope.{same_scope}
+use Rattle.gl_base.specs.scope_lists.Scopes.{mode_at}
+use Rattle.gl_base.proofs.scope_lists.SameScope.{same_scope}
 use Rattle.cluster_laws.specs.cluster_core.Messages.{Ask, Done, Message, News, Ready}
 use Rattle.cluster_laws.specs.cluster_core.Parts.{Part}
 use Rattle.cluster_laws.specs.cluster_core.Places.{ArePlaces, IsStageOf}

@@ -11,7 +11,7 @@ use Rattle.cluster_laws.specs.cluster_core.Settings.{Setting, IsSetting, is_in_s
 use Rattle.cluster_laws.proofs.cluster_core.Nearness.{owner_takes_part, part_low, scoped_itself}
 use Rattle.graph_core.specs.DataGraph.{size}
 use Rattle.local_graph.specs.Locals.{LocalView, is_own, part_at, parts_at}
-use Rattle.local_parts.specs.Parts.{IsLocalOf, own_in_scope}
+use Rattle.partition.specs.local_parts.Parts.{IsLocalOf, own_in_scope}
 use Rattle.machine_core.specs.machine_parts.Parts.{number_of}
 use Rattle.machine_core.specs.machine_parts.Order.{IsGraphInOrder}
 use Rattle.machine_core.proofs.machine_scopes.HeldLemmas.{one_of, own_in, own_from_setting}

@@ -6,11 +6,11 @@ use Rattle.gl_base.specs.declared.refusals.Refused.{Refused}
 use Rattle.gl_base.specs.declared.scopes.ScopeId.{ScopeId}
 use Rattle.cluster_laws.specs.cluster_core.Effects.{next_scope}
 use Rattle.local_graph.specs.Locals.{LocalView}
-use Rattle.machine_numbers.specs.declared.keeping.Numbers.{Numbers}
+use Rattle.partition.specs.declared.machine_numbers.keeping.Numbers.{Numbers}
 use Rattle.machine_core.specs.declared.machine_parts.cores.Core.{Core}
 use Rattle.machine_core.specs.machine_parts.Order.{IsOrderly}
 use Rattle.machine_core.specs.machine_parts.Parts.{part_of}
-use Rattle.scope_pipe.specs.Pipes.{next_id}
+use Rattle.scope_locks.specs.scope_pipe.Pipes.{next_id}
 
 -- the next scope of its pipe is the machine's
 pub next_is : (m : Core) (r : Result ScopeId Refused) → IsOrderly m → IfOk r (λ s. s ≡ next_id m.pipe) → IfOk r (λ s. s ≡ next_scope m.numbers.local.me.0 (part_of m))

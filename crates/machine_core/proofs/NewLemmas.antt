@@ -2,8 +2,8 @@
 use Rattle.std.proofs.Common.{◌≡◌, ℕ, ◌≤◌, Bool, true, false, Option, None, Some, is_some, List, length, refl, sym, ap, ◌∙◌, subst, All, arith, true≢false}
 use Rattle.cluster_laws.specs.cluster_core.Settings.{Setting, IsSetting}
 use Rattle.local_graph.specs.Locals.{place_at}
-use Rattle.machine_numbers.specs.Views.{flag_there, is_flagged}
-use Rattle.machine_numbers.proofs.PartLemmas.{sides_are}
+use Rattle.partition.specs.machine_numbers.Views.{flag_there, is_flagged}
+use Rattle.partition.proofs.machine_numbers.PartLemmas.{sides_are}
 use Rattle.machine_core.specs.declared.machine_parts.cores.Core.{Core}
 use Rattle.machine_core.specs.machine_parts.Order.{IsGraphInOrder, IsOrderly, StandsAtLock, nobody}
 use Rattle.machine_core.specs.machine_parts.Settings.{IsPartOf}

@@ -3,7 +3,7 @@ use Rattle.std.proofs.Common.{◌≡◌, ℕ, ◌<◌, true, Some, length, get_o
 use Rattle.std.proofs.lemmas.Bool.{lt-ltb}
 use Rattle.std.proofs.lemmas.Option.{slice_get_read}
 use Rattle.gl_base.specs.declared.numbers.Vertex.{Vertex}
-use Rattle.machine_numbers.specs.Views.{flag_there, is_flagged}
+use Rattle.partition.specs.machine_numbers.Views.{flag_there, is_flagged}
 use Rattle.machine_core.specs.declared.machine_parts.cores.Core.{Core}
 use Rattle.machine_core.specs.machine_parts.Order.{IsOrderly, KnowsPlaces}
 use Rattle.machine_core.specs.machine_parts.Parts.{is_own, place_at, task_here}

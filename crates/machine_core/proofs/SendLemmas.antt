@@ -7,9 +7,9 @@ use Rattle.gl_base.specs.declared.scopes.Peer.TheVariants.{Machine}
 use Rattle.cluster_laws.specs.cluster_core.Actions.{HasFirst}
 use Rattle.cluster_laws.specs.cluster_core.Messages as law
 use Rattle.cluster_laws.specs.cluster_core.Ranges.{set_at}
-use Rattle.outboxes.specs.Outboxes.{OutboxView, OutboxesView, MessageView, no_outbox, outbox_to, waiting_for, with_outbox, left_behind, without_first}
-use Rattle.wire_msgs.specs.Views.{message_view}
-use Rattle.wire_msgs.specs.declared.messages.Message.{Message}
+use Rattle.wire.specs.outboxes.Outboxes.{OutboxView, OutboxesView, MessageView, no_outbox, outbox_to, waiting_for, with_outbox, left_behind, without_first}
+use Rattle.wire.specs.wire_msgs.Views.{message_view}
+use Rattle.wire.specs.declared.wire_msgs.messages.Message.{Message}
 use Rattle.machine_core.specs.declared.machine_parts.cores.Core.{Core}
 use Rattle.machine_core.specs.machine_parts.Order.{IsGraphInOrder, HasComeRight}
 use Rattle.machine_core.specs.machine_parts.Parts.{message_of, messages_for, part_of}

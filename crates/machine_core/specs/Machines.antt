@@ -15,12 +15,12 @@ pub use Rattle.machine_core.specs.machine_scopes.Asking.{IsSetting, IsNewAt, Are
 pub use Rattle.machine_core.specs.machine_scopes.Admitting.{CanAdmitPick, MayAdmitNone, HasAdmittedPick}
 use Rattle.std.specs.Prelude.{◌≡◌, ℕ, ◌==◌, true, false, is_some}
 use Rattle.std.specs.List.{list_any}
-use Rattle.local_parts.specs.Parts.{AreIn}
-use Rattle.machine_numbers.specs.Views.{AreTasksOf, ghost_datum, is_flagged}
+use Rattle.partition.specs.local_parts.Parts.{AreIn}
+use Rattle.partition.specs.machine_numbers.Views.{AreTasksOf, ghost_datum, is_flagged}
 use Rattle.machine_core.specs.declared.machine_parts.cores.Core.{Core}
 use Rattle.machine_core.specs.machine_parts.Parts.{is_own, is_owned, datum_here}
-use Rattle.scope_pipe.specs.Pipes.{IsEmpty}
-use Rattle.vertex_locks.specs.Tables.{IsUnclaimed}
+use Rattle.scope_locks.specs.scope_pipe.Pipes.{IsEmpty}
+use Rattle.scope_locks.specs.vertex_locks.Tables.{IsUnclaimed}
 
 -- scopes take locks, its parts go together, and it knows the vertices at the places of its tasks: so a machine is between its calls
 pub record IsMachine (m : Core) : Type 0 where

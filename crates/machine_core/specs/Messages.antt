@@ -1,6 +1,6 @@
 -- What a machine receives and sends.
 pub use Rattle.cluster_laws.specs.cluster_core.Actions.{HasFirst}
-pub use Rattle.wire_msgs.specs.Views.{message_view}
+pub use Rattle.wire.specs.wire_msgs.Views.{message_view}
 use Rattle.std.specs.Prelude.{◌≡◌, ℕ, ◌<◌, List, ◌∷◌}
 use Rattle.cluster_laws.specs.cluster_core.Messages.{Message}
 use Rattle.cluster_laws.specs.cluster_core.Parts.{Part}
@@ -9,8 +9,8 @@ use Rattle.machine_core.specs.declared.machine_parts.cores.Core.{Core}
 use Rattle.machine_core.specs.machine_parts.Parts.{message_of}
 use Rattle.machine_core.specs.machine_scopes.Asking.{IsNewAt, AreMachinesFor, CanBecomeReady, come}
 use Rattle.machine_core.specs.machine_updates.Learning.{CanLearn}
-use Rattle.wire_msgs.specs.declared.messages.Message as sent
-use Rattle.wire_msgs.specs.declared.messages.Message.TheVariants as wire
+use Rattle.wire.specs.declared.wire_msgs.messages.Message as sent
+use Rattle.wire.specs.declared.wire_msgs.messages.Message.TheVariants as wire
 
 -- what a message tells, in the words of the cluster's law
 abbrev pub message_told : sent.Message → Message

@@ -6,7 +6,7 @@ ghost use Rattle.machine_core.specs.Messages.{CanReceiveMessage, MayStillCome, H
 use crate::machines::Machine;
 use gl_base::{MachineNo, Peer, ScopeId, Vertex};
 use std::alloc::Global;
-use wire_msgs::{Message, Returned};
+use wire::wire_msgs::{Message, Returned};
 
 impl Machine {
     /// Receives a message of another machine, by its kind. Where there is not enough memory, or as many scopes have come as may,

@@ -9,10 +9,10 @@ use crate::machine_updates::{Prepared, Spares};
 use crate::machines::Machine;
 use gl_base::{NoMemory, Refused, ScopeId};
 use local_graph::{Batch, Outcome, Work};
-use machine_numbers::{Spare, Spent};
-use scope_pipe::Flight;
+use partition::machine_numbers::{Spare, Spent};
+use scope_locks::scope_pipe::Flight;
 use std::alloc::Global;
-use wire_msgs::Done;
+use wire::wire_msgs::Done;
 
 impl Machine {
     /// Takes out a scope that is ready for an ordinary update, with the numbers that the update may use. The lists of `spare` have

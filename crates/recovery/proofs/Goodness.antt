@@ -8,17 +8,17 @@ use Rattle.update_api.specs.Updates.{Update}
 use Rattle.seq_run.specs.Orders.{replay}
 use Rattle.seq_run.specs.Runs.{AreNumbers}
 use Rattle.cluster_laws.specs.cluster_runs.Attempts.{Shared}
-use Rattle.whole_laws.specs.attempts.EngineCalls.{IsOrderInTurn}
-use Rattle.whole_laws.specs.attempts.Stores.{AreGoodOrders, last_order}
-use Rattle.whole_laws.proofs.attempts.Storing.{last_in_turn}
-use Rattle.store_format.specs.declared.header.Header.{Header}
-use Rattle.store_format.specs.Stores.{stored_in, IsBeforeOrAfter}
-use Rattle.store_format.specs.StoredOrders.{body_entries, with_entries, order_behind, stored_order}
-use Rattle.store_format.specs.Encoding.{body_bytes, RecordFits}
-use Rattle.store_format.specs.ReadBack.{NumbersFit}
-use Rattle.store_format.proofs.StoreLemmas.{stored_are}
-use Rattle.store_format.proofs.ReadBackLemmas.{entries_of_record, vertices_of_record, edges_of_record}
-use Rattle.snap_journal.specs.Last.{last_body, last_body_or, IsLastSnapshot}
+use Rattle.call_laws.specs.attempts.EngineCalls.{IsOrderInTurn}
+use Rattle.call_laws.specs.attempts.Stores.{AreGoodOrders, last_order}
+use Rattle.call_laws.proofs.attempts.Storing.{last_in_turn}
+use Rattle.store.specs.declared.store_format.header.Header.{Header}
+use Rattle.store.specs.store_format.Stores.{stored_in, IsBeforeOrAfter}
+use Rattle.store.specs.store_format.StoredOrders.{body_entries, with_entries, order_behind, stored_order}
+use Rattle.store.specs.store_format.Encoding.{body_bytes, RecordFits}
+use Rattle.store.specs.store_format.ReadBack.{NumbersFit}
+use Rattle.store.proofs.store_format.StoreLemmas.{stored_are}
+use Rattle.store.proofs.store_format.ReadBackLemmas.{entries_of_record, vertices_of_record, edges_of_record}
+use Rattle.store.specs.snap_journal.Last.{last_body, last_body_or, IsLastSnapshot}
 use Rattle.recovery.specs.GoodStores.{orders_behind, stored_orders, IsReplayed, AreReplayed, IsGoodStore, GoesBehind, GoesWith, IsGoodBase}
 use Rattle.recovery.specs.Recovered.{IsStartBase, IsRecovered, IsHeaderOf}
 

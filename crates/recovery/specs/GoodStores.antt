@@ -3,7 +3,7 @@ use Rattle.std.specs.Prelude.{◌≡◌, ℕ, ◌<◌, List, [], ◌∷◌, ◌+
 use Rattle.gl_base.specs.declared.entries.Entry.{Entry}
 use Rattle.gl_base.specs.declared.snapshots.Base.{Base}
 use Rattle.gl_base.specs.declared.snapshots.Record.{Record}
-use Rattle.store_format.specs.declared.header.Header.{Header}
+use Rattle.store.specs.declared.store_format.header.Header.{Header}
 use Rattle.recovery.specs.Orders.{size, replay, AreNumbers, Shared, IsOrderInTurn, AreGoodOrders}
 use Rattle.recovery.specs.Journals.{body_entries, with_entries, stored_order, vertex_number, edge_number, saved_or, record_vertices, record_edges}
 

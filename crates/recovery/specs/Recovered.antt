@@ -1,7 +1,7 @@
 -- What a run goes on from.
 use Rattle.std.specs.Prelude.{◌≡◌, ◌⊎◌, ℕ, ◌+◌, ◌^◌, ◌<◌, List, [], length}
 use Rattle.gl_base.specs.declared.snapshots.Base.{Base}
-use Rattle.store_format.specs.declared.header.Header.{Header}
+use Rattle.store.specs.declared.store_format.header.Header.{Header}
 use Rattle.recovery.specs.Orders.{DataGraph, Update, size, start_state, AreNumbers}
 use Rattle.recovery.specs.Journals.{IsLastSnapshot}
 

@@ -1,7 +1,7 @@
 //! Laws about good stores. Each is the contract of a function that does nothing.
 ghost use Rattle.std.specs.Prelude.{◌≡◌, ℕ, List, [], length};
 ghost use Rattle.gl_base.specs.declared.snapshots.Record.{Record};
-ghost use Rattle.store_format.specs.declared.header.Header.{Header};
+ghost use Rattle.store.specs.declared.store_format.header.Header.{Header};
 ghost use Rattle.recovery.specs.Orders.{Shared};
 ghost use Rattle.recovery.specs.Journals.{stored_in, IsBeforeOrAfter, body_bytes, RecordFits, NumbersFit};
 ghost use Rattle.recovery.specs.GoodStores.{IsGoodStore, GoesBehind, GoesWith};

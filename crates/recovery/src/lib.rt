@@ -2,7 +2,11 @@
 #![tactic(auto)]
 
 mod laws;
+pub mod opened_store;
+pub mod record_form;
+pub mod records;
 mod recovered;
+pub mod restarts;
 
 pub use laws::appends_keep_stores_good;
 pub use recovered::recover;

@@ -9,8 +9,8 @@ use gl_base::{Base, NoMemory};
 use gl_outside::Disk;
 use graph_core::Graph;
 use seq_run::SeqRun;
-use snap_journal::{Journal, JournalFault};
 use std::alloc::Global;
+use store::snap_journal::{Journal, JournalFault};
 use update_api::Program;
 
 /// How many bytes a store without snapshots has.

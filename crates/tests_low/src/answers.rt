@@ -1,15 +1,15 @@
 //! The texts that tell how a run ended: answers, reports and orders; and the folds that reports stand on.
 ghost use Rattle.std.specs.Prelude.{◌↔◌, IsTrue};
-ghost use Rattle.order_text.specs.Orders.{IsEntryOf};
+ghost use Rattle.graph_text.specs.order_text.Orders.{IsEntryOf};
 
 use crate::bytes::text_of;
 use crate::graphs::{Line, graph_of};
 use gl_base::{Algorithm, Entry, INF, MachineNo, NoMemory, Vertex};
 use graph_core::{Graph, GraphFault};
-use order_text::{answer, order_bytes, report};
+use graph_text::order_text::{answer, order_bytes, report};
+use graph_text::sync_folds::Fold;
 use std::alloc::Global;
 use std::io;
-use sync_folds::Fold;
 
 /// Prints folds, answers, reports and orders.
 pub fn print_answers(rt: &impl Print, alloc: Global) -> io::Result<()> {

@@ -1,11 +1,11 @@
 //! Files of atoms and of an index: what they tell, and the first fault of each that is none.
 ghost use Rattle.std.specs.Prelude.{◌≡◌, IfOk};
-ghost use Rattle.atom_file.specs.Atoms.{IsAtom, atom_bytes};
+ghost use Rattle.graph_atoms.specs.atom_file.Atoms.{IsAtom, atom_bytes};
 
 use crate::atom_samples::{COUNTLESS, EMPTY, FALLEN, FIRST, INDEX, SECOND, TWICE, UNKNOWN, WHOLE};
-use atom_file::{AtomFault, AtomView, write_atom};
-use atom_gather::check_index;
 use gl_base::{EdgeLine, GhostLine, Lines, NoMemory, VertexLine};
+use graph_atoms::atom_file::{AtomFault, AtomView, write_atom};
+use graph_atoms::atom_gather::check_index;
 use std::alloc::Global;
 use std::io;
 

@@ -5,7 +5,7 @@ ghost use Rattle.graph_core.specs.Levels.{AreLevels};
 
 use gl_base::Vertex;
 use graph_core::Graph;
-use prog_labels::Levels;
+use graph_programs::prog_labels::Levels;
 use seq_run::{Played, RunFault, SeqRun};
 use std::alloc::Global;
 

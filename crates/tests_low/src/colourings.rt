@@ -1,7 +1,7 @@
 //! Greedy colourings of graphs whose colours are known.
 use crate::graphs::{Line, every_pair, graph_of, hub};
-use color_steps::greedy_colouring;
 use gl_base::NoMemory;
+use graph_core::color_steps::greedy_colouring;
 use graph_core::{Graph, GraphFault};
 use std::alloc::Global;
 use std::io;

@@ -2,9 +2,9 @@
 use crate::atom_samples::INDEX;
 use crate::atoms::print_lines;
 use crate::graphs::{Line, graph_of};
-use atom_cut::{Atoms, atoms_by_growth, cut};
-use atom_place::place;
 use gl_base::{AtomNo, Lines, MachineNo, NoMemory, Vertex};
+use graph_atoms::atom_cut::{Atoms, atoms_by_growth, cut};
+use graph_atoms::atom_place::place;
 use graph_core::{Graph, GraphFault, growth};
 use std::alloc::Global;
 use std::io;

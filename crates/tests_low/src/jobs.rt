@@ -1,6 +1,6 @@
 //! Jobs that are right.
 use gl_base::{Job, JobFault, OrNoMemory};
-use job_config::read_job;
+use job_io::job_config::read_job;
 use std::alloc::Global;
 use std::io;
 

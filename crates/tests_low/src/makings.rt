@@ -1,12 +1,12 @@
 //! `make_vertices` and `make_edges`.
 ghost use Rattle.std.specs.Prelude.{IsTrue};
-ghost use Rattle.made_graphs.specs.Making.{IsPlanInRange};
+ghost use Rattle.graph_text.specs.generate.Making.{IsPlanInRange};
 
 use crate::bytes::text_of;
 use crate::limits::read_graph;
 use gl_base::MakePlan;
 use gl_outside::MemSink;
-use made_graphs::{Writing, make_edges, make_vertices};
+use graph_text::generate::{Writing, make_edges, make_vertices};
 use std::alloc::{AllocError, Global};
 use std::io;
 

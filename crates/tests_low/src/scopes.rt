@@ -1,8 +1,8 @@
 //! Numbers before and after an update of a vertex with three neighbours.
 use gl_base::INF;
-use prog_colours::Colours;
-use prog_labels::{Components, Levels};
-use prog_paths::Paths;
+use graph_programs::prog_colours::Colours;
+use graph_programs::prog_labels::{Components, Levels};
+use graph_programs::prog_paths::Paths;
 use seq_run::update_vertex;
 use std::io;
 use update_api::{Direction, Link, Program, Scope, Woken};

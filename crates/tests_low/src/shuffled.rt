@@ -3,7 +3,7 @@ ghost use Rattle.std.specs.Prelude.{◌<◌};
 
 use crate::graphs::{build, edge_between, print_fault};
 use graph_core::{EdgeIn, Graph, GraphFault};
-use prog_labels::{Components, Levels};
+use graph_programs::prog_labels::{Components, Levels};
 use seq_run::{RunFault, SeqRun};
 use std::alloc::{AllocError, Global};
 use std::io;

@@ -3,7 +3,7 @@ use crate::graphs::{graph_of, print_fault};
 use crate::runs::{LINE, print_order};
 use gl_base::Vertex;
 use graph_core::Graph;
-use prog_labels::{Components, Levels};
+use graph_programs::prog_labels::{Components, Levels};
 use seq_run::{RunFault, SeqRun, StepFault};
 use std::alloc::Global;
 use std::io;

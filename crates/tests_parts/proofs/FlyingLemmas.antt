@@ -4,10 +4,10 @@ use Rattle.std.specs.List.{filter}
 use Rattle.std.proofs.lemmas.Bool.{cases_Bool}
 use Rattle.std.proofs.lemmas.List.Elements.{All-nil, All-cons, All-head, All-tail}
 use Rattle.gl_base.specs.declared.scopes.ScopeId.{ScopeId}
-use Rattle.scope_lists.specs.Scopes.{is_scope}
-use Rattle.scope_lists.proofs.SameScope.{set_for-there}
-use Rattle.scope_pipe.specs.declared.flights.Flight.{Flight}
-use Rattle.scope_pipe.specs.Pipes.{PipeView, flight_at, HasFinished}
+use Rattle.gl_base.specs.scope_lists.Scopes.{is_scope}
+use Rattle.gl_base.proofs.scope_lists.SameScope.{set_for-there}
+use Rattle.scope_locks.specs.declared.scope_pipe.flights.Flight.{Flight}
+use Rattle.scope_locks.specs.scope_pipe.Pipes.{PipeView, flight_at, HasFinished}
 use Rattle.tests_parts.specs.Flying.{AllFly}
 
 abbrev pub is_other : ScopeId → Flight → Bool

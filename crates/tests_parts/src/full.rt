@@ -1,16 +1,16 @@
 //! A store that is full, and one whose disk has failed.
 ghost use Rattle.std.specs.Prelude.{◌≡◌};
-ghost use Rattle.snap_journal.specs.Formats.{IsAllowed};
+ghost use Rattle.store.specs.snap_journal.Formats.{IsAllowed};
 
 use crate::samples::{first, header, second};
 use crate::stops::add;
 use crate::stored::quiet_disk;
 use gl_base::{Entry, NoMemory, Record, SavedPart};
 use gl_outside::MemDisk;
-use snap_journal::{Journal, JournalFault, init};
 use std::alloc::Global;
 use std::io;
-use store_format::{Digest, Header, is_record};
+use store::snap_journal::{Journal, JournalFault, init};
+use store::store_format::{Digest, Header, is_record};
 
 /// As many snapshots a store takes.
 const MOST: u32 = 4096;

@@ -1,6 +1,6 @@
 //! Ghosts: of two data the one of the greater version stays.
-use ghost_cache::GhostCache;
 use gl_base::{AtomNo, Datum, GhostLine, Vertex};
+use scope_locks::ghost_cache::GhostCache;
 use std::alloc::Global;
 use std::io;
 

@@ -4,8 +4,8 @@ ghost use Rattle.local_graph.specs.Locals.{is_own};
 ghost use Rattle.tests_parts.specs.Rows.{HasRow};
 
 use crate::graphs::graph_of;
-use atom_cut::lines_of;
 use gl_base::{AtomNo, Lines, MAX_VERTICES, MachineNo, NoMemory, Vertex};
+use graph_atoms::atom_cut::lines_of;
 use graph_core::Graph;
 use local_graph::{LocalGraph, Outline, Side};
 use std::alloc::Global;

@@ -1,12 +1,12 @@
 //! The coordinator and machines that answer it.
-use coord_core::{Coordinator, Due, Engine, Store};
+use coordinator::coord_core::{Coordinator, Due, Engine, Store};
 use gl_base::{MachineNo, Refused, Vertex};
-use scope_pipe::ScopePipe;
+use scope_locks::scope_pipe::ScopePipe;
+use snapshot_machines::wave_counts::{WaveCounts, is_at_rest};
 use std::alloc::Global;
 use std::io;
-use task_sched::TaskSet;
-use wave_counts::{WaveCounts, is_at_rest};
-use wire_msgs::Message;
+use task_sets::task_sched::TaskSet;
+use wire::wire_msgs::Message;
 
 /// How many messages machines 0 and 1 send and receive before a wave.
 type Worked = (u64, u64, u64, u64);

@@ -1,8 +1,8 @@
 //! Locks: who waits and who holds.
 use gl_base::{Claim, MachineNo, Mode, ScopeId, Vertex};
+use scope_locks::vertex_locks::{LockTable, Turn};
 use std::alloc::Global;
 use std::io;
-use vertex_locks::{LockTable, Turn};
 
 /// A call at the lock of vertex 5, with the serial of the scope.
 #[derive(Clone, Copy)]

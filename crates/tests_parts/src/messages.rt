@@ -2,7 +2,7 @@
 use gl_base::{EdgeNo, MachineNo, NoMemory, ScopeId, Vertex};
 use std::alloc::Global;
 use std::io;
-use wire_msgs::{Done, Message, Section};
+use wire::wire_msgs::{Done, Message, Section};
 
 const SCOPE: ScopeId = ScopeId {
     home: MachineNo(1),

@@ -2,7 +2,7 @@
 ghost use Rattle.std.specs.Prelude.{◌≡◌};
 
 use gl_base::{MachineNo, Mode, NoMemory, ScopeId, Vertex};
-use scope_pipe::{Next, ScopePipe};
+use scope_locks::scope_pipe::{Next, ScopePipe};
 use std::alloc::Global;
 use std::io;
 

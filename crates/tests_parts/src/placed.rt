@@ -1,15 +1,15 @@
 //! A chain of four vertices on two machines, and two logs, worked out by hand.
 ghost use Rattle.std.specs.Prelude.{◌≡◌};
-ghost use Rattle.merged_logs.specs.Merges.{IsByTicket, ticket_of};
+ghost use Rattle.cluster_laws.specs.merged_logs.Merges.{IsByTicket, ticket_of};
 
 use crate::graphs::graph_of;
 use crate::snaps::print_entries;
+use cluster_laws::merged_logs::{count_by_machine, merge};
 use gl_base::{Entry, MachineNo, NoMemory, Vertex};
 use graph_core::Graph;
-use machine_numbers::Numbers;
-use merged_logs::{count_by_machine, merge};
-use placed_graphs::{first_base, first_numbers_of_all, placed_by_cut};
-use prog_labels::Components;
+use graph_programs::prog_labels::Components;
+use partition::machine_numbers::Numbers;
+use placement::graphs::{first_base, first_numbers_of_all, placed_by_cut};
 use std::alloc::Global;
 use std::io;
 

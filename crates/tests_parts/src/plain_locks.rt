@@ -1,9 +1,9 @@
 //! Random calls of a lock table, beside plain lists of those that hold and those that wait.
 use crate::chances::{Chances, print_alike};
 use gl_base::{Claim, MachineNo, Mode, NoMemory, ScopeId, Vertex};
+use scope_locks::vertex_locks::{LockTable, Turn};
 use std::alloc::Global;
 use std::io;
-use vertex_locks::{LockTable, Turn};
 
 /// Who holds a lock, and who waits for it, the first first.
 #[derive(Drop)]

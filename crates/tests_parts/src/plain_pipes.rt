@@ -2,9 +2,9 @@
 ghost use Rattle.tests_parts.specs.Flying.{AllFly};
 
 use crate::chances::{Chances, print_alike};
+use gl_base::scope_lists::is_scope;
 use gl_base::{MachineNo, Mode, NoMemory, ScopeId, Vertex};
-use scope_lists::is_scope;
-use scope_pipe::{Flight, Next, PipeFault, ScopePipe};
+use scope_locks::scope_pipe::{Flight, Next, PipeFault, ScopePipe};
 use std::alloc::Global;
 use std::io;
 

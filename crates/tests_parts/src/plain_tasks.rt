@@ -4,7 +4,7 @@ use crate::tasks::{acknowledged, marked, pend, ran, wake};
 use gl_base::{NoMemory, Vertex};
 use std::alloc::Global;
 use std::io;
-use task_sched::{Pick, TaskSet};
+use task_sets::task_sched::{Pick, TaskSet};
 
 const COUNT: u32 = 6;
 

@@ -1,10 +1,10 @@
 //! The store of the examples: two machines, components, two vertices and one edge, with two snapshots. Its bytes are those that
 //! the description of the format gives.
-ghost use Rattle.snap_journal.specs.Formats.{IsAllowed};
+ghost use Rattle.store.specs.snap_journal.Formats.{IsAllowed};
 
 use gl_base::{EdgeNo, Entry, MachineNo, NoMemory, Record, SavedPart, Vertex};
 use std::alloc::Global;
-use store_format::{Digest, Header};
+use store::store_format::{Digest, Header};
 
 /// The bytes of the store.
 pub static STORE: [u8; 251] = *b"GLABSTOR\0\0\0\x01\0\x02\x02\0\0\0\0\0\0\0\0\0\0\0\0\x02\0\0\0\x01\

@@ -1,7 +1,7 @@
 //! Stores in a series, of which those in turn that are read alike make one line.
 use crate::stored::{Stored, are_alike, print_stored};
-use snap_journal::JournalFault;
 use std::io;
+use store::snap_journal::JournalFault;
 
 /// The last store of a series, and the number of the first that was read like it.
 #[derive(Drop)]

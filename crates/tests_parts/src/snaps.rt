@@ -1,9 +1,9 @@
 //! Two vertices, one snapshot and the next.
+use coordinator::snap_update::SnapPart;
 use gl_base::{EdgeNo, Entry, MachineNo, NoMemory, Vertex};
-use snap_update::SnapPart;
 use std::alloc::Global;
 use std::io;
-use wire_msgs::Section;
+use wire::wire_msgs::Section;
 
 fn go(vertex: u32, ticket: u64) -> Entry {
     Entry::Go {

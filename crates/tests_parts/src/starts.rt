@@ -5,11 +5,11 @@ use crate::stored::quiet_disk;
 use gl_base::Base;
 use gl_outside::MemDisk;
 use graph_core::Graph;
-use prog_labels::Components;
+use graph_programs::prog_labels::Components;
 use recovery::recover;
-use snap_journal::Journal;
 use std::alloc::{AllocError, Global};
 use std::io;
+use store::snap_journal::Journal;
 
 /// Prints what is recovered from the store without snapshots, and with both.
 pub fn print_starts(rt: &impl Print, alloc: Global) -> io::Result<()> {

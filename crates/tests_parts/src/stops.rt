@@ -6,10 +6,10 @@ use crate::samples::{first, header, second};
 use crate::stored::{print_stored, read_store};
 use gl_base::{NoMemory, Record};
 use gl_outside::MemDisk;
-use snap_journal::{Journal, init};
 use std::alloc::Global;
 use std::io;
-use store_format::{Header, is_record};
+use store::snap_journal::{Journal, init};
+use store::store_format::{Header, is_record};
 
 /// What a disk reads in the end, and how many snapshots were acknowledged.
 #[derive(Drop)]

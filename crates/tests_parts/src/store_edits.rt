@@ -2,9 +2,9 @@
 use crate::samples::{GATES, STORE};
 use crate::series::Series;
 use crate::stored::{fault_of, print_fault, read_store};
-use snap_journal::{JournalFault, StoreFault};
 use std::alloc::{AllocError, Global};
 use std::io;
+use store::snap_journal::{JournalFault, StoreFault};
 
 /// Prints what cuts of the store, other bytes in its header and in its records, and closed gates are read as.
 pub fn print_edits(rt: &impl Print, alloc: Global) -> io::Result<()> {

@@ -3,10 +3,10 @@ use crate::samples::header;
 use crate::snaps::print_entries;
 use gl_base::{Base, NoMemory};
 use gl_outside::MemDisk;
-use snap_journal::{Journal, JournalFault, StoreFault};
 use std::alloc::Global;
 use std::io;
-use store_format::{Digest, ProgramKey};
+use store::snap_journal::{Journal, JournalFault, StoreFault};
+use store::store_format::{Digest, ProgramKey};
 
 /// A disk with these bytes, on which no call fails.
 pub fn quiet_disk(alloc: Global, bytes: Vec<u8>) -> MemDisk {

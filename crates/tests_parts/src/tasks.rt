@@ -2,7 +2,7 @@
 use gl_base::Vertex;
 use std::alloc::Global;
 use std::io;
-use task_sched::{Pick, TaskSet};
+use task_sets::task_sched::{Pick, TaskSet};
 
 /// A call.
 #[derive(Clone, Copy)]

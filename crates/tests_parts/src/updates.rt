@@ -8,8 +8,8 @@ use crate::graphs::graph_of;
 use crate::held::{lines_by_owner, outline_of, played};
 use gl_base::{Lines, MachineNo, NoMemory, ScopeId, Vertex};
 use graph_core::Graph;
+use graph_programs::prog_labels::Components;
 use local_graph::{LocalGraph, Outcome, Outline, Row, Work};
-use prog_labels::Components;
 use std::alloc::Global;
 use std::io;
 

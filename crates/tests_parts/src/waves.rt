@@ -1,6 +1,6 @@
 //! The last two waves.
+use coordinator::quiet_waves::{Verdict, Waves};
 use gl_base::{Counted, MachineNo};
-use quiet_waves::{Verdict, Waves};
 use std::alloc::Global;
 use std::io;
 

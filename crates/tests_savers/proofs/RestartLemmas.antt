@@ -2,7 +2,7 @@
 use Rattle.std.proofs.Common.{◌≡◌, ◌++◌, ◌∙◌, List, ap, filter, sym}
 use Rattle.std.proofs.lemmas.List.Elements.{filter-append}
 use Rattle.gl_base.specs.declared.entries.Entry.{Entry}
-use Rattle.call_returns.specs.Missing.{Begins, is_restart}
+use Rattle.recovery.specs.restarts.Missing.{Begins, is_restart}
 
 pub begins_with : (stored front begun rest : List Entry) → stored ≡ begun → front ≡ begun ++ rest → Begins (filter is_restart stored) (filter is_restart front)
 begins_with stored front begun rest same whole = (

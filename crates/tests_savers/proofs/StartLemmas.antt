@@ -3,15 +3,15 @@ use Rattle.std.proofs.Common.{◌≡◌, ℕ, List, length, sym, ap, ◌∙◌}
 use Rattle.gl_base.specs.declared.snapshots.Base.{Base}
 use Rattle.graph_core.specs.DataGraph.{DataGraph, IsDataGraph, size}
 use Rattle.update_api.specs.Updates.{Update}
-use Rattle.coord_core.specs.Coordinators.{IsEngineOf, StoreView}
-use Rattle.coord_core.specs.declared.steps.Engine.{Engine}
-use Rattle.coord_core.specs.declared.steps.Engine.TheVariants.{Chromatic, Locking}
-use Rattle.machine_places.proofs.OwnerLemmas.{owner_low}
-use Rattle.placed_savers.specs.Beginning.{ArePlacesOf, AreSaversOf, BaseView, Cluster, HaveAdmitted, IsBaseFor, IsBaseOf, IsEngineSaverOf, IsRunAt, RunsBy, Setting, placed_owner}
-use Rattle.placed_savers.specs.declared.engine_savers.savers.EngineSaver.{EngineSaver}
-use Rattle.placed_savers.specs.declared.savers.Places.{Places}
-use Rattle.placed_savers.proofs.LawLemmas.{attempt_begins}
-use Rattle.snap_clusters.specs.Clusters.{StartsSaving}
+use Rattle.coordinator.specs.coord_core.Coordinators.{IsEngineOf, StoreView}
+use Rattle.coordinator.specs.declared.coord_core.steps.Engine.{Engine}
+use Rattle.coordinator.specs.declared.coord_core.steps.Engine.TheVariants.{Chromatic, Locking}
+use Rattle.placement.proofs.places.OwnerLemmas.{owner_low}
+use Rattle.placed_machines.specs.Beginning.{ArePlacesOf, AreSaversOf, BaseView, Cluster, HaveAdmitted, IsBaseFor, IsBaseOf, IsEngineSaverOf, IsRunAt, RunsBy, Setting, placed_owner}
+use Rattle.placed_machines.specs.declared.engine_savers.savers.EngineSaver.{EngineSaver}
+use Rattle.placed_machines.specs.declared.savers.Places.{Places}
+use Rattle.placed_machines.proofs.LawLemmas.{attempt_begins}
+use Rattle.cluster_step.specs.clusters.Clusters.{StartsSaving}
 
 -- a setting that runs by an engine has it
 led_by : (engine : Engine) (colours : List ℕ) (st : Setting) → RunsBy engine colours st → IsEngineOf engine st.engine

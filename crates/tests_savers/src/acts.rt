@@ -9,10 +9,10 @@ use crate::records::take_record;
 use crate::recovering::go_back;
 use crate::scenes::Scene;
 use crate::trouble::Trouble;
+use cluster_step::clusters::{Event, Lead, Local, Passage, SavingMachine, SnapCluster};
 use gl_base::{MachineNo, ScopeId};
 use graph_core::Graph;
 use scenario_lines::Line;
-use snap_clusters::{Event, Lead, Local, Passage, SavingMachine, SnapCluster};
 use std::alloc::Global;
 use update_api::Program;
 

@@ -1,21 +1,21 @@
 //! Clusters that begin, or begin again.
 ghost use Rattle.std.specs.Prelude.{◌≡◌, ◌+◌, ◌^◌, ◌<◌, ℕ, All, IfOk, IsTrue, length};
-ghost use Rattle.coord_core.specs.Stores.{store_view};
+ghost use Rattle.coordinator.specs.coord_core.Stores.{store_view};
 ghost use Rattle.graph_core.specs.DataGraph.{IsDataGraph, size};
-ghost use Rattle.placed_savers.specs.Beginning.{AreColoursFor, ArePlacesOf, BaseView, Cluster, IsBaseFor, IsEngineSaverOf, Setting};
-ghost use Rattle.snap_clusters.specs.Clusters.{StartsSaving};
+ghost use Rattle.placed_machines.specs.Beginning.{AreColoursFor, ArePlacesOf, BaseView, Cluster, IsBaseFor, IsEngineSaverOf, Setting};
+ghost use Rattle.cluster_step.specs.clusters.Clusters.{StartsSaving};
 
 use crate::plans::Plan;
 use crate::trouble::Trouble;
-use call_courses::Course;
-use color_steps::{greatest_colour, greedy_colouring};
-use coord_core::{Engine, Store};
+use cluster_step::clusters::{SavingMachine, SnapCluster};
+use cluster_step::trace::Course;
+use coordinator::coord_core::{Engine, Store};
 use gl_base::{Algorithm, AtomNo, Base, EngineKind, FailureAt, MachineNo, NoMemory, Vertex};
 use graph_core::Graph;
-use placed_graphs::first_base;
-use placed_savers::engine_savers::EngineSaver;
-use placed_savers::{Places, SavingRun, placed_savers};
-use snap_clusters::{SavingMachine, SnapCluster};
+use graph_core::color_steps::{greatest_colour, greedy_colouring};
+use placed_machines::engine_savers::EngineSaver;
+use placed_machines::{Places, SavingRun, placed_savers};
+use placement::graphs::first_base;
 use std::alloc::Global;
 use update_api::Program;
 

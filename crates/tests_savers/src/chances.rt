@@ -9,9 +9,9 @@ use crate::records::take_record;
 use crate::recovering::go_back;
 use crate::scenes::Scene;
 use crate::trouble::Trouble;
+use cluster_step::clusters::{Event, Lead, Local, Passage};
 use gl_base::{EngineKind, MachineNo, ScopeId, Vertex};
 use scenario_lines::Line;
-use snap_clusters::{Event, Lead, Local, Passage};
 use std::alloc::Global;
 use update_api::Program;
 

@@ -3,8 +3,8 @@ use crate::events::{happens, has_machine, next_grant};
 use crate::records::take_record;
 use crate::scenes::Scene;
 use crate::trouble::Trouble;
+use cluster_step::clusters::{Due, Event, Lead, Local, Passage, SavingMachine, SnapCluster};
 use gl_base::MachineNo;
-use snap_clusters::{Due, Event, Lead, Local, Passage, SavingMachine, SnapCluster};
 use std::alloc::Global;
 use update_api::Program;
 

@@ -1,11 +1,11 @@
 //! What happens in a cluster, or may not happen now: of machines of any kind, of which nothing more need be known.
 ghost use Rattle.std.specs.Prelude.{◌≡◌, ◌<◌, true, IsTrue, length};
-ghost use Rattle.snap_clusters.specs.Events.{NamesItsMachines, NamesLocal, NamesPassage};
+ghost use Rattle.cluster_step.specs.clusters.Events.{NamesItsMachines, NamesLocal, NamesPassage};
 
 use crate::imprints::imprint;
 use crate::trouble::Trouble;
+use cluster_step::clusters::{Event, Local, Passage, SavingMachine, SnapCluster};
 use gl_base::{MachineNo, Record, Refused, ScopeId, Vertex};
-use snap_clusters::{Event, Local, Passage, SavingMachine, SnapCluster};
 use std::alloc::Global;
 
 /// Lets the event happen, and returns whether it has. What is refused leaves no change that is read of the cluster.

@@ -1,8 +1,8 @@
 //! A number that is another one if what is read of a cluster is another.
 ghost use Rattle.std.specs.Prelude.{◌<◌, length};
 
+use cluster_step::clusters::{Due, SavingMachine, SnapCluster};
 use gl_base::{MachineNo, ScopeId};
-use snap_clusters::{Due, SavingMachine, SnapCluster};
 
 /// Returns a number that two clusters are not expected to share of which something else is read.
 pub fn imprint<M: SavingMachine>(whole: &SnapCluster<M>) -> u64 {

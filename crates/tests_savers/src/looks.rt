@@ -2,10 +2,10 @@
 use crate::events::{has_machine, next_grant};
 use crate::plans::machine_of;
 use crate::scenes::{Kept, Scene};
+use cluster_step::clusters::{Due, SavingMachine, SnapCluster};
 use gl_base::{Entry, MachineNo, Vertex};
 use graph_core::Graph;
 use scenario_lines::{Line, Page};
-use snap_clusters::{Due, SavingMachine, SnapCluster};
 use update_api::Program;
 
 /// What a line asks for.

@@ -5,8 +5,8 @@ use crate::driving::drive;
 use crate::events::happens;
 use crate::scenes::Scene;
 use crate::trouble::Trouble;
+use cluster_step::clusters::{Event, Lead, Local, Passage};
 use gl_base::{MachineNo, ScopeId, Vertex};
-use snap_clusters::{Event, Lead, Local, Passage};
 use std::alloc::Global;
 use update_api::Program;
 

@@ -6,7 +6,7 @@ use crate::plans::{Plan, take_lines};
 use crate::playing::{add_trouble, play_events};
 use crate::trouble::Trouble;
 use graph_core::Graph;
-use job_programs::JobProgram;
+use graph_programs::selection::JobProgram;
 use scenario_lines::{Page, is_given, is_remark, parts_of};
 use std::rt::Files;
 use std::sync::Wait;

@@ -6,9 +6,9 @@ use crate::restarts::missing_of;
 use crate::scenes::{Kept, Scene};
 use crate::stores::append;
 use crate::trouble::Trouble;
-use call_returns::record_behind;
+use cluster_step::clusters::{Event, Lead};
 use gl_base::{Entry, Record, SavedPart};
-use snap_clusters::{Event, Lead};
+use recovery::restarts::record_behind;
 use std::alloc::Global;
 use update_api::Program;
 

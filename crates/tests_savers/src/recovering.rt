@@ -5,10 +5,10 @@ use crate::restarts::missing_of;
 use crate::scenes::{Kept, Scene};
 use crate::stores::{Store, opened_again};
 use crate::trouble::Trouble;
-use call_returns::{base_behind, count_failed};
+use cluster_step::clusters::{SavingMachine, SnapCluster};
 use gl_base::{Base, MachineNo};
 use recovery::recover;
-use snap_clusters::{SavingMachine, SnapCluster};
+use recovery::restarts::{base_behind, count_failed};
 use std::alloc::Global;
 use update_api::Program;
 

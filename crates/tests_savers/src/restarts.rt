@@ -1,8 +1,8 @@
 //! The restarts that a store lacks.
 use crate::scenes::Kept;
 use crate::trouble::Trouble;
-use call_returns::missing_restarts;
 use gl_base::Entry;
+use recovery::restarts::missing_restarts;
 use std::alloc::Global;
 
 /// Returns the restarts that the store lacks: those that it lacked as the attempt began, and those of so many failures with this ticket.

@@ -3,9 +3,9 @@ use crate::trouble::Trouble;
 use gl_base::Record;
 use gl_outside::MemDisk;
 use graph_core::Graph;
-use snap_journal::{Journal, init};
 use std::alloc::Global;
-use store_format::{Digest, Header, is_record};
+use store::snap_journal::{Journal, init};
+use store::store_format::{Digest, Header, is_record};
 
 /// A store in memory that is open.
 pub type Store = Journal<MemDisk>;

@@ -1,5 +1,5 @@
 -- The actions of a cluster: when each may happen, and what it does.
-pub use Rattle.scope_lists.specs.Scopes.{GoTogether}
+pub use Rattle.gl_base.specs.scope_lists.Scopes.{GoTogether}
 use Rattle.std.specs.Prelude.{List, None, Option, Some, [], false, pred, suc, true, ℕ, ◌++◌, ◌<◌, ◌∷◌, ◌≡◌, ◌≢◌, ◌⊎◌}
 use Rattle.gl_base.specs.declared.entries.Entry.TheVariants.{Go}
 use Rattle.gl_base.specs.declared.scopes.Claim.{Claim}

@@ -1,5 +1,5 @@
 -- Numbers of a range that pass a test, and functions that are changed at one place.
-pub use Rattle.scope_lists.specs.Scopes.{set_at}
+pub use Rattle.gl_base.specs.scope_lists.Scopes.{set_at}
 use Rattle.std.specs.Prelude.{Bool, List, None, Option, Some, [], if◌then◌else◌, suc, zero, ℕ, ◌∷◌}
 
 -- the first of k, k + 1, .. (so many numbers) that passes

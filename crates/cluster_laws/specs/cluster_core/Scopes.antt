@@ -1,5 +1,5 @@
 -- Scopes of updates, and the canonical order in which a scope takes its locks: by the owner machine, and then by the vertex.
-pub use Rattle.scope_lists.specs.Scopes.{is_scope, mode_at, set_for}
+pub use Rattle.gl_base.specs.scope_lists.Scopes.{is_scope, mode_at, set_for}
 use Rattle.std.specs.Prelude.{Bool, List, None, Option, Some, false, nat_lt, true, ℕ, ◌&&◌, ◌-◌, ◌==◌, ◌||◌}
 use Rattle.cluster_laws.specs.cluster_core.Ranges.{all_passing, first_passing}
 use Rattle.cluster_laws.specs.cluster_core.Settings.{Setting, is_in_scope}

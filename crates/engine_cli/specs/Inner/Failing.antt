@@ -1,6 +1,6 @@
 -- A run on a store in memory as one without a store.
 use Rattle.std.specs.Prelude.{◌≡◌, []}
-use Rattle.stored_answers.specs.declared.runs.StoredRun.{StoredRun}
+use Rattle.engine_runs.specs.declared.answers.runs.StoredRun.{StoredRun}
 use Rattle.engine_cli.specs.JobRuns.{IsEndAlone}
 
 -- the run is that one but for the snapshots, of which it has none; and it left no task or spent its budget

@@ -1,25 +1,25 @@
 -- What reading a job and its graph and running it answers.
 use Rattle.std.specs.Prelude.{◌≡◌, ◌≤◌, ℕ, Bool, All, List, length, ⊤, Option, None, Some, Result, Ok, Err}
-use Rattle.atom_gather.specs.Cuts.{CanBeCut}
-use Rattle.atom_gather.specs.declared.cuts.Cut.{Cut}
+use Rattle.graph_atoms.specs.atom_gather.Cuts.{CanBeCut}
+use Rattle.graph_atoms.specs.declared.atom_gather.cuts.Cut.{Cut}
 use Rattle.gl_outside.specs.Faults.{Rose}
 use Rattle.gl_outside.specs.FilesState.{FilesState}
 use Rattle.graph_core.specs.DataGraph.{DataGraph, IsDataGraph, size}
-use Rattle.job_config.specs.Ranges.{HasNumbers}
-use Rattle.job_config.specs.Views.{job_view}
-use Rattle.job_files.specs.Atoms.{HasAtoms, IsCutOf}
-use Rattle.job_files.specs.JobTexts.{DescribeJobGraph, HasStart, OfTexts, SaysJob}
-use Rattle.job_files.specs.declared.inputs.Input.{Input}
-use Rattle.job_files.specs.declared.jobs.JobVerb.{JobVerb}
-use Rattle.job_files.specs.declared.jobs.JobVerb.TheVariants as verb
-use Rattle.job_stores.specs.NewStores.{UsesDisk}
-use Rattle.job_stores.specs.declared.making.NoStore.{NoStore}
-use Rattle.job_stores.specs.declared.making.NoStore.TheVariants as no_store
-use Rattle.order_text.specs.Orders.{IsEntryOf}
-use Rattle.stored_answers.specs.declared.runs.StoredEnd.{StoredEnd}
-use Rattle.stored_answers.specs.declared.runs.StoredEnd.TheVariants as end
-use Rattle.stored_answers.specs.declared.runs.StoredRun.{StoredRun}
-use Rattle.whole_laws.specs.whole_calls.Following.{AreJobFailures}
+use Rattle.job_io.specs.job_config.Ranges.{HasNumbers}
+use Rattle.job_io.specs.job_config.Views.{job_view}
+use Rattle.job_io.specs.job_files.Atoms.{HasAtoms, IsCutOf}
+use Rattle.job_io.specs.job_files.JobTexts.{DescribeJobGraph, HasStart, OfTexts, SaysJob}
+use Rattle.job_io.specs.declared.job_files.inputs.Input.{Input}
+use Rattle.job_io.specs.declared.job_files.jobs.JobVerb.{JobVerb}
+use Rattle.job_io.specs.declared.job_files.jobs.JobVerb.TheVariants as verb
+use Rattle.job_io.specs.job_stores.NewStores.{UsesDisk}
+use Rattle.job_io.specs.declared.job_stores.making.NoStore.{NoStore}
+use Rattle.job_io.specs.declared.job_stores.making.NoStore.TheVariants as no_store
+use Rattle.graph_text.specs.order_text.Orders.{IsEntryOf}
+use Rattle.engine_runs.specs.declared.answers.runs.StoredEnd.{StoredEnd}
+use Rattle.engine_runs.specs.declared.answers.runs.StoredEnd.TheVariants as end
+use Rattle.engine_runs.specs.declared.answers.runs.StoredRun.{StoredRun}
+use Rattle.call_laws.specs.whole_calls.Following.{AreJobFailures}
 use Rattle.engine_cli.specs.declared.running.Prepared.{Prepared}
 use Rattle.engine_cli.specs.declared.status.Status.{Status}
 use Rattle.engine_cli.specs.declared.status.Status.TheVariants.{BudgetSpent, DiskFault, SnapshotsFull}

@@ -3,10 +3,10 @@ use Rattle.std.specs.Prelude.{◌≡◌, ◌⊎◌, ℕ, Bool, List, ⊤, Option
 use Rattle.std.specs.Io.KnownBytes.{Appends}
 use Rattle.std.specs.declared.alloc.Global.{Global}
 use Rattle.std.specs.declared.vec.Vec.{Vec}
-use Rattle.made_graphs.specs.declared.making.Writing.{Writing}
-use Rattle.made_graphs.specs.declared.making.Writing.TheVariants.{WriteFault, NoMemory}
-use Rattle.order_text.specs.Answers.{answer_text}
-use Rattle.order_text.specs.Orders.{order_text}
+use Rattle.graph_text.specs.declared.generate.making.Writing.{Writing}
+use Rattle.graph_text.specs.declared.generate.making.Writing.TheVariants.{WriteFault, NoMemory}
+use Rattle.graph_text.specs.order_text.Answers.{answer_text}
+use Rattle.graph_text.specs.order_text.Orders.{order_text}
 use Rattle.engine_cli.specs.declared.running.Prepared.{Prepared}
 use Rattle.engine_cli.specs.Answer.{Printed, report_of}
 use Rattle.engine_cli.specs.Says.{FailsAtOrder, FailsAtOut, LeavesOrder, Moment}

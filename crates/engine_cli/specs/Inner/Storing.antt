@@ -1,6 +1,6 @@
 -- What running a job on its store answers, at each of its steps.
 use Rattle.std.specs.Prelude.{◌≡◌, ◌⊎◌, ◌+◌, ◌*◌, ◌^◌, ◌<◌, ◌≤◌, ℕ, Bool, false, List, length}
-use Rattle.atom_gather.specs.declared.cuts.Cut.{Cut}
+use Rattle.graph_atoms.specs.declared.atom_gather.cuts.Cut.{Cut}
 use Rattle.gl_base.specs.declared.entries.Entry.{Entry}
 use Rattle.gl_base.specs.declared.numbers.Vertex.{Vertex}
 use Rattle.gl_outside.specs.Disk.{DiskPast}
@@ -9,22 +9,22 @@ use Rattle.gl_outside.specs.FilesState.{FilesState}
 use Rattle.gl_outside.specs.declared.files.OpenFault.{OpenFault}
 use Rattle.gl_outside.specs.declared.files.OpenFault.TheVariants as open_fault
 use Rattle.graph_core.specs.DataGraph.{DataGraph}
-use Rattle.job_config.specs.Jobs.{JobSayings}
-use Rattle.job_config.specs.Views.{job_view}
-use Rattle.job_files.specs.declared.inputs.Input.{Input}
-use Rattle.job_runs.specs.Plays.{IsPlacement}
-use Rattle.job_stores.specs.JobHeaders.{header_for}
-use Rattle.job_stores.specs.NewStores.{IfDisksTold}
-use Rattle.job_stores.specs.declared.making.NoStore.{NoStore}
-use Rattle.job_stores.specs.declared.making.NoStore.TheVariants as no_store
-use Rattle.snap_journal.specs.declared.faults.JournalFault.{JournalFault}
-use Rattle.snap_journal.specs.declared.faults.JournalFault.TheVariants as journal
-use Rattle.store_format.specs.declared.faults.StoreFault.{StoreFault}
-use Rattle.store_format.specs.declared.faults.StoreFault.TheVariants.{BadByte, Used}
-use Rattle.store_format.specs.declared.header.Header.{Header}
-use Rattle.stored_answers.specs.Images.{IsGoodStore, KeepsGood}
-use Rattle.stored_answers.specs.declared.runs.StoredEnd.TheVariants as end
-use Rattle.stored_answers.specs.declared.runs.StoredRun.{StoredRun}
+use Rattle.job_io.specs.job_config.Jobs.{JobSayings}
+use Rattle.job_io.specs.job_config.Views.{job_view}
+use Rattle.job_io.specs.declared.job_files.inputs.Input.{Input}
+use Rattle.placement.specs.plans.Plays.{IsPlacement}
+use Rattle.job_io.specs.job_stores.JobHeaders.{header_for}
+use Rattle.job_io.specs.job_stores.NewStores.{IfDisksTold}
+use Rattle.job_io.specs.declared.job_stores.making.NoStore.{NoStore}
+use Rattle.job_io.specs.declared.job_stores.making.NoStore.TheVariants as no_store
+use Rattle.store.specs.declared.snap_journal.faults.JournalFault.{JournalFault}
+use Rattle.store.specs.declared.snap_journal.faults.JournalFault.TheVariants as journal
+use Rattle.store.specs.declared.store_format.faults.StoreFault.{StoreFault}
+use Rattle.store.specs.declared.store_format.faults.StoreFault.TheVariants.{BadByte, Used}
+use Rattle.store.specs.declared.store_format.header.Header.{Header}
+use Rattle.engine_runs.specs.answers.Images.{IsGoodStore, KeepsGood}
+use Rattle.engine_runs.specs.declared.answers.runs.StoredEnd.TheVariants as end
+use Rattle.engine_runs.specs.declared.answers.runs.StoredRun.{StoredRun}
 use Rattle.update_api.specs.Updates.{Update}
 use Rattle.engine_cli.specs.JobRuns.{BoundsSteps, HasRoomForRun, IsRunBy, IsStoredRun, RunsOnStore, Shared, lists_of, plan_with, records_size, stored_in, stored_order}
 use Rattle.engine_cli.specs.JobStores.{IsNotRunFrom, KeepsGoing, KeepsImages, RefusesStore}

@@ -5,8 +5,8 @@ use Rattle.gl_base.specs.declared.text_faults.TextFault.{TextFault}
 use Rattle.graph_core.specs.declared.graph_lists.EdgeIn.{EdgeIn}
 use Rattle.graph_core.specs.DataGraph.{DataGraph}
 use Rattle.graph_core.specs.GraphLists.{IsGraphOf}
-use Rattle.graph_lines.specs.declared.said.Ending.{Ending}
-use Rattle.graph_lines.specs.Found.{Found}
+use Rattle.graph_text.specs.declared.lines.said.Ending.{Ending}
+use Rattle.graph_text.specs.lines.Found.{Found}
 use Rattle.graph_text.specs.declared.lists.Reading.{Reading}
 use Rattle.graph_text.specs.declared.lists.Reading.TheVariants.{Text, ReadFault, NoMemory}
 use Rattle.graph_text.specs.Edges.{edge_rules}

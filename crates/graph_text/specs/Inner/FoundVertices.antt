@@ -3,8 +3,8 @@ use Rattle.std.specs.Prelude.{◌≡◌, ℕ, ◌≤◌, List, Option, None, Res
 use Rattle.std.specs.List.Sorted.{IsPermutation}
 use Rattle.gl_base.specs.declared.limits.TheConstants.{MAX_ID, MAX_VERTICES}
 use Rattle.gl_base.specs.declared.text_faults.TextFault.{TextFault}
-use Rattle.graph_lines.specs.declared.said.Ending.{Ending}
-use Rattle.graph_lines.specs.Found.{Found}
+use Rattle.graph_text.specs.declared.lines.said.Ending.{Ending}
+use Rattle.graph_text.specs.lines.Found.{Found}
 use Rattle.graph_text.specs.declared.lists.VertexList.{VertexList}
 use Rattle.graph_text.specs.declared.lists.Reading.{Reading}
 use Rattle.graph_text.specs.declared.lists.Reading.TheVariants.{Text, ReadFault, NoMemory}

@@ -6,9 +6,9 @@ use Rattle.gl_base.specs.declared.text_faults.TextKind.{TextKind}
 use Rattle.gl_base.specs.declared.text_faults.TextKind.TheVariants.{Unknown, SelfLoop as SelfLoopKind, Double, TooMany}
 use Rattle.graph_core.specs.declared.graph_lists.GraphFault.{GraphFault}
 use Rattle.graph_core.specs.declared.graph_lists.GraphFault.TheVariants.{DoubleVertex, UnknownVertex, SelfLoop, DoubleEdge, NoMemory as NoMemoryForGraph}
-use Rattle.graph_lines.specs.declared.said.Ending.{Ending}
-use Rattle.graph_lines.specs.declared.said.Ending.TheVariants.{Fault, Late as LateAt, Full}
-use Rattle.graph_lines.specs.Found.{Found}
+use Rattle.graph_text.specs.declared.lines.said.Ending.{Ending}
+use Rattle.graph_text.specs.declared.lines.said.Ending.TheVariants.{Fault, Late as LateAt, Full}
+use Rattle.graph_text.specs.lines.Found.{Found}
 use Rattle.graph_text.specs.declared.lists.Reading.{Reading}
 use Rattle.graph_text.specs.declared.lists.Reading.TheVariants.{Text, NoMemory}
 use Rattle.graph_text.specs.Firsts.{Rules, text_fault, or_kind}

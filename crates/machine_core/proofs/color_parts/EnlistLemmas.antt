@@ -4,7 +4,7 @@ use Rattle.std.proofs.Math.Bool.{or-true}
 use Rattle.std.proofs.lemmas.Bool.{and_parts, cases_eq, eq-eqb, eqb-true, ne_eqb, or_cases}
 use Rattle.std.proofs.lemmas.List.{get_or_default}
 use Rattle.gl_base.specs.declared.numbers.Vertex.{Vertex}
-use Rattle.machine_numbers.specs.declared.keeping.Numbers.{Numbers}
+use Rattle.partition.specs.declared.machine_numbers.keeping.Numbers.{Numbers}
 use Rattle.machine_core.specs.color_parts.Enlisting.{HasEnlisted, is_free_such, place_at}
 use Rattle.machine_core.specs.declared.color_parts.enlisting.Which.{Which}
 use Rattle.machine_core.specs.color_parts.Parts.{LinesView, TasksView, is_in_line}

@@ -5,10 +5,10 @@ use Rattle.std.proofs.lemmas.List.{drop_more, drop_all}
 use Rattle.gl_base.specs.declared.numbers.Vertex.{Vertex}
 use Rattle.gl_base.specs.declared.scopes.Mode.{Mode}
 use Rattle.gl_base.specs.declared.scopes.ScopeId.{ScopeId}
-use Rattle.scope_lists.specs.Scopes.{is_scope}
-use Rattle.scope_lists.proofs.SameScope.{same_scope, one_or_two, set_for-there}
-use Rattle.vertex_locks.specs.Locks.{LockView, mode_of}
-use Rattle.vertex_locks.specs.Tables.{HasReleased, lock_or, released_at}
+use Rattle.gl_base.specs.scope_lists.Scopes.{is_scope}
+use Rattle.gl_base.proofs.scope_lists.SameScope.{same_scope, one_or_two, set_for-there}
+use Rattle.scope_locks.specs.vertex_locks.Locks.{LockView, mode_of}
+use Rattle.scope_locks.specs.vertex_locks.Tables.{HasReleased, lock_or, released_at}
 use Rattle.machine_core.specs.lock_release.Released.{set_for, is_owned, holder_at, queue_at, is_one_of, released_all}
 
 -- the first i are released

@@ -7,17 +7,17 @@ use Rattle.gl_base.specs.declared.entries.Entry.{Entry}
 use Rattle.gl_base.specs.declared.entries.Entry.TheVariants.{Go}
 use Rattle.gl_base.specs.declared.numbers.Vertex.{Vertex}
 use Rattle.gl_base.specs.declared.scopes.Datum.{Datum}
-use Rattle.ghost_cache.specs.Caches.{CacheView}
+use Rattle.scope_locks.specs.ghost_cache.Caches.{CacheView}
 use Rattle.update_api.specs.Updates.{Update}
 use Rattle.update_api.specs.declared.links.Link.{Link}
 use Rattle.local_graph.specs.declared.sides.Side.{Side}
 use Rattle.cluster_laws.specs.cluster_core.Effects.{next_scope, updated}
 use Rattle.cluster_laws.proofs.cluster_core.Basics.{set_at-cases}
-use Rattle.machine_numbers.specs.declared.keeping.Numbers.{Numbers}
-use Rattle.machine_numbers.specs.Steps.{renewed}
-use Rattle.machine_numbers.specs.Settings.{IsRowOf, with_numbers}
-use Rattle.machine_numbers.specs.Views.{TasksView, flag_there, ghost_datum}
-use Rattle.machine_numbers.proofs.JoinLemmas.{updated_is}
+use Rattle.partition.specs.declared.machine_numbers.keeping.Numbers.{Numbers}
+use Rattle.partition.specs.machine_numbers.Steps.{renewed}
+use Rattle.partition.specs.machine_numbers.Settings.{IsRowOf, with_numbers}
+use Rattle.partition.specs.machine_numbers.Views.{TasksView, flag_there, ghost_datum}
+use Rattle.partition.proofs.machine_numbers.JoinLemmas.{updated_is}
 use Rattle.machine_core.specs.declared.machine_parts.cores.Core.{Core}
 use Rattle.machine_core.specs.machine_parts.Parts.{LocalView, PipeView, place_at, is_own, links_at, sides_at, part_at, datum_here, pending_here, admitted_here, part_of}
 use Rattle.machine_core.specs.machine_parts.Order.{IsOrderly, AreNumbersInOrder, AreFlightsInOrder, AreLocksInOrder, KnowsPlaces, nobody, is_one_of}

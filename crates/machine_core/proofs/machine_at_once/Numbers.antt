@@ -12,12 +12,12 @@ use Rattle.local_graph.specs.declared.works.Outcome.{Outcome}
 use Rattle.local_graph.specs.declared.works.Work.{Work}
 use Rattle.update_api.specs.Updates.{Update}
 use Rattle.update_api.specs.declared.links.Link.{Link}
-use Rattle.task_sched.specs.Tasks.{TasksView, is_flagged}
-use Rattle.machine_numbers.specs.declared.keeping.Numbers.{Numbers}
-use Rattle.machine_numbers.specs.Steps.{CanFinish, HasRun, HasTakenOut, HasUpdated}
-use Rattle.machine_numbers.specs.Settings.{IsMadeOfWork, IsOutcomeOf, IsLocalOf, Setting}
-use Rattle.machine_numbers.specs.Views.{AreTasksOf, LocalView, datum_here, edge_here, flag_there, value_here, is_own, links_at, numbers_along, place_at, sides_at}
-use Rattle.machine_numbers.proofs.WorkLemmas.{outcome_is}
+use Rattle.task_sets.specs.task_sched.Tasks.{TasksView, is_flagged}
+use Rattle.partition.specs.declared.machine_numbers.keeping.Numbers.{Numbers}
+use Rattle.partition.specs.machine_numbers.Steps.{CanFinish, HasRun, HasTakenOut, HasUpdated}
+use Rattle.partition.specs.machine_numbers.Settings.{IsMadeOfWork, IsOutcomeOf, IsLocalOf, Setting}
+use Rattle.partition.specs.machine_numbers.Views.{AreTasksOf, LocalView, datum_here, edge_here, flag_there, value_here, is_own, links_at, numbers_along, place_at, sides_at}
+use Rattle.partition.proofs.machine_numbers.WorkLemmas.{outcome_is}
 use Rattle.machine_core.proofs.machine_scopes.PickLemmas.{free_parts}
 use Rattle.machine_core.specs.machine_at_once.Picks.{HasRunAtOnce, IsRowIn}
 use Rattle.machine_core.specs.machine_at_once.Inner.Finding.{WaitsAt}

@@ -14,17 +14,17 @@ use Rattle.cluster_laws.specs.cluster_core.Ranges.{all_passing}
 use Rattle.cluster_laws.specs.cluster_core.Scopes.{takes_part, machines_from}
 use Rattle.cluster_laws.specs.cluster_core.Settings.{Engine, Setting, IsSetting, is_in_scope}
 use Rattle.cluster_laws.proofs.cluster_core.Nearness.{next_machine, no_machine, owner_takes_part, part_low, scope_within, scoped_itself}
-use Rattle.interior_scopes.specs.AtOnce.{HasNoClaim, IsInterior, IsUnseen}
-use Rattle.interior_scopes.proofs.Walking.{machines_alone}
-use Rattle.local_parts.specs.Parts.{IsLocalOf}
-use Rattle.scope_lists.specs.Found.{by_scope}
-use Rattle.scope_pipe.specs.Pipes.{PipeView, either, entered_at, flight_at, flight_count, flight_scope, is_ready}
-use Rattle.scope_pipe.specs.declared.flights.Flight.{Flight}
-use Rattle.task_sched.specs.Tasks.{is_flagged, IsNextPick, IsPicked}
-use Rattle.task_sched.specs.declared.task_sets.Pick.{Pick}
-use Rattle.vertex_locks.specs.Locks.{IsFreeLock}
-use Rattle.vertex_locks.specs.Tables.{holder_at, queue_at}
-use Rattle.machine_numbers.specs.Views.{flag_there}
+use Rattle.cluster_laws.specs.interior_scopes.AtOnce.{HasNoClaim, IsInterior, IsUnseen}
+use Rattle.cluster_laws.proofs.interior_scopes.Walking.{machines_alone}
+use Rattle.partition.specs.local_parts.Parts.{IsLocalOf}
+use Rattle.gl_base.specs.scope_lists.Found.{by_scope}
+use Rattle.scope_locks.specs.scope_pipe.Pipes.{PipeView, either, entered_at, flight_at, flight_count, flight_scope, is_ready}
+use Rattle.scope_locks.specs.declared.scope_pipe.flights.Flight.{Flight}
+use Rattle.task_sets.specs.task_sched.Tasks.{is_flagged, IsNextPick, IsPicked}
+use Rattle.task_sets.specs.declared.task_sched.task_sets.Pick.{Pick}
+use Rattle.scope_locks.specs.vertex_locks.Locks.{IsFreeLock}
+use Rattle.scope_locks.specs.vertex_locks.Tables.{holder_at, queue_at}
+use Rattle.partition.specs.machine_numbers.Views.{flag_there}
 use Rattle.machine_core.specs.declared.machine_parts.cores.Core.{Core}
 use Rattle.machine_core.specs.machine_parts.Order.{IsOrderly, KnowsPlaces}
 use Rattle.machine_core.specs.machine_parts.Parts.{LocalView, is_own, parts_at, part_at, place_at, machine_numbers, number_of, stand_at, part_of}

@@ -3,11 +3,11 @@ use Rattle.std.proofs.Common.{◌≡◌, ℕ, zero, suc, ◌+◌, List, [], ◌�
 use Rattle.std.specs.Prelude.{sum_by}
 use Rattle.std.proofs.lemmas.List.Sums.{sum_by-cons}
 use Rattle.cluster_laws.specs.cluster_model.Totals.{total, total_from}
-use Rattle.outboxes.specs.Outboxes.{OutboxView, no_outbox}
+use Rattle.wire.specs.outboxes.Outboxes.{OutboxView, no_outbox}
 use Rattle.machine_core.specs.declared.machine_parts.cores.Core.{Core}
 use Rattle.machine_core.specs.machine_parts.Parts.{OutboxesView, message_of, messages_for, part_of}
 use Rattle.machine_core.specs.machine_parts.Settings.{IsPartOf, Setting}
-use Rattle.wire_msgs.specs.Views.{MessageView}
+use Rattle.wire.specs.wire_msgs.Views.{MessageView}
 
 total_moved : (k many : ℕ) (f : ℕ → ℕ) → total_from (suc k) many f ≡ total_from k many (λ q. f (suc q))
 unfolding total_from

@@ -5,13 +5,13 @@ use Rattle.std.proofs.lemmas.List.Folds.{list_any_at}
 use Rattle.gl_base.specs.declared.numbers.Vertex.{Vertex}
 use Rattle.gl_base.specs.declared.scopes.Claim.{Claim}
 use Rattle.gl_base.specs.declared.scopes.ScopeId.{ScopeId}
-use Rattle.scope_lists.specs.Found.{AreOfTwoScopes}
-use Rattle.scope_lists.proofs.FoundLemmas.{found_at, found_place}
-use Rattle.scope_lists.proofs.SameScope.{same_scope}
-use Rattle.scope_pipe.specs.Entered.{EnteredView, entered_scope, last_asked, lock_asked}
-use Rattle.scope_pipe.specs.Pipes.{entered_at}
-use Rattle.vertex_locks.specs.Locks.{has}
-use Rattle.vertex_locks.specs.Tables.{is_owned, queue_at}
+use Rattle.gl_base.specs.scope_lists.Found.{AreOfTwoScopes}
+use Rattle.gl_base.proofs.scope_lists.FoundLemmas.{found_at, found_place}
+use Rattle.gl_base.proofs.scope_lists.SameScope.{same_scope}
+use Rattle.scope_locks.specs.scope_pipe.Entered.{EnteredView, entered_scope, last_asked, lock_asked}
+use Rattle.scope_locks.specs.scope_pipe.Pipes.{entered_at}
+use Rattle.scope_locks.specs.vertex_locks.Locks.{has}
+use Rattle.scope_locks.specs.vertex_locks.Tables.{is_owned, queue_at}
 use Rattle.machine_core.specs.declared.machine_parts.cores.Core.{Core}
 use Rattle.machine_core.specs.machine_parts.Order.{IsOrderly, StandsAtLock, nobody}
 use Rattle.machine_core.specs.machine_parts.Parts.{is_own, part_at}

@@ -5,13 +5,13 @@ use Rattle.std.specs.List.{list_any}
 use Rattle.std.proofs.lemmas.Bool.{lt-ltb, and_from, and_parts, eq-eqb}
 use Rattle.std.proofs.lemmas.Map.Keys.{any_passes_from_place}
 use Rattle.gl_base.specs.declared.numbers.Vertex.{Vertex}
-use Rattle.machine_numbers.specs.Views.{flag_there, task_here}
+use Rattle.partition.specs.machine_numbers.Views.{flag_there, task_here}
 use Rattle.machine_core.specs.declared.machine_parts.cores.Core.{Core}
 use Rattle.machine_core.specs.machine_parts.Order.{IsOrderly, KnowsPlaces}
 use Rattle.machine_core.specs.machine_parts.Parts.{flight_at, flight_count, is_own, pending_here, place_at, PipeView}
-use Rattle.scope_pipe.specs.Pipes.{Flies}
-use Rattle.task_sched.specs.Tasks.{TasksView, IsNextPick, IsPicked, is_flagged, is_free}
-use Rattle.task_sched.specs.declared.task_sets.Pick.{Pick}
+use Rattle.scope_locks.specs.scope_pipe.Pipes.{Flies}
+use Rattle.task_sets.specs.task_sched.Tasks.{TasksView, IsNextPick, IsPicked, is_flagged, is_free}
+use Rattle.task_sets.specs.declared.task_sched.task_sets.Pick.{Pick}
 use Rattle.machine_core.specs.machine_rest.Inner.Looking.{HasNoWork, HasWork}
 
 -- ---- what the tasks pick

@@ -10,10 +10,10 @@ use Rattle.gl_base.specs.declared.scopes.ScopeId.{ScopeId}
 use Rattle.cluster_laws.specs.cluster_core.Effects.{admitted_by, in_flight, next_scope, sets_out}
 use Rattle.cluster_laws.specs.cluster_core.Settings.{Engine}
 use Rattle.local_graph.specs.Locals.{LocalView, place_at}
-use Rattle.scope_pipe.specs.Pipes.{PipeView, HasAdmitted, flight_at, flight_count, is_ready, next_id}
-use Rattle.task_sched.specs.Tasks.{TasksView, IsNextPick, is_flagged}
-use Rattle.task_sched.specs.declared.task_sets.Pick.{Pick}
-use Rattle.machine_numbers.specs.Views.{flag_there}
+use Rattle.scope_locks.specs.scope_pipe.Pipes.{PipeView, HasAdmitted, flight_at, flight_count, is_ready, next_id}
+use Rattle.task_sets.specs.task_sched.Tasks.{TasksView, IsNextPick, is_flagged}
+use Rattle.task_sets.specs.declared.task_sched.task_sets.Pick.{Pick}
+use Rattle.partition.specs.machine_numbers.Views.{flag_there}
 use Rattle.machine_core.specs.declared.machine_parts.cores.Core.{Core}
 use Rattle.machine_core.specs.machine_parts.Parts.{part_of, parts_at, is_own, machine_numbers}
 use Rattle.machine_core.specs.machine_parts.Order.{IsOrderly, KnowsPlaces, nobody}

@@ -5,14 +5,14 @@ use Rattle.std.proofs.lemmas.Option.{same_Some}
 use Rattle.gl_base.specs.declared.numbers.MachineNo.{MachineNo}
 use Rattle.gl_base.specs.declared.numbers.Vertex.{Vertex}
 use Rattle.gl_base.specs.declared.scopes.ScopeId.{ScopeId}
-use Rattle.scope_lists.specs.Scopes.{is_scope}
-use Rattle.scope_lists.proofs.SameScope.{same_scope, one_or_two, set_for-there}
+use Rattle.gl_base.specs.scope_lists.Scopes.{is_scope}
+use Rattle.gl_base.proofs.scope_lists.SameScope.{same_scope, one_or_two, set_for-there}
 use Rattle.cluster_laws.specs.cluster_core.Effects.{asks_for, received}
 use Rattle.cluster_laws.specs.cluster_core.Messages.{Ask, Message}
 use Rattle.machine_core.specs.lock_release.Released.{is_one_of}
-use Rattle.scope_pipe.specs.Entered.{EnteredView, comes}
-use Rattle.scope_pipe.specs.Pipes.{PipeView, HasCome, HasReadied, entered_at, flight_at, is_ready}
-use Rattle.vertex_locks.specs.Tables.{holder_at, queue_at}
+use Rattle.scope_locks.specs.scope_pipe.Entered.{EnteredView, comes}
+use Rattle.scope_locks.specs.scope_pipe.Pipes.{PipeView, HasCome, HasReadied, entered_at, flight_at, is_ready}
+use Rattle.scope_locks.specs.vertex_locks.Tables.{holder_at, queue_at}
 use Rattle.machine_core.specs.declared.machine_parts.cores.Core.{Core}
 use Rattle.machine_core.specs.machine_parts.Parts.{part_of, part_at, stand_at, lock_asked, machine_numbers, number_of}
 use Rattle.machine_core.specs.machine_parts.Order.{HasComeRight, IsOrderly, IsOrderlyBut, got, nobody}

@@ -8,14 +8,14 @@ use Rattle.gl_base.specs.declared.numbers.Vertex.{Vertex}
 use Rattle.gl_base.specs.declared.scopes.Claim.{Claim}
 use Rattle.gl_base.specs.declared.scopes.Peer.TheVariants.{Machine}
 use Rattle.gl_base.specs.declared.scopes.ScopeId.{ScopeId}
-use Rattle.scope_lists.specs.Scopes.{is_scope, mode_at, set_for, set_at}
+use Rattle.gl_base.specs.scope_lists.Scopes.{is_scope, mode_at, set_for, set_at}
 use Rattle.cluster_laws.specs.cluster_core.Effects.{posts, asks_for, takes_lock, in_flight, next_scope}
 use Rattle.cluster_laws.specs.cluster_core.Parts.{Stand}
-use Rattle.outboxes.specs.Outboxes.{OutboxView, OutboxesView, MessageView, no_outbox, outbox_to, with_outbox, with_message}
-use Rattle.scope_pipe.specs.Entered.{EnteredView, moved_on}
-use Rattle.scope_pipe.specs.Pipes.{PipeView, HasCome, HasReadied, HasAdmitted, next_id, entered_at, flight_at}
-use Rattle.vertex_locks.specs.Locks.{LockView}
-use Rattle.vertex_locks.specs.Tables.{HasAsked, HasTaken, queue_at}
+use Rattle.wire.specs.outboxes.Outboxes.{OutboxView, OutboxesView, MessageView, no_outbox, outbox_to, with_outbox, with_message}
+use Rattle.scope_locks.specs.scope_pipe.Entered.{EnteredView, moved_on}
+use Rattle.scope_locks.specs.scope_pipe.Pipes.{PipeView, HasCome, HasReadied, HasAdmitted, next_id, entered_at, flight_at}
+use Rattle.scope_locks.specs.vertex_locks.Locks.{LockView}
+use Rattle.scope_locks.specs.vertex_locks.Tables.{HasAsked, HasTaken, queue_at}
 use Rattle.machine_core.specs.declared.machine_parts.cores.Core.{Core}
 use Rattle.machine_core.specs.machine_parts.Parts.{part_of, message_of, stand_at, stand_of, last_asked, lock_asked, machine_numbers, number_of}
 

@@ -7,19 +7,19 @@ use Rattle.std.proofs.lemmas.Option.{same_Some}
 use Rattle.gl_base.specs.declared.numbers.MachineNo.{MachineNo}
 use Rattle.gl_base.specs.declared.numbers.Vertex.{Vertex}
 use Rattle.gl_base.specs.declared.scopes.ScopeId.{ScopeId}
-use Rattle.scope_lists.specs.Found.{by_scope}
-use Rattle.scope_lists.specs.Scopes.{is_scope}
-use Rattle.scope_lists.proofs.SameScope.{one_or_two, set_for-here, set_for-there}
+use Rattle.gl_base.specs.scope_lists.Found.{by_scope}
+use Rattle.gl_base.specs.scope_lists.Scopes.{is_scope}
+use Rattle.gl_base.proofs.scope_lists.SameScope.{one_or_two, set_for-here, set_for-there}
 use Rattle.cluster_laws.specs.cluster_core.Effects.{in_flight, next_scope}
 use Rattle.local_graph.specs.Locals.{LocalView, place_at}
-use Rattle.scope_pipe.specs.Entered.{EnteredView}
-use Rattle.scope_pipe.specs.Pipes.{PipeView, Flies, HasAdmitted, either, entered_at, flight_at, flight_scope, is_ready, next_id}
-use Rattle.scope_pipe.specs.declared.flights.Flight.{Flight}
-use Rattle.vertex_locks.specs.Tables.{holder_at, queue_at}
-use Rattle.task_sched.specs.Tasks.{TasksView}
-use Rattle.task_sched.specs.declared.task_sets.Pick.{Pick}
-use Rattle.machine_numbers.specs.declared.keeping.Numbers.{Numbers}
-use Rattle.machine_numbers.specs.Views.{AreTasksOf, flag_there}
+use Rattle.scope_locks.specs.scope_pipe.Entered.{EnteredView}
+use Rattle.scope_locks.specs.scope_pipe.Pipes.{PipeView, Flies, HasAdmitted, either, entered_at, flight_at, flight_scope, is_ready, next_id}
+use Rattle.scope_locks.specs.declared.scope_pipe.flights.Flight.{Flight}
+use Rattle.scope_locks.specs.vertex_locks.Tables.{holder_at, queue_at}
+use Rattle.task_sets.specs.task_sched.Tasks.{TasksView}
+use Rattle.task_sets.specs.declared.task_sched.task_sets.Pick.{Pick}
+use Rattle.partition.specs.declared.machine_numbers.keeping.Numbers.{Numbers}
+use Rattle.partition.specs.machine_numbers.Views.{AreTasksOf, flag_there}
 use Rattle.machine_core.specs.declared.machine_parts.cores.Core.{Core}
 use Rattle.machine_core.specs.machine_parts.Parts.{part_of, is_own, admitted_here}
 use Rattle.machine_core.specs.machine_parts.Order.{AreNumbersInOrder, AreFlightsInOrder, IsReadyAt, IsOrderly, KnowsPlaces, nobody}

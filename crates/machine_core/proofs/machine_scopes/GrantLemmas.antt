@@ -9,17 +9,17 @@ use Rattle.gl_base.specs.declared.numbers.Vertex.{Vertex}
 use Rattle.gl_base.specs.declared.scopes.Claim.{Claim}
 use Rattle.gl_base.specs.declared.scopes.Mode.{Mode}
 use Rattle.gl_base.specs.declared.scopes.ScopeId.{ScopeId}
-use Rattle.scope_lists.specs.Scopes.{is_scope}
-use Rattle.scope_lists.specs.Found.{AreOfTwoScopes}
-use Rattle.scope_lists.proofs.SameScope.{same_scope, scope_turned, one_or_two}
+use Rattle.gl_base.specs.scope_lists.Scopes.{is_scope}
+use Rattle.gl_base.specs.scope_lists.Found.{AreOfTwoScopes}
+use Rattle.gl_base.proofs.scope_lists.SameScope.{same_scope, scope_turned, one_or_two}
 use Rattle.cluster_laws.specs.cluster_core.Effects.{asks_for, first_granted, granted, moves_on, takes_lock}
 use Rattle.cluster_laws.specs.cluster_core.Parts.{Stand}
 use Rattle.cluster_laws.specs.cluster_core.Scopes.{own_from}
 use Rattle.machine_core.specs.lock_release.Released.{is_one_of}
-use Rattle.scope_pipe.specs.Entered.{EnteredView}
-use Rattle.scope_pipe.specs.Pipes.{PipeView, entered_at, flight_at}
-use Rattle.vertex_locks.specs.Locks.{LockView, IsNext, WaitOnce, claimant}
-use Rattle.vertex_locks.specs.Tables.{HasTaken, IsGrantable, holder_at, queue_at}
+use Rattle.scope_locks.specs.scope_pipe.Entered.{EnteredView}
+use Rattle.scope_locks.specs.scope_pipe.Pipes.{PipeView, entered_at, flight_at}
+use Rattle.scope_locks.specs.vertex_locks.Locks.{LockView, IsNext, WaitOnce, claimant}
+use Rattle.scope_locks.specs.vertex_locks.Tables.{HasTaken, IsGrantable, holder_at, queue_at}
 use Rattle.machine_core.specs.declared.machine_parts.cores.Core.{Core}
 use Rattle.machine_core.specs.machine_parts.Parts.{part_of, part_at, stand_at, lock_asked, machine_numbers, number_of}
 use Rattle.machine_core.specs.machine_parts.Order.{HasComeRight, StandsAtLock, IsOrderly, IsOrderlyBut, got, nobody}

@@ -6,14 +6,14 @@ use Rattle.std.proofs.lemmas.Option.{same_Some}
 use Rattle.gl_base.specs.declared.numbers.Vertex.{Vertex}
 use Rattle.gl_base.specs.declared.scopes.Claim.{Claim}
 use Rattle.gl_base.specs.declared.scopes.ScopeId.{ScopeId}
-use Rattle.scope_lists.specs.Scopes.{is_scope, set_for}
-use Rattle.scope_lists.proofs.SameScope.{one_or_two, set_for-here, set_for-there}
+use Rattle.gl_base.specs.scope_lists.Scopes.{is_scope, set_for}
+use Rattle.gl_base.proofs.scope_lists.SameScope.{one_or_two, set_for-here, set_for-there}
 use Rattle.graph_core.specs.DataGraph.{size}
 use Rattle.machine_core.specs.lock_release.Released.{is_one_of}
-use Rattle.scope_pipe.specs.Entered.{EnteredView}
-use Rattle.scope_pipe.specs.Pipes.{entered_at}
-use Rattle.vertex_locks.specs.Locks.{LockView, IsNext}
-use Rattle.vertex_locks.specs.Tables.{HasTaken, holder_at, queue_at}
+use Rattle.scope_locks.specs.scope_pipe.Entered.{EnteredView}
+use Rattle.scope_locks.specs.scope_pipe.Pipes.{entered_at}
+use Rattle.scope_locks.specs.vertex_locks.Locks.{LockView, IsNext}
+use Rattle.scope_locks.specs.vertex_locks.Tables.{HasTaken, holder_at, queue_at}
 use Rattle.machine_core.specs.declared.machine_parts.cores.Core.{Core}
 use Rattle.machine_core.specs.machine_parts.Parts.{LocalView, is_own, last_asked}
 use Rattle.machine_core.specs.machine_parts.Order.{StandsAtLock, IsOrderly, nobody}

@@ -2,10 +2,10 @@
 use Rattle.std.proofs.Common.{◌≡◌, ℕ, ◌<◌, Bool, true, false, length, sym, ap, ◌∙◌, subst}
 use Rattle.gl_base.specs.declared.numbers.MachineNo.{MachineNo}
 use Rattle.gl_base.specs.declared.scopes.ScopeId.{ScopeId}
-use Rattle.outboxes.specs.Outboxes.{OutboxesView}
-use Rattle.scope_pipe.specs.Entered.{EnteredView}
-use Rattle.scope_pipe.specs.Pipes.{PipeView, Flies, flight_at, is_ready}
-use Rattle.machine_numbers.specs.declared.keeping.Numbers.{Numbers}
+use Rattle.wire.specs.outboxes.Outboxes.{OutboxesView}
+use Rattle.scope_locks.specs.scope_pipe.Entered.{EnteredView}
+use Rattle.scope_locks.specs.scope_pipe.Pipes.{PipeView, Flies, flight_at, is_ready}
+use Rattle.partition.specs.declared.machine_numbers.keeping.Numbers.{Numbers}
 use Rattle.machine_core.specs.declared.machine_parts.cores.Core.{Core}
 use Rattle.machine_core.specs.machine_parts.Parts.{LocalView}
 use Rattle.machine_core.specs.machine_parts.Order.{IsGraphInOrder, HasComeRight, AreFlightsInOrder, IsReadyAt, IsOrderlyBut}

@@ -18,11 +18,11 @@ use Rattle.graph_core.specs.DataGraph.{size}
 use Rattle.graph_core.specs.Neighbours.{neighbours_of}
 use Rattle.machine_core.specs.lock_release.Released.{is_one_of}
 use Rattle.machine_core.proofs.lock_release.ReleaseLemmas.{owned_where}
-use Rattle.local_parts.specs.Parts.{IsLocalOf, is_ghost_of, own_in_scope}
-use Rattle.local_parts.proofs.NearLemmas.{neighbour_passes}
-use Rattle.scope_pipe.specs.Entered.{EnteredView}
-use Rattle.scope_pipe.specs.Pipes.{entered_at, flight_at}
-use Rattle.vertex_locks.specs.Tables.{holder_at}
+use Rattle.partition.specs.local_parts.Parts.{IsLocalOf, is_ghost_of, own_in_scope}
+use Rattle.partition.proofs.local_parts.NearLemmas.{neighbour_passes}
+use Rattle.scope_locks.specs.scope_pipe.Entered.{EnteredView}
+use Rattle.scope_locks.specs.scope_pipe.Pipes.{entered_at, flight_at}
+use Rattle.scope_locks.specs.vertex_locks.Tables.{holder_at}
 use Rattle.machine_core.specs.declared.machine_parts.cores.Core.{Core}
 use Rattle.machine_core.specs.machine_parts.Parts.{LocalView, part_of, part_at, is_own, is_placed, stand_at, lock_asked, machine_numbers, number_of}
 use Rattle.machine_core.specs.machine_parts.Order.{IsOrderly}

@@ -8,13 +8,13 @@ use Rattle.gl_base.specs.declared.numbers.Vertex.{Vertex}
 use Rattle.gl_base.specs.declared.scopes.Claim.{Claim}
 use Rattle.gl_base.specs.declared.scopes.Mode.{Mode}
 use Rattle.gl_base.specs.declared.scopes.ScopeId.{ScopeId}
-use Rattle.scope_lists.specs.Scopes.{is_scope}
-use Rattle.scope_lists.proofs.FoundLemmas.{none_found}
-use Rattle.scope_lists.proofs.SameScope.{same_scope, one_or_two, set_for-here, set_for-there}
-use Rattle.scope_pipe.specs.Entered.{EnteredView, moved_on}
-use Rattle.scope_pipe.specs.Pipes.{PipeView, HasCome, entered_at, flight_at, is_ready}
-use Rattle.vertex_locks.specs.Locks.{LockView, claimant, has}
-use Rattle.vertex_locks.specs.Tables.{HasAsked, is_owned, holder_at, queue_at}
+use Rattle.gl_base.specs.scope_lists.Scopes.{is_scope}
+use Rattle.gl_base.proofs.scope_lists.FoundLemmas.{none_found}
+use Rattle.gl_base.proofs.scope_lists.SameScope.{same_scope, one_or_two, set_for-here, set_for-there}
+use Rattle.scope_locks.specs.scope_pipe.Entered.{EnteredView, moved_on}
+use Rattle.scope_locks.specs.scope_pipe.Pipes.{PipeView, HasCome, entered_at, flight_at, is_ready}
+use Rattle.scope_locks.specs.vertex_locks.Locks.{LockView, claimant, has}
+use Rattle.scope_locks.specs.vertex_locks.Tables.{HasAsked, is_owned, holder_at, queue_at}
 use Rattle.machine_core.specs.declared.machine_parts.cores.Core.{Core}
 use Rattle.machine_core.specs.machine_parts.Parts.{LocalView, lock_asked}
 use Rattle.machine_core.specs.machine_parts.Order.{HasComeRight, StandsAtLock, IsOrderly, IsOrderlyBut, got, nobody}

@@ -8,7 +8,7 @@ use Rattle.cluster_laws.specs.cluster_core.Scopes.{own_from}
 use Rattle.cluster_laws.specs.cluster_core.Settings.{Setting, is_in_scope}
 use Rattle.graph_core.specs.DataGraph.{size}
 use Rattle.local_graph.specs.Locals.{LocalView, at_place, is_placed, part_at, place_at}
-use Rattle.local_parts.specs.Parts.{IsLocalOf, own_in_scope}
+use Rattle.partition.specs.local_parts.Parts.{IsLocalOf, own_in_scope}
 use Rattle.machine_core.specs.machine_parts.Parts.{number_of}
 
 -- ---- ranges

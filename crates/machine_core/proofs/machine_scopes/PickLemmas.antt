@@ -8,10 +8,10 @@ use Rattle.gl_base.specs.declared.numbers.Vertex.{Vertex}
 use Rattle.cluster_laws.specs.cluster_core.Actions.{IsItsTurn}
 use Rattle.cluster_laws.specs.cluster_core.Settings.{Engine}
 use Rattle.local_graph.specs.Locals.{LocalView, got_at, is_own, place_at}
-use Rattle.scope_pipe.specs.Pipes.{Flies, flight_at, flight_count}
-use Rattle.task_sched.specs.Tasks.{TasksView, is_flagged, is_free, is_open, IsPicked, IsNextPick}
-use Rattle.task_sched.specs.declared.task_sets.Pick.{Pick}
-use Rattle.machine_numbers.specs.Views.{flag_there, task_here}
+use Rattle.scope_locks.specs.scope_pipe.Pipes.{Flies, flight_at, flight_count}
+use Rattle.task_sets.specs.task_sched.Tasks.{TasksView, is_flagged, is_free, is_open, IsPicked, IsNextPick}
+use Rattle.task_sets.specs.declared.task_sched.task_sets.Pick.{Pick}
+use Rattle.partition.specs.machine_numbers.Views.{flag_there, task_here}
 use Rattle.machine_core.specs.declared.machine_parts.cores.Core.{Core}
 use Rattle.machine_core.specs.machine_parts.Parts.{part_of, admitted_here, pending_here, number_of}
 use Rattle.machine_core.specs.machine_parts.Order.{IsOrderly, KnowsPlaces}

@@ -4,13 +4,13 @@ use Rattle.gl_base.specs.declared.numbers.MachineNo.{MachineNo}
 use Rattle.gl_base.specs.declared.numbers.Vertex.{Vertex}
 use Rattle.gl_base.specs.declared.scopes.Claim.{Claim}
 use Rattle.gl_base.specs.declared.scopes.ScopeId.{ScopeId}
-use Rattle.scope_pipe.specs.Entered.{EnteredView, next_at, next_of}
-use Rattle.scope_pipe.specs.Pipes.{entered_at}
-use Rattle.scope_pipe.specs.declared.next.Next.{Next}
-use Rattle.vertex_locks.specs.Locks.{LockView, IsNext}
-use Rattle.vertex_locks.specs.Tables.{HasGranted, HasTaken, IsTurn, is_owned, holder_at, queue_at}
-use Rattle.vertex_locks.specs.declared.turns.Turn.{Turn}
-use Rattle.vertex_locks.specs.declared.turns.Turn.TheVariants.{Granted, Waiting}
+use Rattle.scope_locks.specs.scope_pipe.Entered.{EnteredView, next_at, next_of}
+use Rattle.scope_locks.specs.scope_pipe.Pipes.{entered_at}
+use Rattle.scope_locks.specs.declared.scope_pipe.next.Next.{Next}
+use Rattle.scope_locks.specs.vertex_locks.Locks.{LockView, IsNext}
+use Rattle.scope_locks.specs.vertex_locks.Tables.{HasGranted, HasTaken, IsTurn, is_owned, holder_at, queue_at}
+use Rattle.scope_locks.specs.declared.vertex_locks.turns.Turn.{Turn}
+use Rattle.scope_locks.specs.declared.vertex_locks.turns.Turn.TheVariants.{Granted, Waiting}
 use Rattle.machine_core.specs.declared.machine_parts.cores.Core.{Core}
 use Rattle.machine_core.specs.declared.machine_parts.spare.SpareParts.{SpareParts}
 use Rattle.machine_core.specs.machine_parts.Parts.{is_own, part_at, parts_at}

@@ -7,9 +7,9 @@ use Rattle.gl_base.specs.declared.scopes.Peer.TheVariants.{Machine}
 use Rattle.gl_base.specs.declared.scopes.ScopeId.{ScopeId}
 use Rattle.cluster_laws.specs.cluster_core.Effects.{goes_on, posts, sets_out}
 use Rattle.cluster_laws.specs.cluster_core.Messages as law
-use Rattle.outboxes.specs.Outboxes.{OutboxesView, outbox_to, with_outbox, with_message}
-use Rattle.scope_pipe.specs.Pipes.{PipeView, come}
-use Rattle.wire_msgs.specs.Views as told
+use Rattle.wire.specs.outboxes.Outboxes.{OutboxesView, outbox_to, with_outbox, with_message}
+use Rattle.scope_locks.specs.scope_pipe.Pipes.{PipeView, come}
+use Rattle.wire.specs.wire_msgs.Views as told
 use Rattle.machine_core.specs.declared.machine_parts.cores.Core.{Core}
 use Rattle.machine_core.specs.machine_parts.Parts.{part_of, parts_at, machine_numbers}
 use Rattle.machine_core.specs.machine_scopes.Inner.Setting.{CanSetOut, HasSetOut}

@@ -8,15 +8,15 @@ use Rattle.gl_base.specs.declared.scopes.Mode.{Mode}
 use Rattle.gl_base.specs.declared.scopes.ScopeId.{ScopeId}
 use Rattle.cluster_laws.specs.cluster_core.Effects.{asks_for}
 use Rattle.cluster_laws.specs.cluster_core.Parts.{Part}
-use Rattle.interior_scopes.specs.InTurn.{AreGranted}
-use Rattle.interior_scopes.proofs.InTurn.{granted_more}
-use Rattle.scope_pipe.specs.Entered.{EnteredView, moved_on, next_of}
-use Rattle.scope_pipe.specs.Pipes.{PipeView, HasCome, entered_at}
-use Rattle.scope_pipe.specs.declared.next.Next.{Next}
-use Rattle.scope_pipe.specs.declared.next.Next.TheVariants.{Lock, Forward, Home}
-use Rattle.vertex_locks.specs.Locks.{LockView, IsNext, WaitOnce}
-use Rattle.vertex_locks.specs.Tables.{HasTakenFree, asked_at, holder_at, is_owned, queue_at, room_at}
-use Rattle.machine_numbers.specs.declared.keeping.Numbers.{Numbers}
+use Rattle.cluster_laws.specs.interior_scopes.InTurn.{AreGranted}
+use Rattle.cluster_laws.proofs.interior_scopes.InTurn.{granted_more}
+use Rattle.scope_locks.specs.scope_pipe.Entered.{EnteredView, moved_on, next_of}
+use Rattle.scope_locks.specs.scope_pipe.Pipes.{PipeView, HasCome, entered_at}
+use Rattle.scope_locks.specs.declared.scope_pipe.next.Next.{Next}
+use Rattle.scope_locks.specs.declared.scope_pipe.next.Next.TheVariants.{Lock, Forward, Home}
+use Rattle.scope_locks.specs.vertex_locks.Locks.{LockView, IsNext, WaitOnce}
+use Rattle.scope_locks.specs.vertex_locks.Tables.{HasTakenFree, asked_at, holder_at, is_owned, queue_at, room_at}
+use Rattle.partition.specs.declared.machine_numbers.keeping.Numbers.{Numbers}
 use Rattle.machine_core.specs.declared.machine_parts.cores.Core.{Core}
 use Rattle.machine_core.specs.machine_parts.Parts.{part_of, machine_numbers, number_of}
 use Rattle.machine_core.specs.machine_parts.Order.{IsOrderly, IsOrderlyBut}

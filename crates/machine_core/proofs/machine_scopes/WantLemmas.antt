@@ -8,19 +8,19 @@ use Rattle.gl_base.specs.declared.numbers.Vertex.{Vertex}
 use Rattle.gl_base.specs.declared.scopes.Mode.{Mode}
 use Rattle.gl_base.specs.declared.scopes.Peer.TheVariants.{Machine}
 use Rattle.gl_base.specs.declared.scopes.ScopeId.{ScopeId}
-use Rattle.scope_lists.specs.Scopes.{mode_at, set_for}
-use Rattle.scope_lists.proofs.SameScope.{same_scope}
+use Rattle.gl_base.specs.scope_lists.Scopes.{mode_at, set_for}
+use Rattle.gl_base.proofs.scope_lists.SameScope.{same_scope}
 use Rattle.cluster_laws.specs.cluster_core.Effects.{asks_for, goes_away, posts}
 use Rattle.cluster_laws.specs.cluster_core.Messages as law
 use Rattle.cluster_laws.specs.cluster_core.Parts.{Part}
 use Rattle.machine_core.specs.lock_release.Released.{is_one_of}
-use Rattle.outboxes.specs.Outboxes.{OutboxView, OutboxesView, outbox_to, with_outbox, with_message}
-use Rattle.scope_pipe.specs.Entered.{EnteredView, moved_on, next_at, next_of}
-use Rattle.scope_pipe.specs.Pipes.{PipeView, HasCome, HasReadied, entered_at, flight_at, is_ready}
-use Rattle.scope_pipe.specs.declared.next.Next.TheVariants.{Lock, Forward, Home}
-use Rattle.vertex_locks.specs.Locks.{LockView}
-use Rattle.vertex_locks.specs.Tables.{HasAsked, holder_at}
-use Rattle.wire_msgs.specs.Views as told
+use Rattle.wire.specs.outboxes.Outboxes.{OutboxView, OutboxesView, outbox_to, with_outbox, with_message}
+use Rattle.scope_locks.specs.scope_pipe.Entered.{EnteredView, moved_on, next_at, next_of}
+use Rattle.scope_locks.specs.scope_pipe.Pipes.{PipeView, HasCome, HasReadied, entered_at, flight_at, is_ready}
+use Rattle.scope_locks.specs.declared.scope_pipe.next.Next.TheVariants.{Lock, Forward, Home}
+use Rattle.scope_locks.specs.vertex_locks.Locks.{LockView}
+use Rattle.scope_locks.specs.vertex_locks.Tables.{HasAsked, holder_at}
+use Rattle.wire.specs.wire_msgs.Views as told
 use Rattle.machine_core.specs.declared.machine_parts.cores.Core.{Core}
 use Rattle.machine_core.specs.declared.machine_parts.spare.SpareParts.{SpareParts}
 use Rattle.machine_core.specs.machine_parts.Parts.{part_of, part_at, machine_numbers, number_of}

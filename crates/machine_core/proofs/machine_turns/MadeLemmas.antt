@@ -5,10 +5,10 @@ use Rattle.gl_base.specs.declared.scopes.Datum.{Datum}
 use Rattle.cluster_laws.proofs.cluster_core.Basics.{set_at-cases}
 use Rattle.local_graph.specs.declared.works.Outcome.{Outcome}
 use Rattle.local_graph.specs.declared.works.Work.{Work}
-use Rattle.machine_numbers.specs.declared.keeping.Numbers.{Numbers}
-use Rattle.machine_numbers.specs.Settings.{IsMadeOfWork}
-use Rattle.machine_numbers.specs.Steps.{HasUpdated, renewed}
-use Rattle.machine_numbers.specs.Views.{datum_here}
+use Rattle.partition.specs.declared.machine_numbers.keeping.Numbers.{Numbers}
+use Rattle.partition.specs.machine_numbers.Settings.{IsMadeOfWork}
+use Rattle.partition.specs.machine_numbers.Steps.{HasUpdated, renewed}
+use Rattle.partition.specs.machine_numbers.Views.{datum_here}
 use Rattle.update_api.specs.Links.{nears_at}
 use Rattle.update_api.specs.Marks.{AreMarked}
 use Rattle.update_api.specs.Updates.{Update}

@@ -3,10 +3,10 @@ use Rattle.std.proofs.Common.{◌≡◌, refl, ◌⊎◌, ℕ, ◌+◌, ◌<◌,
 use Rattle.std.specs.Prelude.{is_some}
 use Rattle.std.proofs.lemmas.List.{get_or_default}
 use Rattle.gl_base.specs.declared.scopes.ScopeId.{ScopeId}
-use Rattle.scope_lists.specs.Found.{by_scope}
-use Rattle.scope_lists.proofs.FoundLemmas.{found_place}
-use Rattle.scope_pipe.specs.declared.flights.Flight.{Flight}
-use Rattle.scope_pipe.specs.Pipes.{flight_scope}
+use Rattle.gl_base.specs.scope_lists.Found.{by_scope}
+use Rattle.gl_base.proofs.scope_lists.FoundLemmas.{found_place}
+use Rattle.scope_locks.specs.declared.scope_pipe.flights.Flight.{Flight}
+use Rattle.scope_locks.specs.scope_pipe.Pipes.{flight_scope}
 use Rattle.machine_core.specs.declared.machine_parts.cores.Core.{Core}
 use Rattle.machine_core.specs.machine_turns.Turns.{MayUpdate, part_of}
 

@@ -10,8 +10,8 @@ use Rattle.update_api.specs.declared.links.Link.{Link}
 use Rattle.local_graph.specs.declared.sides.Side.{Side}
 use Rattle.local_graph.specs.declared.works.Work.{Work}
 use Rattle.cluster_laws.specs.cluster_core.Settings.{IsSetting, is_near}
-use Rattle.local_parts.specs.Parts.{half_along, halves_along}
-use Rattle.local_parts.proofs.NearLemmas.{IsBeside, all_among, beside_all}
+use Rattle.partition.specs.local_parts.Parts.{half_along, halves_along}
+use Rattle.partition.proofs.local_parts.NearLemmas.{IsBeside, all_among, beside_all}
 use Rattle.machine_core.specs.declared.machine_parts.cores.Core.{Core}
 use Rattle.machine_core.specs.machine_parts.Parts.{sides_at}
 use Rattle.machine_core.specs.machine_parts.Settings.{Setting}

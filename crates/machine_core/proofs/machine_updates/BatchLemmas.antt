@@ -6,12 +6,12 @@ use Rattle.std.proofs.lemmas.List.Elements.{All-push, All-head, All-tail}
 use Rattle.std.proofs.lemmas.List.Quantifiers.{all_pairs_push}
 use Rattle.gl_base.specs.declared.numbers.Vertex.{Vertex}
 use Rattle.gl_base.specs.declared.scopes.ScopeId.{ScopeId}
-use Rattle.scope_lists.specs.Scopes.{is_scope}
-use Rattle.scope_lists.proofs.SameScope.{scopes_same}
+use Rattle.gl_base.specs.scope_lists.Scopes.{is_scope}
+use Rattle.gl_base.proofs.scope_lists.SameScope.{scopes_same}
 use Rattle.update_api.specs.declared.links.Link.{Link}
 use Rattle.local_graph.specs.declared.sides.Side.{Side}
 use Rattle.local_graph.specs.declared.works.Work.{Work}
-use Rattle.machine_numbers.specs.Settings.{IsRowOf}
+use Rattle.partition.specs.machine_numbers.Settings.{IsRowOf}
 use Rattle.machine_core.specs.declared.machine_parts.cores.Core.{Core}
 use Rattle.machine_core.specs.machine_parts.Parts.{task_here, pending_here, links_at, sides_at, flight_at, is_ready, part_of}
 use Rattle.machine_core.specs.machine_parts.Order.{IsOrderly, KnowsPlaces}

@@ -4,8 +4,8 @@ use Rattle.std.specs.Prelude.{is_some}
 use Rattle.std.specs.List.{AllPairs, list_any}
 use Rattle.gl_base.specs.declared.numbers.Vertex.{Vertex}
 use Rattle.gl_base.specs.declared.scopes.ScopeId.{ScopeId}
-use Rattle.scope_lists.specs.Scopes.{is_scope, set_for}
-use Rattle.scope_pipe.specs.Pipes.{HasFinished, flight_count}
+use Rattle.gl_base.specs.scope_lists.Scopes.{is_scope, set_for}
+use Rattle.scope_locks.specs.scope_pipe.Pipes.{HasFinished, flight_count}
 use Rattle.update_api.specs.Links.{nears_at}
 use Rattle.update_api.specs.Marks.{AreMarked}
 use Rattle.local_graph.specs.Locals.{got_at}
@@ -15,14 +15,14 @@ use Rattle.cluster_laws.specs.cluster_core.Messages.{Message, News}
 use Rattle.cluster_laws.specs.cluster_core.Messages as law
 use Rattle.cluster_laws.specs.cluster_core.Scopes.{takes_part}
 use Rattle.cluster_laws.specs.cluster_core.Settings.{IsSetting}
-use Rattle.local_parts.proofs.SharedLemmas.{edges_shared}
-use Rattle.wire_msgs.specs.Views as told
-use Rattle.outboxes.specs.Outboxes.{OutboxesView}
-use Rattle.machine_numbers.specs.Views.{TasksView, AreTasksOf, numbers_along, near_along, value_here}
-use Rattle.machine_numbers.specs.Steps.{HasUpdated, HasRun}
-use Rattle.machine_numbers.specs.declared.keeping.Numbers.{Numbers}
-use Rattle.machine_numbers.specs.Settings.{with_numbers, IsOutcomeOf, IsMadeOfWork, IsRowOf, lent_along}
-use Rattle.machine_numbers.proofs.JoinLemmas.{updated_is, news_are}
+use Rattle.partition.proofs.local_parts.SharedLemmas.{edges_shared}
+use Rattle.wire.specs.wire_msgs.Views as told
+use Rattle.wire.specs.outboxes.Outboxes.{OutboxesView}
+use Rattle.partition.specs.machine_numbers.Views.{TasksView, AreTasksOf, numbers_along, near_along, value_here}
+use Rattle.partition.specs.machine_numbers.Steps.{HasUpdated, HasRun}
+use Rattle.partition.specs.declared.machine_numbers.keeping.Numbers.{Numbers}
+use Rattle.partition.specs.machine_numbers.Settings.{with_numbers, IsOutcomeOf, IsMadeOfWork, IsRowOf, lent_along}
+use Rattle.partition.proofs.machine_numbers.JoinLemmas.{updated_is, news_are}
 use Rattle.machine_core.specs.declared.machine_parts.cores.Core.{Core}
 use Rattle.machine_core.specs.machine_parts.Parts.{LocalView, Part, PipeView, place_at, is_own, links_at, sides_at, parts_at, edge_here, flag_there, pending_here, flight_at, entered_at, is_owned, holder_at, queue_at, messages_for, message_of, number_of, stand_at, news_told, part_of}
 use Rattle.machine_core.specs.machine_parts.Order.{IsOrderly}

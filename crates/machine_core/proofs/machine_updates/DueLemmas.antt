@@ -7,13 +7,13 @@ use Rattle.std.proofs.lemmas.List.Elements.{All-push}
 use Rattle.std.proofs.lemmas.List.Folds.{list_any-append}
 use Rattle.gl_base.specs.declared.numbers.Vertex.{Vertex}
 use Rattle.gl_base.specs.declared.scopes.ScopeId.{ScopeId}
-use Rattle.scope_lists.specs.Scopes.{is_scope}
-use Rattle.scope_lists.specs.Found.{by_scope}
-use Rattle.scope_lists.proofs.FoundLemmas.{found_place}
-use Rattle.scope_lists.proofs.SameScope.{same_scope}
-use Rattle.scope_pipe.specs.declared.flights.Flight.{Flight}
-use Rattle.scope_pipe.specs.Pipes.{flight_scope}
-use Rattle.scope_pipe.proofs.FlightLemmas.{in_flight_where}
+use Rattle.gl_base.specs.scope_lists.Scopes.{is_scope}
+use Rattle.gl_base.specs.scope_lists.Found.{by_scope}
+use Rattle.gl_base.proofs.scope_lists.FoundLemmas.{found_place}
+use Rattle.gl_base.proofs.scope_lists.SameScope.{same_scope}
+use Rattle.scope_locks.specs.declared.scope_pipe.flights.Flight.{Flight}
+use Rattle.scope_locks.specs.scope_pipe.Pipes.{flight_scope}
+use Rattle.scope_locks.proofs.scope_pipe.FlightLemmas.{in_flight_where}
 use Rattle.machine_core.specs.declared.machine_parts.cores.Core.{Core}
 use Rattle.machine_core.specs.machine_parts.Parts.{PipeView, flight_at, is_ready}
 use Rattle.machine_core.specs.declared.machine_updates.batches.Due.{Due}

@@ -4,7 +4,7 @@ use Rattle.std.specs.Prelude.{slice_get, is_some}
 use Rattle.gl_base.specs.declared.numbers.MachineNo.{MachineNo}
 use Rattle.gl_base.specs.declared.numbers.Vertex.{Vertex}
 use Rattle.local_graph.specs.declared.sides.Side.{Side}
-use Rattle.machine_numbers.specs.Steps.{IsSideHere}
+use Rattle.partition.specs.machine_numbers.Steps.{IsSideHere}
 use Rattle.machine_core.specs.declared.machine_parts.cores.Core.{Core}
 use Rattle.machine_core.specs.machine_parts.Parts.{LocalView, place_at, is_own, sides_at, parts_at, part_at}
 use Rattle.machine_core.specs.machine_parts.Order.{IsGraphInOrder, is_one_of}

@@ -7,14 +7,14 @@ use Rattle.gl_base.specs.declared.numbers.MachineNo.{MachineNo}
 use Rattle.gl_base.specs.declared.numbers.Vertex.{Vertex}
 use Rattle.gl_base.specs.declared.scopes.Claim.{Claim}
 use Rattle.gl_base.specs.declared.scopes.ScopeId.{ScopeId}
-use Rattle.scope_lists.specs.Scopes.{is_scope, set_for}
-use Rattle.scope_lists.specs.Found.{by_scope}
-use Rattle.scope_lists.proofs.SameScope.{same_scope, one_or_two, set_for-here, set_for-there}
-use Rattle.scope_pipe.specs.Entered.{entered_scope}
-use Rattle.vertex_locks.specs.Locks.{LockView}
+use Rattle.gl_base.specs.scope_lists.Scopes.{is_scope, set_for}
+use Rattle.gl_base.specs.scope_lists.Found.{by_scope}
+use Rattle.gl_base.proofs.scope_lists.SameScope.{same_scope, one_or_two, set_for-here, set_for-there}
+use Rattle.scope_locks.specs.scope_pipe.Entered.{entered_scope}
+use Rattle.scope_locks.specs.vertex_locks.Locks.{LockView}
 use Rattle.update_api.specs.declared.links.Link.{Link}
-use Rattle.machine_numbers.specs.declared.keeping.Numbers.{Numbers}
-use Rattle.machine_numbers.specs.Views.{AreTasksOf}
+use Rattle.partition.specs.declared.machine_numbers.keeping.Numbers.{Numbers}
+use Rattle.partition.specs.machine_numbers.Views.{AreTasksOf}
 use Rattle.machine_core.specs.declared.machine_parts.cores.Core.{Core}
 use Rattle.machine_core.specs.machine_parts.Parts.{LocalView, PipeView, EnteredView, place_at, is_own, links_at, part_at, flag_there, admitted_here, flight_at, is_ready, entered_at, is_owned, holder_at, queue_at}
 use Rattle.machine_core.specs.machine_parts.Order.{StandsAtLock, HasComeRight, AreLocksInOrder, AreFlightsInOrder, IsOrderly, nobody, is_one_of}

@@ -11,11 +11,11 @@ use Rattle.update_api.specs.declared.links.Link.{Link}
 use Rattle.local_graph.specs.declared.sides.Side.{Side}
 use Rattle.local_graph.specs.declared.works.Outcome.{Outcome}
 use Rattle.cluster_laws.proofs.cluster_core.Basics.{set_at-cases}
-use Rattle.ghost_cache.specs.Caches.{CacheView}
-use Rattle.machine_numbers.specs.Views.{TasksView, ghost_datum}
-use Rattle.machine_numbers.specs.Steps.{renewed}
-use Rattle.machine_numbers.specs.Settings.{IsRowOf}
-use Rattle.outboxes.specs.Outboxes.{OutboxesView}
+use Rattle.scope_locks.specs.ghost_cache.Caches.{CacheView}
+use Rattle.partition.specs.machine_numbers.Views.{TasksView, ghost_datum}
+use Rattle.partition.specs.machine_numbers.Steps.{renewed}
+use Rattle.partition.specs.machine_numbers.Settings.{IsRowOf}
+use Rattle.wire.specs.outboxes.Outboxes.{OutboxesView}
 use Rattle.machine_core.specs.declared.machine_parts.cores.Core.{Core}
 use Rattle.machine_core.specs.declared.machine_parts.cores.Terms.{Terms}
 use Rattle.machine_core.specs.machine_parts.Parts.{LocalView, PipeView, is_own, links_at, sides_at, datum_here, entered_at}

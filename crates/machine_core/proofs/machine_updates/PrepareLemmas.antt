@@ -10,8 +10,8 @@ use Rattle.gl_base.specs.declared.numbers.MachineNo.{MachineNo}
 use Rattle.gl_base.specs.declared.numbers.Vertex.{Vertex}
 use Rattle.gl_base.specs.declared.scopes.Peer.TheVariants.{Machine}
 use Rattle.gl_base.specs.declared.scopes.ScopeId.{ScopeId}
-use Rattle.outboxes.specs.Outboxes.{OutboxView, OutboxesView, outbox_to}
-use Rattle.machine_numbers.specs.Steps.{IsBlank}
+use Rattle.wire.specs.outboxes.Outboxes.{OutboxView, OutboxesView, outbox_to}
+use Rattle.partition.specs.machine_numbers.Steps.{IsBlank}
 use Rattle.machine_core.specs.declared.machine_updates.reserving.Prepared.{Prepared}
 use Rattle.machine_core.specs.machine_parts.Rooms.{HaveSameMessages}
 use Rattle.machine_core.specs.machine_updates.Reserving.{CanTell, HasRoomToTell, is_to_be_told}

@@ -9,17 +9,17 @@ use Rattle.gl_base.specs.declared.numbers.MachineNo.{MachineNo}
 use Rattle.gl_base.specs.declared.numbers.Vertex.{Vertex}
 use Rattle.gl_base.specs.declared.scopes.Datum.{Datum}
 use Rattle.gl_base.specs.declared.scopes.ScopeId.{ScopeId}
-use Rattle.scope_lists.specs.Scopes.{set_for}
-use Rattle.scope_lists.specs.Found.{by_scope}
-use Rattle.scope_lists.proofs.SameScope.{one_or_two, set_for-here, set_for-there}
-use Rattle.scope_pipe.specs.Pipes.{flight_scope}
-use Rattle.scope_pipe.proofs.FlightLemmas.{in_flight_where}
-use Rattle.wire_msgs.specs.declared.messages.Done.{Done}
+use Rattle.gl_base.specs.scope_lists.Scopes.{set_for}
+use Rattle.gl_base.specs.scope_lists.Found.{by_scope}
+use Rattle.gl_base.proofs.scope_lists.SameScope.{one_or_two, set_for-here, set_for-there}
+use Rattle.scope_locks.specs.scope_pipe.Pipes.{flight_scope}
+use Rattle.scope_locks.proofs.scope_pipe.FlightLemmas.{in_flight_where}
+use Rattle.wire.specs.declared.wire_msgs.messages.Done.{Done}
 use Rattle.cluster_laws.specs.cluster_core.Effects.{applied, nothing_saved, first_unmarked, first_pending, seed_if, is_at, knows, newer_datum}
-use Rattle.machine_numbers.specs.declared.keeping.Numbers.{Numbers}
-use Rattle.machine_numbers.specs.Views.{TasksView, AreTasksOf, ghost_datum, news_of, is_named}
-use Rattle.machine_numbers.specs.Steps.{HasLearned}
-use Rattle.machine_numbers.specs.Settings.{with_numbers, IsRowOf}
+use Rattle.partition.specs.declared.machine_numbers.keeping.Numbers.{Numbers}
+use Rattle.partition.specs.machine_numbers.Views.{TasksView, AreTasksOf, ghost_datum, news_of, is_named}
+use Rattle.partition.specs.machine_numbers.Steps.{HasLearned}
+use Rattle.partition.specs.machine_numbers.Settings.{with_numbers, IsRowOf}
 use Rattle.local_graph.specs.declared.sides.Side.{Side}
 use Rattle.machine_core.specs.declared.machine_parts.cores.Core.{Core}
 use Rattle.machine_core.specs.machine_parts.Parts.{LocalView, PipeView, place_at, is_own, links_at, datum_here, flag_there, pending_here, admitted_here, flight_at, is_ready, is_owned, holder_at, queue_at, part_of}

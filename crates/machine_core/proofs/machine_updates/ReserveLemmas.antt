@@ -1,7 +1,7 @@
 -- A machine in whose log and outboxes room was made.
 use Rattle.std.proofs.Common.{◌≡◌, Vec, Global, refl, sym, subst}
 use Rattle.gl_base.specs.declared.entries.Entry.{Entry}
-use Rattle.outboxes.specs.Outboxes.{OutboxesView}
+use Rattle.wire.specs.outboxes.Outboxes.{OutboxesView}
 use Rattle.machine_core.specs.declared.machine_parts.cores.Core.{Core}
 use Rattle.machine_core.specs.machine_parts.Order.{KnowsPlaces}
 use Rattle.machine_core.specs.machine_parts.Rooms.{HaveSameMessages, HasOnlyMadeRoom}

@@ -6,7 +6,7 @@ use Rattle.gl_base.specs.declared.scopes.Datum.{Datum}
 use Rattle.graph_core.specs.DataGraph.{size}
 use Rattle.cluster_laws.specs.cluster_core.Effects.{first_unmarked, seed_if}
 use Rattle.cluster_laws.specs.cluster_core.Ranges.{first_passing}
-use Rattle.machine_numbers.specs.declared.keeping.Numbers.{Numbers}
+use Rattle.partition.specs.declared.machine_numbers.keeping.Numbers.{Numbers}
 use Rattle.machine_core.specs.machine_parts.Parts.{Part, is_own, datum_here}
 use Rattle.machine_core.specs.machine_parts.Order.{AreNumbersInOrder}
 use Rattle.machine_core.specs.machine_parts.Settings.{Setting, IsLocalOf}

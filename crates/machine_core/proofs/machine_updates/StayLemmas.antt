@@ -5,13 +5,13 @@ use Rattle.std.proofs.lemmas.Bool.{ne_eqb}
 use Rattle.std.proofs.lemmas.List.Elements.{All-head, All-tail}
 use Rattle.gl_base.specs.declared.numbers.Vertex.{Vertex}
 use Rattle.gl_base.specs.declared.scopes.Datum.{Datum}
-use Rattle.scope_lists.specs.Scopes.{is_scope}
-use Rattle.scope_lists.proofs.SameScope.{one_or_two, set_for-there}
+use Rattle.gl_base.specs.scope_lists.Scopes.{is_scope}
+use Rattle.gl_base.proofs.scope_lists.SameScope.{one_or_two, set_for-there}
 use Rattle.local_graph.specs.declared.sides.Side.{Side}
 use Rattle.local_graph.specs.declared.works.Outcome.{Outcome}
 use Rattle.local_graph.specs.declared.works.Work.{Work}
-use Rattle.machine_numbers.specs.Views.{numbers_along, near_along, value_here, written}
-use Rattle.machine_numbers.specs.Steps.{renewed, wakes_of}
+use Rattle.partition.specs.machine_numbers.Views.{numbers_along, near_along, value_here, written}
+use Rattle.partition.specs.machine_numbers.Steps.{renewed, wakes_of}
 use Rattle.machine_core.specs.declared.machine_parts.cores.Core.{Core}
 use Rattle.machine_core.specs.machine_parts.Parts.{links_at, sides_at, datum_here, edge_here, flight_at, is_ready}
 use Rattle.machine_core.specs.machine_parts.Order.{IsOrderly}

@@ -6,12 +6,12 @@ use Rattle.gl_base.specs.declared.numbers.Vertex.{Vertex}
 use Rattle.gl_base.specs.declared.scopes.Peer.TheVariants.{Machine}
 use Rattle.gl_base.specs.declared.scopes.ScopeId.{ScopeId}
 use Rattle.local_graph.specs.declared.works.Outcome.{Outcome}
-use Rattle.wire_msgs.specs.declared.messages.Done.{Done}
-use Rattle.wire_msgs.specs.Views.{DoneView, MessageView, done_view}
-use Rattle.wire_msgs.specs.Views as told
-use Rattle.outboxes.specs.Outboxes.{OutboxView, OutboxesView, no_outbox, outbox_to, with_message}
-use Rattle.machine_numbers.specs.declared.keeping.Numbers.{Numbers}
-use Rattle.machine_numbers.specs.Steps.{TellsOf}
+use Rattle.wire.specs.declared.wire_msgs.messages.Done.{Done}
+use Rattle.wire.specs.wire_msgs.Views.{DoneView, MessageView, done_view}
+use Rattle.wire.specs.wire_msgs.Views as told
+use Rattle.wire.specs.outboxes.Outboxes.{OutboxView, OutboxesView, no_outbox, outbox_to, with_message}
+use Rattle.partition.specs.declared.machine_numbers.keeping.Numbers.{Numbers}
+use Rattle.partition.specs.machine_numbers.Steps.{TellsOf}
 use Rattle.machine_core.specs.machine_parts.Parts.{sides_at}
 use Rattle.machine_core.specs.declared.machine_updates.reserving.Prepared.{Prepared}
 use Rattle.machine_core.specs.machine_updates.Reserving.{CanTell, is_to_be_told}

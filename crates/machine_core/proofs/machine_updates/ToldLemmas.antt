@@ -5,16 +5,16 @@ use Rattle.std.proofs.lemmas.Bool.{cases_eq, eq-eqb, ne_eqb, or_cases, eqb-true}
 use Rattle.std.proofs.lemmas.List.{map-append}
 use Rattle.gl_base.specs.declared.numbers.MachineNo.{MachineNo}
 use Rattle.gl_base.specs.declared.scopes.Peer.TheVariants.{Machine}
-use Rattle.wire_msgs.specs.Views.{DoneView, MessageView}
-use Rattle.wire_msgs.specs.Views as told
-use Rattle.outboxes.specs.Outboxes.{OutboxView, OutboxesView, no_outbox, outbox_to, with_message}
+use Rattle.wire.specs.wire_msgs.Views.{DoneView, MessageView}
+use Rattle.wire.specs.wire_msgs.Views as told
+use Rattle.wire.specs.outboxes.Outboxes.{OutboxView, OutboxesView, no_outbox, outbox_to, with_message}
 use Rattle.cluster_laws.specs.cluster_core.Messages.{Message}
 use Rattle.cluster_laws.specs.cluster_core.Ranges.{all_passing}
 use Rattle.cluster_laws.specs.cluster_core.Settings.{IsSetting}
 use Rattle.cluster_laws.specs.cluster_core.Scopes.{takes_part, own_from, is_found}
 use Rattle.cluster_laws.proofs.cluster_core.Basics.{same_truth}
 use Rattle.cluster_laws.proofs.cluster_core.Nearness.{is_own as own_is}
-use Rattle.local_parts.proofs.FoundLemmas.{any_mapped}
+use Rattle.partition.proofs.local_parts.FoundLemmas.{any_mapped}
 use Rattle.machine_core.specs.machine_parts.Parts.{LocalView, is_own, parts_at, message_of, messages_for}
 use Rattle.machine_core.specs.machine_parts.Settings.{Setting, IsLocalOf}
 use Rattle.machine_core.specs.declared.machine_updates.reserving.Prepared.{Prepared}

@@ -5,12 +5,12 @@ use Rattle.std.specs.List.{range_with_len}
 use Rattle.std.proofs.lemmas.List.{get_or_default, same_lists}
 use Rattle.std.proofs.lemmas.List.FromFn.{get_or-map-range_with_len, length-map-range_with_len}
 use Rattle.gl_base.specs.declared.entries.Entry.{Entry}
-use Rattle.scope_pipe.specs.Pipes.{without_flight}
+use Rattle.scope_locks.specs.scope_pipe.Pipes.{without_flight}
 use Rattle.local_graph.specs.declared.works.Outcome.{Outcome}
 use Rattle.local_graph.specs.Locals.{LocalView, got_at, is_own, place_at, set_where, written}
-use Rattle.machine_numbers.specs.declared.keeping.Numbers.{Numbers}
-use Rattle.machine_numbers.specs.Views.{edge_here, sides_at}
-use Rattle.machine_numbers.specs.Steps.{HasRun, HasUpdated, HasWritten}
+use Rattle.partition.specs.declared.machine_numbers.keeping.Numbers.{Numbers}
+use Rattle.partition.specs.machine_numbers.Views.{edge_here, sides_at}
+use Rattle.partition.specs.machine_numbers.Steps.{HasRun, HasUpdated, HasWritten}
 use Rattle.machine_core.specs.declared.machine_parts.cores.Core.{Core}
 use Rattle.machine_core.specs.machine_parts.Parts.{part_at}
 use Rattle.machine_core.specs.declared.machine_updates.reserving.Prepared.{Prepared}

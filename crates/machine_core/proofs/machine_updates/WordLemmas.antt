@@ -20,13 +20,13 @@ use Rattle.cluster_laws.specs.cluster_core.Scopes.{own_from, takes_part}
 use Rattle.cluster_laws.specs.cluster_core.Settings.{IsSetting, nth_edge, is_in_scope, is_near}
 use Rattle.cluster_laws.proofs.cluster_core.Nearness.{near_within}
 use Rattle.cluster_laws.proofs.cluster_core.Nearness as near
-use Rattle.local_parts.specs.Parts.{is_ghost_of, own_in_scope}
-use Rattle.local_parts.proofs.FoundLemmas.{any_mapped}
-use Rattle.local_parts.proofs.NearLemmas.{neighbour_passes}
+use Rattle.partition.specs.local_parts.Parts.{is_ghost_of, own_in_scope}
+use Rattle.partition.proofs.local_parts.FoundLemmas.{any_mapped}
+use Rattle.partition.proofs.local_parts.NearLemmas.{neighbour_passes}
 use Rattle.machine_core.proofs.lock_release.ReleaseLemmas.{owned_where}
-use Rattle.scope_pipe.specs.Entered.{EnteredView}
-use Rattle.wire_msgs.specs.declared.messages.Done.{Done}
-use Rattle.machine_numbers.specs.Views.{HasEdge, is_named, news_of, number_told}
+use Rattle.scope_locks.specs.scope_pipe.Entered.{EnteredView}
+use Rattle.wire.specs.declared.wire_msgs.messages.Done.{Done}
+use Rattle.partition.specs.machine_numbers.Views.{HasEdge, is_named, news_of, number_told}
 use Rattle.machine_core.specs.declared.machine_parts.cores.Core.{Core}
 use Rattle.machine_core.specs.machine_parts.Parts.{LocalView, Stand, is_own, part_at, part_of, entered_at, holder_at, stand_at, lock_asked, machine_numbers}
 use Rattle.machine_core.specs.machine_parts.Order.{IsOrderly, is_one_of}

@@ -6,9 +6,9 @@ use Rattle.gl_base.specs.declared.numbers.Vertex.{Vertex}
 use Rattle.gl_base.specs.declared.scopes.ScopeId.{ScopeId}
 use Rattle.update_api.specs.declared.links.Link.{Link}
 use Rattle.local_graph.specs.declared.works.Work.{Work}
-use Rattle.machine_numbers.specs.Views.{numbers_along, near_along, value_here}
-use Rattle.machine_numbers.specs.Steps.{HasTakenOut}
-use Rattle.machine_numbers.specs.Settings.{IsRowOf}
+use Rattle.partition.specs.machine_numbers.Views.{numbers_along, near_along, value_here}
+use Rattle.partition.specs.machine_numbers.Steps.{HasTakenOut}
+use Rattle.partition.specs.machine_numbers.Settings.{IsRowOf}
 use Rattle.machine_core.specs.declared.machine_parts.cores.Core.{Core}
 use Rattle.machine_core.specs.machine_parts.Parts.{is_own, links_at, sides_at, edge_here, task_here, pending_here, flight_at, is_ready, part_of}
 use Rattle.machine_core.specs.machine_parts.Order.{IsOrderly, IsReadyAt, KnowsPlaces}

@@ -2,14 +2,14 @@
 use Rattle.std.proofs.Common.{◌≡◌, ℕ, true, false, None, Some, List, length, slice_get, refl, sym, ap, ◌∙◌, subst, ⊎_elim, inl, inr, true≢false}
 use Rattle.std.proofs.lemmas.List.{length-set}
 use Rattle.gl_base.specs.declared.numbers.Vertex.{Vertex}
-use Rattle.scope_lists.proofs.SameScope.{set_for-here}
+use Rattle.gl_base.proofs.scope_lists.SameScope.{set_for-here}
 use Rattle.cluster_laws.specs.cluster_core.Effects.{admitted, admitted_by, next_scope}
 use Rattle.cluster_laws.specs.cluster_core.Scopes.{set_for}
 use Rattle.cluster_laws.specs.cluster_core.Settings.{Chromatic, Engine, Setting}
-use Rattle.task_sched.specs.Tasks.{TasksView, is_flagged}
-use Rattle.task_sched.specs.declared.task_sets.Pick.{Pick}
-use Rattle.scope_pipe.specs.Pipes.{PipeView, HasAdmitted, HasReadied, flight_at, next_id}
-use Rattle.machine_numbers.specs.Views.{flag_there}
+use Rattle.task_sets.specs.task_sched.Tasks.{TasksView, is_flagged}
+use Rattle.task_sets.specs.declared.task_sched.task_sets.Pick.{Pick}
+use Rattle.scope_locks.specs.scope_pipe.Pipes.{PipeView, HasAdmitted, HasReadied, flight_at, next_id}
+use Rattle.partition.specs.machine_numbers.Views.{flag_there}
 use Rattle.machine_core.specs.declared.machine_parts.cores.Core.{Core}
 use Rattle.machine_core.specs.machine_parts.Order.{IsOrderly, KnowsPlaces}
 use Rattle.machine_core.specs.machine_parts.Parts.{part_of}

@@ -3,7 +3,7 @@ pub use Rattle.machine_core.specs.color_parts.Parts.{place_at, sides_at}
 use Rattle.std.specs.Prelude.{◌≡◌, ◌⊎◌, ℕ, ◌<◌, ◌&&◌, not, Bool, true, Some, List, length, map, slice_index_or}
 use Rattle.gl_base.specs.declared.numbers.Vertex.{Vertex}
 use Rattle.local_graph.specs.declared.sides.Side.{Side}
-use Rattle.machine_numbers.specs.declared.keeping.Numbers.{Numbers}
+use Rattle.partition.specs.declared.machine_numbers.keeping.Numbers.{Numbers}
 use Rattle.machine_core.specs.declared.color_parts.enlisting.Which.{Which}
 use Rattle.machine_core.specs.declared.color_parts.enlisting.Which.TheVariants.{All, Pending, Tasks}
 use Rattle.machine_core.specs.color_parts.Order.{is_flagged}

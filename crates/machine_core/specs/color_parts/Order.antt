@@ -1,10 +1,10 @@
 -- A machine that goes by colours, in order: what its parts say of one another goes together. No setting of a cluster is needed to say so.
 pub use Rattle.machine_core.specs.machine_parts.Order.{IsGraphInOrder, AreNumbersInOrder, StandByPlace}
-pub use Rattle.task_sched.specs.Tasks.{is_flagged, is_free}
+pub use Rattle.task_sets.specs.task_sched.Tasks.{is_flagged, is_free}
 use Rattle.std.specs.Prelude.{◌≡◌, ℕ, true, false, Some, length}
 use Rattle.gl_base.specs.declared.numbers.Vertex.{Vertex}
 use Rattle.gl_base.specs.declared.scopes.ScopeId.{ScopeId}
-use Rattle.machine_numbers.specs.declared.keeping.Numbers.{Numbers}
+use Rattle.partition.specs.declared.machine_numbers.keeping.Numbers.{Numbers}
 use Rattle.machine_core.specs.declared.color_parts.cores.ColorCore.{ColorCore}
 use Rattle.machine_core.specs.color_parts.Parts.{LinesView, ScopesView, TasksView, centre_in_step, is_in_line, is_own, admitted_here, task_here}
 

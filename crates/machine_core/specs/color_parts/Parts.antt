@@ -1,6 +1,6 @@
 -- The part of a cluster that the parts of a machine stand for that goes by colours.
-pub use Rattle.color_tasks.specs.Lines.{LinesView, HasColour, is_in_line}
-pub use Rattle.color_tasks.specs.Scopes.{ScopesView, centre_in_step, next_serial, next_of_step, flying_count}
+pub use Rattle.task_sets.specs.color_tasks.Lines.{LinesView, HasColour, is_in_line}
+pub use Rattle.task_sets.specs.color_tasks.Scopes.{ScopesView, centre_in_step, next_serial, next_of_step, flying_count}
 pub use Rattle.machine_core.specs.machine_parts.Parts.{Part, LocalView, TasksView, OutboxesView, place_at, is_own, links_at, sides_at, parts_at, datum_here, task_here, edge_here, pending_here, admitted_here, messages_for, number_of}
 use Rattle.std.specs.Prelude.{None, is_some, []}
 use Rattle.cluster_laws.specs.cluster_core.Effects.{nothing_saved}

@@ -1,12 +1,12 @@
 -- The locks of a scope.
-pub use Rattle.scope_lists.specs.Scopes.{set_for}
-pub use Rattle.vertex_locks.specs.Tables.{is_owned, holder_at, queue_at}
+pub use Rattle.gl_base.specs.scope_lists.Scopes.{set_for}
+pub use Rattle.scope_locks.specs.vertex_locks.Tables.{is_owned, holder_at, queue_at}
 use Rattle.std.specs.Prelude.{ℕ, ◌==◌, Bool, Option, List, [], ◌∷◌}
 use Rattle.std.specs.List.{list_any}
 use Rattle.gl_base.specs.declared.numbers.Vertex.{Vertex}
 use Rattle.gl_base.specs.declared.scopes.ScopeId.{ScopeId}
-use Rattle.vertex_locks.specs.Locks.{LockView}
-use Rattle.vertex_locks.specs.Tables.{released_at}
+use Rattle.scope_locks.specs.vertex_locks.Locks.{LockView}
+use Rattle.scope_locks.specs.vertex_locks.Tables.{released_at}
 
 -- the vertex is one of these
 abbrev pub is_one_of : List Vertex → ℕ → Bool

@@ -1,17 +1,17 @@
 -- What an update at once asks of a machine, and what it leaves.
 pub use Rattle.cluster_laws.specs.cluster_core.Settings.{IsSetting}
-pub use Rattle.interior_scopes.specs.AtOnce.{MayUpdateAtOnce, at_once, entry_at_once}
+pub use Rattle.cluster_laws.specs.interior_scopes.AtOnce.{MayUpdateAtOnce, at_once, entry_at_once}
 pub use Rattle.machine_core.specs.machine_parts.Order.{IsOrderly, KnowsPlaces}
 pub use Rattle.machine_core.specs.machine_parts.Parts.{LocalView, part_of, is_own, links_at, pending_here, sides_at}
 pub use Rattle.machine_core.specs.machine_parts.Settings.{Setting, IsPartOf, SameSettings}
 pub use Rattle.machine_core.specs.machine_scopes.Admitting.{MayAdmitNone, MayAdmitVertex}
 pub use Rattle.machine_core.specs.machine_turns.Turns.{HasEachRow, IsRowIn}
-pub use Rattle.machine_numbers.specs.Views.{TasksView, datum_here, is_flagged}
-pub use Rattle.task_sched.specs.Tasks.{IsNextPick, is_open}
+pub use Rattle.partition.specs.machine_numbers.Views.{TasksView, datum_here, is_flagged}
+pub use Rattle.task_sets.specs.task_sched.Tasks.{IsNextPick, is_open}
 use Rattle.std.specs.Prelude.{◌≡◌, ◌+◌, ◌⊎◌, ℕ, Some, None, slice_get, true}
 use Rattle.gl_base.specs.declared.numbers.Vertex.{Vertex}
 use Rattle.update_api.specs.Updates.{Update}
-use Rattle.task_sched.specs.declared.task_sets.Pick.{Pick}
+use Rattle.task_sets.specs.declared.task_sched.task_sets.Pick.{Pick}
 use Rattle.machine_core.specs.declared.machine_parts.cores.Core.{Core}
 
 -- the tasks pick this vertex next

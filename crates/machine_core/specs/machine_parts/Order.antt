@@ -6,11 +6,11 @@ use Rattle.gl_base.specs.declared.numbers.MachineNo.{MachineNo}
 use Rattle.gl_base.specs.declared.numbers.Vertex.{Vertex}
 use Rattle.gl_base.specs.declared.scopes.Claim.{Claim}
 use Rattle.gl_base.specs.declared.scopes.ScopeId.{ScopeId}
-use Rattle.machine_numbers.specs.declared.keeping.Numbers.{Numbers}
-use Rattle.machine_numbers.specs.Views.{AreTasksOf, ghost_datum}
-use Rattle.machine_numbers.specs.Steps.{IsSideHere}
-use Rattle.scope_pipe.specs.Pipes.{Flies}
-use Rattle.vertex_locks.specs.Locks.{LockView}
+use Rattle.partition.specs.declared.machine_numbers.keeping.Numbers.{Numbers}
+use Rattle.partition.specs.machine_numbers.Views.{AreTasksOf, ghost_datum}
+use Rattle.partition.specs.machine_numbers.Steps.{IsSideHere}
+use Rattle.scope_locks.specs.scope_pipe.Pipes.{Flies}
+use Rattle.scope_locks.specs.vertex_locks.Locks.{LockView}
 use Rattle.machine_core.specs.declared.machine_parts.cores.Core.{Core}
 use Rattle.machine_core.specs.machine_parts.Parts.{LocalView, PipeView, EnteredView, place_at, is_own, links_at, sides_at, parts_at, part_at, datum_here, admitted_here, flight_at, is_ready, entered_at, is_owned, holder_at, queue_at, lock_asked}
 

@@ -1,19 +1,19 @@
 -- The part of a cluster that a machine's parts stand for.
 pub use Rattle.cluster_laws.specs.cluster_core.Parts.{Part, Stand}
 pub use Rattle.local_graph.specs.Locals.{LocalView, place_at, is_placed, is_own, links_at, sides_at, parts_at, part_at, machine_numbers}
-pub use Rattle.machine_numbers.specs.Views.{TasksView, datum_here, task_here, edge_here, flag_there, number_told, is_named}
-pub use Rattle.scope_pipe.specs.Entered.{EnteredView, last_asked, lock_asked}
-pub use Rattle.scope_pipe.specs.Pipes.{PipeView, flight_at, is_ready, flight_count, entered_at}
-pub use Rattle.vertex_locks.specs.Tables.{is_owned, holder_at, queue_at}
-pub use Rattle.outboxes.specs.Outboxes.{OutboxesView, MessageView, DoneView, waiting_for}
+pub use Rattle.partition.specs.machine_numbers.Views.{TasksView, datum_here, task_here, edge_here, flag_there, number_told, is_named}
+pub use Rattle.scope_locks.specs.scope_pipe.Entered.{EnteredView, last_asked, lock_asked}
+pub use Rattle.scope_locks.specs.scope_pipe.Pipes.{PipeView, flight_at, is_ready, flight_count, entered_at}
+pub use Rattle.scope_locks.specs.vertex_locks.Tables.{is_owned, holder_at, queue_at}
+pub use Rattle.wire.specs.outboxes.Outboxes.{OutboxesView, MessageView, DoneView, waiting_for}
 use Rattle.std.specs.Prelude.{ℕ, Bool, true, Option, Some, None, List, map, option_map}
 use Rattle.gl_base.specs.declared.scopes.Peer.TheVariants.{Machine}
 use Rattle.gl_base.specs.declared.numbers.Vertex.{Vertex}
 use Rattle.cluster_laws.specs.cluster_core.Effects.{nothing_saved}
 use Rattle.cluster_laws.specs.cluster_core.Messages.{Message, News}
 use Rattle.cluster_laws.specs.cluster_core.Messages as law
-use Rattle.wire_msgs.specs.Views as told
-use Rattle.machine_numbers.specs.declared.keeping.Numbers.{Numbers}
+use Rattle.wire.specs.wire_msgs.Views as told
+use Rattle.partition.specs.declared.machine_numbers.keeping.Numbers.{Numbers}
 use Rattle.machine_core.specs.declared.machine_parts.cores.Core.{Core}
 
 -- ---- messages

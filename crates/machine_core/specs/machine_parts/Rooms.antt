@@ -2,7 +2,7 @@
 use Rattle.std.specs.Prelude.{◌≡◌, ℕ, Option, List, length}
 use Rattle.gl_base.specs.declared.scopes.Peer.{Peer}
 use Rattle.gl_base.specs.declared.scopes.ScopeId.{ScopeId}
-use Rattle.vertex_locks.specs.Locks.{LockView}
+use Rattle.scope_locks.specs.vertex_locks.Locks.{LockView}
 use Rattle.machine_core.specs.declared.machine_parts.cores.Core.{Core}
 use Rattle.machine_core.specs.machine_parts.Parts.{OutboxesView, waiting_for, is_owned, holder_at, queue_at}
 

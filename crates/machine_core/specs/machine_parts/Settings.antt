@@ -1,5 +1,5 @@
 -- Of which settings of a cluster a machine is a part.
-pub use Rattle.local_parts.specs.Parts.{Setting, IsLocalOf}
+pub use Rattle.partition.specs.local_parts.Parts.{Setting, IsLocalOf}
 use Rattle.std.specs.Prelude.{◌≡◌, ℕ, Option, Some, None, length, if◌then◌else◌}
 use Rattle.cluster_laws.specs.cluster_core.Settings.{Locking}
 use Rattle.machine_core.specs.declared.machine_parts.cores.Core.{Core}

@@ -4,13 +4,13 @@ pub use Rattle.cluster_laws.specs.cluster_core.Effects.{admitted}
 pub use Rattle.machine_core.specs.machine_parts.Order.{IsOrderly, KnowsPlaces}
 pub use Rattle.machine_core.specs.machine_parts.Parts.{part_of, pending_here}
 pub use Rattle.machine_core.specs.machine_parts.Settings.{IsPartOf, SameSettings}
-pub use Rattle.scope_pipe.specs.Pipes.{come, next_id}
-pub use Rattle.task_sched.specs.Tasks.{TasksView, is_flagged, is_open, IsNextPick}
+pub use Rattle.scope_locks.specs.scope_pipe.Pipes.{come, next_id}
+pub use Rattle.task_sets.specs.task_sched.Tasks.{TasksView, is_flagged, is_open, IsNextPick}
 use Rattle.std.specs.Prelude.{◌≡◌, ◌⊎◌, ℕ, ◌+◌, ◌<◌, true, false, Some, if◌then◌else◌, drop, length, slice_get, slice_set}
 use Rattle.gl_base.specs.declared.numbers.Vertex.{Vertex}
 use Rattle.cluster_laws.specs.cluster_core.Settings.{Setting}
 use Rattle.machine_core.specs.declared.machine_parts.cores.Core.{Core}
-use Rattle.task_sched.specs.declared.task_sets.Pick.{Pick}
+use Rattle.task_sets.specs.declared.task_sched.task_sets.Pick.{Pick}
 
 -- a scope of v may be admitted
 abbrev pub MayAdmitVertex : Core → ℕ → Type 0

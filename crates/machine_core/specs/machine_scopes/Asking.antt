@@ -8,7 +8,7 @@ pub use Rattle.machine_core.specs.machine_parts.Order.{IsOrderly, is_one_of}
 pub use Rattle.machine_core.specs.machine_parts.Parts.{part_of, part_at, is_placed, machine_numbers, flight_at, is_ready, entered_at, holder_at}
 pub use Rattle.machine_core.specs.machine_parts.Rooms.{HasOnlyMadeRoom}
 pub use Rattle.machine_core.specs.machine_parts.Settings.{IsPartOf, SameSettings}
-pub use Rattle.scope_pipe.specs.Pipes.{come}
+pub use Rattle.scope_locks.specs.scope_pipe.Pipes.{come}
 use Rattle.std.specs.Prelude.{◌≡◌, ◌≢◌, ◌⊎◌, ℕ, ◌<◌, true, false, Some, None, is_some, List, length, slice_get}
 use Rattle.gl_base.specs.declared.numbers.MachineNo.{MachineNo}
 use Rattle.gl_base.specs.declared.numbers.Vertex.{Vertex}

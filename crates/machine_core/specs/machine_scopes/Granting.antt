@@ -1,19 +1,19 @@
 -- What a grant promises, for each setting of which the machine is a part.
 pub use Rattle.cluster_laws.specs.cluster_core.Actions.{MayGrant}
 pub use Rattle.cluster_laws.specs.cluster_core.Effects.{granted}
-pub use Rattle.interior_scopes.specs.InTurn.{AreGranted}
+pub use Rattle.cluster_laws.specs.interior_scopes.InTurn.{AreGranted}
 pub use Rattle.machine_core.specs.machine_parts.Order.{IsOrderly}
 pub use Rattle.machine_core.specs.machine_parts.Parts.{part_of, is_owned, holder_at, queue_at}
 pub use Rattle.machine_core.specs.machine_parts.Rooms.{HasOnlyMadeRoom}
 pub use Rattle.machine_core.specs.machine_parts.Settings.{IsPartOf, SameSettings}
-pub use Rattle.vertex_locks.specs.Locks.{IsNext, WaitOnce}
+pub use Rattle.scope_locks.specs.vertex_locks.Locks.{IsNext, WaitOnce}
 use Rattle.std.specs.Prelude.{◌≡◌, ℕ, Some, List, ◌∷◌}
 use Rattle.gl_base.specs.declared.scopes.Claim.{Claim}
 use Rattle.gl_base.specs.declared.scopes.ScopeId.{ScopeId}
 use Rattle.cluster_laws.specs.cluster_core.Settings.{Setting}
-use Rattle.scope_pipe.specs.Entered.{EnteredView, next_of}
-use Rattle.scope_pipe.specs.Pipes.{entered_at}
-use Rattle.scope_pipe.specs.declared.next.Next.{Next}
+use Rattle.scope_locks.specs.scope_pipe.Entered.{EnteredView, next_of}
+use Rattle.scope_locks.specs.scope_pipe.Pipes.{entered_at}
+use Rattle.scope_locks.specs.declared.scope_pipe.next.Next.{Next}
 use Rattle.machine_core.specs.declared.machine_parts.cores.Core.{Core}
 
 -- the lock of x may be granted to the first that waits for it

@@ -2,8 +2,8 @@
 pub use Rattle.cluster_laws.specs.cluster_core.Actions.{MayUpdate}
 pub use Rattle.cluster_laws.specs.cluster_core.Effects.{updated}
 pub use Rattle.cluster_laws.specs.cluster_core.Settings.{IsSetting}
-pub use Rattle.local_parts.specs.Parts.{IsLocalOf, AreIn}
-pub use Rattle.machine_numbers.specs.Steps.{HasRun}
+pub use Rattle.partition.specs.local_parts.Parts.{IsLocalOf, AreIn}
+pub use Rattle.partition.specs.machine_numbers.Steps.{HasRun}
 pub use Rattle.machine_core.specs.machine_parts.Order.{IsOrderly, KnowsPlaces}
 pub use Rattle.machine_core.specs.machine_parts.Parts.{LocalView, part_of, datum_here, flight_at, place_at, is_ready, is_own, links_at, sides_at, task_here, pending_here}
 pub use Rattle.machine_core.specs.machine_parts.Rooms.{HasOnlyMadeRoom}

@@ -4,7 +4,7 @@ use Rattle.std.specs.List.{All, AllPairs}
 use Rattle.gl_base.specs.declared.numbers.Vertex.{Vertex}
 use Rattle.gl_base.specs.declared.scopes.ScopeId.{ScopeId}
 use Rattle.local_graph.specs.declared.works.Work.{Work}
-use Rattle.scope_pipe.specs.declared.flights.Flight.{Flight}
+use Rattle.scope_locks.specs.declared.scope_pipe.flights.Flight.{Flight}
 use Rattle.machine_core.specs.declared.machine_parts.cores.Core.{Core}
 use Rattle.machine_core.specs.machine_parts.Parts.{part_of}
 use Rattle.machine_core.specs.machine_parts.Order.{IsOrderly, KnowsPlaces}

@@ -7,20 +7,20 @@ use Rattle.gl_base.specs.declared.entries.Entry.TheVariants.{Go}
 use Rattle.gl_base.specs.declared.numbers.MachineNo.{MachineNo}
 use Rattle.gl_base.specs.declared.scopes.Peer.TheVariants.{Machine}
 use Rattle.gl_base.specs.declared.scopes.ScopeId.{ScopeId}
-use Rattle.scope_lists.specs.Scopes.{set_for}
-use Rattle.vertex_locks.specs.Locks.{LockView}
-use Rattle.scope_pipe.specs.Pipes.{without_flight}
+use Rattle.gl_base.specs.scope_lists.Scopes.{set_for}
+use Rattle.scope_locks.specs.vertex_locks.Locks.{LockView}
+use Rattle.scope_locks.specs.scope_pipe.Pipes.{without_flight}
 use Rattle.local_graph.specs.Locals.{LocalView, place_at, own_datum, set_where, written}
 use Rattle.local_graph.specs.declared.works.Outcome.{Outcome}
-use Rattle.wire_msgs.specs.Views.{MessageView, DoneView}
-use Rattle.wire_msgs.specs.Views as told
-use Rattle.outboxes.specs.Outboxes.{OutboxesView, outbox_to, with_outbox, with_message}
+use Rattle.wire.specs.wire_msgs.Views.{MessageView, DoneView}
+use Rattle.wire.specs.wire_msgs.Views as told
+use Rattle.wire.specs.outboxes.Outboxes.{OutboxesView, outbox_to, with_outbox, with_message}
 use Rattle.cluster_laws.specs.cluster_core.Effects.{updated}
 use Rattle.cluster_laws.specs.cluster_core.Settings.{IsSetting}
-use Rattle.machine_numbers.specs.declared.keeping.Numbers.{Numbers}
-use Rattle.machine_numbers.specs.Steps.{renewed, told_datum, told_edges, told_wakes, woken_flags}
-use Rattle.machine_numbers.specs.Views.{TasksView, datum_or, edge_here}
-use Rattle.machine_numbers.specs.Settings.{IsMadeOfWork}
+use Rattle.partition.specs.declared.machine_numbers.keeping.Numbers.{Numbers}
+use Rattle.partition.specs.machine_numbers.Steps.{renewed, told_datum, told_edges, told_wakes, woken_flags}
+use Rattle.partition.specs.machine_numbers.Views.{TasksView, datum_or, edge_here}
+use Rattle.partition.specs.machine_numbers.Settings.{IsMadeOfWork}
 use Rattle.machine_core.specs.declared.machine_parts.cores.Core.{Core}
 use Rattle.machine_core.specs.machine_parts.Parts.{datum_here, sides_at, part_at, is_owned, holder_at, queue_at, part_of}
 use Rattle.machine_core.specs.machine_parts.Settings.{Setting, IsPartOf}

@@ -3,10 +3,10 @@ pub use Rattle.cluster_laws.specs.cluster_core.Places.{IsAtHome}
 pub use Rattle.cluster_laws.specs.cluster_core.Receiving.{MayLearn}
 use Rattle.std.specs.Prelude.{◌≡◌, ◌≢◌, ℕ, ◌==◌, true, false, None, is_some, []}
 use Rattle.std.specs.List.{All, list_any}
-use Rattle.wire_msgs.specs.declared.messages.Done.{Done}
+use Rattle.wire.specs.declared.wire_msgs.messages.Done.{Done}
 use Rattle.cluster_laws.specs.cluster_core.Effects.{received}
 use Rattle.cluster_laws.specs.cluster_core.Messages as law
-use Rattle.machine_numbers.specs.Views.{HasEdge, news_of}
+use Rattle.partition.specs.machine_numbers.Views.{HasEdge, news_of}
 use Rattle.machine_core.specs.declared.machine_parts.cores.Core.{Core}
 use Rattle.machine_core.specs.machine_parts.Parts.{is_own, part_at, entered_at, holder_at, part_of}
 use Rattle.machine_core.specs.machine_parts.Order.{is_one_of}

@@ -5,8 +5,8 @@ use Rattle.gl_base.specs.declared.numbers.MachineNo.{MachineNo}
 use Rattle.gl_base.specs.declared.numbers.Vertex.{Vertex}
 use Rattle.gl_base.specs.declared.scopes.Peer.TheVariants.{Machine}
 use Rattle.gl_base.specs.declared.scopes.ScopeId.{ScopeId}
-use Rattle.outboxes.specs.Outboxes.{OutboxesView, outbox_to}
-use Rattle.machine_numbers.specs.Steps.{IsBlank}
+use Rattle.wire.specs.outboxes.Outboxes.{OutboxesView, outbox_to}
+use Rattle.partition.specs.machine_numbers.Steps.{IsBlank}
 use Rattle.machine_core.specs.declared.machine_parts.cores.Core.{Core}
 use Rattle.machine_core.specs.machine_parts.Parts.{datum_here, sides_at, parts_at}
 use Rattle.machine_core.specs.declared.machine_updates.reserving.Prepared.{Prepared}

@@ -4,8 +4,8 @@ use Rattle.std.specs.List.{All}
 use Rattle.gl_base.specs.declared.numbers.Vertex.{Vertex}
 use Rattle.gl_base.specs.declared.scopes.ScopeId.{ScopeId}
 use Rattle.local_graph.specs.declared.works.Work.{Work}
-use Rattle.machine_numbers.specs.Views.{numbers_along, near_along, value_here}
-use Rattle.machine_numbers.specs.Settings.{IsRowOf}
+use Rattle.partition.specs.machine_numbers.Views.{numbers_along, near_along, value_here}
+use Rattle.partition.specs.machine_numbers.Settings.{IsRowOf}
 use Rattle.machine_core.specs.declared.machine_parts.cores.Core.{Core}
 use Rattle.machine_core.specs.machine_parts.Parts.{flight_at, is_ready, task_here, pending_here, links_at, sides_at, edge_here}
 use Rattle.machine_core.specs.machine_parts.Settings.{Setting}

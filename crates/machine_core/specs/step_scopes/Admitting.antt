@@ -3,7 +3,7 @@ pub use Rattle.machine_core.specs.machine_parts.Order.{IsOrderly, KnowsPlaces}
 pub use Rattle.machine_core.specs.machine_parts.Parts.{part_of, is_own, pending_here, task_here}
 pub use Rattle.machine_core.specs.machine_parts.Settings.{SameSettings}
 pub use Rattle.machine_core.specs.machine_scopes.Admitting.{CanTake, with_pick}
-pub use Rattle.scope_pipe.specs.Pipes.{flight_count, next_id}
+pub use Rattle.scope_locks.specs.scope_pipe.Pipes.{flight_count, next_id}
 use Rattle.std.specs.Prelude.{◌≡◌, ◌≢◌, ◌⊎◌, ℕ, ◌<◌, Bool, true, false, Some, List, ◌∷◌, slice_get, IsPermutation}
 use Rattle.gl_base.specs.declared.numbers.Vertex.{Vertex}
 use Rattle.gl_base.specs.declared.scopes.ScopeId.{ScopeId}
@@ -11,7 +11,7 @@ use Rattle.cluster_laws.specs.cluster_core.Effects.{admitted, in_flight, next_sc
 use Rattle.cluster_laws.specs.cluster_core.Parts.{Part}
 use Rattle.cluster_laws.specs.cluster_core.Scopes.{set_for}
 use Rattle.cluster_laws.specs.cluster_core.Settings.{Chromatic, Setting}
-use Rattle.machine_numbers.specs.Views.{TasksView}
+use Rattle.partition.specs.machine_numbers.Views.{TasksView}
 use Rattle.machine_core.specs.declared.machine_parts.cores.Core.{Core}
 
 -- a serial is left for one more scope, and fewer are in flight than may be

@@ -1,8 +1,8 @@
 //! The parts of a machine that goes by colours, together.
-use color_tasks::{ColorLines, StepScopes};
 use gl_base::Vertex;
-use machine_numbers::Numbers;
-use outboxes::Outboxes;
+use partition::machine_numbers::Numbers;
+use task_sets::color_tasks::{ColorLines, StepScopes};
+use wire::outboxes::Outboxes;
 
 /// The parts of a machine that goes by colours: the number of the snapshot that the run began with, its numbers, its own vertices in
 /// the order of their places there, its tasks in line by colour, the scopes that it admitted, the colour of the step that it is in, whether it

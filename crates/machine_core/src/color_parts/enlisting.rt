@@ -3,11 +3,11 @@ ghost use Rattle.std.specs.Prelude.{◌≡◌, ◌⊎◌, ℕ, ◌<◌, ◌==◌
 ghost use Rattle.machine_core.specs.color_parts.Enlisting.{HasEnlisted, ends_of, is_free_such, is_such, place_at, sides_at};
 ghost use Rattle.machine_core.specs.color_parts.Parts.{is_in_line};
 
-use color_tasks::ColorLines;
 use gl_base::Vertex;
 use local_graph::Side;
-use machine_numbers::Numbers;
-use task_sched::TaskSet;
+use partition::machine_numbers::Numbers;
+use task_sets::color_tasks::ColorLines;
+use task_sets::task_sched::TaskSet;
 
 /// A kind of vertices: which of them stand in line where they are not admitted.
 #[derive(Clone, Copy)]

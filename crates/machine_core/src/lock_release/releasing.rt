@@ -4,7 +4,7 @@ ghost use Rattle.std.specs.List.{All};
 ghost use Rattle.machine_core.specs.lock_release.Released.{set_for, is_owned, holder_at, queue_at, is_one_of, released_all};
 
 use gl_base::{ScopeId, Vertex};
-use vertex_locks::LockTable;
+use scope_locks::vertex_locks::LockTable;
 
 /// A scope that holds locks of these vertices alone, or none, holds no lock any more.
 pub fn release_all(locks: &mut LockTable, vertices: &[Vertex], scope: ScopeId)

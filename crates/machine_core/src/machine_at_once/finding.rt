@@ -6,7 +6,7 @@ ghost use Rattle.machine_core.specs.machine_at_once.Inner.Finding.{AreFreeLocks,
 
 use crate::machine_parts::Core;
 use gl_base::Vertex;
-use vertex_locks::LockTable;
+use scope_locks::vertex_locks::LockTable;
 
 /// The vertex that is to be updated, and its place in the machine's own order.
 #[derive(Clone, Copy)]

@@ -9,7 +9,7 @@ use crate::machine_at_once::finding::Found;
 use crate::machine_updates::{Spares, reserve_log};
 use gl_base::{Entry, NoMemory, ScopeId, Vertex};
 use local_graph::Outcome;
-use machine_numbers::{Numbers, Spent};
+use partition::machine_numbers::{Numbers, Spent};
 use std::alloc::Global;
 use update_api::Program;
 

@@ -1,10 +1,10 @@
 //! The parts of a machine together.
 use crate::machine_parts::spare::SpareParts;
 use gl_base::Vertex;
-use machine_numbers::Numbers;
-use outboxes::Outboxes;
-use scope_pipe::ScopePipe;
-use vertex_locks::LockTable;
+use partition::machine_numbers::Numbers;
+use scope_locks::scope_pipe::ScopePipe;
+use scope_locks::vertex_locks::LockTable;
+use wire::outboxes::Outboxes;
 
 /// What a machine goes by through a run: how many of its scopes may be in flight, the number of the snapshot that the run
 /// began with, and whether scopes take locks; else vertices go by colours, and a scope is ready as soon as it is admitted.

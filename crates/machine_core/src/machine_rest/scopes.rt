@@ -3,8 +3,8 @@ ghost use Rattle.std.specs.Prelude.{◌≡◌};
 ghost use Rattle.std.specs.List.{All, list_any};
 ghost use Rattle.machine_core.specs.machine_rest.Inner.Looking.{AsksForOwn, is_at_lock};
 
-use scope_pipe::Entered;
-use vertex_locks::LockTable;
+use scope_locks::scope_pipe::Entered;
+use scope_locks::vertex_locks::LockTable;
 
 /// Whether one of these scopes waits for the lock that it asked for last.
 pub fn somebody_waits(entered: &[Entered], locks: &LockTable) -> bool

@@ -2,7 +2,7 @@
 ghost use Rattle.std.specs.Prelude.{◌≡◌, true, false};
 ghost use Rattle.machine_core.specs.machine_rest.Inner.Looking.{HasNoWork, HasWork};
 
-use task_sched::TaskSet;
+use task_sets::task_sched::TaskSet;
 
 /// Whether a vertex is a task, or pending and not admitted.
 pub fn has_work(tasks: &TaskSet) -> bool

@@ -6,7 +6,7 @@ ghost use Rattle.machine_core.specs.machine_scopes.Inner.Going.{HasNextRoom, mod
 use crate::machine_parts::Core;
 use crate::machine_scopes::going::{go_on, reserve_next};
 use gl_base::{MachineNo, Mode, ScopeId, Vertex};
-use scope_pipe::Next;
+use scope_locks::scope_pipe::Next;
 use std::alloc::Global;
 
 /// The scope of this centre has come, and has the machines `rest` still to come: it asks for its locks here, or goes on at once

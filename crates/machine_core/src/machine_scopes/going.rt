@@ -5,8 +5,8 @@ ghost use Rattle.machine_core.specs.machine_scopes.Inner.Going.{IsOrderly, IsOrd
 
 use crate::machine_parts::Core;
 use gl_base::{Claim, MachineNo, Mode, NoMemory, Peer, ScopeId, Vertex};
-use scope_pipe::{Left, Next};
-use wire_msgs::Message;
+use scope_locks::scope_pipe::{Left, Next};
+use wire::wire_msgs::Message;
 
 /// Makes room for what a scope wants next.
 #[inline(always)]

@@ -6,8 +6,8 @@ use crate::machine_parts::Core;
 use crate::machine_scopes::going::{go_on, reserve_next};
 use crate::machine_scopes::taking::take_free;
 use gl_base::{Claim, Refused, ScopeId, Vertex};
-use scope_pipe::Next;
-use vertex_locks::Turn;
+use scope_locks::scope_pipe::Next;
+use scope_locks::vertex_locks::Turn;
 
 /// A scope that got a lock, and what it went on to: the lock of another vertex here, the next machine, or home.
 #[derive(Clone, Copy)]

@@ -3,7 +3,7 @@ ghost use Rattle.std.specs.Prelude.{◌≡◌, ◌⊎◌, ◌<◌, true, None, l
 ghost use Rattle.machine_core.specs.machine_scopes.Admitting.{with_pick};
 ghost use Rattle.machine_core.specs.machine_scopes.Inner.Picking.{IsNextPick, CanTake, StandInLine, IsPutBack, IsUnplanned, is_flagged};
 
-use task_sched::{Pick, TaskSet};
+use task_sets::task_sched::{Pick, TaskSet};
 
 /// Admits what the tasks pick next.
 pub fn take_pick(tasks: &mut TaskSet) -> Option<Pick>

@@ -7,9 +7,9 @@ use crate::machine_parts::Core;
 use crate::machine_scopes::asking::{come_here, wants_first};
 use crate::machine_scopes::going::reserve_next;
 use gl_base::{MachineNo, NoMemory, Peer, ScopeId, Vertex};
-use scope_pipe::Next;
+use scope_locks::scope_pipe::Next;
 use std::alloc::Global;
-use wire_msgs::Message;
+use wire::wire_msgs::Message;
 
 /// What a new scope sets out with.
 #[derive(Drop)]

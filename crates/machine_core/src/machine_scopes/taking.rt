@@ -7,7 +7,7 @@ ghost use Rattle.machine_core.specs.machine_scopes.Inner.Taking.{HasTakenOn, wan
 use crate::machine_parts::Core;
 use crate::machine_scopes::going::reserve_next;
 use gl_base::{Claim, ScopeId};
-use scope_pipe::Next;
+use scope_locks::scope_pipe::Next;
 
 /// A scope that is moving on takes one lock after another that it wants here, where nobody claims it and there is room for what it
 /// wants behind it. Says what it wants then.

@@ -9,7 +9,7 @@ use crate::machine_turns::waiting::centre_to_update;
 use crate::machine_updates::{Prepared, Spares, commit, put_back, reserve_commit, take_work};
 use gl_base::{NoMemory, Refused, ScopeId};
 use local_graph::{Outcome, Work};
-use scope_pipe::Flight;
+use scope_locks::scope_pipe::Flight;
 use std::alloc::Global;
 use update_api::Program;
 

@@ -6,7 +6,7 @@ ghost use Rattle.machine_core.specs.machine_turns.Inner.Taking.{CanBeTaken};
 
 use crate::machine_parts::Core;
 use gl_base::{ScopeId, Vertex};
-use machine_numbers::Numbers;
+use partition::machine_numbers::Numbers;
 
 /// The vertex of a scope that may make its update now.
 pub fn centre_to_update(core: &Core, scope: ScopeId) -> Option<Vertex>

@@ -14,8 +14,8 @@ use crate::machine_updates::spares::Spares;
 use crate::machine_updates::works::take_work;
 use gl_base::{NoMemory, Refused, ScopeId, Vertex};
 use local_graph::{Batch, Work};
-use machine_numbers::{Numbers, Spare};
-use scope_pipe::Flight;
+use partition::machine_numbers::{Numbers, Spare};
+use scope_locks::scope_pipe::Flight;
 use std::alloc::Global;
 
 /// A scope that is about to be taken, with lists for its work.

@@ -1,8 +1,8 @@
 //! Commits.
 ghost use Rattle.std.specs.Prelude.{◌≡◌, ℕ, ◌==◌, Some, length, if◌then◌else◌};
 ghost use Rattle.local_graph.specs.declared.works.Work.{Work};
-ghost use Rattle.scope_pipe.specs.Pipes.{HasFinished};
-ghost use Rattle.machine_numbers.specs.Steps.{HasRun, HasUpdated};
+ghost use Rattle.scope_locks.specs.scope_pipe.Pipes.{HasFinished};
+ghost use Rattle.partition.specs.machine_numbers.Steps.{HasRun, HasUpdated};
 ghost use Rattle.machine_core.specs.machine_parts.Parts.{place_at, is_own, links_at, sides_at};
 ghost use Rattle.machine_core.specs.machine_parts.Order.{IsOrderly, KnowsPlaces};
 ghost use Rattle.machine_core.specs.machine_parts.Settings.{Setting, IsPartOf};
@@ -16,7 +16,7 @@ use crate::machine_updates::reserving::Prepared;
 use crate::machine_updates::telling::tell_all;
 use gl_base::Entry;
 use local_graph::Outcome;
-use machine_numbers::Spent;
+use partition::machine_numbers::Spent;
 
 /// Commits an update that was made: the other machines of the scope are told, its locks here are released, it is in flight no
 /// more, and its numbers are kept under this ticket. It takes no memory, and hands back the lists of the work's and the outcome's numbers.

@@ -1,9 +1,9 @@
 //! Laws about works. Each is the contract of a function that does nothing.
 ghost use Rattle.std.specs.Prelude.{◌≡◌, ◌≢◌, ℕ, true, false, None};
 ghost use Rattle.local_graph.specs.declared.works.Work.{Work};
-ghost use Rattle.wire_msgs.specs.declared.messages.Done.{Done};
+ghost use Rattle.wire.specs.declared.wire_msgs.messages.Done.{Done};
 ghost use Rattle.cluster_laws.specs.cluster_core.Settings.{IsSetting, is_in_scope, is_near};
-ghost use Rattle.machine_numbers.specs.Views.{is_named, news_of};
+ghost use Rattle.partition.specs.machine_numbers.Views.{is_named, news_of};
 ghost use Rattle.machine_core.specs.declared.machine_parts.cores.Core.{Core};
 ghost use Rattle.machine_core.specs.machine_parts.Order.{IsOrderly};
 ghost use Rattle.machine_core.specs.machine_parts.Parts.{part_of};

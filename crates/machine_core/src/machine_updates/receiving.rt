@@ -1,7 +1,7 @@
 //! Word of updates elsewhere.
 ghost use Rattle.std.specs.Prelude.{◌≡◌, length};
-ghost use Rattle.machine_numbers.specs.Views.{news_of};
-ghost use Rattle.machine_numbers.specs.Steps.{HasLearned};
+ghost use Rattle.partition.specs.machine_numbers.Views.{news_of};
+ghost use Rattle.partition.specs.machine_numbers.Steps.{HasLearned};
 ghost use Rattle.machine_core.specs.machine_parts.Order.{IsOrderly, KnowsPlaces};
 ghost use Rattle.machine_core.specs.machine_parts.Settings.{SameSettings};
 ghost use Rattle.machine_core.specs.machine_updates.Committing.{HasNoLock};
@@ -9,7 +9,7 @@ ghost use Rattle.machine_core.specs.machine_updates.Learning.{CanLearn, HasRecei
 
 use crate::lock_release::release_all;
 use crate::machine_parts::Core;
-use wire_msgs::Done;
+use wire::wire_msgs::Done;
 
 /// Word of an update elsewhere has come: its numbers are kept, the vertices that it wakes are tasks, and its scope's locks here
 /// are released, where it holds any. It takes no memory.

@@ -2,8 +2,8 @@
 ghost use Rattle.std.specs.Prelude.{◌≡◌, ◌≢◌, ℕ, ◌<◌, ◌==◌, ◌&&◌, true, not, Some, is_some, length, vec_len, vec_capacity, IfOk, OnOk};
 ghost use Rattle.std.specs.List.{All, AllPairs, list_any};
 ghost use Rattle.gl_base.specs.declared.scopes.Peer.TheVariants.{Machine};
-ghost use Rattle.machine_numbers.specs.Steps.{IsBlank};
-ghost use Rattle.outboxes.specs.Outboxes.{outbox_to};
+ghost use Rattle.partition.specs.machine_numbers.Steps.{IsBlank};
+ghost use Rattle.wire.specs.outboxes.Outboxes.{outbox_to};
 ghost use Rattle.machine_core.specs.machine_parts.Parts.{flight_at, sides_at, part_of};
 ghost use Rattle.machine_core.specs.machine_parts.Order.{IsOrderly, KnowsPlaces};
 ghost use Rattle.machine_core.specs.machine_parts.Settings.{SameSettings};
@@ -12,10 +12,10 @@ ghost use Rattle.machine_core.specs.machine_updates.Reserving.{CanTell, is_to_be
 
 use crate::machine_parts::Core;
 use gl_base::{Entry, MachineNo, NoMemory, Peer, ScopeId, Vertex};
-use machine_numbers::blank_done;
-use outboxes::Outboxes;
+use partition::machine_numbers::blank_done;
 use std::alloc::Global;
-use wire_msgs::Done;
+use wire::outboxes::Outboxes;
+use wire::wire_msgs::Done;
 
 /// As many updates may be in a log.
 const MAX_LOG: usize = 4294967295;

@@ -1,9 +1,9 @@
 //! Lists that works have left behind.
 ghost use Rattle.std.specs.Prelude.{◌≤◌, IfOk, vec_capacity};
-ghost use Rattle.machine_numbers.specs.Steps.{HasRoom};
+ghost use Rattle.partition.specs.machine_numbers.Steps.{HasRoom};
 
 use gl_base::NoMemory;
-use machine_numbers::{Spare, Spent};
+use partition::machine_numbers::{Spare, Spent};
 use std::alloc::Global;
 
 /// Lists that works have left behind. The works that are taken next get them, so that in the long run none is made.

@@ -1,6 +1,6 @@
 //! The other machines of a scope are told of its update.
 ghost use Rattle.std.specs.Prelude.{◌≡◌, ℕ, ◌<◌, true, length};
-ghost use Rattle.outboxes.specs.Outboxes.{OutboxesView};
+ghost use Rattle.wire.specs.outboxes.Outboxes.{OutboxesView};
 ghost use Rattle.machine_core.specs.machine_parts.Parts.{sides_at, datum_here};
 ghost use Rattle.machine_core.specs.machine_updates.Reserving.{CanTell, is_to_be_told};
 ghost use Rattle.machine_core.specs.machine_updates.Committing.{done_told, after_told};
@@ -9,9 +9,9 @@ ghost use Rattle.machine_core.specs.machine_updates.Telling.{HasWord};
 use crate::machine_updates::reserving::Prepared;
 use gl_base::Peer;
 use local_graph::Outcome;
-use machine_numbers::Numbers;
-use outboxes::Outboxes;
-use wire_msgs::Message;
+use partition::machine_numbers::Numbers;
+use wire::outboxes::Outboxes;
+use wire::wire_msgs::Message;
 
 /// Tells each of these machines of an update that was made and is not finished yet. It takes no memory.
 pub fn tell_all(out: &mut Outboxes, numbers: &Numbers, outcome: &Outcome, prepared: Vec<Prepared>)

@@ -1,7 +1,7 @@
 //! Works: ready scopes are taken out for their updates, and put back where none is made.
 ghost use Rattle.std.specs.Prelude.{◌≡◌, ◌≢◌, ℕ, ◌==◌, None, Some, length, if◌then◌else◌};
 ghost use Rattle.local_graph.specs.declared.works.Work.{Work};
-ghost use Rattle.machine_numbers.specs.Steps.{HasRoom};
+ghost use Rattle.partition.specs.machine_numbers.Steps.{HasRoom};
 ghost use Rattle.machine_core.specs.machine_parts.Parts.{links_at, sides_at, part_of};
 ghost use Rattle.machine_core.specs.machine_parts.Order.{IsOrderly, KnowsPlaces};
 ghost use Rattle.machine_core.specs.machine_parts.Settings.{Setting, IsPartOf, SameSettings};
@@ -9,8 +9,8 @@ ghost use Rattle.machine_core.specs.machine_updates.Works.{IsOut, CanBeTaken, Ha
 
 use crate::machine_parts::Core;
 use local_graph::Work;
-use machine_numbers::Spare;
-use scope_pipe::Flight;
+use partition::machine_numbers::Spare;
+use scope_locks::scope_pipe::Flight;
 
 /// Takes out a scope that is ready for an ordinary update, with the numbers that the update may use. The lists of `spare` have
 /// room for them, so it takes no memory.

@@ -4,7 +4,7 @@ ghost use Rattle.machine_core.specs.step_scopes.Admitting.{IsOrderly, KnowsPlace
 
 use crate::machine_parts::Core;
 use gl_base::{NoMemory, ScopeId, Vertex};
-use task_sched::TaskSet;
+use task_sets::task_sched::TaskSet;
 
 /// Admits a scope of the own vertex at this place, for its snapshot update or else for an update, where scopes take no locks: it is ready
 /// at once. It takes no memory; there is none for it exactly where no serial is left, or as many scopes are in flight as may be.

@@ -1,5 +1,5 @@
 use Rattle.std.proofs.Common.{◌≡◌, List, [], ℕ}
-use Rattle.snap_journal.specs.Journals.{snapshots_in}
+use Rattle.store.specs.snap_journal.Journals.{snapshots_in}
 use Rattle.engine_cli.proofs.StoreRuns.{one_store}
 use Rattle.engine_cli.proofs.StoredBy.{IfOk-map}
 use Rattle.engine_cli.proofs.ThroughFailures.{machines-without, printable-without, through-failures}

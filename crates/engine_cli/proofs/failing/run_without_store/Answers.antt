@@ -1,7 +1,7 @@
 use Rattle.std.proofs.Common.{sym, subst, ◌∙◌, ap, ◌++◌, List, ℕ, []}
-use Rattle.job_config.specs.Views.{job_view}
-use Rattle.store_format.specs.Stores.{StandsFor}
-use Rattle.store_format.proofs.NewLemmas.{new_stands}
+use Rattle.job_io.specs.job_config.Views.{job_view}
+use Rattle.store.specs.store_format.Stores.{StandsFor}
+use Rattle.store.proofs.store_format.NewLemmas.{new_stands}
 use Rattle.engine_cli.proofs.Alone.{without_store}
 use Rattle.engine_cli.proofs.StoredBy.{IfOk-map}
 use Rattle.engine_cli.proofs.failing.run_without_store.Goals as goal

@@ -1,5 +1,5 @@
 use Rattle.engine_cli.proofs.FilesMade.{writes-named}
-use Rattle.whole_files.proofs.FilesCreated.{writes-nothing}
+use Rattle.job_io.proofs.whole_files.FilesCreated.{writes-nothing}
 use Rattle.engine_cli.proofs.printing.print_run.Goals.{in-Some+in_ok-lines+in_ok-write_file, in_default}
 use Rattle.engine_cli.proofs.printing.print_run.Goals as goal
 

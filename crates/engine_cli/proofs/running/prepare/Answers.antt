@@ -1,5 +1,5 @@
 use Rattle.std.proofs.lemmas.Result.{err_from_is_err_and}
-use Rattle.job_config.specs.Views.{job_view}
+use Rattle.job_io.specs.job_config.Views.{job_view}
 use Rattle.engine_cli.proofs.JobFailures.{few-failures, job-failures}
 use Rattle.engine_cli.proofs.Preparing.{alone-used, can-cut, handed-used, input-names, input-refuses, input-used, none-made, reads-used, rose-since, runs-since, sources-input, store-late, store-unused, store-used}
 use Rattle.engine_cli.proofs.running.prepare.Goals as goal

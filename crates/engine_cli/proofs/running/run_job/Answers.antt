@@ -1,6 +1,6 @@
 use Rattle.std.proofs.Common.{◌≡◌, inr, ℕ, List, Err, refl, sym, ap}
 use Rattle.gl_outside.specs.FilesState.{FilesState}
-use Rattle.job_config.specs.Views.{job_view}
+use Rattle.job_io.specs.job_config.Views.{job_view}
 use Rattle.engine_cli.specs.JobRuns.{lists_of_run, no_lists}
 use Rattle.engine_cli.specs.Says.{moment}
 use Rattle.engine_cli.proofs.RunsSay.{HasRun, IsSince, ends-early, ends-late, finished-of, print-fails, print-says, runs-out, unfinished-late, unfinished-says}

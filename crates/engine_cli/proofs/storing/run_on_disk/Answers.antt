@@ -1,9 +1,9 @@
 use Rattle.std.proofs.Common.{IsTrue, ◌∙◌, ◌≡◌, subst}
-use Rattle.job_config.specs.Views.{job_view}
-use Rattle.job_stores.specs.JobHeaders.{header_for}
+use Rattle.job_io.specs.job_config.Views.{job_view}
+use Rattle.job_io.specs.job_stores.JobHeaders.{header_for}
 use Rattle.recovery.specs.Journals.{snapshots_in}
-use Rattle.store_format.specs.Stores.{StandsFor}
-use Rattle.store_format.specs.declared.header.Header.{Header}
+use Rattle.store.specs.store_format.Stores.{StandsFor}
+use Rattle.store.specs.declared.store_format.header.Header.{Header}
 use Rattle.engine_cli.proofs.StoredBy.{IfErr-map, IfOk-two}
 use Rattle.engine_cli.proofs.StoreRuns.{not-on-disk, run-of-header, runs-on-store, why-of-header}
 use Rattle.engine_cli.proofs.storing.run_on_disk.Goals as goal

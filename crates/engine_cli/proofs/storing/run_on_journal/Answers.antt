@@ -1,5 +1,5 @@
 use Rattle.std.proofs.Common.{rules}
-use Rattle.job_config.specs.Views.{job_view}
+use Rattle.job_io.specs.job_config.Views.{job_view}
 use Rattle.recovery.specs.Journals.{snapshots_in}
 use Rattle.engine_cli.proofs.StoreRuns.{not-stored}
 use Rattle.engine_cli.proofs.storing.run_on_journal.Goals as goal

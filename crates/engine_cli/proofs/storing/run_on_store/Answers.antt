@@ -1,6 +1,6 @@
 use Rattle.std.proofs.Common.{ap, rules}
 use Rattle.gl_outside.specs.declared.files.FileNo.{FileNo}
-use Rattle.job_stores.proofs.DisksUsed.{used-at-end}
+use Rattle.job_io.proofs.job_stores.DisksUsed.{used-at-end}
 use Rattle.engine_cli.proofs.StoreUsed.{refused-at-end, run-at-end}
 use Rattle.engine_cli.proofs.storing.run_on_store.Goals as goal
 

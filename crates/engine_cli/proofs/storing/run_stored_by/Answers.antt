@@ -1,7 +1,7 @@
 use Rattle.std.proofs.Common.{IsTrue, ℕ, ◌+◌, ◌^◌, ◌≤◌, Err, sym, ap, ◌∙◌, subst}
-use Rattle.job_config.specs.Views.{job_view}
+use Rattle.job_io.specs.job_config.Views.{job_view}
 use Rattle.recovery.specs.Journals.{records_size, snapshots_in}
-use Rattle.snap_journal.specs.declared.faults.JournalFault.{JournalFault}
+use Rattle.store.specs.declared.snap_journal.faults.JournalFault.{JournalFault}
 use Rattle.engine_cli.proofs.StoredBy.{IfErr-is, IfOk-both, IfOk-map, IfOk-two, fault-by, full-by, run-from, why-not-stored}
 use Rattle.engine_cli.proofs.storing.run_stored_by.Goals as goal
 

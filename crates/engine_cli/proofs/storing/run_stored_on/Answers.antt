@@ -1,4 +1,4 @@
-use Rattle.job_config.specs.Views.{job_view}
+use Rattle.job_io.specs.job_config.Views.{job_view}
 use Rattle.recovery.specs.Journals.{snapshots_in}
 use Rattle.engine_cli.specs.Plays.{update_of}
 use Rattle.engine_cli.proofs.StoredBy.{by-program}

@@ -1,6 +1,6 @@
 use Rattle.std.proofs.Common.{subst, ◌∙◌}
-use Rattle.job_words.specs.WordForms.{texts}
-use Rattle.job_words.specs.declared.words.Words.{Words}
+use Rattle.job_io.specs.job_words.WordForms.{texts}
+use Rattle.job_io.specs.declared.job_words.words.Words.{Words}
 use Rattle.engine_cli.specs.Made.{IsOfFiles}
 use Rattle.engine_cli.specs.Notes.{WritesNote}
 use Rattle.engine_cli.specs.Says.{moment}

@@ -1,6 +1,6 @@
 use Rattle.std.proofs.Common.{◌≡◌, ℕ, Ok, Err, List, length, sym, ◌∙◌, ap, subst}
 use Rattle.graph_core.specs.declared.graph_lists.EdgeIn.{EdgeIn}
-use Rattle.graph_lines.specs.Found.{found_of}
+use Rattle.graph_text.specs.lines.Found.{found_of}
 use Rattle.gl_base.specs.declared.text_faults.TextFile.TheVariants.{Edges}
 use Rattle.graph_text.specs.Inner.FoundEdges.{Builds}
 use Rattle.graph_text.specs.Inner.Settled.{ended, place_of, refused_at}

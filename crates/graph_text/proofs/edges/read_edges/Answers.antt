@@ -1,4 +1,4 @@
-use Rattle.graph_lines.specs.Found.{found_of}
+use Rattle.graph_text.specs.lines.Found.{found_of}
 use Rattle.graph_text.proofs.EdgeTexts.{reader_finds_edges, edges_answered}
 use Rattle.graph_text.proofs.edges.read_edges.Goals as goal
 

@@ -1,5 +1,5 @@
 use Rattle.std.proofs.Common.{◌≡◌, ℕ, Err, List, length, sym, ◌∙◌, ap, refl, subst}
-use Rattle.graph_lines.specs.Found.{found_of}
+use Rattle.graph_text.specs.lines.Found.{found_of}
 use Rattle.gl_base.specs.declared.text_faults.TextFile.TheVariants.{Vertices}
 use Rattle.graph_text.specs.Inner.FoundVertices.{Lists}
 use Rattle.graph_text.specs.Inner.Settled.{ended, place_of, refused_at}

@@ -1,4 +1,4 @@
-use Rattle.graph_lines.specs.Found.{found_of}
+use Rattle.graph_text.specs.lines.Found.{found_of}
 use Rattle.graph_text.proofs.VertexTexts.{reader_finds, vertices_answered}
 use Rattle.graph_text.proofs.vertices.read_vertices.Goals as goal
 

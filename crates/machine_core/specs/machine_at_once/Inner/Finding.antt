@@ -1,13 +1,13 @@
 -- The vertex that is to be updated at once.
-pub use Rattle.machine_numbers.specs.Views.{is_flagged}
+pub use Rattle.partition.specs.machine_numbers.Views.{is_flagged}
 pub use Rattle.machine_core.specs.machine_parts.Parts.{place_at, parts_at, part_at, is_owned, holder_at, queue_at, flight_count}
-pub use Rattle.task_sched.specs.Tasks.{is_free, is_open}
-pub use Rattle.vertex_locks.specs.Locks.{IsFreeLock}
+pub use Rattle.task_sets.specs.task_sched.Tasks.{is_free, is_open}
+pub use Rattle.scope_locks.specs.vertex_locks.Locks.{IsFreeLock}
 use Rattle.std.specs.Prelude.{◌≡◌, ◌<◌, Option, Some, true, false, List, length}
 use Rattle.std.specs.List.{All}
 use Rattle.gl_base.specs.declared.numbers.Vertex.{Vertex}
-use Rattle.vertex_locks.specs.Locks.{LockView}
-use Rattle.machine_numbers.specs.declared.keeping.Numbers.{Numbers}
+use Rattle.scope_locks.specs.vertex_locks.Locks.{LockView}
+use Rattle.partition.specs.declared.machine_numbers.keeping.Numbers.{Numbers}
 use Rattle.machine_core.specs.declared.machine_parts.cores.Core.{Core}
 use Rattle.machine_core.specs.machine_at_once.Picks.{PicksNext, is_own}
 use Rattle.machine_core.specs.declared.machine_at_once.finding.Found.{Found}

@@ -1,7 +1,7 @@
 -- An update that is made on a machine's own numbers.
-pub use Rattle.machine_numbers.specs.Steps.{HasUpdated, IsSideHere}
-pub use Rattle.machine_numbers.specs.Settings.{IsOutcomeOf, IsLocalOf}
-pub use Rattle.machine_numbers.specs.Views.{AreTasksOf, datum_here, edge_here}
+pub use Rattle.partition.specs.machine_numbers.Steps.{HasUpdated, IsSideHere}
+pub use Rattle.partition.specs.machine_numbers.Settings.{IsOutcomeOf, IsLocalOf}
+pub use Rattle.partition.specs.machine_numbers.Views.{AreTasksOf, datum_here, edge_here}
 pub use Rattle.machine_core.specs.machine_parts.Parts.{sides_at}
 use Rattle.std.specs.Prelude.{◌≡◌, ℕ, ◌<◌, ◌≤◌, length, vec_len, vec_capacity}
 use Rattle.std.specs.List.{All}
@@ -9,7 +9,7 @@ use Rattle.gl_base.specs.declared.entries.Entry.{Entry}
 use Rattle.gl_base.specs.declared.numbers.Vertex.{Vertex}
 use Rattle.local_graph.specs.declared.works.Outcome.{Outcome}
 use Rattle.update_api.specs.Updates.{Update}
-use Rattle.machine_numbers.specs.declared.keeping.Numbers.{Numbers}
+use Rattle.partition.specs.declared.machine_numbers.keeping.Numbers.{Numbers}
 use Rattle.machine_core.specs.machine_at_once.Picks.{HasRunAtOnce, LocalView, Setting, is_own, links_at}
 use Rattle.machine_core.specs.machine_at_once.Inner.Finding.{WaitsAt}
 

@@ -2,10 +2,10 @@
 use Rattle.std.specs.Prelude.{◌≡◌, ◌⊎◌, ℕ, ◌<◌, Bool, true, false, Option, Some, None, List, length}
 use Rattle.gl_base.specs.declared.numbers.Vertex.{Vertex}
 use Rattle.gl_base.specs.declared.scopes.ScopeId.{ScopeId}
-use Rattle.scope_pipe.specs.Entered.{EnteredView, lock_asked}
-use Rattle.task_sched.specs.Tasks.{TasksView, is_flagged, is_free}
-use Rattle.vertex_locks.specs.Locks.{LockView, has}
-use Rattle.vertex_locks.specs.Tables.{is_owned, queue_at}
+use Rattle.scope_locks.specs.scope_pipe.Entered.{EnteredView, lock_asked}
+use Rattle.task_sets.specs.task_sched.Tasks.{TasksView, is_flagged, is_free}
+use Rattle.scope_locks.specs.vertex_locks.Locks.{LockView, has}
+use Rattle.scope_locks.specs.vertex_locks.Tables.{is_owned, queue_at}
 
 -- ---- scopes
 

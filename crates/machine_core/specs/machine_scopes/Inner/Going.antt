@@ -1,19 +1,19 @@
 -- How a scope goes on at a machine.
 pub use Rattle.machine_core.specs.machine_parts.Order.{IsOrderly, IsOrderlyBut}
 pub use Rattle.machine_core.specs.machine_parts.Parts.{part_of, entered_at}
-pub use Rattle.scope_lists.specs.Scopes.{is_scope, mode_at}
-pub use Rattle.scope_pipe.specs.Entered.{next_at}
-pub use Rattle.vertex_locks.specs.Tables.{room_at}
+pub use Rattle.gl_base.specs.scope_lists.Scopes.{is_scope, mode_at}
+pub use Rattle.scope_locks.specs.scope_pipe.Entered.{next_at}
+pub use Rattle.scope_locks.specs.vertex_locks.Tables.{room_at}
 use Rattle.std.specs.Prelude.{◌≡◌, ◌<◌, ◌==◌, Bool, true, false, Some, length, slice_get}
 use Rattle.gl_base.specs.declared.numbers.MachineNo.{MachineNo}
 use Rattle.gl_base.specs.declared.scopes.Peer.TheVariants.{Machine}
 use Rattle.gl_base.specs.declared.scopes.ScopeId.{ScopeId}
 use Rattle.cluster_laws.specs.cluster_core.Effects.{asks_for}
-use Rattle.outboxes.specs.Outboxes.{outbox_to}
-use Rattle.scope_pipe.specs.Entered.{EnteredView, next_of}
-use Rattle.scope_pipe.specs.declared.next.Next.{Next}
-use Rattle.scope_pipe.specs.declared.next.Next.TheVariants.{Lock, Forward, Home}
-use Rattle.vertex_locks.specs.Tables.{is_owned}
+use Rattle.wire.specs.outboxes.Outboxes.{outbox_to}
+use Rattle.scope_locks.specs.scope_pipe.Entered.{EnteredView, next_of}
+use Rattle.scope_locks.specs.declared.scope_pipe.next.Next.{Next}
+use Rattle.scope_locks.specs.declared.scope_pipe.next.Next.TheVariants.{Lock, Forward, Home}
+use Rattle.scope_locks.specs.vertex_locks.Tables.{is_owned}
 use Rattle.machine_core.specs.declared.machine_parts.cores.Core.{Core}
 use Rattle.machine_core.specs.machine_parts.Parts.{machine_numbers, number_of}
 

@@ -1,9 +1,9 @@
 -- Picks of the tasks, and tasks that are as they were.
 pub use Rattle.machine_core.specs.machine_scopes.Admitting.{CanTake}
-pub use Rattle.task_sched.specs.Tasks.{TasksView, IsNextPick, is_flagged, is_free}
+pub use Rattle.task_sets.specs.task_sched.Tasks.{TasksView, IsNextPick, is_flagged, is_free}
 use Rattle.std.specs.Prelude.{◌≡◌, ℕ, ◌+◌, ◌==◌, false, if◌then◌else◌, length, slice_set}
 use Rattle.std.specs.List.{list_any}
-use Rattle.task_sched.specs.declared.task_sets.Pick.{Pick}
+use Rattle.task_sets.specs.declared.task_sched.task_sets.Pick.{Pick}
 
 -- of the pending vertices those that are not admitted stand in line
 abbrev pub StandInLine : TasksView → Type 0

@@ -7,9 +7,9 @@ use Rattle.gl_base.specs.declared.numbers.Vertex.{Vertex}
 use Rattle.gl_base.specs.declared.scopes.ScopeId.{ScopeId}
 use Rattle.cluster_laws.specs.cluster_core.Effects.{sets_out}
 use Rattle.cluster_laws.specs.cluster_core.Settings.{Setting}
-use Rattle.scope_pipe.specs.Entered.{next_at}
-use Rattle.scope_pipe.specs.Pipes.{come}
-use Rattle.scope_pipe.specs.declared.next.Next.{Next}
+use Rattle.scope_locks.specs.scope_pipe.Entered.{next_at}
+use Rattle.scope_locks.specs.scope_pipe.Pipes.{come}
+use Rattle.scope_locks.specs.declared.scope_pipe.next.Next.{Next}
 use Rattle.machine_core.specs.declared.machine_parts.cores.Core.{Core}
 use Rattle.machine_core.specs.machine_parts.Parts.{part_of, part_at, machine_numbers}
 use Rattle.machine_core.specs.machine_parts.Settings.{IsPartOf}

@@ -1,8 +1,8 @@
 -- How a scope takes locks at once that nobody claims.
 use Rattle.std.specs.Prelude.{ℕ, Option, Some, None, List}
 use Rattle.gl_base.specs.declared.scopes.ScopeId.{ScopeId}
-use Rattle.interior_scopes.specs.InTurn.{AreGranted}
-use Rattle.scope_pipe.specs.declared.next.Next.{Next}
+use Rattle.cluster_laws.specs.interior_scopes.InTurn.{AreGranted}
+use Rattle.scope_locks.specs.declared.scope_pipe.next.Next.{Next}
 use Rattle.machine_core.specs.declared.machine_parts.cores.Core.{Core}
 use Rattle.machine_core.specs.machine_parts.Parts.{part_of}
 use Rattle.machine_core.specs.machine_parts.Settings.{Setting, IsPartOf}

@@ -2,9 +2,9 @@
 use Rattle.std.specs.Prelude.{ℕ, Bool, ◌&&◌, not, List, is_some, length, map}
 use Rattle.std.specs.List.{list_any}
 use Rattle.gl_base.specs.declared.scopes.ScopeId.{ScopeId}
-use Rattle.scope_lists.specs.Scopes.{is_scope}
-use Rattle.machine_numbers.specs.Steps.{HasRoom}
-use Rattle.machine_numbers.specs.declared.keeping.Numbers.{Numbers}
+use Rattle.gl_base.specs.scope_lists.Scopes.{is_scope}
+use Rattle.partition.specs.machine_numbers.Steps.{HasRoom}
+use Rattle.partition.specs.declared.machine_numbers.keeping.Numbers.{Numbers}
 use Rattle.machine_core.specs.declared.machine_parts.cores.Core.{Core}
 use Rattle.machine_core.specs.machine_parts.Parts.{task_here, pending_here, links_at, sides_at}
 use Rattle.machine_core.specs.declared.machine_updates.batches.Due.{Due}

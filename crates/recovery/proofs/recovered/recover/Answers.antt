@@ -1,6 +1,6 @@
 use Rattle.std.proofs.Common.{Some, inr, subst}
-use Rattle.snap_journal.specs.Journals.{snapshots_in}
-use Rattle.snap_journal.specs.Last.{IsLast}
+use Rattle.store.specs.snap_journal.Journals.{snapshots_in}
+use Rattle.store.specs.snap_journal.Last.{IsLast}
 use Rattle.recovery.proofs.Goodness.{base_good}
 use Rattle.recovery.proofs.recovered.recover.Goals as goal
 

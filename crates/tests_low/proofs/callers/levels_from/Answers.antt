@@ -3,7 +3,7 @@ use Rattle.std.proofs.Common.{◌≡◌, ℕ, ◌<◌, List, slice_index, refl, 
 use Rattle.gl_base.specs.declared.entries.Entry.{Entry}
 use Rattle.graph_core.specs.DataGraph.{DataGraph, size, IsDataGraph}
 use Rattle.graph_core.specs.Levels.{AreLevels}
-use Rattle.prog_labels.specs.declared.levels.Levels.{Levels}
+use Rattle.graph_programs.specs.declared.prog_labels.levels.Levels.{Levels}
 use Rattle.update_api.specs.Updates.{update_of_levels}
 use Rattle.seq_run.specs.Orders.{replay, IsValidOrder, IsFinished}
 use Rattle.seq_run.specs.Runs.{RunView, AreNumbers}

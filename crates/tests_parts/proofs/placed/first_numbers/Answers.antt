@@ -1,6 +1,6 @@
 use Rattle.std.proofs.Common.{refl}
-use Rattle.placed_graphs.specs.Placed.{placed_owner}
-use Rattle.placed_graphs.proofs.PartLemmas.{setting_with}
+use Rattle.placement.specs.graphs.Placed.{placed_owner}
+use Rattle.placement.proofs.graphs.PartLemmas.{setting_with}
 use Rattle.tests_parts.proofs.placed.first_numbers.Goals as goal
 
 pub first_numbers_of_all-requires : goal.first_numbers_of_all-requires

@@ -1,7 +1,7 @@
 use Rattle.std.proofs.Common.{◌∷◌, List, [], Bor}
 use Rattle.std.proofs.lemmas.List.Elements.{All-cons, All-nil}
 use Rattle.gl_base.specs.declared.entries.Entry.{Entry}
-use Rattle.merged_logs.specs.Merges.{IsByTicket}
+use Rattle.cluster_laws.specs.merged_logs.Merges.{IsByTicket}
 use Rattle.tests_parts.proofs.placed.merge_both.Goals as goal
 
 pub merge-requires : goal.merge-requires

@@ -1,7 +1,7 @@
 use Rattle.std.proofs.Common.{◌≤◌, ◌∷◌, [], arith}
 use Rattle.std.proofs.lemmas.List.Sorted.{IsNonDecreasingBy-push, IsNonDecreasingBy-short}
 use Rattle.gl_base.specs.declared.entries.Entry.{Entry}
-use Rattle.merged_logs.specs.Merges.{IsByTicket, ticket_of}
+use Rattle.cluster_laws.specs.merged_logs.Merges.{IsByTicket, ticket_of}
 use Rattle.tests_parts.proofs.placed.two_logs.Goals as goal
 
 one_up : (a : Entry) → IsByTicket (a ∷ [])

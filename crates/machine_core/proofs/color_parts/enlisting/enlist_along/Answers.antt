@@ -3,7 +3,7 @@ use Rattle.std.proofs.Common.{◌≡◌, ◌<◌, ℕ, List, length, get_or, ref
 use Rattle.std.proofs.lemmas.List.{get_or-map, length-map}
 use Rattle.gl_base.specs.declared.numbers.Vertex.{Vertex}
 use Rattle.local_graph.specs.declared.sides.Side.{Side}
-use Rattle.machine_numbers.specs.declared.keeping.Numbers.{Numbers}
+use Rattle.partition.specs.declared.machine_numbers.keeping.Numbers.{Numbers}
 use Rattle.machine_core.specs.color_parts.Enlisting.{ends_of, place_at}
 use Rattle.machine_core.proofs.color_parts.EnlistLemmas.{enlisted_more, enlisted_none}
 use Rattle.machine_core.proofs.color_parts.enlisting.enlist_along.Goals as goal

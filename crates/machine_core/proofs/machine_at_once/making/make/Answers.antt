@@ -4,7 +4,7 @@ use Rattle.gl_base.specs.declared.entries.Entry.{Entry}
 use Rattle.gl_base.specs.declared.scopes.Datum.{Datum}
 use Rattle.gl_base.specs.declared.entries.Entry.TheVariants.{Go}
 use Rattle.local_graph.specs.declared.works.Work.{Work}
-use Rattle.machine_numbers.specs.declared.keeping.Numbers.{Numbers}
+use Rattle.partition.specs.declared.machine_numbers.keeping.Numbers.{Numbers}
 use Rattle.machine_core.proofs.machine_turns.MadeLemmas.{made_of_work}
 use Rattle.machine_core.specs.machine_at_once.Picks.{links_at}
 use Rattle.machine_core.specs.machine_at_once.Inner.Making.{HasUpdated}

@@ -1,8 +1,8 @@
 -- Each look settles it, or goes on.
 use Rattle.std.proofs.Common.{◌≡◌, ◌≢◌, ◌<◌, ◌≤◌, ℕ, All, List, subst, sym, ap, ◌∙◌, arith}
 use Rattle.std.specs.List.{list_any}
-use Rattle.scope_pipe.specs.Entered.{EnteredView}
-use Rattle.scope_pipe.specs.Pipes.{flight_count}
+use Rattle.scope_locks.specs.scope_pipe.Entered.{EnteredView}
+use Rattle.scope_locks.specs.scope_pipe.Pipes.{flight_count}
 use Rattle.machine_core.specs.machine_rest.Inner.Looking.{AsksForOwn, is_at_lock}
 use Rattle.machine_core.proofs.machine_rest.IdleLemmas.{flights_busy, rests_or_not, waited_busy}
 use Rattle.machine_core.proofs.machine_rest.ScopeLemmas.{ask_for_own, somebody_there}

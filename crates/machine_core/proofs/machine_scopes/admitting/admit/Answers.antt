@@ -1,12 +1,12 @@
 use Rattle.std.proofs.Common.{◌∙◌, ap, length, refl}
-use Rattle.task_sched.specs.Tasks.{TasksView}
+use Rattle.task_sets.specs.task_sched.Tasks.{TasksView}
 use Rattle.machine_core.specs.declared.machine_parts.cores.Core.{Core}
-use Rattle.machine_numbers.specs.declared.keeping.Numbers.{Numbers}
+use Rattle.partition.specs.declared.machine_numbers.keeping.Numbers.{Numbers}
 use Rattle.machine_core.proofs.machine_scopes.AdmitLemmas.{admit_done, admit_new, admit_orderly, admit_own, admit_waits, can_admit, few_flights, flags_back, picked_at, places_keep, plans_back, refused_orderly, refused_part}
 use Rattle.machine_core.proofs.machine_scopes.FlownLemmas.{admitted_is, outside_stays, task_stays}
 use Rattle.machine_core.proofs.machine_scopes.PickLemmas.{none_may, pick_own}
 use Rattle.machine_core.proofs.machine_scopes.StartLemmas.{can_with_pipe}
-use Rattle.scope_pipe.specs.Pipes.{PipeView, come}
+use Rattle.scope_locks.specs.scope_pipe.Pipes.{PipeView, come}
 use Rattle.std.proofs.lemmas.List.{length-set}
 use Rattle.machine_core.proofs.machine_scopes.admitting.admit.Goals as goal
 

@@ -1,6 +1,6 @@
 use Rattle.std.proofs.Common.{◌≡◌, ◌∙◌, slice_get, ap}
-use Rattle.scope_pipe.specs.Entered.{next_at}
-use Rattle.scope_pipe.specs.Pipes.{is_ready}
+use Rattle.scope_locks.specs.scope_pipe.Entered.{next_at}
+use Rattle.scope_locks.specs.scope_pipe.Pipes.{is_ready}
 use Rattle.machine_core.specs.declared.machine_parts.cores.Core.{Core}
 use Rattle.machine_core.specs.machine_parts.Order.{nobody}
 use Rattle.machine_core.proofs.machine_parts.RoomLemmas.{orderly_room, part_room}

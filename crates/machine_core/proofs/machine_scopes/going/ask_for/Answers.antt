@@ -1,4 +1,4 @@
-use Rattle.scope_pipe.specs.Pipes.{entered_at}
+use Rattle.scope_locks.specs.scope_pipe.Pipes.{entered_at}
 use Rattle.machine_core.proofs.machine_scopes.HeldLemmas.{some_of}
 use Rattle.machine_core.proofs.machine_scopes.MoveLemmas.{wanted_free, wanted_not_waited, orderly_asked}
 use Rattle.machine_core.proofs.machine_scopes.WantLemmas.{lock_next, lock_went}

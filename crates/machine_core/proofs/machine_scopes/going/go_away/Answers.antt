@@ -1,6 +1,6 @@
 use Rattle.std.proofs.Common.{◌∙◌, List, drop, ap}
 use Rattle.gl_base.specs.declared.numbers.MachineNo.{MachineNo}
-use Rattle.scope_pipe.specs.Pipes.{entered_at}
+use Rattle.scope_locks.specs.scope_pipe.Pipes.{entered_at}
 use Rattle.machine_core.specs.machine_parts.Order.{nobody}
 use Rattle.machine_core.proofs.machine_scopes.HeldLemmas.{some_of}
 use Rattle.machine_core.proofs.machine_scopes.KeepLemmas.{orderly_out}

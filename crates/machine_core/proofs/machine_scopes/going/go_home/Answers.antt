@@ -1,6 +1,6 @@
 use Rattle.std.proofs.Common.{◌∙◌, is_some, ap, sym, refl}
 use Rattle.gl_base.specs.declared.numbers.MachineNo.{MachineNo}
-use Rattle.scope_pipe.specs.Pipes.{entered_at}
+use Rattle.scope_locks.specs.scope_pipe.Pipes.{entered_at}
 use Rattle.machine_core.specs.machine_parts.Order.{nobody}
 use Rattle.machine_core.proofs.machine_scopes.ComeLemmas.{orderly_readied}
 use Rattle.machine_core.proofs.machine_scopes.HeldLemmas.{some_of}

@@ -1,6 +1,6 @@
 use Rattle.std.proofs.Common.{Option, None, Some, IfSome}
-use Rattle.task_sched.specs.Tasks.{TasksView, IsNextPick}
-use Rattle.task_sched.specs.declared.task_sets.Pick.{Pick}
+use Rattle.task_sets.specs.task_sched.Tasks.{TasksView, IsNextPick}
+use Rattle.task_sets.specs.declared.task_sched.task_sets.Pick.{Pick}
 use Rattle.machine_core.specs.machine_scopes.Inner.Picking.{CanTake}
 use Rattle.machine_core.proofs.machine_scopes.PickLemmas.{can_take}
 use Rattle.machine_core.proofs.machine_scopes.picking.take_pick.Goals as goal

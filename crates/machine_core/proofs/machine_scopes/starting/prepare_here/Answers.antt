@@ -1,5 +1,5 @@
 use Rattle.std.proofs.Common.{◌≡◌, ◌∙◌, slice_get}
-use Rattle.scope_pipe.specs.Entered.{next_at}
+use Rattle.scope_locks.specs.scope_pipe.Entered.{next_at}
 use Rattle.machine_core.specs.machine_scopes.Asking.{part_at}
 use Rattle.machine_core.proofs.machine_scopes.RoomForNext.{within_first, rest_machines}
 use Rattle.machine_core.proofs.machine_scopes.starting.prepare_here.Goals as goal

@@ -1,5 +1,5 @@
 use Rattle.std.proofs.Common.{◌≡◌, true, is_some}
-use Rattle.scope_pipe.specs.Pipes.{entered_at}
+use Rattle.scope_locks.specs.scope_pipe.Pipes.{entered_at}
 use Rattle.machine_core.specs.machine_parts.Order.{IsOrderlyBut}
 use Rattle.machine_core.specs.machine_parts.Settings.{SameSettings}
 use Rattle.machine_core.specs.machine_scopes.Inner.Going.{HasNextRoom, Wants, is_scope}

@@ -1,6 +1,6 @@
 -- It takes no lock, or the next one.
 use Rattle.std.proofs.Common.{◌∙◌, sym, refl, subst}
-use Rattle.scope_pipe.specs.Pipes.{entered_at}
+use Rattle.scope_locks.specs.scope_pipe.Pipes.{entered_at}
 use Rattle.machine_core.specs.declared.machine_parts.cores.Core.{Core}
 use Rattle.machine_core.specs.machine_parts.Order.{IsOrderlyBut}
 use Rattle.machine_core.proofs.machine_parts.RoomLemmas.{orderly_room}

@@ -2,7 +2,7 @@
 use Rattle.std.proofs.Common.{◌≡◌, ℕ, ◌==◌, Some, if◌then◌else◌, sym, ap, ◌∙◌, subst}
 use Rattle.gl_base.specs.declared.entries.Entry.TheVariants.{Go}
 use Rattle.local_graph.specs.declared.works.Work.{Work}
-use Rattle.machine_numbers.specs.Settings.{IsMadeOfWork}
+use Rattle.partition.specs.machine_numbers.Settings.{IsMadeOfWork}
 use Rattle.update_api.specs.Updates.{Update}
 use Rattle.machine_core.specs.declared.machine_parts.cores.Core.{Core}
 use Rattle.machine_core.specs.machine_turns.Turns.{datum_here, is_own, links_at, part_of, place_at, updated}

@@ -2,7 +2,7 @@
 use Rattle.std.proofs.Common.{◌≡◌, ℕ, Some, ap, ◌∙◌, sym, subst}
 use Rattle.gl_base.specs.declared.numbers.Vertex.{Vertex}
 use Rattle.gl_base.specs.declared.scopes.ScopeId.{ScopeId}
-use Rattle.machine_numbers.specs.Views.{TasksView}
+use Rattle.partition.specs.machine_numbers.Views.{TasksView}
 use Rattle.machine_core.specs.declared.machine_parts.cores.Core.{Core}
 use Rattle.machine_core.specs.machine_turns.Turns.{HasEachRow, HasRun, datum_here, is_own, links_at, place_at}
 use Rattle.machine_core.specs.machine_turns.Inner.Taking.{HasRunAt, IsReserved}

@@ -1,9 +1,9 @@
 -- One more of the ready ones was looked at; in the end each was.
 use Rattle.std.proofs.Common.{◌≡◌, Option, List, get_or, sym, ap, ◌∙◌, subst}
 use Rattle.std.specs.Prelude.{is_some, IfSome}
-use Rattle.scope_lists.specs.Found.{by_scope}
-use Rattle.scope_pipe.specs.declared.flights.Flight.{Flight}
-use Rattle.scope_pipe.specs.Pipes.{flight_scope}
+use Rattle.gl_base.specs.scope_lists.Found.{by_scope}
+use Rattle.scope_locks.specs.declared.scope_pipe.flights.Flight.{Flight}
+use Rattle.scope_locks.specs.scope_pipe.Pipes.{flight_scope}
 use Rattle.machine_core.specs.declared.machine_updates.batches.Due.{Due}
 use Rattle.machine_core.specs.machine_updates.Inner.Dues.{IsDue}
 use Rattle.machine_core.proofs.machine_updates.DueLemmas.{is_found, one_listed, one_passed, all_listed, turn_listed}

@@ -1,7 +1,7 @@
 -- Rows and numbers of edges alone are others than before.
 use Rattle.std.proofs.Common.{◌≡◌, ℕ, ◌==◌, Some, if◌then◌else◌, sym, ap, ◌∙◌, subst}
 use Rattle.local_graph.specs.declared.works.Work.{Work}
-use Rattle.machine_numbers.specs.declared.keeping.Numbers.{Numbers}
+use Rattle.partition.specs.declared.machine_numbers.keeping.Numbers.{Numbers}
 use Rattle.machine_core.specs.declared.machine_parts.cores.Core.{Core}
 use Rattle.machine_core.specs.machine_parts.Parts.{links_at, part_of}
 use Rattle.machine_core.specs.machine_parts.Order.{IsOrderly, KnowsPlaces}

@@ -1,6 +1,6 @@
 use Rattle.std.proofs.Common.{refl, subst}
-use Rattle.scope_pipe.specs.Pipes.{HasReadied, next_id}
-use Rattle.task_sched.specs.declared.task_sets.Pick.{Pick}
+use Rattle.scope_locks.specs.scope_pipe.Pipes.{HasReadied, next_id}
+use Rattle.task_sets.specs.declared.task_sched.task_sets.Pick.{Pick}
 use Rattle.machine_core.proofs.machine_scopes.AdmitLemmas.{picked_at}
 use Rattle.machine_core.proofs.step_scopes.StepLemmas.{due_there, step_admitted, step_orderly, step_part}
 use Rattle.machine_core.proofs.step_scopes.admitting.admit_in_step.Goals as goal

@@ -1,8 +1,0 @@
-use Rattle.std.proofs.Common.{◌≡◌, ◌+◌, ◌-◌}
-use Rattle.std.specs.List.{flat_map, range_with_len}
-use Rattle.atom_cut.specs.MetaEdges.{metas_behind}
-use Rattle.atom_cut.specs.Inner.Counting.{count_in}
-use Rattle.atom_cut.proofs.metas.list_metas.Given as goal
-
-abbrev pub invariant-loop-a : goal.invariant-loop-a
-invariant-loop-a l = l.metas.items ≡ flat_map (λ a. metas_behind (count_in l.atoms l.counts) a (l.atoms - (a + 1))) (range_with_len 0 l.a)

@@ -1,8 +1,0 @@
-use Rattle.atom_file.specs.Views.{vertex_at}
-use Rattle.atom_file.proofs.FormLemmas.{records_in-more}
-use Rattle.atom_file.proofs.lists.vertex_lines.Goals as goal
-
-pub loop-i-preserved : goal.loop-i-preserved
-loop-i-preserved c =
-    let more = records_in-more vertex_at 13 c.loop-i.i c.args.bytes.now in
-    cc (c.in_ok-push.ensures.items)

@@ -1,7 +1,0 @@
-use Rattle.std.proofs.Common.{length, map}
-use Rattle.atom_place.proofs.LoadLemmas.{Placed}
-use Rattle.atom_place.proofs.placing.place_in_turn.Given as goal
-
-abbrev pub invariant-loop-atom : goal.invariant-loop-atom
-invariant-loop-atom l =
-    Placed l.weights l.order (map (λ m. m.0) l.owners) l.loads (length l.initial.loads) l.atom-index

@@ -1,6 +1,0 @@
-//! What a run with failures says of the lists that it leaves: laws from the attempts of a call, and from the events of a cluster, to them.
-#![tactic(auto)]
-
-mod laws;
-
-pub use laws::{calls_are_runs, courses_are_runs};

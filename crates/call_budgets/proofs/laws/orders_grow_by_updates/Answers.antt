@@ -1,6 +1,0 @@
--- Attempt by attempt.
-use Rattle.call_budgets.proofs.Stretches.{order_few}
-use Rattle.call_budgets.proofs.laws.orders_grow_by_updates.Goals as goal
-
-pub returns : goal.returns
-returns c = λ shared call is. order_few shared call is

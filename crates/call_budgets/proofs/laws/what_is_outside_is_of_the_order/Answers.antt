@@ -1,6 +1,0 @@
--- By the last attempt, and where it acknowledged no snapshot by where it began.
-use Rattle.call_budgets.proofs.Outside.{outside_few}
-use Rattle.call_budgets.proofs.laws.what_is_outside_is_of_the_order.Goals as goal
-
-pub returns : goal.returns
-returns c = λ shared call is. outside_few shared call is

@@ -1,0 +1,5 @@
+//! Which updates a recovery takes away.
+
+mod lost;
+
+pub use lost::lost_updates;

@@ -1,5 +1,0 @@
--- No ticket is left, and a task is.
-use Rattle.call_rounds.proofs.pauses.last_pause.Goals as goal
-
-pub returns-then-is_spent-clause-pause : goal.returns-then-is_spent-clause-pause
-returns-then-is_spent-clause-pause g c = (c.requires, c.is_spent.ensures.spent c.if-is_spent.true, c.is_spent.ensures.task c.if-is_spent.true)

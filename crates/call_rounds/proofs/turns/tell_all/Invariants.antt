@@ -1,5 +1,0 @@
-use Rattle.call_rounds.specs.Pauses.{IsSameAttempt}
-use Rattle.call_rounds.proofs.turns.tell_all.Given as goal
-
-abbrev pub invariant-loop-m : goal.invariant-loop-m
-invariant-loop-m g l = IsSameAttempt l.fn.course l.course

@@ -1,6 +1,0 @@
--- Only the end of a scope takes its vertex from the tasks and the pending ones.
-use Rattle.cluster_moves.proofs.DueKept.{action_due}
-use Rattle.cluster_moves.proofs.laws.actions_keep_due.Goals as goal
-
-pub returns : goal.returns
-returns c = λ st w action stage places may due. action_due w due st stage places action may

@@ -1,0 +1,12 @@
+-- What the parts may do, the cluster may.
+use Rattle.std.proofs.Common.{◌≡◌, subst}
+use Rattle.std.specs.Prelude.{IfNone}
+use Rattle.cluster_step.specs.clusters.Events.{CanNotTakePlace}
+use Rattle.cluster_step.specs.declared.clusters.events.Event.TheVariants as event
+use Rattle.cluster_step.specs.declared.clusters.events.Local.TheVariants as local
+use Rattle.coordinator.specs.machine_api.Deeds.{ScopeId}
+use Rattle.cluster_step.proofs.clusters.clusters.SnapCluster.next_mark.Goals as goal
+
+pub returns-clause-none : goal.returns-clause-none
+returns-clause-none g c =
+    subst (λ p. IfNone c.next_mark.result ((s : ScopeId) → s.home ≡ c.args.at → CanNotTakePlace g.M.SavingMachine.stands p (event.Local (local.Mark s)))) c.self.view_is c.next_mark.ensures.none

@@ -1,0 +1,220 @@
+-- The course of a call goes on by an update at once.
+use Rattle.std.proofs.Common.{◌≡◌, ℕ, suc, ◌+◌, ◌==◌, ◌++◌, Bool, true, false, if◌then◌else◌, Option, None, Some, List, [], ◌∷◌, length, map, refl, sym, ap, append_assoc, subst, inr, ◌∙◌}
+use Rattle.std.specs.Prelude.{Err, IfOk, Ok, OnErr, Result, slice_index_or}
+use Rattle.gl_base.specs.declared.jobs.FailureAt.{FailureAt}
+use Rattle.gl_base.specs.declared.numbers.MachineNo.{MachineNo}
+use Rattle.gl_base.specs.declared.numbers.Vertex.{Vertex}
+use Rattle.gl_base.specs.declared.refusals.Refused.{Refused}
+use Rattle.gl_base.specs.declared.scopes.Claim.{Claim}
+use Rattle.gl_base.specs.declared.scopes.ScopeId.{ScopeId}
+use Rattle.cluster_laws.specs.cluster_core.Effects.{admitted_by, asks_for, first_granted, goes_away, goes_on, in_flight, moves_on, next_scope, posts, sets_out, takes_lock}
+use Rattle.cluster_laws.specs.cluster_core.Messages.{Ask, Ready}
+use Rattle.cluster_laws.specs.cluster_core.Parts.{Part, Stand}
+use Rattle.cluster_laws.specs.cluster_core.Scopes.{machines_from, own_from, set_for}
+use Rattle.cluster_laws.specs.cluster_core.Settings.{Chromatic, Engine, Locking}
+use Rattle.cluster_laws.proofs.cluster_core.Basics.{set_at-same}
+use Rattle.call_laws.proofs.cluster_attempts.Joining.{done_kept}
+use Rattle.whole_laws.proofs.cluster_ending.Courses.{setting_same}
+use Rattle.cluster_laws.specs.cluster_model.Events as law
+use Rattle.cluster_laws.specs.cluster_model.Working.{admits, grants, prompt}
+use Rattle.whole_laws.specs.cluster_records.LineOfFour.{after_events}
+use Rattle.whole_laws.specs.cluster_whole.Whole.{setting_behind}
+use Rattle.cluster_step.specs.clusters.AtOnce.{CanNotTakePlaceAtOnce, CanTakePlaceAtOnce, IsMadeAtOnce, TakesPlaceAtOnce, events_at_once, locks_at_once}
+use Rattle.cluster_step.specs.clusters.Clusters.{StandsForSameSaving}
+use Rattle.cluster_step.specs.trace.AtOnce.{CanHappenAtOnceInCall, CanNotHappenAtOnceInCall, HappensAtOnceInCall}
+use Rattle.cluster_step.specs.trace.Courses.{ArePassing, CallOpening, Cluster, CourseGoesOn, CourseView, HasCourse, InEachCourse, IsCourseNow, IsSavingClusterOf, Machine, Parts, Setting, as_since, first_cluster, first_setting, newest_setting}
+use Rattle.cluster_step.specs.trace.Events.{StaysThere}
+use Rattle.cluster_step.proofs.trace.Going.{behind_append, ends_at, going_still, setting_now, since_back, stays}
+use Rattle.call_laws.specs.whole_calls.Following.{FollowJob, has_reached, reaches}
+use Rattle.call_laws.specs.whole_calls.Opened.{IsCourseOfCall}
+use Rattle.call_laws.proofs.whole_calls.WorkedPair.{course_append, follow_append}
+
+-- ---- as a scope is admitted and goes on, the log stays
+
+away_log : (a : ℕ) (s : ScopeId) (v : ℕ) (rest : List ℕ) (part : Part) → (goes_away a s v rest part).log ≡ part.log
+away_log a s v (b ∷ rest) part = refl
+away_log a s v [] part = by (s.home.0 == a)
+  where
+    by : (b : Bool) → (if b then record part { ready = set_for part.ready s true } else posts s.home.0 (Ready s) part).log ≡ part.log
+    by true = refl
+    by false = refl
+
+asks_log : (a : ℕ) (s : ScopeId) (v : ℕ) (rest : List ℕ) (first : Option ℕ) (part : Part) → (asks_for a s v rest first part).log ≡ part.log
+asks_log a s v rest (Some x) part = refl
+asks_log a s v rest None part = away_log a s v rest (record part { stand = set_for part.stand s None })
+
+on_log : (st : Setting) (a : ℕ) (s : ScopeId) (v k : ℕ) (rest : List ℕ) (part : Part) → (goes_on st a s v k rest part).log ≡ part.log
+on_log st a s v k rest part = asks_log a s v rest (own_from st v a k) part
+
+out_log : (st : Setting) (a : ℕ) (s : ScopeId) (v : ℕ) (machines : List ℕ) (part : Part) → (sets_out st a s v machines part).log ≡ part.log
+out_log st a s v [] part = refl
+out_log st a s v (b ∷ rest) part = by (b == a)
+  where
+    by : (test : Bool) → (if test then goes_on st a s v 0 rest part else posts b (Ask s v rest) part).log ≡ part.log
+    by true = on_log st a s v 0 rest part
+    by false = refl
+
+admit_log : (engine : Engine) (st : Setting) (a v : ℕ) (part : Part) → (admitted_by engine st a v part).log ≡ part.log
+admit_log Locking st a v part = out_log st a (next_scope a part) v (machines_from st v 0) (in_flight a v part)
+admit_log (Chromatic colour colours) st a v part = refl
+
+moves_log : (st : Setting) (a x : ℕ) (c : Claim) (stand : Option Stand) (part : Part) → (moves_on st a x c stand part).log ≡ part.log
+moves_log st a x c None part = refl
+moves_log st a x c (Some stand) part = on_log st a c.scope stand.centre (suc x) stand.rest part
+
+first_log : (st : Setting) (a x : ℕ) (claims : List Claim) (part : Part) → (first_granted st a x claims part).log ≡ part.log
+first_log st a x [] part = refl
+first_log st a x (c ∷ queue) part = moves_log st a x c (part.stand c.scope) (takes_lock x c queue part)
+
+-- ---- so the machine reaches the count of no failure before its update
+
+module _ (st : Setting) (failures : List FailureAt) (a : ℕ) where
+  reached_with : (c : Cluster) (m : Machine) → m.done ≡ (c.machine a).done → m.part.log ≡ (c.machine a).part.log → (new : Cluster) → new.machine a ≡ m → has_reached failures new a ≡ has_reached failures c a
+  reached_with c m done log new is =
+      let dones : (new.machine a).done ≡ (c.machine a).done = ap (λ (n : Machine). n.done) is ∙ done in
+      let logs : (new.machine a).part.log ≡ (c.machine a).part.log = ap (λ (n : Machine). n.part.log) is ∙ log in
+      λ i. reaches failures a (dones i) (dones i + length (logs i))
+
+  admit_reached : (c : Cluster) (v : ℕ) → has_reached failures (law.after_event st c (law.Admit a v)) a ≡ has_reached failures c a
+  admit_reached c v =
+      let m : Machine = prompt st a (admits st a v (c.machine a)) in
+      reached_with c m refl (admit_log st.engine st a v (c.machine a).part) (law.after_event st c (law.Admit a v)) (set_at-same c.machine a m)
+
+  grant_reached : (c : Cluster) (x : ℕ) → has_reached failures (law.after_event st c (law.Grant a x)) a ≡ has_reached failures c a
+  grant_reached c x =
+      let m : Machine = prompt st a (grants st a x (c.machine a)) in
+      reached_with c m refl (first_log st a x ((c.machine a).part.queue x) (c.machine a).part) (law.after_event st c (law.Grant a x)) (set_at-same c.machine a m)
+
+  grants_follow : (xs : List ℕ) (s : ScopeId) → s.home.0 ≡ a → (c : Cluster) → has_reached failures c a ≡ false → FollowJob st failures c (map (law.Grant a) xs ++ law.Update s ∷ [])
+  grants_follow [] s home c free = (ap (has_reached failures c) home ∙ free, tt)
+  grants_follow (x ∷ xs) s home c free = (tt, grants_follow xs s home (law.after_event st c (law.Grant a x)) (grant_reached c x ∙ free))
+
+  -- they follow the job
+  follow_at_once : (c : Cluster) (v : ℕ) → has_reached failures c a ≡ false → FollowJob st failures c (events_at_once st a v (c.machine a))
+  follow_at_once c v free = (tt, grants_follow (locks_at_once st v a) (next_scope a (c.machine a).part) refl (law.after_event st c (law.Admit a v)) (admit_reached c v ∙ free))
+
+-- ---- what these events are
+
+grants_pass : (a : ℕ) (xs : List ℕ) (s : ScopeId) → ArePassing (map (law.Grant a) xs ++ law.Update s ∷ [])
+grants_pass a [] s = ((λ is. cc, λ base is. cc), tt)
+grants_pass a (x ∷ xs) s = ((λ is. cc, λ base is. cc), grants_pass a xs s)
+
+pass_at_once : (st : Setting) (a v : ℕ) (m : Machine) → ArePassing (events_at_once st a v m)
+pass_at_once st a v m = ((λ is. cc, λ base is. cc), grants_pass a (locks_at_once st v a) (next_scope a m.part))
+
+passing_both : (xs ys : List law.Event) → ArePassing xs → ArePassing ys → ArePassing (xs ++ ys)
+passing_both [] ys one other = other
+passing_both (x ∷ xs) ys one other = (one.0, passing_both xs ys one.1 other)
+
+-- the setting stays
+passing_setting : (events : List law.Event) → ArePassing events → (st : Setting) → setting_behind st events ≡ st
+passing_setting [] all st = refl
+passing_setting (e ∷ events) all st = ap (λ (s : Setting). setting_behind s events) (setting_same st e all.0.1) ∙ passing_setting events all.1 st
+
+-- and so does what machines had completed before
+passing_done : (events : List law.Event) → ArePassing events → (st : Setting) (c new : Cluster) → law.IsCourse st c events new → (a : ℕ) → (new.machine a).done ≡ (c.machine a).done
+passing_done [] all st c new course a = ap (λ (x : Cluster). (x.machine a).done) course
+passing_done (e ∷ events) all st c new course a =
+    passing_done events all.1 st (law.after_event st c e) new (subst (λ (s : Setting). law.IsCourse s (law.after_event st c e) events new) (setting_same st e all.0.1) course.1) a
+    ∙ done_kept st c a e course.0.1 all.0.1
+
+-- ---- the course goes on by them
+
+module _ {M : Type 0} (stands : Setting → ℕ → Machine → M → Type 0) (old new : CourseView M) (failures : new.failures ≡ old.failures) (done : new.done ≡ old.done) where
+  module _ (st : Setting) (o : CallOpening) (events : List law.Event) (c : Cluster) (is : IsCourseNow stands old st o events c) where
+    abbrev now : Setting
+    now = newest_setting st o events
+
+    module _ (more : List law.Event) (passing : ArePassing more) (led : Cluster) (course : law.IsCourse now c more led) (follows : FollowJob now old.failures c more) (code : IsSavingClusterOf stands now new.now led) where
+      abbrev later : List law.Event
+      later = events ++ more
+
+      still_set : newest_setting st o later ≡ now
+      still_set = behind_append events more (first_setting st o) ∙ passing_setting more passing now
+
+      ends : c ≡ after_events (first_setting st o) events (first_cluster st o)
+      ends = ends_at events (first_setting st o) (first_cluster st o) c is.course.course
+
+      course_of : IsCourseOfCall st old.failures o.kept o.resumed o.base o.first later led
+      course_of =
+          record {
+            is = is.course.is;
+            coloured = is.course.coloured;
+            opened = is.course.opened;
+            course = course_append events more (first_setting st o) (first_cluster st o) c led is.course.course course;
+            follows = follow_append old.failures events more (first_setting st o) (first_cluster st o) is.course.follows (subst (λ (x : Cluster). FollowJob now old.failures x more) ends follows);
+          }
+
+      goes_by : IsCourseNow stands new st o later led
+      goes_by =
+          record {
+            setting = is.setting;
+            course = subst (λ (fs : List FailureAt). IsCourseOfCall st fs o.kept o.resumed o.base o.first later led) (sym failures) course_of;
+            code = subst (λ (s : Setting). IsSavingClusterOf stands s new.now led) (sym still_set) code;
+            done = λ a low. passing_done more passing now c led course a ∙ is.done a low ∙ ap (λ (ds : List ℕ). slice_index_or ds a 0) (sym done);
+          }
+
+  happens_at_once : (a v : ℕ) → InEachCourse stands old (λ st o events c. has_reached old.failures c a ≡ false) → TakesPlaceAtOnce stands old.now a v new.now → HappensAtOnceInCall stands old a v new
+  happens_at_once a v free takes st o events c is =
+      let last : Setting = newest_setting st o events in
+      let has : IsMadeAtOnce stands last c a v new.now = takes last c (setting_now st o events is.setting) is.code in
+      record {
+        free = free st o events c is;
+        may = has.may;
+        later = has.after;
+        now = goes_by st o events c is (events_at_once last a v (c.machine a)) (pass_at_once last a v (c.machine a)) has.after has.course
+            (follow_at_once last old.failures a c v (free st o events c is)) has.code;
+      }
+
+  going_at_once : new.since ≡ old.since → HasCourse stands old → (a v : ℕ) → HappensAtOnceInCall stands old a v new → CourseGoesOn stands (as_since new) new
+  going_at_once since has a v all st o events c is =
+      let before = has.goes_on st o events c (since_back stands old new failures since done st o events c is) in
+      let next = all st o (events ++ before.0) before.1 before.3 in
+      let more : List law.Event = events_at_once (newest_setting st o (events ++ before.0)) a v (before.1.machine a) in (
+        before.0 ++ more,
+        next.later,
+        passing_both before.0 more before.2 (pass_at_once (newest_setting st o (events ++ before.0)) a v (before.1.machine a)),
+        subst (λ (es : List law.Event). IsCourseNow stands new st o es next.later) (append_assoc events before.0 more) next.now,
+      )
+
+-- ---- what the call answers, as the type shows it
+
+module _ {M : Type 0} (stands : Setting → ℕ → Machine → M → Type 0) (v own : CourseView M) (view_is : v ≡ own) (since cluster : Parts M) (at : MachineNo) where
+  abbrev later_view : CourseView M
+  later_view = record v { since = since; now = cluster }
+
+  failures_same : later_view.failures ≡ own.failures
+  failures_same = ap (λ (x : CourseView M). x.failures) view_is
+
+  done_same : later_view.done ≡ own.done
+  done_same = ap (λ (x : CourseView M). x.done) view_is
+
+  pub cannot_at_once : CanNotTakePlaceAtOnce stands v.now at → CanNotHappenAtOnceInCall stands own at
+  cannot_at_once cannot = inr (subst (λ (x : CourseView M). CanNotTakePlaceAtOnce stands x.now at) view_is cannot)
+
+  pub unchanged_at_once : (r : Result Vertex Refused) → OnErr r (StandsForSameSaving stands v.now cluster) → OnErr r (StaysThere stands own later_view)
+  unchanged_at_once (Ok x) same = tt
+  unchanged_at_once (Err e) same = stays stands own later_view failures_same done_same (subst (λ (x : CourseView M). StandsForSameSaving stands x.now cluster) view_is same)
+
+  module _ (free : InEachCourse stands own (λ st o events c. has_reached own.failures c at.0 ≡ false)) where
+    pub can_at_once : CanTakePlaceAtOnce stands v.now at.0 → CanHappenAtOnceInCall stands own at.0
+    can_at_once can =
+        let here : CanTakePlaceAtOnce stands own.now at.0 = subst (λ (x : CourseView M). CanTakePlaceAtOnce stands x.now at.0) view_is can in
+        (here.0, λ st o events c is. (here.1 (newest_setting st o events) c (setting_now st o events is.setting) is.code, free st o events c is))
+
+    pub made_at_once : (r : Result Vertex Refused) → IfOk r (λ x. TakesPlaceAtOnce stands v.now at.0 x.0 cluster) → IfOk r (λ x. HappensAtOnceInCall stands own at.0 x.0 later_view)
+    made_at_once (Ok x) takes = happens_at_once stands own later_view failures_same done_same at.0 x.0 free (subst (λ (y : CourseView M). TakesPlaceAtOnce stands y.now at.0 x.0 cluster) view_is takes)
+    made_at_once (Err e) takes = tt
+
+    pub kept_at_once : HasCourse stands v → length cluster.machines.items ≡ length v.now.machines.items → since ≡ v.since → (r : Result Vertex Refused)
+        → IfOk r (λ x. TakesPlaceAtOnce stands v.now at.0 x.0 cluster) → OnErr r (StandsForSameSaving stands v.now cluster) → HasCourse stands later_view
+    kept_at_once has many kept (Ok x) takes same =
+        record {
+          many = has.many ∙ sym many;
+          goes_on = going_at_once stands own later_view failures_same done_same (kept ∙ ap (λ (y : CourseView M). y.since) view_is) (subst (HasCourse stands) view_is has) at.0 x.0 (made_at_once (Ok x) takes);
+        }
+    kept_at_once has many kept (Err e) takes same =
+        record {
+          many = has.many ∙ sym many;
+          goes_on = going_still stands own later_view failures_same (kept ∙ ap (λ (y : CourseView M). y.since) view_is) done_same (subst (HasCourse stands) view_is has) (unchanged_at_once (Err e) same);
+        }

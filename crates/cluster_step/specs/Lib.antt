@@ -1,0 +1,3 @@
+pub mod trace
+pub mod drive
+pub mod clusters

@@ -1,0 +1,29 @@
+//! An attempt is driven until it pauses.
+ghost use Rattle.std.specs.Prelude.{◌≡◌, false, IfOk};
+ghost use Rattle.cluster_step.specs.drive.Pauses.{IsSameAttempt, PausesSo};
+
+use crate::drive::pauses::{Pause, pause_of};
+use crate::drive::turns::round;
+use crate::trace::{Course, SavingMachine};
+use gl_base::NoMemory;
+use std::sync::Wait;
+
+/// Makes rounds until the attempt pauses, and says why. Where its end is not saved, it pauses as soon as nothing is left to do. For want of
+/// memory the course stays where it is. No snapshot is acknowledged, and no attempt begins.
+pub fn drive<R: Wait, M: SavingMachine>(
+    rt: &R,
+    course: &mut Course<M>,
+    saves_end: bool,
+) -> Result<Pause, NoMemory>
+    ensures same { IsSameAttempt course.old course.new }
+    ensures pause { IfOk result (PausesSo M.stands course.new) }
+    ensures unsaved { IfOk result (λ pause. pause ≡ Pause.Quiet → saves_end ≡ false) }
+{
+    for _ in rt.forever() {
+        if let Some(pause) = pause_of(course, saves_end) {
+            return Ok(pause);
+        }
+        round(course)?;
+    }
+    unreachable!()
+}

@@ -1,5 +1,0 @@
-use Rattle.color_snaps.proofs.GuardLemmas.{none_to_mark}
-use Rattle.color_snaps.proofs.machines.ColorSnapMachine.next_mark.Goals as goal
-
-pub returns-clause-none : goal.returns-clause-none
-returns-clause-none g c = rw (← c.self.view_is) (none_to_mark c.self.inside.machine c.self.inside.lines.colours c.self.inside.colour c.self.inside.closed c.next_mark.result c.next_mark.ensures.none)

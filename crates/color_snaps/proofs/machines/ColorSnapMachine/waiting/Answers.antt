@@ -1,5 +1,0 @@
-use Rattle.color_snaps.specs.Machines.{with_locking}
-use Rattle.color_snaps.proofs.machines.ColorSnapMachine.waiting.Goals as goal
-
-pub returns : goal.returns
-returns g c = rw (← c.self.view_is) (λ st is. c.waiting.ensures (with_locking st) is.part)

@@ -1,7 +1,0 @@
-use Rattle.std.proofs.Common.{arith}
-use Rattle.graph_core.specs.DataGraph.{size}
-use Rattle.color_steps.proofs.GreedyLaws.{greedy_same}
-use Rattle.color_steps.proofs.laws.greedy_colours_are_unique.Goals as goal
-
-pub returns : goal.returns
-returns c = λ g one other v is also l. greedy_same g one other is also (size g) (omega arith) v l

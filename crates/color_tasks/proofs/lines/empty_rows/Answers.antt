@@ -1,6 +1,0 @@
--- Each row is empty.
-use Rattle.color_tasks.proofs.SeatLemmas.{all_empty}
-use Rattle.color_tasks.proofs.lines.empty_rows.Goals as goal
-
-pub returns-clause-empty : goal.returns-clause-empty
-returns-clause-empty c = all_empty c.loop.rows.items c.loop.invariant.empty

@@ -1,5 +1,0 @@
-use Rattle.std.proofs.Common.{◌<◌, ◌≤◌, ℕ, get_or}
-use Rattle.color_tasks.proofs.lines.greatest.Given as goal
-
-abbrev pub invariant-loop-colour : goal.invariant-loop-colour
-invariant-loop-colour l = (k d : ℕ) → k < l.colour-index → get_or l.colours k d ≤ l.most

@@ -1,8 +1,0 @@
-use Rattle.std.proofs.Common.{◌≡◌, map}
-use Rattle.std.specs.Prelude.{option_map}
-use Rattle.coord_core.specs.Records.{entries_upto}
-use Rattle.coord_core.specs.Saving.{section_view}
-use Rattle.coord_core.proofs.records.entries_of.Given as goal
-
-abbrev pub invariant-loop-section : goal.invariant-loop-section
-invariant-loop-section l = l.entries.items ≡ entries_upto l.section-index (map (option_map section_view) l.come)

@@ -1,0 +1,6 @@
+//! Waves that count messages, and when they show the end of a run.
+
+mod answering;
+mod counting;
+
+pub use counting::{Verdict, Waves};

@@ -1,0 +1,49 @@
+-- The next attempt goes on from what the store has.
+use Rattle.std.proofs.Common.{◌≡◌, ◌++◌, ◌∙◌, List, ap, filter, subst, sym}
+use Rattle.gl_base.specs.declared.entries.Entry.{Entry}
+use Rattle.cluster_laws.specs.cluster_runs.Recorded.{shared_of}
+use Rattle.coordinator.specs.coord_core.Stores.{store_view}
+use Rattle.store.specs.snap_journal.Journals.{snapshots_in}
+use Rattle.engine_runs.proofs.rollback.Attempts.{goes_so}
+use Rattle.engine_runs.proofs.rollback.Refusals.{is_full, no_place}
+use Rattle.engine_runs.proofs.rollback.Restarted.{begins_kept}
+use Rattle.engine_runs.specs.rollback.Returning.{Begins, GoesBackSo, IsBaseBehind, IsEngineSaverOf, is_restart, restarts}
+use Rattle.engine_runs.proofs.rollback.next_attempts.next_attempt.Goals as goal
+
+pub missing_restarts-requires : goal.missing_restarts-requires
+missing_restarts-requires g c =
+    begins_kept c.deref.result.now c.deref-2.result.now
+    (subst (λ (es : List Entry). Begins es c.deref-2.result.now) (sym c.deref.ensures.value) (subst (λ (es : List Entry). Begins c.args.restarts.now.stored.items es) (sym c.deref-2.ensures.value) c.requires.first))
+
+pub returns-in-Err-store_behind-clause-refused : goal.returns-in-Err-store_behind-clause-refused
+returns-in-Err-store_behind-clause-refused g c =
+    is_full _ _ _ _ _ _ c.in-Ok.base.number c.args.course.now.now.coordinator.saving.store_end _ c.in-Err-store_behind.ensures.full.0
+    (no_place (IsEngineSaverOf g.P.Program.meaning) c.args.course.now c.in_ok-failures.failures c.in_ok-failures.ensures c.in-Err-store_behind.ensures.full.1) c.in-Ok.ensures.well.0 c.in-Ok.ensures.well.1
+
+pub returns-clause-start : goal.returns-clause-start
+returns-clause-start g c =
+    let made = c.in-Ok-attempt_from.ensures in
+    let store = c.in-Ok-store_behind.ensures in
+    made.start (store_view c.in-Ok-attempt_from.next.store) (ap (λ s. s.vertices) made.store ∙ store.vertices) (ap (λ s. s.edges) made.store ∙ store.edges) (ap (λ s. s.newest) made.store ∙ store.newest)
+
+pub returns-clause-back : goal.returns-clause-back
+returns-clause-back g c = λ told start order st o runs known has.
+    let meaning = g.P.Program.meaning in
+    let header = c.args.journal.now.header in
+    let bodies = snapshots_in g.D.Disk.past c.args.journal.now in
+    let failures = c.in_ok-failures.failures in
+    let missing = c.in_ok-missing.missing.items in
+    let shared = shared_of st c.args.course.now.failures in
+    let lacks : filter is_restart c.args.restarts.now.stored.items ++ missing ≡ filter is_restart c.args.restarts.now.front.items ++ restarts failures c.next.result =
+    subst (λ (es : List Entry). filter is_restart es ++ missing ≡ filter is_restart c.args.restarts.now.front.items ++ restarts failures c.next.result) c.deref.ensures.value
+    (subst (λ (es : List Entry). filter is_restart c.deref.result.now ++ missing ≡ filter is_restart es ++ restarts failures c.next.result) c.deref-2.ensures.value c.in_ok-missing.ensures.lacks) in
+    let behind : IsBaseBehind shared header bodies missing c.in-Ok.base =
+    subst (λ (es : List Entry). IsBaseBehind shared header bodies es c.in-Ok.base) c.deref-3.ensures.value (c.in-Ok.ensures.base told shared runs.placed.graph runs.program_is known.was.keeps.good) in
+    let next = c.in-Ok-attempt_from.next in
+    let lost = c.in-Ok-attempt_from.ensures.lost in
+    subst (λ (es : List Entry). GoesBackSo meaning c.args.course.now next.machines.items c.args.places.now.run.engine (store_view next.store) es c.args.lost.now next.lost.items c.args.restarts.now.front.items next.front.items st o known.was.events known.was.cluster) (sym c.in-Ok-attempt_from.ensures.order)
+    (goes_so meaning c.args.graph.now (meaning c.args.program) c.args.places.now c.args.course.now header start bodies c.args.lost.now c.args.restarts.now.stored.items c.args.restarts.now.front.items order st o runs known has failures c.next.result
+    (c.in_ok-failures.ensures st o known.was.events known.was.cluster known.was.now) (c.next.ensures st o known.was.events known.was.cluster known.was.now) missing c.in_ok-missing.ensures.alone lacks c.in-Ok.base behind next.machines.items
+    (λ to. c.in-Ok-attempt_from.ensures.stand st o known.was.events known.was.cluster known.was.now to) (store_view next.store) (ap (λ s. s.vertices) c.in-Ok-attempt_from.ensures.store ∙ c.in-Ok-store_behind.ensures.vertices)
+    (ap (λ s. s.edges) c.in-Ok-attempt_from.ensures.store ∙ c.in-Ok-store_behind.ensures.edges) (ap (λ s. s.newest) c.in-Ok-attempt_from.ensures.store ∙ c.in-Ok-store_behind.ensures.newest) (ap (λ s. s.length) c.in-Ok-attempt_from.ensures.store ∙ c.in-Ok-store_behind.ensures.place)
+    next.front.items next.lost.items lost.0 (c.in-Ok-attempt_from.ensures.front ∙ ap (λ (es : List Entry). c.args.restarts.now.stored.items ++ es) c.deref-4.ensures.value) lost.1 (λ to. lost.2 st o known.was.events known.was.cluster known.was.now to))

@@ -1,0 +1,10 @@
+pub mod Calls
+pub mod Runs
+pub mod saver_courses
+pub mod placement_is_unique
+pub mod answers
+pub mod start
+pub mod rollback
+pub mod finish
+pub mod append
+pub mod stores

@@ -1,0 +1,48 @@
+-- How a run with a store ends, told by its lists.
+use Rattle.std.specs.List.Sorted.{IsPermutation}
+use Rattle.std.specs.Prelude.{Bool, List, [], false, filter, length, ⊤, ℕ, ◌*◌, ◌++◌, ◌+◌, ◌-◌, ◌/◌, ◌<◌, ◌≡◌, ◌≤◌, ◌⊎◌}
+use Rattle.gl_base.specs.declared.entries.Entry.{Entry}
+use Rattle.call_laws.specs.attempts.Entries.{is_update}
+use Rattle.call_laws.specs.call_answers.Answers.{RunLists, Shared, last_order, made_by}
+use Rattle.call_laws.specs.call_answers.Ends.{FinishesRun, SpendsRun}
+use Rattle.graph_core.specs.DataGraph.{size}
+use Rattle.seq_run.specs.Orders.{tasks_after}
+use Rattle.engine_runs.specs.declared.answers.runs.StoredEnd.{StoredEnd}
+use Rattle.engine_runs.specs.declared.answers.runs.StoredEnd.TheVariants.{DiskFault, Finished, Full, Spent}
+
+-- half of a window, rounded up
+abbrev pub half_of : ℕ → ℕ
+half_of window = (window + 1) / 2
+
+-- one of so many machines has made at least so many updates of the order that the snapshot lacks
+pub record HasOutside (machines many : ℕ) (snapshot order : List Entry) : Type 0 where
+  pub outside : List Entry
+  pub same : IsPermutation (filter is_update snapshot ++ outside) (filter is_update order)
+  pub machine : ℕ
+  pub below : machine < machines
+  pub enough : many ≤ made_by outside machine
+
+-- the order leaves no task, and no snapshot of it was acknowledged in this run
+pub record LacksLast (shared : Shared) (kept : List Entry) (snapshots : List (List Entry)) (order : List Entry) : Type 0 where
+  pub tasks : (u : ℕ) → u < size shared.graph → tasks_after shared.graph shared.program order u ≡ false
+  pub none : (snapshots ≡ []) ⊎ (last_order kept snapshots ≡ order → ⊥)
+
+-- how many bytes a record of so many entries of this graph has on so many machines, with the gate behind it
+abbrev pub bytes_with : Shared → ℕ → ℕ → ℕ
+bytes_with shared machines entries = 8 + 16 * entries + 8 * machines + 12 * size shared.graph + 12 * length shared.graph.edges + 9
+
+-- A store of so many snapshots and bytes has no room for what the run needs: it has as many snapshots as may be, and one more is due, since
+-- half of a machine's window is outside the last one or for the end; or a record of all that is outside the last one would end too far.
+abbrev pub NeedsMoreRoom : Shared → ℕ → ℕ → List Entry → List (List Entry) → ℕ → ℕ → List Entry → Type 0
+NeedsMoreRoom shared machines window kept snapshots stored bytes order =
+    ((4096 ≤ stored) × (HasOutside machines (half_of window) (last_order kept snapshots) order ⊎ LacksLast shared kept snapshots order))
+    ⊎ (1073741824 < bytes + bytes_with shared machines (length order - length (last_order kept snapshots)))
+
+-- What a run that ended so says by its lists, whose end is saved or not, where these are the orders of the snapshots that it acknowledged, so many failures went
+-- unanswered, and its store had this order and so many bytes.
+abbrev pub RunEndsSo : Bool → Shared → ℕ → ℕ → ℕ → List Entry → List (List Entry) → ℕ → RunLists → StoredEnd → Type 0
+RunEndsSo saves shared machines window budget kept snapshots unanswered lists Finished = FinishesRun saves shared kept snapshots unanswered lists
+RunEndsSo saves shared machines window budget kept snapshots unanswered lists (Spent left) = SpendsRun shared budget left.0 unanswered lists
+RunEndsSo saves shared machines window budget kept snapshots unanswered lists (Full stored bytes) =
+    (unanswered ≡ 0) × NeedsMoreRoom shared machines window kept snapshots stored bytes lists.order
+RunEndsSo saves shared machines window budget kept snapshots unanswered lists DiskFault = ⊤

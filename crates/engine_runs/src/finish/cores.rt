@@ -1,0 +1,19 @@
+//! What is read of a machine of either engine.
+ghost use Rattle.std.specs.Prelude.{◌≡◌};
+ghost use Rattle.engine_runs.specs.finish.Inner.Cores.{IsOrderly, KnowsPlaces, core_held};
+
+use machine_core::machine_parts::Core;
+use placed_machines::engine_savers::EngineSaver;
+use update_api::Program;
+
+/// The parts of the machine, which are in order.
+pub(crate) fn core_of<P: Program>(saver: &EngineSaver<P>) -> &Core
+    ensures parts { result.now ≡ core_held saver.now }
+    ensures orderly { IsOrderly result.now }
+    ensures places { KnowsPlaces result.now }
+{
+    match saver {
+        EngineSaver::Locking(saver) => saver.machine().core(),
+        EngineSaver::Chromatic(saver) => saver.machine().core(),
+    }
+}

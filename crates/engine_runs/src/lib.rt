@@ -1,0 +1,17 @@
+//! A run of a program, from what a store has, over failures and snapshots, to its end.
+#![tactic(auto)]
+
+pub mod answers;
+pub mod append;
+mod calls;
+pub mod finish;
+mod pauses;
+pub mod placement_is_unique;
+pub mod rollback;
+mod running;
+pub mod saver_courses;
+pub mod start;
+mod steps;
+pub mod stores;
+
+pub use running::run_stored;

@@ -1,0 +1,263 @@
+//! A run with a store.
+ghost use Rattle.std.specs.Prelude.{All, List, [], false, length, ◌≡◌, ◌≤◌, ◌<◌, ◌^◌, ◌*◌, ◌+◌, ◌⊎◌, ℕ, IfErr, IfOk, IsErrOf, IsTrue};
+ghost use Rattle.gl_base.specs.declared.entries.Entry.{Entry};
+ghost use Rattle.gl_base.specs.declared.numbers.Vertex.{Vertex};
+ghost use Rattle.graph_core.specs.DataGraph.{size};
+ghost use Rattle.store.specs.snap_journal.Disks.{Rose};
+ghost use Rattle.store.specs.declared.snap_journal.faults.JournalFault.TheVariants as fault;
+ghost use Rattle.store.specs.declared.store_format.faults.StoreFault.{StoreFault};
+ghost use Rattle.store.specs.declared.store_format.faults.StoreFault.TheVariants.{BadByte};
+ghost use Rattle.engine_runs.specs.Calls.{ArePlacesOf, CallOpening, CanCallGoOn, EndsBy, Header, IsHeaderOf, IsRunAt, Setting, shared_of, snapshots_in};
+ghost use Rattle.engine_runs.specs.declared.answers.runs.StoredEnd.TheVariants as ending;
+ghost use Rattle.engine_runs.specs.Runs.{AreJobFailures, ArePlacedFor, BoundsSteps, CanBeCut, HasCallBegun, HasCourseOf, HasRoomForRun, IsEndAt, IsFinishedOrNoMemory, IsEntryOf, IsGoodStore, IsInRange, IsRunBy, IsRunSo, IsPlacement, IsStoredRun, IsWhyNoRun, IsWhyNotBegun, KeepsByOwner, KeepsGood, lists_of, owned_shared, refused_by, run_shared, stored_order};
+ghost use Rattle.update_api.specs.Updates.{Update};
+
+use crate::answers::{SnapLine, StoredEnd, StoredPlan, StoredRun};
+use crate::calls::StoredCall;
+use crate::finish::{CallLists, GatherFault, calls_end_so, gather_call};
+use crate::placement_is_unique::placements_are_one;
+use crate::start::{Started, start_call};
+use crate::steps::play_to_end;
+use gl_base::FailureAt;
+use gl_outside::Disk;
+use graph_atoms::atom_gather::Cut;
+use graph_core::Graph;
+use placed_machines::engine_savers::EngineSaver;
+use std::alloc::Global;
+use std::sync::Wait;
+use store::snap_journal::{Journal, JournalFault};
+use store::store_format::StoreFault;
+use update_api::Program;
+
+/// Runs a program on the graph, which is cut so, from what the store has to the end of the run. Machines fail as the failures order, and all
+/// go back to the last snapshot that was acknowledged; snapshots are taken as the window asks, and where the plan says so one of the end. Where
+/// it resumes, the run goes on from the order of the store's last snapshot, behind which stands a restart; else the store has no snapshot yet.
+///
+/// The run ends finished, at its budget, at a store that is full, or at a fault of the disk while it goes on. `DiskFault` comes where the
+/// disk failed before the run began.
+pub fn run_stored<R: Wait, D: Disk, P: Program>(
+    rt: &R,
+    alloc: Global,
+    graph: &Graph,
+    program: P,
+    cut: &Cut,
+    plan: StoredPlan,
+    failures: &[FailureAt],
+    journal: &mut Journal<D>,
+    resumed: bool,
+) -> Result<StoredRun, JournalFault>
+    requires cut { CanBeCut graph.now cut.now }
+    requires plan { IsInRange plan.run }
+    requires few { plan.run.machines < 65535 }
+    requires failures { AreJobFailures plan.run.machines failures.now }
+    requires places { length failures.now ≤ 65536 }
+    requires graph { IsHeaderOf graph.now journal.old.header }
+    requires machines { journal.old.header.machines ≡ plan.run.machines }
+    requires fresh { resumed ≡ false → journal.old.count ≡ 0 }
+    requires well { journal.old.failed ≡ false }
+
+    // From a store that is good by the owners that the placement gives: what the run is, and what crashes leave.
+    ensures run { IsTrue D.told → IfOk result (λ run. (owner : ℕ → ℕ) → IsPlacement graph.now cut.now plan.run.machines owner →
+        IsGoodStore (owned_shared graph.now (P.meaning program) owner failures.now) journal.old.header (snapshots_in D.past journal.old) →
+        (snapshots : List (List Entry)) × IsStoredRun plan.saves_end (owned_shared graph.now (P.meaning program) owner failures.now) plan.run.machines plan.window plan.run.budget journal.old.count
+        (stored_order (snapshots_in D.past journal.old)) resumed snapshots run
+        × KeepsGood (owned_shared graph.now (P.meaning program) owner failures.now) journal.old.header (snapshots_in D.past journal.old) snapshots (D.past journal.old.disk) (D.past journal.new.disk)) }
+
+    // From such a store it is a run of machines that the plan asks for: of its kind of engine, with its pipeline.
+    ensures engine { IsTrue D.told → IfOk result (λ run. (owner : ℕ → ℕ) → IsPlacement graph.now cut.now plan.run.machines owner →
+        IsGoodStore (owned_shared graph.now (P.meaning program) owner failures.now) journal.old.header (snapshots_in D.past journal.old) →
+        IsRunBy graph.now cut.now (P.meaning program) plan failures.now (lists_of run)) }
+
+    // From such a store, that is as long as one may grow or shorter, no run is refused for the store or a record: memory ran out, or the disk failed before the run began.
+    ensures good { IsTrue D.told → (owner : ℕ → ℕ) → IsPlacement graph.now cut.now plan.run.machines owner →
+        IsGoodStore (owned_shared graph.now (P.meaning program) owner failures.now) journal.old.header (snapshots_in D.past journal.old) → journal.old.length ≤ 2 ^ 30 →
+        (why : StoreFault) → IsErrOf result (fault.BadStore why) → ⊥ }
+
+    // And its budget is not spent, where each attempt has as many tickets as it may need; and the store is not full, where it has room for the run.
+    ensures enough { IsTrue D.told → IfOk result (λ run. (owner : ℕ → ℕ) → IsPlacement graph.now cut.now plan.run.machines owner →
+        IsGoodStore (owned_shared graph.now (P.meaning program) owner failures.now) journal.old.header (snapshots_in D.past journal.old) →
+        (bound : ℕ) → BoundsSteps graph.now (P.meaning program) bound → (1 + length failures.now) * bound ≤ plan.run.budget → (left : Vertex) → run.end ≡ ending.Spent left → ⊥) }
+    ensures roomy { IsTrue D.told → IfOk result (λ run. (owner : ℕ → ℕ) → IsPlacement graph.now cut.now plan.run.machines owner →
+        IsGoodStore (owned_shared graph.now (P.meaning program) owner failures.now) journal.old.header (snapshots_in D.past journal.old) →
+        HasRoomForRun graph.now plan (length failures.now) journal.old.count journal.old.length → (stored long : ℕ) → run.end ≡ ending.Full stored long → ⊥) }
+
+    // So it finishes, or memory runs out, where the disk does not fail.
+    ensures complete { IsTrue D.told → (owner : ℕ → ℕ) → IsPlacement graph.now cut.now plan.run.machines owner →
+        IsGoodStore (owned_shared graph.now (P.meaning program) owner failures.now) journal.old.header (snapshots_in D.past journal.old) →
+        (bound : ℕ) → BoundsSteps graph.now (P.meaning program) bound → (1 + length failures.now) * bound ≤ plan.run.budget →
+        HasRoomForRun graph.now plan (length failures.now) journal.old.count journal.old.length → (Rose (D.faults journal.old.disk) (D.faults journal.new.disk) → ⊥) → IsFinishedOrNoMemory result }
+
+    // The graph is placed for it, in the one way that there is.
+    ensures placed { IfOk result (λ run. (owner : ℕ → ℕ) × IsPlacement graph.now cut.now plan.run.machines owner) }
+
+    ensures by { IfOk result (λ run. EndsBy journal.new (D.faults journal.old.disk) (D.faults journal.new.disk) run.end) }
+    ensures numbers { IfOk result (λ run. length run.numbers.items ≡ size graph.now) }
+    ensures entries { IfOk result (λ run. All (IsEntryOf graph.now) run.order.items) }
+    ensures refused { IfErr result (IsWhyNoRun (IsTrue D.told) (D.past journal.old.disk) (D.past journal.new.disk) (D.faults journal.old.disk) (D.faults journal.new.disk)
+        (KeepsByOwner D.past graph.now (P.meaning program) cut.now plan.run.machines failures.now journal.old journal.new)) }
+    ensures header { journal.new.header ≡ journal.old.header }
+    ensures same { D.same journal.old.disk journal.new.disk }
+    ensures later { D.faults journal.old.disk ≤ D.faults journal.new.disk }
+{
+    placements_are_one();
+    // The reader tells how many snapshots and bytes the store has.
+    let _stored = journal.count();
+    let _length = journal.length();
+    let mut call = begin(alloc, graph, program, cut, plan, failures, journal, resumed)?;
+    match play_to_end(rt, alloc, graph, program, &mut call, journal) {
+        Ok(end) => {
+            let long = journal.length();
+            gathered(alloc, graph, failures, call, end, long)
+        }
+        Err(why) => {
+            drop(call);
+            Err(why)
+        }
+    }
+}
+
+/// The call as it starts.
+fn begin<D: Disk, P: Program>(
+    alloc: Global,
+    graph: &Graph,
+    program: P,
+    cut: &Cut,
+    plan: StoredPlan,
+    failures: &[FailureAt],
+    journal: &mut Journal<D>,
+    resumed: bool,
+) -> Result<StoredCall<P>, JournalFault>
+    requires cut { CanBeCut graph.now cut.now }
+    requires plan { IsInRange plan.run }
+    requires few { plan.run.machines < 65535 }
+    requires failures { AreJobFailures plan.run.machines failures.now }
+    requires graph { IsHeaderOf graph.now journal.old.header }
+    requires machines { journal.old.header.machines ≡ plan.run.machines }
+    requires fresh { resumed ≡ false → journal.old.count ≡ 0 }
+    ensures can { IfOk result (λ call. CanCallGoOn graph.now call journal.new) }
+    ensures begun { IsTrue D.told → IfOk result (λ call. (st : Setting) → IsRunAt graph.now (P.meaning program) call.places st →
+        IsGoodStore (shared_of st failures.now) journal.old.header (snapshots_in D.past journal.old) → HasCallBegun P.meaning D.past call journal.old journal.new resumed plan.run.budget st) }
+    ensures setting { IfOk result (λ call. (st : Setting) × IsRunAt graph.now (P.meaning program) call.places st × (shared_of st failures.now ≡ run_shared graph.now (P.meaning program) call.places failures.now)) }
+    ensures places { IfOk result (λ call. ArePlacedFor graph.now cut.now plan call.places) }
+    ensures failures { IfOk result (λ call. call.course.failures ≡ failures.now) }
+    ensures saves { IfOk result (λ call. call.saves_end ≡ plan.saves_end) }
+    ensures refused { IfErr result (IsWhyNotBegun journal.old.failed (D.faults journal.old.disk) (D.faults journal.new.disk)) }
+    ensures good { IsTrue D.told → journal.old.length ≤ 2 ^ 30 → (why : StoreFault) → IsErrOf result (fault.BadStore why) → ⊥ }
+    ensures long { journal.new.length ≡ journal.old.length }
+    ensures past { IsTrue D.told → D.past journal.new.disk ≡ D.past journal.old.disk }
+    ensures header { journal.new.header ≡ journal.old.header }
+    ensures same { D.same journal.old.disk journal.new.disk }
+    ensures later { D.faults journal.old.disk ≤ D.faults journal.new.disk }
+{
+    let _stored = journal.count();
+    let length = journal.length();
+    match start_call(alloc, graph, program, cut, plan, failures, journal, resumed) {
+        Ok(started) => Ok(call_of(alloc, started, plan.saves_end)),
+        Err(why) => Err(refused_by(why, length)),
+    }
+}
+
+/// The call that has started, whose end is saved or not.
+fn call_of<P: Program>(alloc: Global, started: Started<P>, saves_end: bool) -> StoredCall<P>
+    ensures course { result.course ≡ started.course }
+    ensures places { result.places ≡ started.places }
+    ensures restarts { result.restarts ≡ started.restarts }
+    ensures order { result.order ≡ started.order }
+    ensures lost { result.lost.items ≡ [] }
+    ensures snapshots { result.snapshots.items ≡ [] }
+    ensures saves { result.saves_end ≡ saves_end }
+{
+    let Started {
+        course,
+        places,
+        order,
+        restarts,
+    } = started;
+    StoredCall {
+        course,
+        places,
+        restarts,
+        order,
+        lost: Vec::new(alloc),
+        snapshots: Vec::new(alloc),
+        saves_end,
+    }
+}
+
+/// Why a call did not begin with a store of so many bytes. One that is so long that its length can't be told is refused.
+fn refused_by(why: JournalFault, length: u64) -> JournalFault
+    ensures { result ≡ refused_by why length }
+{
+    match why {
+        JournalFault::Full { .. } => JournalFault::BadStore(StoreFault::BadByte(length)),
+        why => why,
+    }
+}
+
+/// The run of a call that ended so, whose store has so many bytes.
+fn gathered<P: Program>(
+    alloc: Global,
+    graph: &Graph,
+    failures: &[FailureAt],
+    call: StoredCall<P>,
+    end: StoredEnd,
+    long: u64,
+) -> Result<StoredRun, JournalFault>
+    requires places { ArePlacesOf graph.now (length call.course.now.machines.items) call.places }
+    requires failures { call.course.failures ≡ failures.now }
+    requires few { length failures.now ≤ 65536 }
+    requires running { call.course.now.stopped ≡ false }
+    ensures run { IfOk result (λ run. (program : Update) (header : Header) (start added : List (List ℕ)) (st : Setting) (o : CallOpening) → IsRunAt graph.now program call.places st →
+        IsEndAt P.meaning call header start added st o end → IsRunSo call.saves_end st failures.now o start added run) }
+    ensures course { IfOk result (λ run. (program : Update) (header : Header) (start added : List (List ℕ)) (st : Setting) (o : CallOpening) → IsRunAt graph.now program call.places st →
+        (at : IsEndAt P.meaning call header start added st o end) → HasCourseOf failures.now st o at.known.was.events at.known.was.cluster (lists_of run)) }
+    ensures end { IfOk result (λ run. run.end ≡ end) }
+    ensures numbers { IfOk result (λ run. length run.numbers.items ≡ size graph.now) }
+    ensures entries { IfOk result (λ run. All (IsEntryOf graph.now) run.order.items) }
+    ensures other { IfErr result (λ why. (why ≡ fault.NoMemory) ⊎ ((why ≡ fault.BadStore (BadByte long)) × ((program : Update) (header : Header) (start added : List (List ℕ)) (st : Setting) (o : CallOpening) →
+        IsRunAt graph.now program call.places st → IsEndAt P.meaning call header start added st o end → ⊥))) }
+{
+    calls_end_so::<EngineSaver<P>>();
+    let StoredCall {
+        course,
+        places,
+        restarts,
+        order,
+        lost,
+        snapshots,
+        ..
+    } = call;
+    drop(restarts);
+    match gather_call(alloc, graph, &course, &places, failures, order, lost) {
+        Ok(lists) => {
+            drop(course);
+            drop(places);
+            Ok(run_of(lists, snapshots, end))
+        }
+        Err(GatherFault::OtherGraph) => {
+            drop(course);
+            drop(places);
+            Err(JournalFault::BadStore(StoreFault::BadByte(long)))
+        }
+        Err(GatherFault::NoMemory) => {
+            drop(course);
+            drop(places);
+            Err(JournalFault::NoMemory)
+        }
+    }
+}
+
+/// The run with these lists.
+fn run_of(lists: CallLists, snapshots: Vec<SnapLine>, end: StoredEnd) -> StoredRun
+    ensures { result ≡ record { order = lists.order; lost = lists.lost; done = lists.done; fired = lists.fired; snapshots = snapshots; numbers = lists.numbers; end = end } }
+{
+    StoredRun {
+        order: lists.order,
+        lost: lists.lost,
+        done: lists.done,
+        fired: lists.fired,
+        snapshots,
+        numbers: lists.numbers,
+        end,
+    }
+}

@@ -1,0 +1,92 @@
+//! A call goes on, pause by pause, until it ends.
+ghost use Rattle.std.specs.Prelude.{List, None, false, ◌≡◌, ◌≤◌, ◌^◌, ℕ, IfErr, IfOk, IfSome, IsTrue};
+ghost use Rattle.engine_runs.specs.Calls.{CallOpening, CanCallGoOn, EndsBy, EndsCall, Header, IsEngineSaverOf, IsKnownAt, IsNotRefused, IsRunAt, IsSameCall, IsWhyStopped, KeepsCall, PausesSo, Setting};
+
+use crate::answers::StoredEnd;
+use crate::calls::StoredCall;
+use crate::finish::task_left;
+use crate::pauses::{go_back_from, save_due};
+use cluster_step::drive::{Pause, drive};
+use gl_base::NoMemory;
+use gl_outside::Disk;
+use graph_core::Graph;
+use std::alloc::Global;
+use std::sync::Wait;
+use store::snap_journal::{Journal, JournalFault};
+use update_api::Program;
+
+/// Goes on until the run ends.
+pub(crate) fn play_to_end<R: Wait, D: Disk, P: Program>(
+    rt: &R,
+    alloc: Global,
+    graph: &Graph,
+    program: P,
+    call: &mut StoredCall<P>,
+    journal: &mut Journal<D>,
+) -> Result<StoredEnd, JournalFault>
+    requires can { CanCallGoOn graph.now call.old journal.old }
+    ensures keeps { IsTrue D.told → KeepsCall P.meaning D.past graph.now (P.meaning program) call.old journal.old call.new journal.new }
+    ensures ends { IsTrue D.told → IfOk result (EndsCall P.meaning D.past graph.now (P.meaning program) call.old journal.old call.new journal.new) }
+    ensures by { IfOk result (EndsBy journal.new (D.faults journal.old.disk) (D.faults journal.new.disk)) }
+    ensures refused { IfErr result IsWhyStopped }
+    ensures good { IsTrue D.told → (st : Setting) → IsRunAt graph.now (P.meaning program) call.old.places st → IsNotRefused P.meaning D.past call.old journal.old st result }
+    ensures call { IsSameCall call.old call.new }
+    ensures header { journal.new.header ≡ journal.old.header }
+    ensures same { D.same journal.old.disk journal.new.disk }
+    ensures later { D.faults journal.old.disk ≤ D.faults journal.new.disk }
+{
+    for _ in rt.forever() {
+        if let Some(end) = step(rt, alloc, graph, program, call, journal)? {
+            return Ok(end);
+        }
+    }
+    unreachable!()
+}
+
+/// Goes on to the next pause, and does what is asked there: all go back where a machine has reached the count of a failure, and a snapshot that is
+/// due is added to the store. Says how the run ended, where it has.
+fn step<R: Wait, D: Disk, P: Program>(
+    rt: &R,
+    alloc: Global,
+    graph: &Graph,
+    program: P,
+    call: &mut StoredCall<P>,
+    journal: &mut Journal<D>,
+) -> Result<Option<StoredEnd>, JournalFault>
+    requires can { CanCallGoOn graph.now call.old journal.old }
+    ensures keeps { IsTrue D.told → KeepsCall P.meaning D.past graph.now (P.meaning program) call.old journal.old call.new journal.new }
+    ensures ends { IsTrue D.told → IfOk result (λ end. IfSome end (EndsCall P.meaning D.past graph.now (P.meaning program) call.old journal.old call.new journal.new)) }
+    ensures by { IfOk result (λ end. IfSome end (EndsBy journal.new (D.faults journal.old.disk) (D.faults journal.new.disk))) }
+    ensures on { IfOk result (λ end. end ≡ None → CanCallGoOn graph.now call.new journal.new) }
+    ensures short { IfOk result (λ end. end ≡ None → journal.old.length ≤ 2 ^ 30 → journal.new.length ≤ 2 ^ 30) }
+    ensures refused { IfErr result IsWhyStopped }
+    ensures good { IsTrue D.told → (st : Setting) → IsNotRefused P.meaning D.past call.old journal.old st result }
+    ensures call { IsSameCall call.old call.new }
+    ensures header { journal.new.header ≡ journal.old.header }
+    ensures same { D.same journal.old.disk journal.new.disk }
+    ensures later { D.faults journal.old.disk ≤ D.faults journal.new.disk }
+{
+    match go_on(rt, call)? {
+        Pause::Reached(_) => go_back_from(alloc, graph, program, call, journal),
+        Pause::Record(_) => save_due(alloc, call, journal),
+        Pause::Ended => Ok(Some(StoredEnd::Finished)),
+        Pause::Quiet => Ok(Some(StoredEnd::Finished)),
+        Pause::Spent => Ok(Some(StoredEnd::Spent(task_left(&call.course)))),
+    }
+}
+
+/// Goes on to the next pause.
+fn go_on<R: Wait, P: Program>(rt: &R, call: &mut StoredCall<P>) -> Result<Pause, NoMemory>
+    ensures known { (header : Header) (start bodies : List (List ℕ)) (st : Setting) (o : CallOpening) →
+        IsKnownAt P.meaning call.old.course call.old header start bodies st o → IsKnownAt P.meaning call.new.course call.new header start bodies st o }
+    ensures pause { IfOk result (PausesSo (IsEngineSaverOf P.meaning) call.new.course) }
+    ensures unsaved { IfOk result (λ pause. pause ≡ Pause.Quiet → call.old.saves_end ≡ false) }
+    ensures same { call.new ≡ record call.old { course = call.new.course } }
+    ensures attempt { IsSameCall call.old call.new }
+{
+    call.course.remember();
+    let pause = drive(rt, &mut call.course, call.saves_end);
+    // The reader tells that no snapshot was acknowledged since, and that no attempt began.
+    let _machines = call.course.machines();
+    pause
+}

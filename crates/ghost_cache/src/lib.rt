@@ -1,6 +1,0 @@
-//! Copies of the data of vertices that other machines own.
-#![tactic(auto)]
-
-mod caches;
-
-pub use caches::GhostCache;

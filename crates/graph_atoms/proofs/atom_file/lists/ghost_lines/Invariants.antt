@@ -1,0 +1,6 @@
+use Rattle.std.proofs.Common.{◌≡◌}
+use Rattle.graph_atoms.specs.atom_file.Views.{ghost_at, records_in}
+use Rattle.graph_atoms.proofs.atom_file.lists.ghost_lines.Given as goal
+
+abbrev pub invariant-loop-i : goal.invariant-loop-i
+invariant-loop-i l = l.lines.items ≡ records_in ghost_at 15 l.i l.bytes

@@ -1,0 +1,5 @@
+//! The program that colours vertices so that neighbours differ.
+
+mod colours;
+
+pub use colours::Colours;

@@ -1,0 +1,5 @@
+//! The program of core numbers.
+
+mod cores;
+
+pub use cores::Cores;

@@ -1,0 +1,49 @@
+//! The report: the size of the graph, what its numbers come to, and the digest of the answer.
+ghost use Rattle.std.specs.Prelude.{◌≡◌, ◌++◌, ◌∷◌, [], IfOk, OnOk};
+ghost use Rattle.graph_text.specs.order_text.Reports.{report_line, report_text, hex_text};
+
+use crate::order_text::hex::push_hex;
+use crate::sync_folds::Fold;
+use gl_base::{NoMemory, push_decimal};
+use graph_core::Graph;
+use itoa::Integer;
+use sha2::{Digest, Sha256};
+use std::alloc::Global;
+
+/// Six lines: how many vertices and edges the graph has, how many vertices were reached, the sum and the maximum of
+/// their numbers, and the SHA-256 of the answer in lower-case hexadecimal digits.
+pub fn report(alloc: Global, graph: &Graph, fold: &Fold, answer: &[u8]) -> Result<Vec<u8>, NoMemory>
+    ensures { IfOk result (λ text. text.items ≡ report_text graph.now fold.now answer.now) }
+{
+    let digest = Sha256::digest(answer);
+    let mut text = Vec::new(alloc);
+    push_number(&mut text, b"vertices", graph.n())?;
+    push_number(&mut text, b"edges", graph.m())?;
+    push_number(&mut text, b"reached", fold.reached)?;
+    push_number(&mut text, b"sum", fold.sum)?;
+    push_number(&mut text, b"max", fold.max)?;
+    push_digest(&mut text, b"digest", &digest)?;
+    Ok(text)
+}
+
+/// Adds a line with a number.
+fn push_number<I: Integer>(text: &mut Vec<u8>, name: &[u8], number: I) -> Result<(), NoMemory>
+    ensures { OnOk result (text.new.items ≡ text.old.items ++ report_line name.now (I.text number)) }
+{
+    text.extend_from_slice(name)?;
+    text.push(b' ')?;
+    push_decimal(text, number)?;
+    text.push(b'\n')?;
+    Ok(())
+}
+
+/// Adds a line with bytes in hexadecimal digits.
+fn push_digest(text: &mut Vec<u8>, name: &[u8], digest: &[u8]) -> Result<(), NoMemory>
+    ensures { OnOk result (text.new.items ≡ text.old.items ++ report_line name.now (hex_text digest.now)) }
+{
+    text.extend_from_slice(name)?;
+    text.push(b' ')?;
+    push_hex(text, digest)?;
+    text.push(b'\n')?;
+    Ok(())
+}

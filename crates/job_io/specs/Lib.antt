@@ -1,0 +1,6 @@
+pub mod graph_files
+pub mod job_config
+pub mod job_files
+pub mod job_stores
+pub mod job_words
+pub mod whole_files

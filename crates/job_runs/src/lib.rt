@@ -1,8 +1,0 @@
-//! What the run of a program on a graph is, and how the graph is placed for it.
-#![tactic(auto)]
-
-mod placing;
-mod runs;
-
-pub use placing::{first_of, placement_of};
-pub use runs::RunPlan;

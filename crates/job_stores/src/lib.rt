@@ -1,8 +1,0 @@
-//! The store of a job: what it is for, and how it is made.
-#![tactic(auto)]
-
-mod headers;
-mod making;
-
-pub use headers::header_of;
-pub use making::{NoStore, make_store};

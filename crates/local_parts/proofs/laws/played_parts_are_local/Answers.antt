@@ -1,5 +1,0 @@
-use Rattle.local_parts.proofs.ScopeLemmas.{part_of_graph}
-use Rattle.local_parts.proofs.laws.played_parts_are_local.Goals as goal
-
-pub returns-clause-local : goal.returns-clause-local
-returns-clause-local c = part_of_graph

@@ -1,7 +1,0 @@
--- The lines of the entries so far.
-use Rattle.std.proofs.Common.{◌≡◌, take}
-use Rattle.order_text.specs.Orders.{order_text}
-use Rattle.order_text.proofs.orders.order_bytes.Given as goal
-
-abbrev pub invariant-loop-entry : goal.invariant-loop-entry
-invariant-loop-entry l = l.text.items ≡ order_text l.graph.ids (take l.entry-index l.order)

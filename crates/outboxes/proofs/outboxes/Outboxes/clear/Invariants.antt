@@ -1,6 +1,0 @@
-use Rattle.std.proofs.Common.{◌≡◌, ◌++◌, take, drop, map}
-use Rattle.outboxes.specs.Outboxes.{emptied}
-use Rattle.outboxes.proofs.outboxes.Outboxes.clear.Given as goal
-
-abbrev pub invariant-loop-one : goal.invariant-loop-one
-invariant-loop-one l = l.one-items ≡ map emptied (take l.one-index l.initial.one-items) ++ drop l.one-index l.initial.one-items

@@ -1,0 +1,2 @@
+pub mod local_parts
+pub mod machine_numbers

@@ -1,0 +1,132 @@
+//! The numbers of a machine, and the works that are taken of them.
+ghost use Rattle.std.specs.Prelude.{◌≡◌, ℕ, ◌≤◌, ◌==◌, true, None, Some, is_some, length, if◌then◌else◌, vec_capacity, IfOk};
+ghost use Rattle.partition.specs.machine_numbers.Views.{HasEdge, is_own, links_at, sides_at, numbers_along, datum_here, value_here, edge_here, near_along};
+ghost use Rattle.partition.specs.machine_numbers.Steps.{HasTakenOut, HasRoom};
+
+use gl_base::{Datum, Entry, NoMemory, ScopeId, Vertex};
+use local_graph::{LocalGraph, Row, Side, Work};
+use scope_locks::ghost_cache::GhostCache;
+use std::alloc::Global;
+use task_sets::task_sched::TaskSet;
+
+/// What of a machine carries numbers: its part of the graph with data, rows and the numbers of edges, the copies of the data of
+/// ghosts, its tasks by their places in the machine's own order, and the updates that it made.
+#[derive(Drop)]
+pub struct Numbers {
+    pub local: LocalGraph,
+    pub ghosts: GhostCache,
+    pub tasks: TaskSet,
+    pub log: Vec<Entry>,
+}
+
+/// Lists for the numbers of a work: of the edges at its vertex, and of their other ends.
+#[derive(Drop)]
+pub struct Spare {
+    pub edges: Vec<u64>,
+    pub near: Vec<u64>,
+}
+
+/// Lists that a work leaves behind whose update was kept: those of the work, and the one in which the new numbers of its edges stood.
+#[derive(Drop)]
+pub struct Spent {
+    pub edges: Vec<u64>,
+    pub near: Vec<u64>,
+    pub made: Vec<u64>,
+}
+
+impl Spare {
+    /// Lists with room for a work of a vertex with so many edges.
+    pub fn with_room(alloc: Global, degree: usize) -> Result<Spare, NoMemory>
+        ensures { IfOk result (λ spare. HasRoom spare degree) }
+    {
+        Ok(Spare {
+            edges: Vec::with_capacity(alloc, degree)?,
+            near: Vec::with_capacity(alloc, degree)?,
+        })
+    }
+}
+
+impl Numbers {
+    /// The datum of an own vertex or the copy of a ghost's, and 0 in each field for any other vertex.
+    pub fn datum(&self, v: Vertex) -> Datum
+        ensures { result ≡ datum_here self.now v.0 }
+    {
+        if self.local.owns(v) {
+            self.local.datum(v)
+        } else if self.ghosts.has(v) {
+            self.ghosts.get(v)
+        } else {
+            Datum {
+                value: 0,
+                version: 0,
+                mark: 0,
+            }
+        }
+    }
+
+    /// Moves the vertex of a ready scope out for its update, with the numbers that the update may use. The lists of `spare`
+    /// have room for them, so it takes no memory.
+    pub fn take_work(&mut self, scope: ScopeId, v: Vertex, spare: Spare) -> Work
+        requires own { is_own self.old.local v.0 ≡ true }
+        requires row { is_some (links_at self.old.local v.0) ≡ true }
+        requires room { HasRoom spare (length (sides_at self.old.local v.0)) }
+        ensures { HasTakenOut self.old self.new scope v result }
+    {
+        let Spare { edges, near } = spare;
+        let id = self.local.id(v);
+        let value = self.datum(v).value;
+        let near = self.gather(v, near);
+        let row = self.local.take_row(v, edges);
+        Work {
+            scope,
+            vertex: v,
+            id,
+            value,
+            row,
+            near,
+        }
+    }
+
+    /// Moves the row of a work back, of which no update was made: no number changes. Hands back the lists of its numbers.
+    pub fn put_back(&mut self, work: Work) -> Spare
+        requires own { is_own self.old.local work.vertex.0 ≡ true }
+        requires links { length work.row.links.items ≡ length (sides_at self.old.local work.vertex.0) }
+        requires numbers { work.row.numbers.items ≡ numbers_along (edge_here self.old) (sides_at self.old.local work.vertex.0) }
+        ensures back { (x : ℕ) → links_at self.new.local x ≡ (if x == work.vertex.0 then Some work.row.links.items else links_at self.old.local x) }
+        ensures edge { (e : ℕ) → edge_here self.new e ≡ edge_here self.old e }
+        ensures edges { (e : ℕ) → HasEdge self.old.local e → HasEdge self.new.local e }
+        ensures many_edges { length self.new.local.numbers ≡ length self.old.local.numbers }
+        ensures rest { self.new ≡ record self.old { local = record self.old.local { rows = self.new.local.rows; numbers = self.new.local.numbers } } }
+        ensures spare { (result.edges ≡ work.row.numbers) × (result.near ≡ work.near) }
+    {
+        let Work {
+            vertex,
+            row,
+            near,
+            ..
+        } = work;
+        let edges = self.local.put_row(vertex, row);
+        Spare { edges, near }
+    }
+
+    /// The numbers at the other ends of the edges at a vertex, in a list that has room for them.
+    fn gather(&self, v: Vertex, spare: Vec<u64>) -> Vec<u64>
+        requires { length (sides_at self.now.local v.0) ≤ vec_capacity spare }
+        ensures { result.items ≡ near_along (value_here self.now) (sides_at self.now.local v.0) }
+    {
+        fill_near(spare, self.local.sides(v), self)
+    }
+}
+
+/// The numbers at the other ends of these sides, in a list that has room for them.
+fn fill_near(spare: Vec<u64>, sides: &[Side], numbers: &Numbers) -> Vec<u64>
+    requires { length sides.now ≤ vec_capacity spare }
+    ensures { result.items ≡ near_along (value_here numbers.now) sides.now }
+{
+    let mut near = spare;
+    near.clear();
+    for side in sides {
+        near.push_reserved(numbers.datum(side.other).value);
+    }
+    near
+}

@@ -1,0 +1,70 @@
+//! One machine of an attempt, and those of all parts of a graph.
+ghost use Rattle.std.specs.Prelude.{◌≡◌, ℕ, length, IfOk};
+ghost use Rattle.placed_machines.specs.Inner.Making.{AreUnsetParts, CanAllSave, CanSave, Cluster, HaveAdmitted, IsEngineSaverOf, IsUnsetPart, Machine, SavesBy, Setting, StandFirst, goes_back, with_locking};
+
+use crate::engine_savers::EngineSaver;
+use crate::members::new_member;
+use crate::savers::Places;
+use gl_base::{Base, NoMemory};
+use local_graph::LocalGraph;
+use placement::graphs::first_numbers;
+use placement::places::{NewTerms, new_core};
+use snapshot_machines::saving::SnapMachine;
+use std::alloc::Global;
+use update_api::Program;
+
+/// A new machine that holds this part of a graph, begins with the numbers of the base, and is of the places' engine.
+fn new_saver<P: Program>(
+    alloc: Global,
+    local: LocalGraph,
+    program: P,
+    base: &Base,
+    places: &Places,
+    terms: NewTerms,
+) -> Result<EngineSaver<P>, NoMemory>
+    requires { CanSave local (P.meaning program) base.now terms places.now }
+    ensures { (st : Setting) (m : Machine) → SavesBy st (P.meaning program) base.now terms places.now → IsUnsetPart (with_locking st) local.me.0 local → m.part.serial ≡ terms.serial →
+        IfOk result (IsEngineSaverOf P.meaning st local.me.0 (goes_back st st.start st.base local.me.0 m)) }
+{
+    let _many = terms.machines;
+    let numbers = first_numbers(alloc, local, base, Some(places.run.window))?;
+    let core = new_core(alloc, numbers, terms)?;
+    let machine = SnapMachine::new(alloc, core, program)?;
+    new_member(alloc, machine, places)
+}
+
+/// A new machine for each part, in turn, each with its serial.
+pub fn new_savers<P: Program>(
+    alloc: Global,
+    parts: Vec<LocalGraph>,
+    program: P,
+    base: &Base,
+    places: &Places,
+    terms: NewTerms,
+    serials: &[u64],
+) -> Result<Vec<EngineSaver<P>>, NoMemory>
+    requires can { CanAllSave parts.items (P.meaning program) base.now terms places.now }
+    requires serials { length serials.now ≡ length parts.items }
+    ensures stand { (st : Setting) (before : Cluster) → SavesBy st (P.meaning program) base.now terms places.now → AreUnsetParts (with_locking st) parts.items → HaveAdmitted st serials.now before →
+        IfOk result (λ savers. StandFirst P.meaning st before savers.items) }
+    ensures many { IfOk result (λ savers. length savers.items ≡ length parts.items) }
+{
+    let mut savers = Vec::with_capacity(alloc, parts.len())?;
+    for local in parts {
+        let own = with_serial(terms, serials[savers.len()]);
+        savers.push(new_saver(alloc, local, program, base, places, own)?)?;
+    }
+    Ok(savers)
+}
+
+/// The same terms, where the first scope gets this serial.
+fn with_serial(terms: NewTerms, serial: u64) -> NewTerms
+    ensures { result ≡ record terms { serial = serial } }
+{
+    NewTerms {
+        terms: terms.terms,
+        machines: terms.machines,
+        vertices: terms.vertices,
+        serial,
+    }
+}

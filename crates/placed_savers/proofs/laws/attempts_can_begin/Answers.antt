@@ -1,5 +1,0 @@
-use Rattle.placed_savers.proofs.LawLemmas.{attempt_begins}
-use Rattle.placed_savers.proofs.laws.attempts_can_begin.Goals as goal
-
-pub returns : goal.returns
-returns t = attempt_begins

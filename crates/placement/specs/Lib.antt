@@ -1,0 +1,3 @@
+pub mod plans
+pub mod places
+pub mod graphs

@@ -1,7 +1,0 @@
-//! Waves that count messages, and when they show the end of a run.
-#![tactic(auto)]
-
-mod answering;
-mod counting;
-
-pub use counting::{Verdict, Waves};

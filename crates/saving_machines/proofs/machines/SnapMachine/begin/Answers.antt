@@ -1,8 +1,0 @@
-use Rattle.saving_machines.proofs.StayLemmas.{stays_begun}
-use Rattle.saving_machines.proofs.machines.SnapMachine.begin.Goals as goal
-
-pub invariant_of-self : goal.invariant_of-self
-invariant_of-self g c =
-    let m = c.self.inside in
-    let e = c.begin.ensures in
-    stays_begun m.core c.begin.new.core m.snaps c.begin.new.snaps m.seen c.begin.new.seen c.args.number c.self.invariant e.orderly e.places e.rest e.kept e.seen

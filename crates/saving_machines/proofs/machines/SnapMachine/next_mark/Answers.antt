@@ -1,4 +1,0 @@
-use Rattle.saving_machines.proofs.machines.SnapMachine.next_mark.Goals as goal
-
-pub returns-clause-none : goal.returns-clause-none
-returns-clause-none g c = rw (← c.self.view_is) c.next_mark.ensures.none

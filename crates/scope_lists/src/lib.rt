@@ -1,6 +1,0 @@
-//! Lists that are looked up by scope.
-#![tactic(auto)]
-
-mod scopes;
-
-pub use scopes::is_scope;

@@ -1,6 +1,0 @@
-//! What a machine makes of its part does not depend on numbers at which it doesn't look.
-#![tactic(auto)]
-
-mod laws;
-
-pub use laws::{effects_look_alike, guards_look_alike};

@@ -1,6 +1,0 @@
--- No edge is saved twice on the way, and sections say what is saved.
-use Rattle.single_saves.proofs.InCalls.{edges_once}
-use Rattle.single_saves.proofs.laws.edges_are_saved_once.Goals as goal
-
-pub returns : goal.returns
-returns c = λ st failures kept resumed base first events cluster course. edges_once st failures kept resumed base first events cluster course

@@ -1,6 +1,0 @@
--- What the parts do, the cluster does.
-use Rattle.snap_clusters.proofs.Acknowledging.{some_behind}
-use Rattle.snap_clusters.proofs.clusters.SnapCluster.acknowledge.Goals as goal
-
-pub invariant_of-self : goal.invariant_of-self
-invariant_of-self g c = some_behind g.M.SavingMachine.stands c.self.inside.parts c.recorded.new.self c.self.invariant c.recorded.ensures.made

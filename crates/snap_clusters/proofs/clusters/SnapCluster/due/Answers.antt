@@ -1,9 +1,0 @@
--- Where the end is due the order is finished.
-use Rattle.std.proofs.Common.{subst, sym}
-use Rattle.snap_clusters.specs.Clusters.{IsSavingClusterOf}
-use Rattle.snap_clusters.proofs.Cutting.{finished}
-use Rattle.snap_clusters.proofs.clusters.SnapCluster.due.Goals as goal
-
-pub returns-clause-ended : goal.returns-clause-ended
-returns-clause-ended g c = λ ended st own setting of.
-    finished g.M.SavingMachine.stands c.self.inside.parts st own setting (subst (λ p. IsSavingClusterOf g.M.SavingMachine.stands st p own) (sym c.self.view_is) of) c.due.result c.due.ensures.due ended

@@ -1,9 +1,0 @@
--- The waves have shown the end.
-use Rattle.std.proofs.Common.{sym, subst}
-use Rattle.snap_clusters.specs.Clusters.{IsSavingClusterOf}
-use Rattle.snap_clusters.proofs.clusters.SnapCluster.has_seen_the_end.Goals as goal
-
-pub returns : goal.returns
-returns g c = λ yes st own setting of.
-    let here = subst (λ p. IsSavingClusterOf g.M.SavingMachine.stands st p own) (sym c.self.view_is) of in
-    c.has_seen_the_end.ensures yes st own.coordinator here.coordinator

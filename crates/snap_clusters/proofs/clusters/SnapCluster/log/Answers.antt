@@ -1,6 +1,0 @@
--- The logs are one order.
-use Rattle.snap_clusters.proofs.Ordering.{one_order}
-use Rattle.snap_clusters.proofs.clusters.SnapCluster.log.Goals as goal
-
-pub returns-clause-order : goal.returns-clause-order
-returns-clause-order g c = λ st own setting of. one_order st setting own of.going

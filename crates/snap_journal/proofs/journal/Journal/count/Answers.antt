@@ -1,8 +1,0 @@
--- The journal knows its disk.
-use Rattle.snap_journal.proofs.AppendLemmas.{settled_leaves}
-use Rattle.snap_journal.proofs.journal.Journal.count.Goals as goal
-
-pub returns-clause-durable : goal.returns-clause-durable
-returns-clause-durable g c =
-    let i = c.self.inside in
-    rw (← c.self.view_is) (λ told well image left. settled_leaves i.header i.count i.gate (g.D.Disk.past i.disk) (c.self.invariant.settled told well) image left)

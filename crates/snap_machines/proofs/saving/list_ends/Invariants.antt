@@ -1,7 +1,0 @@
-use Rattle.std.proofs.Common.{drop, length}
-use Rattle.machine_numbers.proofs.TellLemmas.{IsFilling}
-use Rattle.snap_machines.specs.Inner.Marks.{ends_left}
-use Rattle.snap_machines.proofs.saving.list_ends.Given as goal
-
-abbrev pub invariant-loop-place : goal.invariant-loop-place
-invariant-loop-place l = IsFilling (ends_left l.numbers l.known l.to.0 l.sides) (ends_left l.numbers l.known l.to.0 (drop l.place l.sides)) l.list l.place (length l.sides)

@@ -1,9 +1,0 @@
-use Rattle.std.proofs.Common.{◌≡◌, ◌+◌, ◌≤◌, drop, length}
-use Rattle.snap_machines.specs.Inner.Marks.{edges_left, with_edges}
-use Rattle.snap_machines.proofs.saving.save_marked.Given as goal
-
-abbrev pub invariant-loop-place : goal.invariant-loop-place
-invariant-loop-place l = record {
-  saved : with_edges (edges_left l.numbers l.known (drop l.place l.sides)) l.snaps ≡ with_edges (edges_left l.numbers l.known l.sides) l.initial.snaps;
-  room : length l.sides ≤ l.place + l.snaps.room.edges;
-}

@@ -1,6 +1,0 @@
-//! What a cluster that takes snapshots knows of its machines: their calls, and what each promises in the words of the cluster's law.
-#![tactic(auto)]
-
-mod machines;
-
-pub use machines::SavingMachine;

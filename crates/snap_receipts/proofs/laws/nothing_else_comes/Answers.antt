@@ -1,5 +1,0 @@
-use Rattle.snap_receipts.proofs.FrontLemmas.{none_else}
-use Rattle.snap_receipts.proofs.laws.nothing_else_comes.Goals as goal
-
-pub returns : goal.returns
-returns t = none_else

@@ -1,0 +1,83 @@
+-- The update is made, and then kept by its vertex's mark.
+use Rattle.std.proofs.Common.{ℕ, ◌+◌, ◌^◌, ◌<◌, ap, ◌∙◌, sym, subst}
+use Rattle.machine_core.specs.declared.machine_parts.cores.Core.{Core}
+use Rattle.snapshot_machines.specs.saving.Machines.{SnapView, outside_of}
+use Rattle.snapshot_machines.proofs.saving.StayLemmas.{few_outside, logged_stays, run_outside, stays_updated}
+use Rattle.snapshot_machines.proofs.saving.machines.SnapMachine.update.Goals as goal
+
+pub log-requires-clause-few : goal.log-requires-clause-few
+log-requires-clause-few g c =
+    let m = c.self.inside in
+    subst (λ (x : SnapView). outside_of x + 1 < 2 ^ 64) (sym c.reserve.ensures.same) (few_outside m.core m.snaps m.seen c.self.invariant)
+
+pub invariant_of-self-in-Ok : goal.invariant_of-self-in-Ok
+invariant_of-self-in-Ok g c =
+    let m = c.self.inside in
+    let is = c.self.invariant in
+    let e = c.in-Ok.ensures in
+    let parts = logged_stays _ _ m.snaps c.reserve.new.self c.log.new.self c.reserve.ensures.same c.log.ensures.logged in
+    stays_updated m.core c.update.new.core m.snaps c.log.new.self m.seen is e.orderly (e.places is.places) e.rows (ap (λ (x : Core). x.terms) e.rest) e.local e.own e.marks parts.0 parts.1
+    (run_outside m.core c.update.new.core c.args.scope c.in-Some.centre is.orderly c.in-Some.ensures.some.0 e.run ∙ ap (λ (k : ℕ). k + 1) is.outside ∙ sym parts.2)
+
+pub returns-in-Ok-clause-run : goal.returns-in-Ok-clause-run
+returns-in-Ok-clause-run g c = rw (← c.self.view_is) c.in-Ok.ensures.run
+
+pub returns-in-Ok-clause-updated : goal.returns-in-Ok-clause-updated
+returns-in-Ok-clause-updated g c = rw (← c.self.view_is) c.in-Ok.ensures.updated
+
+pub returns-in-Ok-clause-unchanged : goal.returns-in-Ok-clause-unchanged
+returns-in-Ok-clause-unchanged g c = tt
+
+pub returns-in-Ok-clause-same : goal.returns-in-Ok-clause-same
+returns-in-Ok-clause-same g c = tt
+
+pub returns-in-Ok-clause-tasks : goal.returns-in-Ok-clause-tasks
+returns-in-Ok-clause-tasks g c = tt
+
+pub returns-in-Ok-clause-local : goal.returns-in-Ok-clause-local
+returns-in-Ok-clause-local g c = rw (← c.self.view_is) c.update.ensures.local
+
+pub returns-in-Ok-clause-program : goal.returns-in-Ok-clause-program
+returns-in-Ok-clause-program g c = ap (λ m. m.program) c.self.view_is
+
+pub returns-in-Ok-clause-terms : goal.returns-in-Ok-clause-terms
+returns-in-Ok-clause-terms g c = ap (λ (m : Core). m.terms) c.update.ensures.rest ∙ ap (λ m. m.core.terms) c.self.view_is
+
+pub returns-in-Ok-clause-settings : goal.returns-in-Ok-clause-settings
+returns-in-Ok-clause-settings g c = rw (← c.self.view_is) c.update.ensures.settings
+
+pub returns-in-Ok-clause-places : goal.returns-in-Ok-clause-places
+returns-in-Ok-clause-places g c = ap (λ (m : Core). m.by_place) c.update.ensures.rest ∙ ap (λ m. m.core.by_place) c.self.view_is
+
+pub returns-in-Err-clause-updated : goal.returns-in-Err-clause-updated
+returns-in-Err-clause-updated g c = tt
+
+pub returns-in-Err-clause-run : goal.returns-in-Err-clause-run
+returns-in-Err-clause-run g c = tt
+
+pub returns-in-Err-clause-logged : goal.returns-in-Err-clause-logged
+returns-in-Err-clause-logged g c = tt
+
+pub returns-in-Err-clause-not_now : goal.returns-in-Err-clause-not_now
+returns-in-Err-clause-not_now g c = rw (← c.self.view_is) c.in-Err.ensures.not_now
+
+pub returns-in-Err-clause-no_memory : goal.returns-in-Err-clause-no_memory
+returns-in-Err-clause-no_memory g c = rw (← c.self.view_is) c.in-Err.ensures.no_memory
+
+pub returns-in-Err-clause-same : goal.returns-in-Err-clause-same
+returns-in-Err-clause-same g c = rw (← c.self.view_is) c.reserve.ensures.same
+
+pub returns-in-Err-clause-local : goal.returns-in-Err-clause-local
+returns-in-Err-clause-local g c = rw (← c.self.view_is) c.update.ensures.local
+
+pub returns-in-Err-clause-program : goal.returns-in-Err-clause-program
+returns-in-Err-clause-program g c = ap (λ m. m.program) c.self.view_is
+
+pub returns-in-Err-clause-terms : goal.returns-in-Err-clause-terms
+returns-in-Err-clause-terms g c = ap (λ (m : Core). m.terms) c.update.ensures.rest ∙ ap (λ m. m.core.terms) c.self.view_is
+
+pub returns-in-Err-clause-settings : goal.returns-in-Err-clause-settings
+returns-in-Err-clause-settings g c = rw (← c.self.view_is) c.update.ensures.settings
+
+pub returns-in-Err-clause-places : goal.returns-in-Err-clause-places
+returns-in-Err-clause-places g c = ap (λ (m : Core). m.by_place) c.update.ensures.rest ∙ ap (λ m. m.core.by_place) c.self.view_is

@@ -1,0 +1,10 @@
+//! A machine with its program, which takes part in snapshots.
+
+mod founds;
+mod machines;
+mod reading;
+mod scopes;
+mod snapshots;
+mod updates;
+
+pub use machines::SnapMachine;

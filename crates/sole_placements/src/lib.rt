@@ -1,6 +1,0 @@
-//! A graph that is cut and placed has one placement, and a store is good by whatever owners agree: laws of the owners of vertices.
-#![tactic(auto)]
-
-mod laws;
-
-pub use laws::{placements_are_one, stores_stay_good_by_other_owners};

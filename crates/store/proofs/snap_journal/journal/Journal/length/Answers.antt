@@ -1,0 +1,11 @@
+-- The gate stands behind the records.
+use Rattle.std.proofs.Common.{◌≡◌, ◌+◌, ℕ, arith}
+use Rattle.store.proofs.snap_journal.journal.Journal.length.Goals as goal
+
+behind : (gate size : ℕ) → gate ≡ 64 + size → gate + 1 ≡ 65 + size
+behind gate size is = omega arith
+
+pub returns-clause-stored : goal.returns-clause-stored
+returns-clause-stored g c =
+    let i = c.self.inside in
+    rw (← c.self.view_is) (λ told well. behind i.gate _ (c.self.invariant.settled told well).place)

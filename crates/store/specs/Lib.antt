@@ -1,0 +1,2 @@
+pub mod snap_journal
+pub mod store_format

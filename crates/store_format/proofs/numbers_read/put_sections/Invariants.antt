@@ -1,6 +1,0 @@
-use Rattle.store_format.specs.Bodies.{sections_place}
-use Rattle.store_format.proofs.NumberLemmas.{NumbersSoFar}
-use Rattle.store_format.proofs.numbers_read.put_sections.Given as goal
-
-abbrev pub invariant-sections : goal.invariant-sections
-invariant-sections l = NumbersSoFar l.header l.body l.initial.vertices l.initial.edges l.vertices l.edges (sections_place l.body) l._done l.at

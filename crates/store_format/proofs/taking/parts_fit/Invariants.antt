@@ -1,7 +1,0 @@
-use Rattle.std.proofs.Common.{ℕ, ◌<◌, get_or}
-use Rattle.gl_base.specs.declared.snapshots.SavedPart.{SavedPart}
-use Rattle.store_format.specs.Encoding.{PartFits}
-use Rattle.store_format.proofs.taking.parts_fit.Given as goal
-
-abbrev pub invariant-loop-part : goal.invariant-loop-part
-invariant-loop-part l = (k : ℕ) (d : SavedPart) → k < l.part-index → PartFits (get_or l.parts k d)

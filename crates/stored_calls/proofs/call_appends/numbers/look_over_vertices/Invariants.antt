@@ -1,7 +1,0 @@
-use Rattle.std.proofs.Common.{take}
-use Rattle.std.specs.List.{AllByRecursion}
-use Rattle.stored_calls.specs.call_appends.Inner.Numbers.{PairFits, vertex_pair}
-use Rattle.stored_calls.proofs.call_appends.numbers.look_over_vertices.Given as goal
-
-abbrev pub invariant-loop-pair : goal.invariant-loop-pair
-invariant-loop-pair l = AllByRecursion (λ pair. PairFits (vertex_pair pair)) (take l.pair-index l.saved)

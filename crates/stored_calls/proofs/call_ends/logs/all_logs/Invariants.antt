@@ -1,6 +1,0 @@
-use Rattle.std.proofs.Common.{◌≡◌}
-use Rattle.stored_calls.specs.call_ends.Gathered.{InEachCourse, all_logged, machine_logs}
-use Rattle.stored_calls.proofs.call_ends.logs.all_logs.Given as goal
-
-abbrev pub invariant-loop-m : goal.invariant-loop-m
-invariant-loop-m g l = InEachCourse g.M.SavingMachine.stands l.course (λ st o events c. l.all.items ≡ all_logged (machine_logs l.m c))

@@ -1,6 +1,0 @@
-use Rattle.std.proofs.Common.{◌≡◌, ℕ, ◌<◌, false}
-use Rattle.stored_calls.specs.call_ends.Gathered.{InEachCourse, IsEngineSaverOf}
-use Rattle.stored_calls.proofs.call_ends.tasks.first_task.Given as goal
-
-abbrev pub invariant-loop-m : goal.invariant-loop-m
-invariant-loop-m g l = (a : ℕ) → a < l.m → InEachCourse (IsEngineSaverOf g.P.Program.meaning) l.course (λ st o events c. (u : ℕ) → (c.machine a).part.task u ≡ false)

@@ -1,3 +1,0 @@
--- What is said of the numbers of a record.
-pub use Rattle.store_format.specs.ReadBack.{EntryFits, NumbersFit, PairFits, edge_pair, part_edges, part_vertices, record_vertices, vertex_pair}
-pub use Rattle.store_format.specs.StoredNumbers.{saved_or}

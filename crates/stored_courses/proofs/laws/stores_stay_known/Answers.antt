@@ -1,6 +1,0 @@
--- They leave it as it is.
-use Rattle.stored_courses.proofs.Keeping.{passes_known}
-use Rattle.stored_courses.proofs.laws.stores_stay_known.Goals as goal
-
-pub returns : goal.returns
-returns g c = λ old new header start bodies lost stored front order st o at goes known. passes_known g.M.SavingMachine.stands old new header start bodies lost stored front order st o at goes known

@@ -1,6 +1,0 @@
-//! A store beside the course of a call: what of the course it has, whatever happens.
-#![tactic(auto)]
-
-mod laws;
-
-pub use laws::{stores_go_with_courses, stores_stay_known};

@@ -1,7 +1,0 @@
--- The store's last order is the last snapshot's.
-use Rattle.stored_records.proofs.Going.{comes_from}
-use Rattle.stored_records.proofs.laws.recoveries_come_from_stores.Goals as goal
-
-pub returns : goal.returns
-returns c = λ st failures kept resumed base first events cluster header start bodies missing course kept_is number keeps some all lacks.
-    comes_from st failures kept resumed base first events cluster course header start bodies kept_is number keeps some all missing lacks

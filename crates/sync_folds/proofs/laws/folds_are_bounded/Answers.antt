@@ -1,8 +1,0 @@
-use Rattle.sync_folds.proofs.FoldLemmas.{reached-le-length, sum-le-length}
-use Rattle.sync_folds.proofs.laws.folds_are_bounded.Goals as goal
-
-pub returns-clause-reached : goal.returns-clause-reached
-returns-clause-reached c = reached-le-length
-
-pub returns-clause-sum : goal.returns-clause-sum
-returns-clause-sum c = sum-le-length

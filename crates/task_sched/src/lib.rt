@@ -1,8 +1,0 @@
-//! The tasks of a machine, its pending vertices, and which of them it admits next.
-#![tactic(auto)]
-
-mod flags;
-mod stages;
-mod task_sets;
-
-pub use task_sets::{Pick, TaskSet};

@@ -1,0 +1,7 @@
+//! Vertices that wait, first in, first out.
+
+mod lines;
+mod queues;
+
+pub use lines::VertexLine;
+pub use queues::VertexQueue;

@@ -1,9 +1,0 @@
-use Rattle.std.proofs.Common.{◌∙◌, sym, ap}
-use Rattle.vertex_locks.specs.Locks.{LockView, has}
-use Rattle.vertex_locks.proofs.TableLemmas.{is_read, some_mode}
-use Rattle.vertex_locks.proofs.tables.LockTable.holds.Goals as goal
-
-pub returns : goal.returns
-returns c =
-    let read = is_read c.self.inside.places.items c.self.inside.locks.items c.args.self.now c.args.x.0 c.index.result.now c.index-2.result.now c.self.view_is c.requires c.index.ensures c.index-2.ensures in
-    c.holds.ensures ∙ (ap (λ (k : LockView). has c.args.scope k.holders) read ∙ sym (some_mode _ c.args.scope))

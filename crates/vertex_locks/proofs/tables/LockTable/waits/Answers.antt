@@ -1,9 +1,0 @@
-use Rattle.std.proofs.Common.{◌∙◌, ap}
-use Rattle.vertex_locks.specs.Locks.{LockView, has}
-use Rattle.vertex_locks.proofs.TableLemmas.{is_read}
-use Rattle.vertex_locks.proofs.tables.LockTable.waits.Goals as goal
-
-pub returns : goal.returns
-returns c =
-    let read = is_read c.self.inside.places.items c.self.inside.locks.items c.args.self.now c.args.x.0 c.index.result.now c.index-2.result.now c.self.view_is c.requires c.index.ensures c.index-2.ensures in
-    c.waits.ensures ∙ ap (λ (k : LockView). has c.args.scope k.queue) read

@@ -1,9 +1,0 @@
-//! Reader-writer locks of the vertices of a machine, each with a queue of those that wait.
-#![tactic(auto)]
-
-mod locks;
-mod tables;
-mod turns;
-
-pub use tables::LockTable;
-pub use turns::Turn;

@@ -1,6 +1,0 @@
-use Rattle.std.proofs.Common.{arith}
-use Rattle.vertex_places.proofs.PlaceLemmas.{are_places}
-use Rattle.vertex_places.proofs.places.Places.new.Goals as goal
-
-pub returns : goal.returns
-returns c = are_places c.args.vertices.now c.args.count c.loop-place.place c.loop-place.numbers.items c.loop-place.invariant (omega arith) c.requires.below

@@ -1,6 +1,0 @@
-//! The places of some vertices in their list, found by the vertex's number without a search.
-#![tactic(auto)]
-
-mod places;
-
-pub use places::Places;

@@ -1,6 +1,0 @@
--- Both ways.
-use Rattle.wave_counts.proofs.IdleLemmas.{idle_is_rest, rest_is_idle}
-use Rattle.wave_counts.proofs.laws.machines_at_rest_are_idle.Goals as goal
-
-pub returns : goal.returns
-returns c = λ st part tasks pipe are. (rest_is_idle st part tasks pipe are, idle_is_rest st part tasks pipe are)

@@ -1,0 +1,2 @@
+pub mod outboxes
+pub mod wire_msgs
