@@ -13,7 +13,7 @@ use graph_core::Graph;
 use std::alloc::Global;
 
 /// The lines of each of so many atoms, where `of` says in which atom each vertex is.
-#[tactic(auto, using(crate::atom_cut::proofs::FillLemmas::atoms_from_hold))]
+#[tactic(auto, using(crate::proofs::atom_cut::FillLemmas::atoms_from_hold))]
 pub fn lines_of(
     alloc: Global,
     graph: &Graph,

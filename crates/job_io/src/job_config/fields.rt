@@ -121,7 +121,7 @@ fn read_order<'a>(
 }
 
 /// The values of the first five keys, or the first fault of these.
-#[tactic(auto, unfolding(crate::job_config::specs::Inner::Groups::input_of))]
+#[tactic(auto, unfolding(crate::specs::job_config::Inner::Groups::input_of))]
 fn read_input(job: &Value) -> Result<Input<'_>, KeyFault>
     ensures value { MatchResult result (λ i. input_of (view job.entry.now) ≡ Ok (input_view i))
         (λ e. input_of (view job.entry.now) ≡ Err e) }
@@ -142,7 +142,7 @@ fn read_input(job: &Value) -> Result<Input<'_>, KeyFault>
 }
 
 /// The values of the next six keys, or the first fault of these.
-#[tactic(auto, unfolding(crate::job_config::specs::Inner::Groups::settings_of))]
+#[tactic(auto, unfolding(crate::specs::job_config::Inner::Groups::settings_of))]
 fn read_settings(job: &Value) -> Result<Settings, KeyFault>
     ensures value { result ≡ settings_of (view job.now) }
     ensures ranges { IfOk result HasSettings }
@@ -164,7 +164,7 @@ fn read_settings(job: &Value) -> Result<Settings, KeyFault>
 }
 
 /// The values of the last three keys, or the first fault of these.
-#[tactic(auto, unfolding(crate::job_config::specs::Inner::Groups::places_of))]
+#[tactic(auto, unfolding(crate::specs::job_config::Inner::Groups::places_of))]
 fn read_places(job: &Value) -> Result<Places<'_>, KeyFault>
     ensures { MatchResult result (λ p. places_of (view job.entry.now) ≡ Ok (places_view p))
         (λ e. places_of (view job.entry.now) ≡ Err e) }

@@ -114,7 +114,7 @@ pub fn with_mark(old: Datum, known: u32) -> Datum
 }
 
 /// Lists the ends of these sides that are vertices of machine `to` and have no mark yet.
-#[tactic(auto, using(crate::marking::proofs::SaveLemmas::ends_more, crate::marking::proofs::SaveLemmas::ends_none))]
+#[tactic(auto, using(crate::proofs::marking::SaveLemmas::ends_more, crate::proofs::marking::SaveLemmas::ends_none))]
 fn list_ends(
     list: Vec<Vertex>,
     numbers: &Numbers,
