@@ -1,7 +1,6 @@
 //! The texts that tell how a run ended: the answer, the report and the order.
 
 mod answers;
-mod hex;
 mod orders;
 mod reports;
 mod sizes;

@@ -2,7 +2,6 @@
 ghost use Rattle.std.specs.Prelude.{◌≡◌, ◌++◌, ◌∷◌, [], IfOk, OnOk};
 ghost use Rattle.graph_text.specs.order_text.Reports.{report_line, report_text, hex_text};
 
-use crate::order_text::hex::push_hex;
 use crate::sync_folds::Fold;
 use gl_base::{NoMemory, push_decimal};
 use graph_core::Graph;
@@ -22,7 +21,7 @@ pub fn report(alloc: Global, graph: &Graph, fold: &Fold, answer: &[u8]) -> Resul
     push_number(&mut text, b"reached", fold.reached)?;
     push_number(&mut text, b"sum", fold.sum)?;
     push_number(&mut text, b"max", fold.max)?;
-    push_digest(&mut text, b"digest", &digest)?;
+    push_digest(alloc, &mut text, b"digest", &digest)?;
     Ok(text)
 }
 
@@ -38,12 +37,26 @@ fn push_number<I: Integer>(text: &mut Vec<u8>, name: &[u8], number: I) -> Result
 }
 
 /// Adds a line with bytes in hexadecimal digits.
-fn push_digest(text: &mut Vec<u8>, name: &[u8], digest: &[u8]) -> Result<(), NoMemory>
+fn push_digest(
+    alloc: Global,
+    text: &mut Vec<u8>,
+    name: &[u8],
+    digest: &[u8],
+) -> Result<(), NoMemory>
     ensures { OnOk result (text.new.items ≡ text.old.items ++ report_line name.now (hex_text digest.now)) }
 {
     text.extend_from_slice(name)?;
     text.push(b' ')?;
-    push_hex(text, digest)?;
+    push_hex(alloc, text, digest)?;
     text.push(b'\n')?;
+    Ok(())
+}
+
+/// Adds two hexadecimal digits for each byte, the one of its upper half first.
+fn push_hex(alloc: Global, text: &mut Vec<u8>, bytes: &[u8]) -> Result<(), NoMemory>
+    ensures { OnOk result (text.new.items ≡ text.old.items ++ hex_text bytes.now) }
+{
+    let digits = hex::encode(alloc, bytes)?;
+    text.extend_from_slice(digits.as_bytes())?;
     Ok(())
 }
