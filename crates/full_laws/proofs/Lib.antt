@@ -1,0 +1,12 @@
+pub mod Mirrors
+pub mod MirrorSteps
+pub mod FromPlaces
+pub mod FullWays
+pub mod FullQuiet
+pub mod Gathering
+pub mod FullTaking
+pub mod FullMaking
+pub mod FullKeeping
+pub mod FullCoherence
+pub mod MergedOrders
+pub mod WorkedScopes

@@ -1,0 +1,10 @@
+pub mod Items
+pub mod FullMessages
+pub mod FullParts
+pub mod FullWorlds
+pub mod FullEffects
+pub mod FullActions
+pub mod FullPlaces
+pub mod FullReplays
+pub mod FullRuns
+pub mod FourInLine
