@@ -4,4 +4,4 @@ mod lines;
 mod queues;
 
 pub use lines::VertexLine;
-pub use queues::VertexQueue;
+pub use queues::{Spread, VertexQueue};

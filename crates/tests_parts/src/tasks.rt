@@ -36,8 +36,8 @@ static WINDOW: [Call; 16] = [
     Call::Next,
 ];
 
-/// Of tasks those with near keys come first. Which task is next is told by no clause.
-static NEAR: [Call; 20] = [
+/// Of tasks those with near keys come first, and a key below theirs comes before them. Which task is next is told by no clause.
+static NEAR: [Call; 30] = [
     Call::Next,
     Call::Ran(0),
     Call::Next,
@@ -54,6 +54,16 @@ static NEAR: [Call; 20] = [
     Call::Wake(2, 10),
     Call::Wake(1, 12),
     Call::Next,
+    Call::Next,
+    Call::Next,
+    Call::Next,
+    Call::Next,
+    Call::Ran(1),
+    Call::Ran(2),
+    Call::Ran(3),
+    Call::Wake(3, 95),
+    Call::Wake(2, 90),
+    Call::Wake(1, 80),
     Call::Next,
     Call::Next,
     Call::Next,

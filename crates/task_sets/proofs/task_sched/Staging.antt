@@ -59,6 +59,17 @@ gone_over near far fresh v u a b there = ⊎_elim
     or_far true c d is = refl
     or_far false c d is = ap (λ b. b || d) is
 
+-- a near one goes back
+pub gone_back : (near far fresh : List Bool) (v u : ℕ) → v < length near → v < length far → is_flagged near v ≡ true →
+    is_staged (record { near = slice_set near v false; far = slice_set far v true; fresh = fresh }) u ≡ is_staged (record { near = near; far = far; fresh = fresh }) u
+gone_back near far fresh v u a b there = ⊎_elim
+    (λ (same : u ≡ v). rw (flag-set near v u false a, flag-set far v u true b, eq-eqb u v same) (sym (or_near (is_flagged near u) (is_flagged far u) (is_flagged fresh u) (subst (λ x. is_flagged near x ≡ true) (sym same) there))))
+    (λ (other : u ≡ v → ⊥). rw (flag-set near v u false a, flag-set far v u true b, ne_eqb u v other) refl)
+    (cases_eq u v)
+  where
+    or_near : (a c d : Bool) → a ≡ true → (a || (c || d)) ≡ true
+    or_near a c d is = ap (λ b. b || (c || d)) is
+
 -- a far one leaves and comes again
 pub came_again : (near far fresh : List Bool) (v u : ℕ) → v < length far → is_flagged far v ≡ true →
     is_staged (record { near = near; far = slice_set (slice_set far v false) v true; fresh = fresh }) u ≡ is_staged (record { near = near; far = far; fresh = fresh }) u

@@ -3,14 +3,15 @@ ghost use Rattle.std.specs.Prelude.{◌≡◌, ℕ, ◌<◌, ◌==◌, true, fal
 ghost use Rattle.task_sets.specs.task_sched.Tasks.{is_flagged};
 ghost use Rattle.task_sets.specs.task_sched.Inner.Stages.{StagesView, is_staged, stage_count};
 
-use crate::vertex_queue::VertexQueue;
+use crate::vertex_queue::{Spread, VertexQueue};
 use gl_base::{NoMemory, Vertex};
 use std::alloc::Global;
 use std::marker::Model;
 
 /// Tasks that wait. Those that were woken with a key up to the bar are near, and come first; those with a greater key are far;
 /// those that nothing has woken yet are fresh, and come last. In each stage they come first in, first out. Where none is near,
-/// the bar moves up into the keys of the far ones, and those up to it go over.
+/// the bar moves up into the keys of the far ones, and those up to it go over. A key below all that it moved into brings it down: the
+/// near ones go behind the far ones, and it moves no higher then than it was, as long as one of them is left.
 #[derive(Drop)]
 pub struct Stages {
     near: VertexQueue,
@@ -18,7 +19,12 @@ pub struct Stages {
     fresh: VertexQueue,
     /// The least key with which each vertex was woken since it waits.
     keys: Vec<u64>,
+    /// The key up to which tasks are near.
     bar: u64,
+    /// The key below which a task brings the bar down: the least one of those into which it moved.
+    low: u64,
+    /// Where the bar was before it came down, if it has not moved up since.
+    fallen_from: Option<u64>,
 }
 
 impl Model for Stages {
@@ -46,6 +52,8 @@ impl Stages {
             fresh,
             keys: Vec::from_elem(alloc, u64::MAX, count as usize)?,
             bar: 0,
+            low: 0,
+            fallen_from: None,
         })
     }
 
@@ -69,10 +77,40 @@ impl Stages {
         let place = v.0 as usize;
         let least = self.keys[place].min(key);
         self.keys[place] = least;
+        if least < self.low {
+            self.lower(least);
+        }
         if least <= self.bar {
             self.add_near(v);
         } else {
             self.add_far(v);
+        }
+    }
+
+    /// The vertex waits again, among the near ones.
+    pub fn add_again(&mut self, v: Vertex)
+        requires { v.0 < stage_count self.old }
+        ensures count { stage_count self.new ≡ stage_count self.old }
+        ensures waits { (u : ℕ) → is_staged self.new u ≡ (if u == v.0 then true else is_staged self.old u) }
+    {
+        self.add(v, self.low);
+    }
+
+    /// The bar comes down to this key, and the near ones go behind the far ones.
+    fn lower(&mut self, key: u64)
+        ensures count { stage_count self.new ≡ stage_count self.old }
+        ensures waits { (u : ℕ) → is_staged self.new u ≡ is_staged self.old u }
+    {
+        if self.fallen_from.is_none() {
+            self.fallen_from = Some(self.bar);
+        }
+        self.bar = key;
+        self.low = key;
+        'near: for _ in 0..self.near.queued() {
+            let Some(v) = self.near.front() else {
+                return;
+            };
+            self.move_near(v);
         }
     }
 
@@ -106,7 +144,10 @@ impl Stages {
         if self.near.front().is_some() || self.far.front().is_none() {
             return;
         }
-        self.bar = self.far.middle(&self.keys);
+        let spread = self.far.spread(&self.keys);
+        self.bar = bar_for(spread, self.fallen_from);
+        self.low = spread.least;
+        self.fallen_from = None;
         'far: for _ in 0..self.far.queued() {
             let Some(v) = self.far.front() else {
                 return;
@@ -127,6 +168,8 @@ impl Stages {
         self.fresh.add_all(count);
         forget_all(&mut self.keys);
         self.bar = 0;
+        self.low = 0;
+        self.fallen_from = None;
     }
 
     /// The vertex waits near.
@@ -150,6 +193,16 @@ impl Stages {
         self.far.add(v);
     }
 
+    /// A near one goes behind the far ones.
+    fn move_near(&mut self, v: Vertex)
+        requires { is_flagged self.old.near v.0 ≡ true }
+        ensures count { stage_count self.new ≡ stage_count self.old }
+        ensures waits { (u : ℕ) → is_staged self.new u ≡ is_staged self.old u }
+    {
+        self.near.remove(v);
+        self.far.add(v);
+    }
+
     /// The first far one goes over where its key is up to the bar, and else behind the other far ones.
     fn move_far(&mut self, v: Vertex)
         requires { is_flagged self.old.far v.0 ≡ true }
@@ -162,6 +215,14 @@ impl Stages {
         } else {
             self.far.add(v);
         }
+    }
+}
+
+/// The bar for far tasks with these keys: their middle, and no higher than the bar was before it came down, where a key is up to that.
+fn bar_for(spread: Spread, before: Option<u64>) -> u64 {
+    match before {
+        Some(bar) if spread.least <= bar => spread.middle.min(bar),
+        _ => spread.middle,
     }
 }
 

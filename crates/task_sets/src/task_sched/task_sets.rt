@@ -183,7 +183,7 @@ impl TaskSet {
         self.planned[place] = false;
         self.plans -= plan;
         if self.tasks[place] {
-            self.stages.add(v, 0);
+            self.stages.add_again(v);
         }
     }
 

@@ -97,9 +97,8 @@ impl VertexQueue {
         self.queue.len()
     }
 
-    /// A number up to which some of the numbers of the members are, and above which the greatest is, where they differ: the greater of
-    /// their mean and of the middle between the least and the greatest.
-    pub fn middle(&self, numbers: &[u64]) -> u64 {
+    /// How the numbers of the members lie.
+    pub fn spread(&self, numbers: &[u64]) -> Spread {
         let mut least = u64::MAX;
         let mut greatest = 0;
         let mut mean = Mean { sum: 0, count: 0 };
@@ -110,8 +109,11 @@ impl VertexQueue {
                 mean = mean.with(number);
             }
         }
-        mean.value()
-            .max(least.saturating_add(greatest.saturating_sub(least) / 2))
+        let between = least.saturating_add(greatest.saturating_sub(least) / 2);
+        Spread {
+            least,
+            middle: mean.value().max(between),
+        }
     }
 
     /// The number of a member; `None` where the vertex is none, or has no number.
@@ -145,6 +147,16 @@ impl VertexQueue {
         self.standings[place] = self.standings[place].done();
         drop_done(&mut self.standings, &mut self.queue);
     }
+}
+
+/// How some numbers lie.
+#[derive(Clone, Copy)]
+pub struct Spread {
+    /// The least of them.
+    pub least: u64,
+    /// The greater of their mean and of the middle between the least and the greatest: some are up to it, and the greatest is above
+    /// it, where they differ.
+    pub middle: u64,
 }
 
 /// The sum of some numbers, and how many they are.

@@ -25,9 +25,9 @@ invariant_of-self c =
     let counted = c.self.invariant.counted in
     let fewer : (m.plans - c.one_where-plan.result) + bit_if (is_flagged m.planned.items v) ≡ m.plans = omega (arith, plan, some, counted) in
     let task : is_flagged m.tasks.items v ≡ true = sym (c.index-2.ensures ∙ get_or_default m.tasks.items v c.index-2.result.now false in_t) ∙ c.if-index.true in
-    subst (λ (p : List Bool). AreTasksKept m.count m.tasks.items p (slice_set m.admitted.items v false) (slice_set m.planned.items v false) c.add.new.self m.asked.among (m.plans - c.one_where-plan.result) m.outside m.window) (sym c.take.ensures)
-    (kept_marked m.count m.tasks.items m.pending m.admitted.items m.planned.items m.stages c.add.new.self m.asked.among m.plans (m.plans - c.one_where-plan.result) m.outside m.window v c.self.invariant within busy fewer
-    c.add.ensures.count (λ u. subst (λ (b : Bool). is_staged c.add.new.self u ≡ (if u == v then b else is_staged m.stages u)) (sym task) (c.add.ensures.waits u)))
+    subst (λ (p : List Bool). AreTasksKept m.count m.tasks.items p (slice_set m.admitted.items v false) (slice_set m.planned.items v false) c.add_again.new.self m.asked.among (m.plans - c.one_where-plan.result) m.outside m.window) (sym c.take.ensures)
+    (kept_marked m.count m.tasks.items m.pending m.admitted.items m.planned.items m.stages c.add_again.new.self m.asked.among m.plans (m.plans - c.one_where-plan.result) m.outside m.window v c.self.invariant within busy fewer
+    c.add_again.ensures.count (λ u. subst (λ (b : Bool). is_staged c.add_again.new.self u ≡ (if u == v then b else is_staged m.stages u)) (sym task) (c.add_again.ensures.waits u)))
 
 pub invariant_of-self-else-index : goal.invariant_of-self-else-index
 invariant_of-self-else-index c =
