@@ -8,3 +8,4 @@ pub mod ScopeLemmas
 pub mod LowLemmas
 pub mod MakeLemmas
 pub mod PlayLemmas
+pub mod GraphLemmas

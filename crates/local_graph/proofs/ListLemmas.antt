@@ -1,11 +1,13 @@
 -- Lists that grow item by item.
-use Rattle.std.proofs.Common.{◌≡◌, ℕ, zero, suc, ◌+◌, ◌<◌, ◌++◌, Bool, true, false, if◌then◌else◌, List, [], ◌∷◌, length, get_or, map, take, refl, sym, ap, ◌∙◌, arith}
+use Rattle.std.proofs.Common.{◌≡◌, ℕ, zero, suc, ◌+◌, ◌<◌, ◌||◌, ◌++◌, Bool, true, false, nat_lt, if◌then◌else◌, List, [], ◌∷◌, length, get_or, map, take, refl, sym, ap, ◌∙◌, arith}
 use Rattle.std.specs.List.{filter, range_with_len}
 use Rattle.std.proofs.lemmas.List.{append_assoc, map-append, map_more, take_more, length-take-le}
 use Rattle.std.proofs.lemmas.List.Elements.{filter-append}
 use Rattle.graph_core.specs.declared.halves.Half.{Half}
 use Rattle.update_api.specs.declared.links.Link.{Link}
+use Rattle.local_graph.specs.declared.sides.Side.{Side}
 use Rattle.local_graph.specs.Lines.{link_of, links_from}
+use Rattle.local_graph.specs.Played.{sides_kept}
 
 -- one more item of a list that is mapped
 pub mapped_more : {X Y : Type 0} (f : X → Y) (xs : List X) (i : ℕ) (d : X) (old new : List Y) (y : Y) → i < length xs → new ≡ old ++ y ∷ [] → y ≡ f (get_or xs i d) → old ≡ map f (take i xs) → new ≡ map f (take (i + 1) xs)
@@ -16,6 +18,20 @@ mapped_more {Y} f xs i d old new y inside grown is was =
 pub mapped_more_behind : {X Y : Type 0} (f : X → Y) (front : List Y) (xs : List X) (i : ℕ) (d : X) (old new : List Y) (y : Y) → i < length xs → new ≡ old ++ y ∷ [] → y ≡ f (get_or xs i d) → old ≡ front ++ map f (take i xs) → new ≡ front ++ map f (take (i + 1) xs)
 mapped_more_behind {Y} f front xs i d old new y inside grown is was =
     grown ∙ ap (λ (ys : List Y). ys ++ y ∷ []) was ∙ append_assoc front (map f (take i xs)) (y ∷ []) ∙ ap (λ (ys : List Y). front ++ ys) (mapped_more f xs i d (map f (take i xs)) (map f (take i xs) ++ y ∷ []) y inside refl is refl)
+
+-- one more side of those that are kept
+pub kept_more : (side : Half → Side) (is_own : Bool) (many : ℕ) (hs : List Half) (i : ℕ) (d : Half) (old new : List Side) (y : Side) → i < length hs
+    → new ≡ old ++ (if is_own || nat_lt y.place many then y ∷ [] else []) → y ≡ side (get_or hs i d) → old ≡ sides_kept is_own many (map side (take i hs)) → new ≡ sides_kept is_own many (map side (take (i + 1) hs))
+kept_more side is_own many hs i d old new y inside grown is was =
+    let test : Side → Bool = λ s. is_own || nat_lt s.place many in
+    let one : Side → List Side = λ s. if is_own || nat_lt s.place many then s ∷ [] else [] in
+    grown ∙ ap (λ (s : Side). old ++ one s) is ∙ ap (λ (ss : List Side). ss ++ one (side (get_or hs i d))) was
+    ∙ sym (ap (sides_kept is_own many) (map_more side hs i d inside) ∙ filter-append test (map side (take i hs)) (side (get_or hs i d) ∷ []))
+
+-- each side of an own vertex is kept
+pub kept_all : (many : ℕ) (sides : List Side) → sides_kept true many sides ≡ sides
+kept_all many [] = refl
+kept_all many (s ∷ sides) = ap (λ (ss : List Side). s ∷ ss) (kept_all many sides)
 
 -- one more number of a range
 range_push : (a n : ℕ) → range_with_len a (n + 1) ≡ range_with_len a n ++ (a + n) ∷ []

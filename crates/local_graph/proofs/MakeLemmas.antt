@@ -22,7 +22,7 @@ more : {X : Type 0} (f : ℕ → X) (k : ℕ) (old new : List X) (x : X) → old
 more {X} f k old new x was is here =
     is ∙ ap (λ (xs : List X). xs ++ x ∷ []) was ∙ ap (λ (y : X). map f (range_with_len 0 k) ++ y ∷ []) here ∙ sym (map_range_more f k)
 
-module _ (side : Half → Side) (me : MachineNo) (machines : ℕ) (halves : List (List Half)) (known owned : List Vertex) where
+module _ (side : Half → Side) (many : ℕ) (me : MachineNo) (machines : ℕ) (halves : List (List Half)) (known owned : List Vertex) where
   abbrev vertex : ℕ → ℕ
   vertex k = (get_or known k (record { 0 = 0 })).0
 
@@ -30,21 +30,21 @@ module _ (side : Half → Side) (me : MachineNo) (machines : ℕ) (halves : List
   pub record IsAddedAround (k : ℕ) (old new : ByPlace) (sides : List Side) (scope : List Vertex) : Type 0 where
     pub to_sides : new.sides ≡ old.sides ++ sides ∷ []
     pub to_part : new.part ≡ old.part ++ scope ∷ []
-    pub are_sides : sides ≡ sides_known side halves known k
+    pub are_sides : sides ≡ sides_known side many halves known k
     pub is_scope : numbers_of scope ≡ scope_numbers owned (vertex k) sides
 
-  more_sides : (n k : ℕ) (old new : ByPlace) (sides : List Side) (scope : List Vertex) → AreMadeTo side me machines halves known owned n k old → IsAddedAround k old new sides scope
-      → new.sides ≡ map (sides_known side halves known) (range_with_len 0 (k + 1))
-  more_sides n k old new sides scope made added = more (sides_known side halves known) k old.sides new.sides sides made.sides added.to_sides added.are_sides
+  more_sides : (n k : ℕ) (old new : ByPlace) (sides : List Side) (scope : List Vertex) → AreMadeTo side many me machines halves known owned n k old → IsAddedAround k old new sides scope
+      → new.sides ≡ map (sides_known side many halves known) (range_with_len 0 (k + 1))
+  more_sides n k old new sides scope made added = more (sides_known side many halves known) k old.sides new.sides sides made.sides added.to_sides added.are_sides
 
-  more_part : (n k : ℕ) (old new : ByPlace) (sides : List Side) (scope : List Vertex) → AreMadeTo side me machines halves known owned n k old → IsAddedAround k old new sides scope
-      → map numbers_of new.part ≡ map (λ j. scope_numbers owned (vertex j) (sides_known side halves known j)) (range_with_len 0 (k + 1))
+  more_part : (n k : ℕ) (old new : ByPlace) (sides : List Side) (scope : List Vertex) → AreMadeTo side many me machines halves known owned n k old → IsAddedAround k old new sides scope
+      → map numbers_of new.part ≡ map (λ j. scope_numbers owned (vertex j) (sides_known side many halves known j)) (range_with_len 0 (k + 1))
   more_part n k old new sides scope made added =
-      more (λ j. scope_numbers owned (vertex j) (sides_known side halves known j)) k (map numbers_of old.part) (map numbers_of new.part) (numbers_of scope) made.part
+      more (λ j. scope_numbers owned (vertex j) (sides_known side many halves known j)) k (map numbers_of old.part) (map numbers_of new.part) (numbers_of scope) made.part
       (ap (map numbers_of) added.to_part ∙ map_push numbers_of old.part scope) (added.is_scope ∙ ap (scope_numbers owned (vertex k)) added.are_sides)
 
-  pub made_around : (n k : ℕ) (old new : ByPlace) (sides : List Side) (scope : List Vertex) → AreMadeTo side me machines halves known owned n k old → IsAddedAround k old new sides scope
-      → new.rows ≡ old.rows → new.parts ≡ old.parts → AreMadeTo side me machines halves known owned n (k + 1) new
+  pub made_around : (n k : ℕ) (old new : ByPlace) (sides : List Side) (scope : List Vertex) → AreMadeTo side many me machines halves known owned n k old → IsAddedAround k old new sides scope
+      → new.rows ≡ old.rows → new.parts ≡ old.parts → AreMadeTo side many me machines halves known owned n (k + 1) new
   made_around n k old new sides scope made added rows parts =
       record {
         rows = ap (λ (rs : Vec (Option (Vec Link Global)) Global). map links_of rs.items) rows ∙ made.rows;
@@ -54,20 +54,20 @@ module _ (side : Half → Side) (me : MachineNo) (machines : ℕ) (halves : List
       }
 
   pub made_own : (k : ℕ) (old new : ByPlace) (sides : List Side) (scope : List Vertex) (links : Vec Link Global) (takers : List MachineNo)
-      → AreMadeTo side me machines halves known owned k k old → IsAddedAround k old new sides scope
+      → AreMadeTo side many me machines halves known owned k k old → IsAddedAround k old new sides scope
       → new.rows.items ≡ old.rows.items ++ Some links ∷ [] → links.items ≡ links_from 0 (halves_known halves known k)
       → new.parts ≡ old.parts ++ takers ∷ [] → takers ≡ machines_of me machines sides
-      → AreMadeTo side me machines halves known owned (k + 1) (k + 1) new
+      → AreMadeTo side many me machines halves known owned (k + 1) (k + 1) new
   made_own k old new sides scope links takers made added rows are_links parts are_takers =
       record {
         rows = more (row_at halves known) k (map links_of old.rows.items) (map links_of new.rows.items) (links_of (Some links)) made.rows
             (ap (map links_of) rows ∙ map_push links_of old.rows.items (Some links)) (ap (λ (ls : List Link). Some ls) are_links);
-        parts = more (λ j. machines_of me machines (sides_known side halves known j)) k old.parts new.parts takers made.parts parts (are_takers ∙ ap (machines_of me machines) added.are_sides);
+        parts = more (λ j. machines_of me machines (sides_known side many halves known j)) k old.parts new.parts takers made.parts parts (are_takers ∙ ap (machines_of me machines) added.are_sides);
         sides = more_sides k k old new sides scope made added;
         part = more_part k k old new sides scope made added;
       }
 
-pub made_none : (side : Half → Side) (me : MachineNo) (machines : ℕ) (halves : List (List Half)) (known owned : List Vertex) (b : ByPlace)
-    → b.rows.items ≡ [] → b.parts ≡ [] → b.sides ≡ [] → b.part ≡ [] → AreMadeTo side me machines halves known owned 0 0 b
-made_none side me machines halves known owned b rows parts sides part =
+pub made_none : (side : Half → Side) (many : ℕ) (me : MachineNo) (machines : ℕ) (halves : List (List Half)) (known owned : List Vertex) (b : ByPlace)
+    → b.rows.items ≡ [] → b.parts ≡ [] → b.sides ≡ [] → b.part ≡ [] → AreMadeTo side many me machines halves known owned 0 0 b
+made_none side many me machines halves known owned b rows parts sides part =
     record { rows = ap (map links_of) rows; parts = parts; sides = sides; part = ap (map numbers_of) part }

@@ -1,8 +1,9 @@
 -- What was made by place is what `play` promises by vertex.
-use Rattle.std.proofs.Common.{◌≡◌, ℕ, ◌+◌, ◌<◌, ◌==◌, ◌&&◌, ◌||◌, ◌++◌, Bool, true, false, if◌then◌else◌, min, Option, Some, None, is_some, List, [], ◌∷◌, length, get_or, map, replicate, refl, sym, ap, ◌∙◌, subst, All, arith, inl, inr}
+use Rattle.std.proofs.Common.{◌≡◌, ℕ, ◌+◌, ◌<◌, ◌==◌, ◌&&◌, ◌||◌, ◌++◌, Bool, true, false, if◌then◌else◌, min, nat_lt, Result, Ok, Err, IfOk, Option, Some, None, is_some, List, [], ◌∷◌, length, get_or, slice_get, map, replicate, refl, sym, ap, ◌∙◌, subst, All, arith, inl, inr}
 use Rattle.std.specs.List.{filter, list_any, range_with_len}
 use Rattle.std.specs.List.Sorted.{IsPermutation}
-use Rattle.std.proofs.lemmas.Bool.{cases_lt, true≢false}
+use Rattle.std.proofs.lemmas.Bool.{cases_lt, le-ltb, lt-ltb, true≢false}
+use Rattle.std.proofs.lemmas.Option.{slice_get-get_or, slice_get_past}
 use Rattle.std.proofs.lemmas.List.{length-append, length-map, length-replicate, get_or_past, get_or_append_left, get_or-map}
 use Rattle.std.proofs.lemmas.List.FromFn.{get_or-map-range_with_len, length-map-range_with_len}
 use Rattle.std.proofs.lemmas.List.Folds.{list_any-append}
@@ -10,7 +11,6 @@ use Rattle.std.proofs.lemmas.List.Sorted.{All-permutation, IsPermutation-sym}
 use Rattle.std.proofs.lemmas.List.Elements.{All-nil, All-cons, All-map, All-filter, All-head, All-tail}
 use Rattle.gl_base.specs.declared.atoms.EdgeLine.{EdgeLine}
 use Rattle.gl_base.specs.declared.atoms.GhostLine.{GhostLine}
-use Rattle.gl_base.specs.declared.atoms.Lines.{Lines}
 use Rattle.gl_base.specs.declared.atoms.VertexLine.{VertexLine}
 use Rattle.gl_base.specs.declared.numbers.MachineNo.{MachineNo}
 use Rattle.gl_base.specs.declared.numbers.Vertex.{Vertex}
@@ -23,15 +23,16 @@ use Rattle.local_graph.specs.declared.playing.Beside.{Beside}
 use Rattle.local_graph.specs.declared.sides.Side.{Side}
 use Rattle.local_graph.specs.Lines.{half_of_line, halves_of_lines, line_out, line_into, links_from}
 use Rattle.local_graph.specs.Locals.{LocalView, AreTheirPlaces, at_place, got_at, place_of_vertex, is_own, links_at, sides_at, parts_at, part_at, machine_numbers}
-use Rattle.local_graph.specs.Played.{IsPlayedFrom, leads_to, meets, no_datum, side_of}
+use Rattle.local_graph.specs.Played.{IsMadeOf, leads_to, meets, no_datum, side_of, sides_kept}
 use Rattle.local_graph.specs.Inner.AtPlaces.{halves_known, stands_near, machines_of, row_at, scope_numbers, sides_known}
 use Rattle.local_graph.specs.Inner.Beside.{AreBeside}
-use Rattle.local_graph.specs.Inner.ByPlace.{AreHalvesOf, AreMadeTo, HaveEdgesBelow, known_vertices}
+use Rattle.local_graph.specs.Inner.ByPlace.{AreMadeTo, AreRowsOf, HaveEdgesBelow, LeadBack, known_vertices}
 use Rattle.local_graph.specs.Inner.Ends.{end_pairs}
 use Rattle.local_graph.specs.Inner.Kept.{HasAsMany, IsWellKept, links_of}
 use Rattle.local_graph.proofs.EndLemmas.{ends_at}
-use Rattle.local_graph.proofs.ListLemmas.{length-links}
+use Rattle.local_graph.proofs.ListLemmas.{kept_all, length-links}
 use Rattle.local_graph.proofs.RowLemmas.{own_place}
+use Rattle.local_graph.proofs.ScopeLemmas.{kept_any}
 
 -- the lists as they were made by place, from vertices and ghosts and the half-edges at each vertex
 pub record IsMade (me : MachineNo) (own : List VertexLine) (ghosts : List GhostLine) (outline : Outline) (halves : List (List Half)) (order : List VertexLine) (l : LocalView) : Type 0 where
@@ -44,9 +45,9 @@ pub record IsMade (me : MachineNo) (own : List VertexLine) (ghosts : List GhostL
   pub ids : l.ids ≡ map (λ v. v.id) order
   pub kept : l.kept ≡ replicate (length order) no_datum
   pub rows : l.rows ≡ map (row_at halves (known_vertices order ghosts)) (range_with_len 0 (length order))
-  pub parts : l.parts ≡ map (λ k. machines_of me outline.machines (sides_known (side_of me (length order) ghosts l.places) halves (known_vertices order ghosts) k)) (range_with_len 0 (length order))
-  pub sides : l.sides ≡ map (sides_known (side_of me (length order) ghosts l.places) halves (known_vertices order ghosts)) (range_with_len 0 (length (known_vertices order ghosts)))
-  pub part : map numbers_of l.part ≡ map (λ k. scope_numbers l.owned (get_or (known_vertices order ghosts) k (record { 0 = 0 })).0 (sides_known (side_of me (length order) ghosts l.places) halves (known_vertices order ghosts) k)) (range_with_len 0 (length (known_vertices order ghosts)))
+  pub parts : l.parts ≡ map (λ k. machines_of me outline.machines (sides_known (side_of me (length order) ghosts l.places) (length order) halves (known_vertices order ghosts) k)) (range_with_len 0 (length order))
+  pub sides : l.sides ≡ map (sides_known (side_of me (length order) ghosts l.places) (length order) halves (known_vertices order ghosts)) (range_with_len 0 (length (known_vertices order ghosts)))
+  pub part : map numbers_of l.part ≡ map (λ k. scope_numbers l.owned (get_or (known_vertices order ghosts) k (record { 0 = 0 })).0 (sides_known (side_of me (length order) ghosts l.places) (length order) halves (known_vertices order ghosts) k)) (range_with_len 0 (length (known_vertices order ghosts)))
   pub numbers : l.numbers ≡ replicate outline.edges 0
 
 -- the lists with these parts
@@ -68,10 +69,10 @@ joined me owned places lists beside =
 
 pub joined_made : (me : MachineNo) (own : List VertexLine) (ghosts : List GhostLine) (outline : Outline) (halves : List (List Half)) (order : List VertexLine) (known owned : List Vertex) (places : List (Option ℕ)) (lists : ByPlace) (beside : Beside)
     → known ≡ known_vertices order ghosts → owned ≡ map (λ v. v.vertex) own → IsPermutation own order → AreTheirPlaces places known → All (λ v. v.0 < outline.vertices) known
-    → AreMadeTo (side_of me (length order) ghosts places) me outline.machines halves known owned (length order) (length known) lists → AreBeside ghosts order outline.edges beside
+    → AreMadeTo (side_of me (length order) ghosts places) (length order) me outline.machines halves known owned (length order) (length known) lists → AreBeside ghosts order outline.edges beside
     → IsMade me own ghosts outline halves order (joined me owned places lists beside)
 joined_made me own ghosts outline halves order known owned places lists beside is is_owned same stand below made are =
-    let made_there = subst (λ (ks : List Vertex). AreMadeTo (side_of me (length order) ghosts places) me outline.machines halves ks owned (length order) (length ks) lists) is made in
+    let made_there = subst (λ (ks : List Vertex). AreMadeTo (side_of me (length order) ghosts places) (length order) me outline.machines halves ks owned (length order) (length ks) lists) is made in
     record {
       machine = refl;
       owned = is_owned;
@@ -87,6 +88,11 @@ joined_made me own ghosts outline halves order known owned places lists beside i
       part = made_there.part;
       numbers = are.numbers;
     }
+
+-- what follows of what was made
+pub ok_to : {X E : Type 0} (r : Result X E) (P Q : X → Type 0) → ((x : X) → P x → Q x) → IfOk r P → IfOk r Q
+ok_to (Ok x) P Q to is = to x is
+ok_to (Err e) P Q to is = tt
 
 some_place : (o : Option ℕ) → is_some o ≡ true → (k : ℕ) × (o ≡ Some k)
 some_place None is = absurd (true≢false (sym is))
@@ -171,18 +177,13 @@ line_back directed e v x =
     swapped false false false true = refl
     swapped false false false false = refl
 
-halves_back : (directed : Bool) (edges : List EdgeLine) (v x : ℕ) → list_any (λ (h : Half). h.other.0 == x) (halves_of_lines directed edges v) ≡ list_any (λ (h : Half). h.other.0 == v) (halves_of_lines directed edges x)
+pub halves_back : (directed : Bool) (edges : List EdgeLine) (v x : ℕ) → list_any (λ (h : Half). h.other.0 == x) (halves_of_lines directed edges v) ≡ list_any (λ (h : Half). h.other.0 == v) (halves_of_lines directed edges x)
 halves_back directed [] v x = refl
 halves_back directed (e ∷ edges) v x =
     list_any-append (λ (h : Half). h.other.0 == x) (half_of_line directed v e) (halves_of_lines directed edges v)
     ∙ ap (λ b. b || list_any (λ (h : Half). h.other.0 == x) (halves_of_lines directed edges v)) (line_back directed e v x)
     ∙ ap (λ b. list_any (λ (h : Half). h.other.0 == v) (half_of_line directed x e) || b) (halves_back directed edges v x)
     ∙ sym (list_any-append (λ (h : Half). h.other.0 == v) (half_of_line directed x e) (halves_of_lines directed edges x))
-
-sides_any : (me : MachineNo) (many : ℕ) (ghosts : List GhostLine) (places : List (Option ℕ)) (x : ℕ) (hs : List Half)
-    → list_any (λ (s : Side). s.other.0 == x) (map (side_of me many ghosts places) hs) ≡ list_any (λ (h : Half). h.other.0 == x) hs
-sides_any me many ghosts places x [] = refl
-sides_any me many ghosts places x (h ∷ hs) = ap (λ b. (h.other.0 == x) || b) (sides_any me many ghosts places x hs)
 
 module _ (me : MachineNo) (own : List VertexLine) (ghosts : List GhostLine) (outline : Outline) (halves : List (List Half)) (order : List VertexLine) (l : LocalView) (made : IsMade me own ghosts outline halves order l) where
   abbrev known : List Vertex
@@ -206,16 +207,27 @@ module _ (me : MachineNo) (own : List VertexLine) (ghosts : List GhostLine) (out
   own_inside : (v k : ℕ) → place_of_vertex l.places v ≡ Some k → is_own l v ≡ true → k < length order
   own_inside v k at own = subst (λ (n : ℕ). k < n) many_kept (own_place l.kept (place_of_vertex l.places v) k at own)
 
-  sides_here : (k : ℕ) → k < length known → get_or l.sides k [] ≡ sides_known as_side halves known k
+  sides_here : (k : ℕ) → k < length known → get_or l.sides k [] ≡ sides_known as_side (length order) halves known k
   sides_here k low =
-      ap (λ (ss : List (List Side)). get_or ss k []) made.sides ∙ get_or-map-range_with_len (sides_known as_side halves known) 0 (length known) k k [] low (omega arith)
+      ap (λ (ss : List (List Side)). get_or ss k []) made.sides ∙ get_or-map-range_with_len (sides_known as_side (length order) halves known) 0 (length known) k k [] low (omega arith)
 
   -- the half-edges at the vertex with place k
   halves_here : (v k : ℕ) → place_of_vertex l.places v ≡ Some k → halves_known halves known k ≡ get_or halves v []
   halves_here v k at = ap (λ (n : ℕ). get_or halves n []) (made.places.stands v k no_vertex at)
 
-  sides_are : (v k : ℕ) → place_of_vertex l.places v ≡ Some k → sides_at l v ≡ map as_side (get_or halves v [])
-  sides_are v k at = ap (λ o. at_place l.sides o []) at ∙ sides_here k (made.places.inside v k at) ∙ ap (map as_side) (halves_here v k at)
+  sides_there : (v k : ℕ) → place_of_vertex l.places v ≡ Some k → sides_at l v ≡ sides_known as_side (length order) halves known k
+  sides_there v k at = ap (λ o. at_place l.sides o []) at ∙ sides_here k (made.places.inside v k at)
+
+  sides_are : (v k : ℕ) → place_of_vertex l.places v ≡ Some k → sides_at l v ≡ sides_kept (nat_lt k (length order)) (length order) (map as_side (get_or halves v []))
+  sides_are v k at = sides_there v k at ∙ ap (λ (hs : List Half). sides_kept (nat_lt k (length order)) (length order) (map as_side hs)) (halves_here v k at)
+
+  own_at : (v k : ℕ) → place_of_vertex l.places v ≡ Some k → is_own l v ≡ nat_lt k (length order)
+  own_at v k at =
+      ap (λ o. is_some (got_at l.kept o)) at
+      ∙ elim (cases_lt k (length order)) as (λ _. is_some (slice_get l.kept k) ≡ nat_lt k (length order)) [
+        | inl low ↦ ap is_some (slice_get-get_or l.kept k no_datum (omega (arith, many_kept))) ∙ sym (lt-ltb k (length order) low)
+        | inr past ↦ ap is_some (slice_get_past l.kept k (omega (arith, many_kept))) ∙ sym (le-ltb k (length order) past)
+      ]
 
   row_is : (v k : ℕ) → place_of_vertex l.places v ≡ Some k → k < length order → links_at l v ≡ Some (links_from 0 (get_or halves v []))
   row_is v k at low =
@@ -225,22 +237,22 @@ module _ (me : MachineNo) (own : List VertexLine) (ghosts : List GhostLine) (out
 
   parts_is : (v k : ℕ) → place_of_vertex l.places v ≡ Some k → k < length order → machine_numbers (parts_at l v) ≡ filter (meets me (sides_at l v)) (range_with_len 0 outline.machines)
   parts_is v k at low =
-      let all : ℕ → List MachineNo = λ j. machines_of me outline.machines (sides_known as_side halves known j) in
+      let all : ℕ → List MachineNo = λ j. machines_of me outline.machines (sides_known as_side (length order) halves known j) in
       ap (λ o. machine_numbers (at_place l.parts o [])) at
       ∙ ap machine_numbers (ap (λ (ps : List (List MachineNo)). get_or ps k []) made.parts ∙ get_or-map-range_with_len all 0 (length order) k k [] low (omega arith))
-      ∙ numbers_back (filter (meets me (sides_known as_side halves known k)) (range_with_len 0 outline.machines))
-      ∙ ap (λ (ss : List Side). filter (meets me ss) (range_with_len 0 outline.machines)) (ap (map as_side) (halves_here v k at) ∙ sym (sides_are v k at))
+      ∙ numbers_back (filter (meets me (sides_known as_side (length order) halves known k)) (range_with_len 0 outline.machines))
+      ∙ ap (λ (ss : List Side). filter (meets me ss) (range_with_len 0 outline.machines)) (sym (sides_there v k at))
 
   scope_at : (v k : ℕ) → place_of_vertex l.places v ≡ Some k → numbers_of (part_at l v) ≡ scope_numbers l.owned v (sides_at l v)
   scope_at v k at =
       let low = made.places.inside v k at in
-      let all : ℕ → List ℕ = λ j. scope_numbers l.owned (get_or known j no_vertex).0 (sides_known as_side halves known j) in
+      let all : ℕ → List ℕ = λ j. scope_numbers l.owned (get_or known j no_vertex).0 (sides_known as_side (length order) halves known j) in
       let many : length l.part ≡ length known = sym (length-map l.part numbers_of) ∙ ap length made.part ∙ length-map-range_with_len all 0 (length known) in
       ap (λ o. numbers_of (at_place l.part o [])) at
       ∙ sym (get_or-map numbers_of l.part k [] [] (omega arith))
       ∙ ap (λ (ns : List (List ℕ)). get_or ns k []) made.part ∙ get_or-map-range_with_len all 0 (length known) k k [] low (omega arith)
-      ∙ ap (λ (n : ℕ). scope_numbers l.owned n (sides_known as_side halves known k)) (made.places.stands v k no_vertex at)
-      ∙ ap (scope_numbers l.owned v) (ap (map as_side) (halves_here v k at) ∙ sym (sides_are v k at))
+      ∙ ap (λ (n : ℕ). scope_numbers l.owned n (sides_known as_side (length order) halves known k)) (made.places.stands v k no_vertex at)
+      ∙ ap (scope_numbers l.owned v) (sym (sides_there v k at))
 
   order_known : All (λ (v : VertexLine). is_some (place_of_vertex l.places v.vertex.0) ≡ true) order
   order_known = λ k d low.
@@ -262,11 +274,8 @@ module _ (me : MachineNo) (own : List VertexLine) (ghosts : List GhostLine) (out
   low : (v k : ℕ) → place_of_vertex l.places v ≡ Some k → v < outline.vertices
   low v k at = subst (λ (n : ℕ). n < outline.vertices) (made.places.stands v k no_vertex at) (made.below k no_vertex (made.places.inside v k at))
 
-  -- the half-edges are those of lines
-  module _ (lines : Lines) (vertices : lines.vertices.items ≡ own) (are_ghosts : lines.ghosts.items ≡ ghosts) (are : AreHalvesOf lines outline halves) where
-    abbrev at_vertex : ℕ → List Half
-    at_vertex v = halves_of_lines outline.directed lines.edges.items v
-
+  -- the rows have these half-edges
+  module _ (few : length order < 4294967295) (at_vertex : ℕ → List Half) (are : AreRowsOf at_vertex outline.vertices halves) (back : LeadBack at_vertex) where
     part_is : (v k : ℕ) → place_of_vertex l.places v ≡ Some k → numbers_of (part_at l v) ≡ filter (leads_to l v) (numbers_of l.owned)
     part_is v k at =
         scope_at v k at
@@ -275,26 +284,34 @@ module _ (me : MachineNo) (own : List VertexLine) (ghosts : List GhostLine) (out
         same : (x : ℕ) → is_some (place_of_vertex l.places x) ≡ true → stands_near v (sides_at l v) x ≡ leads_to l v x
         same x there =
             let p = some_place (place_of_vertex l.places x) there in
+            let many = length order in
             ap (λ b. (x == v) || b)
-            (ap (list_any (λ (s : Side). s.other.0 == x)) (sides_are v k at) ∙ sides_any me (length order) ghosts l.places x (get_or halves v [])
-            ∙ ap (list_any (λ (h : Half). h.other.0 == x)) (are v (low v k at)) ∙ halves_back outline.directed lines.edges.items v x
-            ∙ ap (list_any (λ (h : Half). h.other.0 == v)) (sym (are x (low x p.0 p.1)))
-            ∙ sym (ap (list_any (λ (s : Side). s.other.0 == v)) (sides_are x p.0 p.1) ∙ sides_any me (length order) ghosts l.places v (get_or halves x [])))
+            (ap (list_any (λ (s : Side). s.other.0 == x)) (sides_are v k at) ∙ kept_any me many ghosts l.places few (nat_lt k many) x p.0 p.1 (get_or halves v [])
+            ∙ ap (λ b. (nat_lt k many || nat_lt p.0 many) && b)
+            (ap (list_any (λ (h : Half). h.other.0 == x)) (are v (low v k at)) ∙ back v x ∙ ap (list_any (λ (h : Half). h.other.0 == v)) (sym (are x (low x p.0 p.1))))
+            ∙ ap (λ b. b && list_any (λ (h : Half). h.other.0 == v) (get_or halves x [])) (or_turned (nat_lt k many) (nat_lt p.0 many))
+            ∙ sym (ap (list_any (λ (s : Side). s.other.0 == v)) (sides_are x p.0 p.1) ∙ kept_any me many ghosts l.places few (nat_lt p.0 many) v k at (get_or halves x [])))
+          where
+            or_turned : (a b : Bool) → (a || b) ≡ (b || a)
+            or_turned true true = refl
+            or_turned true false = refl
+            or_turned false true = refl
+            or_turned false false = refl
 
-    pub made_played : IsPlayedFrom me lines outline l
+    pub made_played : IsMadeOf me own ghosts at_vertex outline.machines outline.edges l
     made_played =
         record {
           machine = made.machine;
-          owned = made.owned ∙ ap (map (λ (v : VertexLine). v.vertex)) (sym vertices);
-          ghosts = made.are_ghosts ∙ sym are_ghosts;
+          owned = made.owned;
+          ghosts = made.are_ghosts;
           order = order;
-          same = subst (λ (vs : List VertexLine). IsPermutation vs order) (sym vertices) made.same;
-          places = subst (λ (gs : List GhostLine). AreTheirPlaces l.places (known_vertices order gs)) (sym are_ghosts) made.places;
+          same = made.same;
+          places = made.places;
           ids = made.ids;
           kept = made.kept;
           sides = λ v placed. let p = some_place (place_of_vertex l.places v) placed in
-              sides_are v p.0 p.1 ∙ ap (map as_side) (are v (low v p.0 p.1))
-              ∙ ap (λ (gs : List GhostLine). map (side_of me (length order) gs l.places) (at_vertex v)) (sym are_ghosts);
+              sides_are v p.0 p.1 ∙ ap (λ (hs : List Half). sides_kept (nat_lt p.0 (length order)) (length order) (map as_side hs)) (are v (low v p.0 p.1))
+              ∙ ap (λ b. sides_kept b (length order) (map as_side (at_vertex v))) (sym (own_at v p.0 p.1));
           rows = λ v own. let p = some_place (place_of_vertex l.places v) (own_known v own) in
               row_is v p.0 p.1 (own_inside v p.0 p.1 own) ∙ ap (λ (hs : List Half). Some (links_from 0 hs)) (are v (low v p.0 p.1));
           parts = λ v own. let p = some_place (place_of_vertex l.places v) (own_known v own) in parts_is v p.0 p.1 (own_inside v p.0 p.1 own);
@@ -315,28 +332,32 @@ module _ (me : MachineNo) (own : List VertexLine) (ghosts : List GhostLine) (out
         inside = λ x k at. let inside = made.places.inside x k at in omega (arith, many_sides);
         apart = apart;
         own = omega (arith, many_kept, many_sides, long);
-        part = sym (length-map l.part numbers_of) ∙ ap length made.part ∙ length-map-range_with_len (λ (j : ℕ). scope_numbers l.owned (get_or known j no_vertex).0 (sides_known as_side halves known j)) 0 (length known) ∙ sym many_sides;
+        part = sym (length-map l.part numbers_of) ∙ ap length made.part ∙ length-map-range_with_len (λ (j : ℕ). scope_numbers l.owned (get_or known j no_vertex).0 (sides_known as_side (length order) halves known j)) 0 (length known) ∙ sym many_sides;
         ids = ap length made.ids ∙ length-map order (λ (v : VertexLine). v.id) ∙ sym many_kept;
         rows = many_rows ∙ sym many_kept;
-        parts = ap length made.parts ∙ length-map-range_with_len (λ (j : ℕ). machines_of me outline.machines (sides_known as_side halves known j)) 0 (length order) ∙ sym many_kept;
+        parts = ap length made.parts ∙ length-map-range_with_len (λ (j : ℕ). machines_of me outline.machines (sides_known as_side (length order) halves known j)) 0 (length order) ∙ sym many_kept;
         fit = λ k inside.
             let own_low : k < length order = omega (arith, many_rows) in
             let side_low : k < length known = omega (arith, long) in
             let row : get_or l.rows k None ≡ row_at halves known k =
             ap (λ rows. get_or rows k None) made.rows ∙ get_or-map-range_with_len (row_at halves known) 0 (length order) k k None own_low (omega arith) in
+            let all : sides_known as_side (length order) halves known k ≡ map as_side (halves_known halves known k) =
+            ap (λ b. sides_kept b (length order) (map as_side (halves_known halves known k))) (lt-ltb k (length order) own_low) ∙ kept_all (length order) (map as_side (halves_known halves known k)) in
             let many : length (links_from 0 (halves_known halves known k)) ≡ length (get_or l.sides k []) =
-            length-links 0 (halves_known halves known k) ∙ sym (ap length (sides_here k side_low) ∙ length-map (halves_known halves known k) as_side) in
+            length-links 0 (halves_known halves known k) ∙ sym (ap length (sides_here k side_low ∙ all) ∙ length-map (halves_known halves known k) as_side) in
             subst (HasAsMany (length (get_or l.sides k []))) (sym row) many;
         edges = λ k. elim (cases_lt k (length known)) [
           | inl inside ↦
               let listed = subst (λ (m : ℕ). All (λ (h : Half). h.edge.0 < m) (halves_known halves known k)) (sym many_numbers) (edges (get_or known k no_vertex).0 (made.below k no_vertex inside)) in
-              subst (All (λ (s : Side). s.edge.0 < length l.numbers)) (sym (sides_here k inside)) (All-map (λ (s : Side). s.edge.0 < length l.numbers) as_side (halves_known halves known k) listed)
+              subst (All (λ (s : Side). s.edge.0 < length l.numbers)) (sym (sides_here k inside))
+              (All-filter (λ (s : Side). nat_lt k (length order) || nat_lt s.place (length order)) (λ (s : Side). s.edge.0 < length l.numbers) (map as_side (halves_known halves known k))
+              (All-map (λ (s : Side). s.edge.0 < length l.numbers) as_side (halves_known halves known k) listed))
           | inr past ↦ subst (All (λ (s : Side). s.edge.0 < length l.numbers)) (sym (get_or_past l.sides k [] (omega (arith, many_sides)))) (All-nil (λ (s : Side). s.edge.0 < length l.numbers))
         ];
       }
     where
       many_sides : length l.sides ≡ length known
-      many_sides = ap length made.sides ∙ length-map-range_with_len (sides_known as_side halves known) 0 (length known)
+      many_sides = ap length made.sides ∙ length-map-range_with_len (sides_known as_side (length order) halves known) 0 (length known)
 
       many_rows : length l.rows ≡ length order
       many_rows = ap length made.rows ∙ length-map-range_with_len (row_at halves known) 0 (length order)

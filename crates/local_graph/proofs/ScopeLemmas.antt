@@ -4,7 +4,7 @@ use Rattle.std.specs.List.{list_any}
 use Rattle.std.specs.List.Sorted.{IsPermutation}
 use Rattle.std.proofs.lemmas.Cmp.{nat_eq_equiv}
 use Rattle.std.proofs.lemmas.List.Sorted.{IsPermutation-map, list_any-IsPermutation}
-use Rattle.std.proofs.lemmas.Bool.{cases_eq, cases_lt, ne_eqb, eqb-true, le-ltb, lt-ltb, false≢true}
+use Rattle.std.proofs.lemmas.Bool.{cases_eq, cases_lt, eq-eqb, ne_eqb, eqb-true, le-ltb, lt-ltb, false≢true}
 use Rattle.std.proofs.lemmas.List.{get_or-map, get_or_append_left, get_or_default, length-map}
 use Rattle.std.proofs.lemmas.List.Elements.{All-nil, All-cons, All-head, All-tail}
 use Rattle.std.proofs.lemmas.List.Folds.{list_any-append}
@@ -20,7 +20,7 @@ use Rattle.graph_core.specs.Distinct.{AreDistinctOf}
 use Rattle.graph_core.proofs.NeighbourLemmas.{rising_same}
 use Rattle.local_graph.specs.declared.sides.Side.{Side}
 use Rattle.local_graph.specs.Locals.{AreTheirPlaces, place_of_vertex}
-use Rattle.local_graph.specs.Played.{numbers_of, place_or, side_of}
+use Rattle.local_graph.specs.Played.{numbers_of, place_or, side_of, sides_kept}
 use Rattle.local_graph.specs.Inner.ByPlace.{known_vertices}
 use Rattle.local_graph.specs.Inner.AtPlaces.{ArePlain, IsSideTo, number_among, is_first_place, stands_near, scope_numbers}
 
@@ -121,6 +121,47 @@ place_there many (Some k) few = elim (cases_lt k many) [
   | inl low ↦ lt-ltb (min k 4294967295) many (omega arith) ∙ sym (lt-ltb k many low)
   | inr past ↦ le-ltb (min k 4294967295) many (omega arith) ∙ sym (le-ltb k many past)
 ]
+
+-- a side to x is kept where the vertex is an own one, or x has one of the first places
+module _ (me : MachineNo) (many : ℕ) (ghosts : List GhostLine) (places : List (Option ℕ)) (few : many < 4294967295) (is_own : Bool) (x k : ℕ) (at : place_of_vertex places x ≡ Some k) where
+  abbrev as_side : Half → Side
+  as_side = side_of me many ghosts places
+
+  abbrev to_side : Side → Bool
+  to_side s = s.other.0 == x
+
+  abbrev to_half : Half → Bool
+  to_half h = h.other.0 == x
+
+  abbrev kept : List Half → List Side
+  kept hs = sides_kept is_own many (map as_side hs)
+
+  abbrev may : Bool
+  may = is_own || nat_lt k many
+
+  pub kept_any : (hs : List Half) → list_any to_side (kept hs) ≡ (may && list_any to_half hs)
+  kept_any [] = none may
+    where
+      none : (a : Bool) → false ≡ (a && false)
+      none true = refl
+      none false = refl
+  kept_any (h ∷ hs) = elim (cases_eq h.other.0 x) [
+    | inl same ↦
+        let there : nat_lt (as_side h).place many ≡ nat_lt k many =
+        ap (λ (y : ℕ). nat_lt (place_or 4294967295 (place_of_vertex places y)) many) same ∙ ap (λ o. nat_lt (place_or 4294967295 o) many) at ∙ place_there many (Some k) few in
+        ap (λ b. list_any to_side (if is_own || b then as_side h ∷ kept hs else kept hs)) there ∙ on may (eq-eqb h.other.0 x same) (kept_any hs)
+    | inr other ↦ off (is_own || nat_lt (as_side h).place many) (ne_eqb h.other.0 x other) (kept_any hs)
+  ]
+    where
+      on : (b : Bool) → (h.other.0 == x) ≡ true → list_any to_side (kept hs) ≡ (b && list_any to_half hs)
+          → list_any to_side (if b then as_side h ∷ kept hs else kept hs) ≡ (b && ((h.other.0 == x) || list_any to_half hs))
+      on true is rest = ap (λ c. c || list_any to_side (kept hs)) is ∙ sym (ap (λ c. c || list_any to_half hs) is)
+      on false is rest = rest
+
+      off : (t : Bool) → (h.other.0 == x) ≡ false → list_any to_side (kept hs) ≡ (may && list_any to_half hs)
+          → list_any to_side (if t then as_side h ∷ kept hs else kept hs) ≡ (may && ((h.other.0 == x) || list_any to_half hs))
+      off true is rest = ap (λ c. c || list_any to_side (kept hs)) is ∙ rest ∙ ap (λ c. may && c) (sym (ap (λ c. c || list_any to_half hs) is))
+      off false is rest = rest ∙ ap (λ c. may && c) (sym (ap (λ c. c || list_any to_half hs) is))
 
 module _ (places : List (Option ℕ)) (many : ℕ) (few : many < 4294967295) (x : ℕ) where
   abbrev here : Bool

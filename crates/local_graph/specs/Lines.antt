@@ -2,6 +2,7 @@
 use Rattle.std.specs.Prelude.{ℕ, suc, ◌==◌, Bool, true, false, not, if◌then◌else◌, List, [], ◌∷◌, ◌++◌}
 use Rattle.std.specs.List.{flat_map}
 use Rattle.gl_base.specs.declared.atoms.EdgeLine.{EdgeLine}
+use Rattle.graph_core.specs.Halves.{DataHalf}
 use Rattle.graph_core.specs.declared.halves.Half.{Half}
 use Rattle.update_api.specs.declared.links.Direction.{Direction}
 use Rattle.update_api.specs.declared.links.Direction.TheVariants.{Out, Into, Both}
@@ -22,6 +23,10 @@ half_of_line directed v e = (if e.from.0 == v then line_out directed e ∷ [] el
 -- the edges of lines at v, in their order
 abbrev pub halves_of_lines : Bool → List EdgeLine → ℕ → List Half
 halves_of_lines directed edges v = flat_map (half_of_line directed v) edges
+
+-- a half-edge of a graph, as machines have it
+abbrev pub half_of : DataHalf → Half
+half_of h = record { edge = record { 0 = h.edge }; other = record { 0 = h.other }; weight = h.weight; out = h.out; into = h.into }
 
 -- how an edge leads that leads out of the vertex, into it, or both
 abbrev pub direction_of : Bool → Bool → Direction

@@ -11,7 +11,9 @@ use Rattle.gl_base.specs.declared.scopes.Datum.{Datum}
 use Rattle.graph_core.specs.declared.halves.Half.{Half}
 use Rattle.local_graph.specs.declared.outlines.Outline.{Outline}
 use Rattle.local_graph.specs.declared.sides.Side.{Side}
-use Rattle.local_graph.specs.Lines.{halves_of_lines, links_from}
+use Rattle.graph_core.specs.DataGraph.{DataGraph}
+use Rattle.graph_core.specs.Halves.{halves_of}
+use Rattle.local_graph.specs.Lines.{half_of, halves_of_lines, links_from}
 use Rattle.local_graph.specs.Locals.{LocalView, AreTheirPlaces, place_of_vertex, is_placed, is_own, links_at, sides_at, parts_at, part_at, machine_numbers}
 
 -- the machine that has the atom of a ghost, where each machine has the atom of its own number
@@ -46,22 +48,37 @@ leads_to l v x = x == v || list_any (λ s. s.other.0 == v) (sides_at l x)
 abbrev pub no_datum : Datum
 no_datum = record { value = 0; version = 0; mark = 0 }
 
--- the lists are made from these lines
-pub record IsPlayedFrom (me : MachineNo) (lines : Lines) (outline : Outline) (l : LocalView) : Type 0 where
+-- those sides of a vertex that a machine keeps, where its own vertices have the first so many places: each one of an own vertex, and of
+-- a ghost those that lead to an own vertex
+abbrev pub sides_kept : Bool → ℕ → List Side → List Side
+sides_kept is_own many sides = filter (λ s. is_own || nat_lt s.place many) sides
+
+-- the half-edges at a vertex of a graph, as machines have them
+abbrev pub graph_halves : DataGraph → ℕ → List Half
+graph_halves g v = map half_of (halves_of g v)
+
+-- The lists are made from the lines of the own vertices and of the ghosts, and the half-edges at each vertex, with so many machines and
+-- edges.
+pub record IsMadeOf (me : MachineNo) (own : List VertexLine) (beside : List GhostLine) (halves : ℕ → List Half) (machines edges : ℕ) (l : LocalView) : Type 0 where
   pub machine : l.me ≡ me
-  pub owned : l.owned ≡ map (λ v. v.vertex) lines.vertices.items
-  pub ghosts : l.ghosts ≡ lines.ghosts.items
+  pub owned : l.owned ≡ map (λ v. v.vertex) own
+  pub ghosts : l.ghosts ≡ beside
   -- the places are those of the own vertices in some order, and of the ghosts behind them
   pub order : List VertexLine
-  pub same : IsPermutation lines.vertices.items order
-  pub places : AreTheirPlaces l.places (map (λ v. v.vertex) order ++ map (λ g. g.vertex) lines.ghosts.items)
+  pub same : IsPermutation own order
+  pub places : AreTheirPlaces l.places (map (λ v. v.vertex) order ++ map (λ g. g.vertex) beside)
   pub ids : l.ids ≡ map (λ v. v.id) order
   pub kept : l.kept ≡ replicate (length order) no_datum
-  -- the edges at each vertex are those that the lines have there, in their order
+  -- the edges at each vertex are those that stand there, in their order; those at a ghost are those that lead to an own vertex
   pub sides : (v : ℕ) → is_placed l v ≡ true →
-      sides_at l v ≡ map (side_of me (length order) lines.ghosts.items l.places) (halves_of_lines outline.directed lines.edges.items v)
-  pub rows : (v : ℕ) → is_own l v ≡ true → links_at l v ≡ Some (links_from 0 (halves_of_lines outline.directed lines.edges.items v))
+      sides_at l v ≡ sides_kept (is_own l v) (length order) (map (side_of me (length order) beside l.places) (halves v))
+  pub rows : (v : ℕ) → is_own l v ≡ true → links_at l v ≡ Some (links_from 0 (halves v))
   -- the machines of a scope, and the own vertices of a scope, ascending
-  pub parts : (v : ℕ) → is_own l v ≡ true → machine_numbers (parts_at l v) ≡ filter (meets me (sides_at l v)) (range_with_len 0 outline.machines)
+  pub parts : (v : ℕ) → is_own l v ≡ true → machine_numbers (parts_at l v) ≡ filter (meets me (sides_at l v)) (range_with_len 0 machines)
   pub part : (v : ℕ) → is_placed l v ≡ true → numbers_of (part_at l v) ≡ filter (leads_to l v) (numbers_of l.owned)
-  pub numbers : l.numbers ≡ replicate outline.edges 0
+  pub numbers : l.numbers ≡ replicate edges 0
+
+-- the lists are made from these lines
+abbrev pub IsPlayedFrom : MachineNo → Lines → Outline → LocalView → Type 0
+IsPlayedFrom me lines outline l =
+    IsMadeOf me lines.vertices.items lines.ghosts.items (halves_of_lines outline.directed lines.edges.items) outline.machines outline.edges l

@@ -1,7 +1,7 @@
 //! What a machine keeps by place, made one place behind another.
 ghost use Rattle.std.specs.Prelude.{◌≡◌, ◌<◌, ◌≤◌, ◌++◌, ◌∷◌, true, [], Some, length, map, slice_index_or, IfOk, OnOk};
 ghost use Rattle.std.specs.List.{All};
-ghost use Rattle.local_graph.specs.Played.{numbers_of, side_of};
+ghost use Rattle.local_graph.specs.Played.{numbers_of, side_of, sides_kept};
 ghost use Rattle.local_graph.specs.Inner.AtPlaces.{ArePlain, scope_numbers};
 ghost use Rattle.local_graph.specs.Inner.ByPlace.{AreMadeTo};
 
@@ -67,7 +67,7 @@ pub fn make_by_place(
     requires few { standing.now.many < 4294967295 }
     requires below { All (λ v. v.0 < length sources.now.halves.now) sources.now.known.now }
     requires plain { sources.now.is_plain ≡ true → ArePlain sources.now.owned.now standing.now.many standing.now.places.now }
-    ensures { IfOk result (λ lists. AreMadeTo (side_of standing.now.me standing.now.many standing.now.ghosts.now standing.now.places.now) standing.now.me sources.now.machines sources.now.halves.now sources.now.known.now sources.now.owned.now standing.now.many (length sources.now.known.now) lists) }
+    ensures { IfOk result (λ lists. AreMadeTo (side_of standing.now.me standing.now.many standing.now.ghosts.now standing.now.places.now) standing.now.many standing.now.me sources.now.machines sources.now.halves.now sources.now.known.now sources.now.owned.now standing.now.many (length sources.now.known.now) lists) }
 {
     let mut lists = no_lists(alloc, sources.known.len(), standing.many, room)?;
     let mut draft = Draft {
@@ -104,13 +104,13 @@ fn add_own(
     requires few { standing.now.many < 4294967295 }
     requires below { All (λ v. v.0 < length sources.now.halves.now) sources.now.known.now }
     requires plain { sources.now.is_plain ≡ true → ArePlain sources.now.owned.now standing.now.many standing.now.places.now }
-    requires made { AreMadeTo (side_of standing.now.me standing.now.many standing.now.ghosts.now standing.now.places.now) standing.now.me sources.now.machines sources.now.halves.now sources.now.known.now sources.now.owned.now 0 0 lists.old }
-    ensures { OnOk result (AreMadeTo (side_of standing.now.me standing.now.many standing.now.ghosts.now standing.now.places.now) standing.now.me sources.now.machines sources.now.halves.now sources.now.known.now sources.now.owned.now standing.now.many standing.now.many lists.new) }
+    requires made { AreMadeTo (side_of standing.now.me standing.now.many standing.now.ghosts.now standing.now.places.now) standing.now.many standing.now.me sources.now.machines sources.now.halves.now sources.now.known.now sources.now.owned.now 0 0 lists.old }
+    ensures { OnOk result (AreMadeTo (side_of standing.now.me standing.now.many standing.now.ghosts.now standing.now.places.now) standing.now.many standing.now.me sources.now.machines sources.now.halves.now sources.now.known.now sources.now.owned.now standing.now.many standing.now.many lists.new) }
 {
     for place in 0..standing.many {
         let v = sources.known[place];
         let halves = sources.row(v);
-        draft.fill(v, halves, sources, standing)?;
+        draft.fill(v, halves, true, sources, standing)?;
         fill_machines(
             &mut draft.machines,
             &draft.sides,
@@ -134,33 +134,35 @@ fn add_ghosts(
     requires few { standing.now.many < 4294967295 }
     requires below { All (λ v. v.0 < length sources.now.halves.now) sources.now.known.now }
     requires plain { sources.now.is_plain ≡ true → ArePlain sources.now.owned.now standing.now.many standing.now.places.now }
-    requires made { AreMadeTo (side_of standing.now.me standing.now.many standing.now.ghosts.now standing.now.places.now) standing.now.me sources.now.machines sources.now.halves.now sources.now.known.now sources.now.owned.now standing.now.many standing.now.many lists.old }
-    ensures { OnOk result (AreMadeTo (side_of standing.now.me standing.now.many standing.now.ghosts.now standing.now.places.now) standing.now.me sources.now.machines sources.now.halves.now sources.now.known.now sources.now.owned.now standing.now.many (length sources.now.known.now) lists.new) }
+    requires made { AreMadeTo (side_of standing.now.me standing.now.many standing.now.ghosts.now standing.now.places.now) standing.now.many standing.now.me sources.now.machines sources.now.halves.now sources.now.known.now sources.now.owned.now standing.now.many standing.now.many lists.old }
+    ensures { OnOk result (AreMadeTo (side_of standing.now.me standing.now.many standing.now.ghosts.now standing.now.places.now) standing.now.many standing.now.me sources.now.machines sources.now.halves.now sources.now.known.now sources.now.owned.now standing.now.many (length sources.now.known.now) lists.new) }
 {
     for place in standing.many..sources.known.len() {
         let v = sources.known[place];
         let halves = sources.row(v);
-        draft.fill(v, halves, sources, standing)?;
+        draft.fill(v, halves, false, sources, standing)?;
         lists.push_around(draft)?;
     }
     Ok(())
 }
 
 impl Draft {
-    /// The sides and the own vertices of the scope of a vertex with these half-edges.
+    /// The sides and the own vertices of the scope of a vertex with these half-edges, an own one or a ghost.
     fn fill(
         &mut self,
         v: Vertex,
         halves: &[Half],
+        is_own: bool,
         sources: &Sources<'_>,
         standing: &Standing<'_>,
     ) -> Result<(), NoMemory>
         requires few { standing.now.many < 4294967295 }
         requires plain { sources.now.is_plain ≡ true → ArePlain sources.now.owned.now standing.now.many standing.now.places.now }
-        ensures sides { OnOk result (self.new.sides.items ≡ map (side_of standing.now.me standing.now.many standing.now.ghosts.now standing.now.places.now) halves.now) }
-        ensures scope { OnOk result (numbers_of self.new.scope.items ≡ scope_numbers sources.now.owned.now v.0 (map (side_of standing.now.me standing.now.many standing.now.ghosts.now standing.now.places.now) halves.now)) }
+        ensures sides { OnOk result (self.new.sides.items ≡ sides_kept is_own standing.now.many
+            (map (side_of standing.now.me standing.now.many standing.now.ghosts.now standing.now.places.now) halves.now)) }
+        ensures scope { OnOk result (numbers_of self.new.scope.items ≡ scope_numbers sources.now.owned.now v.0 self.new.sides.items) }
     {
-        fill_sides(&mut self.sides, halves, standing)?;
+        fill_sides(&mut self.sides, halves, is_own, standing)?;
         fill_scope(
             &mut self.scope,
             v,

@@ -2,7 +2,8 @@
 ghost use Rattle.std.specs.Prelude.{◌≡◌, ◌+◌, ◌^◌, ◌<◌, ◌≤◌, length, map, IfOk};
 ghost use Rattle.std.specs.List.{All};
 ghost use Rattle.gl_base.specs.declared.limits.TheConstants.{MAX_VERTICES};
-ghost use Rattle.local_graph.specs.Played.{IsPermutation, IsPlayedFrom};
+ghost use Rattle.graph_core.specs.DataGraph.{size};
+ghost use Rattle.local_graph.specs.Played.{IsMadeOf, IsPermutation, IsPlayedFrom, graph_halves};
 ghost use Rattle.local_graph.specs.Inner.Beside.{AreBeside};
 ghost use Rattle.local_graph.specs.Inner.ByPlace.{HaveEdgesBelow, IsPlayedBy};
 
@@ -15,7 +16,7 @@ use crate::scopes::are_plain;
 use crate::{LocalGraph, Outline};
 use gl_base::vertex_places::Places;
 use gl_base::{Datum, GhostLine, Lines, MAX_VERTICES, MachineNo, NoMemory, Vertex, VertexLine};
-use graph_core::{Half, Rows};
+use graph_core::{Graph, Half, Rows};
 use std::alloc::Global;
 
 /// No number is set.
@@ -63,6 +64,45 @@ impl LocalGraph {
             room,
         )
     }
+
+    /// Machine `me`'s part of this graph, one of so many machines, from the lines of its own vertices and of the ghosts beside
+    /// them. Its order of vertices is that of `play`, and no number is set yet.
+    pub fn of(
+        alloc: Global,
+        me: MachineNo,
+        graph: &Graph,
+        own: &[VertexLine],
+        ghosts: &[GhostLine],
+        machines: u16,
+        first: Vertex,
+    ) -> Result<LocalGraph, NoMemory>
+        requires vertices { All (λ v. v.vertex.0 < size graph.now) own.now }
+        requires ghosts { All (λ g. g.vertex.0 < size graph.now) ghosts.now }
+        requires few { length own.now + length ghosts.now ≤ size graph.now }
+        ensures { IfOk result (λ local. IsMadeOf me own.now ghosts.now (graph_halves graph.now) machines (length graph.now.edges) local) }
+    {
+        let outline = Outline {
+            machines,
+            vertices: graph.n(),
+            edges: graph.m(),
+            directed: graph.directed(),
+        };
+        let halves = graph.half_rows();
+        let room = count_halves(own, halves);
+        play_halves(alloc, me, own, ghosts, outline, first, halves, room)
+    }
+}
+
+/// How many half-edges there are at the vertices of these lines.
+fn count_halves(own: &[VertexLine], halves: &Rows<Half>) -> usize {
+    let mut count: usize = 0;
+    for line in own {
+        let v = line.vertex.0 as usize;
+        if v < halves.len() {
+            count = count.saturating_add(halves.row(v).len());
+        }
+    }
+    count
 }
 
 /// The part of the graph with these vertices and ghosts, from the half-edges at each vertex. Room for so many sides is made at first.

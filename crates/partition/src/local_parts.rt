@@ -3,5 +3,6 @@
 mod laws;
 
 pub use laws::{
-    atoms_by_owner_are_lines, lines_can_be_played, played_parts_are_local, rows_share_their_edges,
+    atoms_by_owner_are_lines, lines_can_be_played, parts_of_graphs_are_local,
+    played_parts_are_local, rows_share_their_edges,
 };

@@ -1,5 +1,5 @@
 -- Each own vertex has its row once the lines were played.
-use Rattle.std.proofs.Common.{◌≡◌, ℕ, ◌+◌, ◌<◌, zero, suc, true, List, [], ◌∷◌, length, get_or, Option, Some, None, is_some, refl, sym, ap, ◌∙◌, arith}
+use Rattle.std.proofs.Common.{◌≡◌, ℕ, ◌+◌, ◌<◌, zero, suc, true, List, [], ◌∷◌, length, get_or, map, Option, Some, None, is_some, refl, sym, ap, ◌∙◌, arith}
 use Rattle.std.proofs.lemmas.List.{length-map}
 use Rattle.gl_base.specs.declared.atoms.Lines.{Lines}
 use Rattle.gl_base.specs.declared.numbers.MachineNo.{MachineNo}
@@ -8,9 +8,9 @@ use Rattle.graph_core.specs.declared.halves.Half.{Half}
 use Rattle.update_api.specs.declared.links.Link.{Link}
 use Rattle.local_graph.specs.declared.outlines.Outline.{Outline}
 use Rattle.local_graph.specs.Lines.{halves_of_lines, links_from}
-use Rattle.local_graph.specs.Locals.{LocalView, got_at, is_own, is_placed, place_at}
-use Rattle.local_graph.specs.Played.{IsPlayedFrom, side_of}
-use Rattle.local_graph.proofs.ListLemmas.{length-links}
+use Rattle.local_graph.specs.Locals.{LocalView, got_at, is_own, is_placed, place_at, sides_at}
+use Rattle.local_graph.specs.Played.{IsPlayedFrom, side_of, sides_kept}
+use Rattle.local_graph.proofs.ListLemmas.{kept_all, length-links}
 use Rattle.tests_parts.specs.Rows.{HasRow}
 
 link_at : (k : ℕ) (hs : List Half) (i : ℕ) (d : Link) → i < length (links_from k hs)
@@ -30,7 +30,10 @@ pub has_row : (me : MachineNo) (lines : Lines) (outline : Outline) (l : LocalVie
 has_row me lines outline l played v own =
     let hs = halves_of_lines outline.directed lines.edges.items v in
     let placed : is_placed l v ≡ true = own_placed l.kept (place_at l v) own in
-    let many = ap (length {A = _}) (played.sides v placed) ∙ length-map hs (side_of me (length played.order) lines.ghosts.items l.places) in
+    let side = side_of me (length played.order) lines.ghosts.items l.places in
+    let sides : sides_at l v ≡ map side hs =
+    played.sides v placed ∙ ap (λ b. sides_kept b (length played.order) (map side hs)) own ∙ kept_all (length played.order) (map side hs) in
+    let many = ap length sides ∙ length-map hs side in
     record {
       links = links_from 0 hs;
       there = played.rows v own;

@@ -82,8 +82,27 @@ fn print_graph(
     for (machine, vertex) in seen {
         print!(rt; "{name}, vertex {vertex} at machine {machine}:")?;
         print_machine(rt, alloc, &lines, outline_of(graph), *machine, *vertex)?;
+        print!(rt; "{name}, straight from the graph, vertex {vertex} at machine {machine}:")?;
+        print_made(rt, alloc, &lines, graph, *machine, *vertex)?;
     }
     Ok(())
+}
+
+fn print_made(
+    rt: &impl Print,
+    alloc: Global,
+    lines: &[Lines],
+    graph: &Graph,
+    machine: u16,
+    vertex: u32,
+) -> io::Result<()> {
+    let Some(own) = lines.get(machine as usize) else {
+        return println!(rt; " no machine");
+    };
+    match made(alloc, MachineNo(machine), own, graph) {
+        Ok(local) => print_vertex(rt, &local, Vertex(vertex)),
+        Err(fault) => println!(rt; " {fault}"),
+    }
 }
 
 fn print_machine(
@@ -159,6 +178,32 @@ pub fn played(
         return Err(NoMemory);
     }
     let local = LocalGraph::play(alloc, me, lines, outline, Vertex(0))?;
+    Ok(local)
+}
+
+/// The part of a machine that has the vertices and ghosts of these lines. Lines that are none of the graph's count as want of memory.
+fn made(
+    alloc: Global,
+    me: MachineNo,
+    lines: &Lines,
+    graph: &Graph,
+) -> Result<LocalGraph, NoMemory> {
+    let are_few = lines.vertices.len() < 100
+        && lines.vertices.len() + lines.ghosts.len() <= graph.n() as usize;
+    let are_low = lines.vertices.iter().all(|v| v.vertex.0 < graph.n())
+        && lines.ghosts.iter().all(|g| g.vertex.0 < graph.n());
+    if !are_few || !are_low {
+        return Err(NoMemory);
+    }
+    let local = LocalGraph::of(
+        alloc,
+        me,
+        graph,
+        &lines.vertices,
+        &lines.ghosts,
+        3,
+        Vertex(0),
+    )?;
     Ok(local)
 }
 

@@ -15,7 +15,7 @@ use Rattle.graph_core.specs.Graphs.{IsEdgeLine}
 use Rattle.graph_core.specs.Neighbours.{neighbours_of}
 use Rattle.gl_base.specs.declared.numbers.AtomNo.{AtomNo}
 use Rattle.graph_atoms.specs.atom_cut.Cuts.{atom_numbers}
-use Rattle.graph_atoms.specs.atom_cut.Atoms.{edge_of, own_line, ghost_line, line_of_edge, is_in, is_ghost, touches, graph_atom, AreAtoms}
+use Rattle.graph_atoms.specs.atom_cut.Atoms.{edge_of, own_line, ghost_line, line_of_edge, is_in, is_ghost, touches, graph_atom, AreAtoms, AreAtomVertices}
 use Rattle.graph_atoms.specs.atom_cut.Inner.Filling.{AllHold, AllGain, when, ends_in}
 
 -- a list with nothing behind it
@@ -152,6 +152,15 @@ atoms_from_hold g of atoms lines count hold =
           ap (λ (vs : List VertexLine). record { number = a; vertices = vs; ghosts = l.ghosts.items; edges = l.edges.items }) h.vertices
           ∙ ap (λ (gs : List GhostLine). record { number = a; vertices = (graph_atom g of a).vertices; ghosts = gs; edges = l.edges.items }) h.ghosts
           ∙ ap (λ (es : List EdgeLine). record { number = a; vertices = (graph_atom g of a).vertices; ghosts = (graph_atom g of a).ghosts; edges = es }) h.edges;
+    }
+
+-- those of all vertices are those of the atoms
+pub vertices_from_hold : (g : DataGraph) (of : List ℕ) (atoms : ℕ) (lines : List Lines) → length lines ≡ atoms → AllHold g of (size g) (size g) 0 lines → AreAtomVertices g of atoms lines
+vertices_from_hold g of atoms lines count hold =
+    record {
+      count = count;
+      vertices = λ a d inside. (hold a d (omega (arith, count))).vertices;
+      ghosts = λ a d inside. (hold a d (omega (arith, count))).ghosts;
     }
 
 and_no : (x : Bool) → (x && false) ≡ false

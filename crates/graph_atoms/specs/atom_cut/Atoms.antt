@@ -70,3 +70,9 @@ graph_atom g of a =
 pub record AreAtoms (g : DataGraph) (of : List ℕ) (atoms : ℕ) (lines : List Lines) : Type 0 where
   pub count : length lines ≡ atoms
   pub each : (a : ℕ) (d : Lines) → a < atoms → atom_of a (slice_index_or lines a d) ≡ graph_atom g of a
+
+-- the lines of the vertices and ghosts of each atom, in turn
+pub record AreAtomVertices (g : DataGraph) (of : List ℕ) (atoms : ℕ) (lines : List Lines) : Type 0 where
+  pub count : length lines ≡ atoms
+  pub vertices : (a : ℕ) (d : Lines) → a < atoms → (slice_index_or lines a d).vertices.items ≡ (graph_atom g of a).vertices
+  pub ghosts : (a : ℕ) (d : Lines) → a < atoms → (slice_index_or lines a d).ghosts.items ≡ (graph_atom g of a).ghosts

@@ -5,7 +5,7 @@ ghost use Rattle.gl_base.specs.declared.atoms.Lines.{Lines};
 ghost use Rattle.graph_core.specs.DataGraph.{size};
 ghost use Rattle.graph_core.specs.Growth.{numbers_of};
 ghost use Rattle.graph_atoms.specs.atom_cut.Cuts.{atom_numbers};
-ghost use Rattle.graph_atoms.specs.atom_cut.Atoms.{AreAtoms, is_in};
+ghost use Rattle.graph_atoms.specs.atom_cut.Atoms.{AreAtoms, AreAtomVertices, is_in};
 ghost use Rattle.graph_atoms.specs.atom_cut.Inner.Filling.{AllHold, Gains, AllGain, when, ends_in};
 
 use gl_base::{AtomNo, EdgeLine, EdgeNo, GhostLine, Lines, NoMemory, Vertex, VertexLine};
@@ -26,6 +26,24 @@ pub fn lines_of(
 {
     let mut lines = no_lines(alloc, graph, of, atoms)?;
     fill(alloc, graph, of, &mut lines)?;
+    Ok(lines)
+}
+
+/// The lines of each of so many atoms without its edges, where `of` says in which atom each vertex is.
+#[tactic(auto, using(crate::proofs::atom_cut::FillLemmas::vertices_from_hold))]
+pub fn vertices_of(
+    alloc: Global,
+    graph: &Graph,
+    of: &[AtomNo],
+    atoms: u16,
+) -> Result<Vec<Lines>, NoMemory>
+    requires each { length of.now ≡ size graph.now }
+    requires below { All (λ a. a.0 < atoms) of.now }
+    ensures { IfOk result (λ lines. AreAtomVertices graph.now (atom_numbers of.now) atoms lines.items) }
+{
+    let mut lines = no_lines(alloc, graph, of, atoms)?;
+    add_vertices(graph, of, &mut lines)?;
+    add_ghosts(alloc, graph, of, &mut lines)?;
     Ok(lines)
 }
 

@@ -9,7 +9,7 @@ use Rattle.update_api.specs.declared.links.Link.{Link}
 use Rattle.local_graph.specs.declared.sides.Side.{Side}
 use Rattle.local_graph.specs.Lines.{links_from}
 use Rattle.local_graph.specs.Locals.{place_of_vertex}
-use Rattle.local_graph.specs.Played.{meets, numbers_of, place_or}
+use Rattle.local_graph.specs.Played.{meets, numbers_of, place_or, sides_kept}
 
 -- the half-edges at the vertex with place k among these
 abbrev pub halves_known : List (List Half) → List Vertex → ℕ → List Half
@@ -19,9 +19,9 @@ halves_known halves known k = slice_index_or halves (slice_index_or known k (rec
 abbrev pub row_at : List (List Half) → List Vertex → ℕ → Option (List Link)
 row_at halves known k = Some (links_from 0 (halves_known halves known k))
 
--- its sides
-abbrev pub sides_known : (Half → Side) → List (List Half) → List Vertex → ℕ → List Side
-sides_known side halves known k = map side (halves_known halves known k)
+-- its sides, where the first so many places are those of the own vertices
+abbrev pub sides_known : (Half → Side) → ℕ → List (List Half) → List Vertex → ℕ → List Side
+sides_known side many halves known k = sides_kept (nat_lt k many) many (map side (halves_known halves known k))
 
 -- the machines of the scope of a vertex with these sides
 abbrev pub machines_of : MachineNo → ℕ → List Side → List MachineNo

@@ -1,7 +1,7 @@
 -- The half-edges at a vertex are those of the graph.
-use Rattle.std.proofs.Common.{◌≡◌, ℕ, zero, suc, ◌+◌, ◌<◌, ◌≤◌, ◌==◌, ◌||◌, ◌++◌, Bool, true, false, not, if◌then◌else◌, List, [], ◌∷◌, length, get_or, map, refl, sym, ap, ◌∙◌, subst, All, arith, inl, inr}
-use Rattle.std.specs.List.{filter, flat_map, range_with_len}
-use Rattle.std.proofs.lemmas.Bool.{cases_eq, cases_Bool, eq-eqb, ne_eqb, eqb-true, true≢false}
+use Rattle.std.proofs.Common.{◌≡◌, ℕ, zero, suc, ◌+◌, ◌<◌, ◌==◌, ◌||◌, ◌++◌, Bool, true, false, not, if◌then◌else◌, List, [], ◌∷◌, length, get_or, map, refl, sym, ap, ◌∙◌, subst, All, arith, inl, inr}
+use Rattle.std.specs.List.{filter, range_with_len}
+use Rattle.std.proofs.lemmas.Bool.{cases_eq, cases_Bool, eq-eqb, ne_eqb, true≢false}
 use Rattle.std.proofs.lemmas.List.{map-append}
 use Rattle.std.proofs.lemmas.List.Elements.{All-head, All-tail}
 use Rattle.gl_base.specs.declared.atoms.EdgeLine.{EdgeLine}
@@ -15,7 +15,7 @@ use Rattle.update_api.specs.Directions.{leads_out, leads_into}
 use Rattle.update_api.specs.declared.links.Link.{Link}
 use Rattle.graph_atoms.specs.atom_cut.Atoms.{edge_of, line_of_edge, is_in, touches}
 use Rattle.local_graph.specs.declared.sides.Side.{Side}
-use Rattle.local_graph.specs.Lines.{direction_of, half_of_line, halves_of_lines, line_out, line_into, link_of, links_from}
+use Rattle.local_graph.specs.Lines.{direction_of, half_of_line, halves_of_lines, line_into, link_of, links_from}
 use Rattle.local_graph.specs.Works.{IsRow}
 use Rattle.partition.specs.local_parts.Parts.{half_along, halves_along}
 
@@ -62,13 +62,13 @@ untouched directed of a v e own off =
     ]
 
 -- the lines of edges from k on, those at the atom
-pub graph_halves : (g : DataGraph) (of : List ℕ) (a v k : ℕ) (rest : List DataEdge) → is_in of a v ≡ true → ((i : ℕ) → i < length rest → edge_of g (k + i) ≡ get_or rest i no_edge) → All (λ e. e.from ≡ e.to → ⊥) rest
+pub graph_halves_of : (g : DataGraph) (of : List ℕ) (a v k : ℕ) (rest : List DataEdge) → is_in of a v ≡ true → ((i : ℕ) → i < length rest → edge_of g (k + i) ≡ get_or rest i no_edge) → All (λ e. e.from ≡ e.to → ⊥) rest
     → map data_half (halves_of_lines g.directed (filter (touches of a) (map (line_of_edge g) (range_with_len k (length rest)))) v) ≡ halves_from g.directed v k rest
-graph_halves g of a v k [] own are apart = refl
-graph_halves g of a v k (e ∷ rest) own are apart =
+graph_halves_of g of a v k [] own are apart = refl
+graph_halves_of g of a v k (e ∷ rest) own are apart =
     let more = map (line_of_edge g) (range_with_len (k + 1) (length rest)) in
     let next : map data_half (halves_of_lines g.directed (filter (touches of a) more) v) ≡ halves_from g.directed v (suc k) rest =
-    graph_halves g of a v (k + 1) rest own (λ i low. let n : k + 1 + i ≡ k + suc i = omega arith in ap (edge_of g) n ∙ are (suc i) (omega arith)) (All-tail (λ (e : DataEdge). e.from ≡ e.to → ⊥) e rest apart)
+    graph_halves_of g of a v (k + 1) rest own (λ i low. let n : k + 1 + i ≡ k + suc i = omega arith in ap (edge_of g) n ∙ are (suc i) (omega arith)) (All-tail (λ (e : DataEdge). e.from ≡ e.to → ⊥) e rest apart)
     ∙ ap (λ (j : ℕ). halves_from g.directed v j rest) (let n : k + 1 ≡ suc k = omega arith in n) in
     let n : k + 0 ≡ k = omega arith in
     let is : line_of_edge g k ≡ as_line k e = ap (as_line k) (ap (edge_of g) (sym n) ∙ are 0 (omega arith)) in

@@ -1,33 +1,28 @@
 -- What a machine holds that played its lines is its part of the graph.
-use Rattle.std.proofs.Common.{◌≡◌, ℕ, zero, suc, ◌+◌, ◌-◌, ◌<◌, ◌≤◌, ◌==◌, ◌&&◌, ◌||◌, ◌++◌, Bool, true, false, not, min, nat_lt, if◌then◌else◌, Option, Some, None, is_some, List, [], ◌∷◌, length, get_or, slice_get, map, replicate, refl, sym, ap, ◌∙◌, subst, All, arith, inl, inr, ◌⊎◌}
+use Rattle.std.proofs.Common.{◌≡◌, ℕ, ◌+◌, ◌-◌, ◌<◌, ◌≤◌, ◌==◌, ◌&&◌, ◌||◌, ◌++◌, Bool, true, false, not, nat_lt, Option, Some, None, is_some, List, [], ◌∷◌, length, get_or, map, refl, sym, ap, ◌∙◌, subst, All, arith, inl, inr, ◌⊎◌}
 use Rattle.std.specs.Prelude.{slice_index}
 use Rattle.std.specs.List.{filter, list_any, range_with_len}
-use Rattle.std.specs.List.Sorted.{IsPermutation}
-use Rattle.std.proofs.lemmas.Bool.{cases_eq, cases_lt, cases_Bool, eq-eqb, ne_eqb, eqb-true, lt-ltb, le-ltb, true≢false}
-use Rattle.std.proofs.lemmas.Option.{slice_get-get_or, slice_get_past, slice_get_within}
+use Rattle.std.proofs.lemmas.Bool.{cases_lt, eq-eqb, eqb-true, lt-ltb, le-ltb, true≢false}
+use Rattle.std.proofs.lemmas.Option.{slice_get-get_or, slice_get_past}
 use Rattle.std.proofs.lemmas.List.{length-map, length-append, length-replicate, get_or-map, get_or_append_left, get_or-append_right, get_or_default}
 use Rattle.std.proofs.lemmas.List.Sorted.{All-permutation, list_any-IsPermutation, length_permutation}
 use Rattle.std.proofs.lemmas.List.Folds.{Any-from_list_any}
 use Rattle.gl_base.specs.declared.atoms.GhostLine.{GhostLine}
-use Rattle.gl_base.specs.declared.atoms.Lines.{Lines}
 use Rattle.gl_base.specs.declared.atoms.VertexLine.{VertexLine}
 use Rattle.gl_base.specs.declared.numbers.MachineNo.{MachineNo}
 use Rattle.gl_base.specs.declared.numbers.Vertex.{Vertex}
-use Rattle.gl_base.specs.declared.numbers.AtomNo.{AtomNo}
-use Rattle.gl_base.specs.declared.scopes.Datum.{Datum}
-use Rattle.graph_core.specs.Colourings.{joins}
-use Rattle.graph_core.specs.DataGraph.{DataGraph, size}
+use Rattle.graph_core.specs.declared.halves.Half.{Half}
+use Rattle.graph_core.specs.DataGraph.{size}
 use Rattle.graph_core.specs.Neighbours.{neighbours_of}
 use Rattle.graph_atoms.specs.atom_cut.Atoms.{is_in, is_ghost}
 use Rattle.cluster_laws.specs.cluster_core.Ranges.{all_passing}
 use Rattle.cluster_laws.specs.cluster_core.Settings.{Setting, IsSetting}
-use Rattle.local_graph.specs.declared.outlines.Outline.{Outline}
-use Rattle.local_graph.specs.Locals.{LocalView, AreTheirPlaces, at_place, got_at, place_of_vertex, is_placed, is_own, id_at}
-use Rattle.local_graph.specs.Played.{IsPlayedFrom, no_datum, numbers_of}
-use Rattle.partition.specs.local_parts.Parts.{AreLinesOf, CanBePlayed, owner_numbers, is_ghost_of}
+use Rattle.local_graph.specs.Locals.{LocalView, at_place, got_at, place_of_vertex, is_placed, is_own, id_at}
+use Rattle.local_graph.specs.Played.{IsMadeOf, no_datum, numbers_of}
+use Rattle.partition.specs.local_parts.Parts.{owner_numbers, is_ghost_of}
 use Rattle.partition.proofs.local_parts.RangeLemmas.{filter_passing}
 use Rattle.partition.proofs.local_parts.FoundLemmas.{found_with, any_mapped}
-use Rattle.partition.proofs.local_parts.MineLemmas.{IsOwnLine, IsGhostLine, in_is, ghost_is, own_lines, ghost_lines_are, own_numbers, ghost_numbers, vertices_are, ghosts_are, can_be_played}
+use Rattle.partition.proofs.local_parts.MineLemmas.{AreListsOf, IsOwnLine, IsGhostLine, in_is, ghost_is, own_lines, ghost_lines_are, own_numbers, ghost_numbers, few_lines}
 
 pub some_place : (o : Option ℕ) → is_some o ≡ true → (k : ℕ) × (o ≡ Some k)
 some_place None is = absurd (true≢false (sym is))
@@ -74,18 +69,15 @@ pub record IsGhostAt (st : Setting) (me : ℕ) (many : ℕ) (ghosts : List Ghost
   pub line : IsGhostLine st me (get_or ghosts (k - many) no_ghost)
   pub stands : (get_or ghosts (k - many) no_ghost).vertex.0 ≡ x
 
-module _ (st : Setting) (me : MachineNo) (lines : Lines) (outline : Outline) (l : LocalView) (is : IsSetting st) (are : AreLinesOf st me.0 lines outline) (played : IsPlayedFrom me lines outline l) where
+module _ (st : Setting) (me : MachineNo) (mine : List VertexLine) (ghosts : List GhostLine) (halves : ℕ → List Half) (machines edges : ℕ) (l : LocalView) (is : IsSetting st) (are : AreListsOf st me.0 mine ghosts halves machines edges) (played : IsMadeOf me mine ghosts halves machines edges l) where
   abbrev order : List VertexLine
   order = played.order
 
   abbrev many : ℕ
   many = length played.order
 
-  abbrev ghosts : List GhostLine
-  ghosts = lines.ghosts.items
-
   abbrev known : List Vertex
-  known = map (λ v. v.vertex) played.order ++ map (λ g. g.vertex) lines.ghosts.items
+  known = map (λ v. v.vertex) played.order ++ map (λ g. g.vertex) ghosts
 
   pub length-known : length known ≡ many + length ghosts
   length-known =
@@ -95,16 +87,15 @@ module _ (st : Setting) (me : MachineNo) (lines : Lines) (outline : Outline) (l 
 
   pub known_few : length known < 4294967296
   known_few =
-      let can = can_be_played st me.0 lines outline is are in
-      let a = can.few in
-      let b = can.limit in
-      omega (arith, length-known, length_permutation lines.vertices.items order played.same)
+      let a = few_lines st me.0 mine ghosts is are.lines in
+      let b = is.graph.few in
+      omega (arith, length-known, length_permutation mine order played.same)
 
   pub many_kept : length l.kept ≡ many
   many_kept = ap length played.kept ∙ length-replicate many no_datum
 
   order_lines : All (IsOwnLine st me.0) order
-  order_lines = All-permutation (IsOwnLine st me.0) lines.vertices.items order played.same (own_lines st me.0 lines outline is are)
+  order_lines = All-permutation (IsOwnLine st me.0) mine order played.same (own_lines st me.0 mine ghosts is are.lines)
 
   left_is : (k : ℕ) → k < many → get_or known k no_vertex ≡ (get_or order k no_line).vertex
   left_is k low =
@@ -125,7 +116,7 @@ module _ (st : Setting) (me : MachineNo) (lines : Lines) (outline : Outline) (l 
   ghost_at x k at high =
       let inside = played.places.inside x k at in
       let low : k - many < length ghosts = omega (arith, length-known) in
-      record { high = high; low = low; line = ghost_lines_are st me.0 lines outline is are (k - many) no_ghost low; stands = ap (λ (v : Vertex). v.0) (sym (right_is k high inside)) ∙ played.places.stands x k no_vertex at }
+      record { high = high; low = low; line = ghost_lines_are st me.0 mine ghosts is are.lines (k - many) no_ghost low; stands = ap (λ (v : Vertex). v.0) (sym (right_is k high inside)) ∙ played.places.stands x k no_vertex at }
 
   -- who owns what stands at a place
   pub owner_there : (x k : ℕ) → place_of_vertex l.places x ≡ Some k → k < many → (x < size st.graph) × (st.owner x ≡ me.0)
@@ -147,12 +138,12 @@ module _ (st : Setting) (me : MachineNo) (lines : Lines) (outline : Outline) (l 
 
   pub own_placed : (x : ℕ) → x < size st.graph → st.owner x ≡ me.0 → owned_there x
   own_placed x low own =
-      let passes : is_in (owner_numbers st) me.0 x ≡ true = in_is st me.0 lines outline is are x low ∙ eq-eqb (st.owner x) me.0 own in
+      let passes : is_in (owner_numbers st) me.0 x ≡ true = in_is st me.0 mine ghosts is are.lines x low ∙ eq-eqb (st.owner x) me.0 own in
       let found = found_with (is_in (owner_numbers st) me.0) (λ y. y == x) 0 (size st.graph) x (omega arith) (omega arith) passes (eq-eqb x x refl) in
-      let numbers = own_numbers st me.0 lines outline is are in
-      let listed : list_any (λ (v : VertexLine). v.vertex.0 == x) lines.vertices.items ≡ true =
-      sym (any_mapped (λ (y : ℕ). y == x) (λ (v : VertexLine). v.vertex.0) lines.vertices.items) ∙ ap (list_any (λ (y : ℕ). y == x)) numbers ∙ found in
-      let ordered : list_any (λ (v : VertexLine). v.vertex.0 == x) order ≡ true = sym (list_any-IsPermutation (λ (v : VertexLine). v.vertex.0 == x) lines.vertices.items order played.same) ∙ listed in
+      let numbers = own_numbers st me.0 mine ghosts is are.lines in
+      let listed : list_any (λ (v : VertexLine). v.vertex.0 == x) mine ≡ true =
+      sym (any_mapped (λ (y : ℕ). y == x) (λ (v : VertexLine). v.vertex.0) mine) ∙ ap (list_any (λ (y : ℕ). y == x)) numbers ∙ found in
+      let ordered : list_any (λ (v : VertexLine). v.vertex.0 == x) order ≡ true = sym (list_any-IsPermutation (λ (v : VertexLine). v.vertex.0 == x) mine order played.same) ∙ listed in
       let any = Any-from_list_any (λ (v : VertexLine). v.vertex.0 == x) order ordered in
       let j = any.0 in
       let line = any.1 in
@@ -170,9 +161,9 @@ module _ (st : Setting) (me : MachineNo) (lines : Lines) (outline : Outline) (l 
   -- and so has a ghost
   pub ghost_placed : (x : ℕ) → x < size st.graph → is_ghost_of st me.0 x ≡ true → is_some (place_of_vertex l.places x) ≡ true
   ghost_placed x low ghost =
-      let passes : is_ghost st.graph (owner_numbers st) me.0 x ≡ true = ghost_is st me.0 lines outline is are x low ∙ ghost in
+      let passes : is_ghost st.graph (owner_numbers st) me.0 x ≡ true = ghost_is st me.0 mine ghosts is are.lines x low ∙ ghost in
       let found = found_with (is_ghost st.graph (owner_numbers st) me.0) (λ y. y == x) 0 (size st.graph) x (omega arith) (omega arith) passes (eq-eqb x x refl) in
-      let numbers = ghost_numbers st me.0 lines outline is are in
+      let numbers = ghost_numbers st me.0 mine ghosts is are.lines in
       let listed : list_any (λ (g : GhostLine). g.vertex.0 == x) ghosts ≡ true =
       sym (any_mapped (λ (y : ℕ). y == x) (λ (g : GhostLine). g.vertex.0) ghosts) ∙ ap (list_any (λ (y : ℕ). y == x)) numbers ∙ found in
       let any = Any-from_list_any (λ (g : GhostLine). g.vertex.0 == x) ghosts listed in
@@ -256,12 +247,12 @@ module _ (st : Setting) (me : MachineNo) (lines : Lines) (outline : Outline) (l 
   numbers_of_lines (v ∷ vs) = ap (λ (ys : List ℕ). v.vertex.0 ∷ ys) (numbers_of_lines vs)
 
   pub owned_list : numbers_of l.owned ≡ filter (is_in (owner_numbers st) me.0) (range_with_len 0 (size st.graph))
-  owned_list = ap numbers_of played.owned ∙ numbers_of_lines lines.vertices.items ∙ own_numbers st me.0 lines outline is are
+  owned_list = ap numbers_of played.owned ∙ numbers_of_lines mine ∙ own_numbers st me.0 mine ghosts is are.lines
 
   pub owned_is : numbers_of l.owned ≡ all_passing (λ x. st.owner x == me.0) 0 (size st.graph)
-  owned_is = owned_list ∙ filter_passing (is_in (owner_numbers st) me.0) (λ x. st.owner x == me.0) 0 (size st.graph) (λ x low high. in_is st me.0 lines outline is are x (omega arith))
+  owned_is = owned_list ∙ filter_passing (is_in (owner_numbers st) me.0) (λ x. st.owner x == me.0) 0 (size st.graph) (λ x low high. in_is st me.0 mine ghosts is are.lines x (omega arith))
 
   pub ghosts_is : map (λ (g : GhostLine). g.vertex.0) l.ghosts ≡ all_passing (is_ghost_of st me.0) 0 (size st.graph)
   ghosts_is =
-      ap (map (λ (g : GhostLine). g.vertex.0)) played.ghosts ∙ ghost_numbers st me.0 lines outline is are
-      ∙ filter_passing (is_ghost st.graph (owner_numbers st) me.0) (is_ghost_of st me.0) 0 (size st.graph) (λ x low high. ghost_is st me.0 lines outline is are x (omega arith))
+      ap (map (λ (g : GhostLine). g.vertex.0)) played.ghosts ∙ ghost_numbers st me.0 mine ghosts is are.lines
+      ∙ filter_passing (is_ghost st.graph (owner_numbers st) me.0) (is_ghost_of st me.0) 0 (size st.graph) (λ x low high. ghost_is st me.0 mine ghosts is are.lines x (omega arith))

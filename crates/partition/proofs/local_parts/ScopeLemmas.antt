@@ -1,57 +1,48 @@
 -- The rows, the machines and the own vertices of scopes, as a machine holds them, are those of the cluster.
-use Rattle.std.proofs.Common.{◌≡◌, ℕ, zero, suc, ◌+◌, ◌-◌, ◌<◌, ◌≤◌, ◌==◌, ◌&&◌, ◌||◌, ◌++◌, Bool, true, false, not, min, nat_lt, if◌then◌else◌, Option, Some, None, is_some, List, [], ◌∷◌, length, get_or, slice_get, map, refl, sym, ap, ◌∙◌, subst, All, arith, inl, inr, ◌⊎◌}
-use Rattle.std.specs.Prelude.{slice_index}
+use Rattle.std.proofs.Common.{◌≡◌, ℕ, ◌-◌, ◌<◌, ◌==◌, ◌&&◌, ◌||◌, Bool, true, false, not, if◌then◌else◌, Option, Some, None, is_some, List, [], length, get_or, slice_get, map, refl, sym, ap, ◌∙◌, subst, All, arith, inl, inr, ◌⊎◌}
 use Rattle.std.specs.List.{filter, list_any, range_with_len}
 use Rattle.std.proofs.lemmas.Bool.{cases_eq, cases_lt, cases_Bool, eq-eqb, ne_eqb, eqb-true, lt-ltb, le-ltb, true≢false}
 use Rattle.std.proofs.lemmas.Option.{slice_get-get_or, same_Some}
 use Rattle.std.proofs.lemmas.List.{length-map, length-replicate, get_or-map}
-use Rattle.std.proofs.lemmas.List.Elements.{All-map, All-head, All-tail}
+use Rattle.std.proofs.lemmas.List.Elements.{All-map}
 use Rattle.std.proofs.lemmas.List.Folds.{Any-from_list_any, list_any-from_Any}
 use Rattle.gl_base.specs.declared.atoms.GhostLine.{GhostLine}
-use Rattle.gl_base.specs.declared.atoms.Lines.{Lines}
+use Rattle.gl_base.specs.declared.atoms.VertexLine.{VertexLine}
 use Rattle.gl_base.specs.declared.numbers.MachineNo.{MachineNo}
-use Rattle.gl_base.specs.declared.numbers.Vertex.{Vertex}
 use Rattle.graph_core.specs.Colourings.{joins}
-use Rattle.graph_core.specs.DataGraph.{DataEdge, DataGraph, size}
+use Rattle.graph_core.specs.DataGraph.{size}
 use Rattle.graph_core.specs.Halves.{DataHalf, halves_of}
 use Rattle.graph_core.specs.HalfRows.{data_half}
 use Rattle.graph_core.specs.Neighbours.{neighbours_of}
 use Rattle.graph_core.specs.declared.halves.Half.{Half}
 use Rattle.update_api.specs.declared.links.Link.{Link}
 use Rattle.graph_atoms.specs.atom_cut.Atoms.{is_in}
-use Rattle.cluster_laws.specs.cluster_core.Ranges.{all_passing, first_passing}
 use Rattle.cluster_laws.specs.cluster_core.Scopes.{is_found, machines_from, own_from, takes_part}
 use Rattle.cluster_laws.specs.cluster_core.Settings.{Setting, IsSetting, is_in_scope, is_near}
 use Rattle.cluster_laws.proofs.cluster_core.Basics.{first_passing-some}
-use Rattle.local_graph.specs.declared.outlines.Outline.{Outline}
 use Rattle.local_graph.specs.declared.sides.Side.{Side}
-use Rattle.local_graph.specs.Lines.{halves_of_lines, links_from}
+use Rattle.local_graph.specs.Lines.{links_from}
 use Rattle.local_graph.specs.Locals.{LocalView, at_place, place_of_vertex, is_placed, is_own, links_at, sides_at, parts_at, part_at, machine_numbers}
-use Rattle.local_graph.specs.Played.{IsPlayedFrom, leads_to, machine_of, meets, numbers_of, place_owner, place_or, side_of}
-use Rattle.partition.specs.local_parts.Parts.{AreIn, AreLinesOf, IsLocalOf, IsRowOf, halves_along, is_ghost_of, own_in_scope, owner_numbers}
+use Rattle.local_graph.proofs.ListLemmas.{kept_all}
+use Rattle.local_graph.specs.Played.{IsMadeOf, leads_to, machine_of, meets, numbers_of, place_owner, place_or, side_of, sides_kept}
+use Rattle.partition.specs.local_parts.Parts.{IsLocalOf, IsRowOf, is_ghost_of, own_in_scope, owner_numbers}
 use Rattle.partition.proofs.local_parts.RangeLemmas.{filter_passing, filter_twice}
-use Rattle.partition.proofs.local_parts.FoundLemmas.{any_mapped, any_same, found_first, passing_none}
-use Rattle.partition.proofs.local_parts.HalfLemmas.{Leads, links_row, row_halves}
+use Rattle.partition.proofs.local_parts.FoundLemmas.{any_mapped, found_first, passing_none}
+use Rattle.partition.proofs.local_parts.HalfLemmas.{links_row, row_halves}
 use Rattle.partition.proofs.local_parts.NearLemmas.{IsBeside, all_among, any_turned, beside_all, near_all, neighbour_passes}
-use Rattle.partition.proofs.local_parts.MineLemmas.{halves_are, in_is}
+use Rattle.partition.proofs.local_parts.MineLemmas.{AreListsOf, in_is}
 use Rattle.partition.proofs.local_parts.LocalLemmas.{ghost_at, ghosts_is, id_is, is_own_from, known_few, known_is, no_ghost, own_facts, own_is, owned_is, owned_list, owner_there, place_of_own, same_truth, some_place}
 
 -- what holds of the items of a list that is mapped
 all_from : {X Y : Type 0} (P : Y → Type 0) (f : X → Y) (xs : List X) → All P (map f xs) → All (λ x. P (f x)) xs
 all_from P f xs all = λ k d low. subst P (get_or-map f xs k d (f d) low) (all k (f d) (omega (arith, length-map xs f)))
 
-module _ (st : Setting) (me : MachineNo) (lines : Lines) (outline : Outline) (l : LocalView) (is : IsSetting st) (are : AreLinesOf st me.0 lines outline) (played : IsPlayedFrom me lines outline l) where
-  abbrev ghosts : List GhostLine
-  ghosts = lines.ghosts.items
-
+module _ (st : Setting) (me : MachineNo) (mine : List VertexLine) (ghosts : List GhostLine) (halves : ℕ → List Half) (machines edges : ℕ) (l : LocalView) (is : IsSetting st) (are : AreListsOf st me.0 mine ghosts halves machines edges) (played : IsMadeOf me mine ghosts halves machines edges l) where
   abbrev many : ℕ
   many = length played.order
 
   abbrev as_side : Half → Side
   as_side = side_of me many ghosts l.places
-
-  abbrev halves : ℕ → List Half
-  halves v = halves_of_lines outline.directed lines.edges.items v
 
   -- ---- the half-edges at an own vertex
 
@@ -59,16 +50,17 @@ module _ (st : Setting) (me : MachineNo) (lines : Lines) (outline : Outline) (l 
   Owned v = is_own l v ≡ true
 
   facts : (v : ℕ) → Owned v → (v < size st.graph) × (st.owner v ≡ me.0)
-  facts v own = own_facts st me lines outline l is are played v own
+  facts v own = own_facts st me mine ghosts halves machines edges l is are played v own
 
   known_own : (v : ℕ) → Owned v → is_placed l v ≡ true
-  known_own v own = ap is_some (place_of_own st me lines outline l is are played v own).1
+  known_own v own = ap is_some (place_of_own st me mine ghosts halves machines edges l is are played v own).1
 
   data_is : (v : ℕ) → Owned v → map data_half (halves v) ≡ halves_of st.graph v
-  data_is v own = halves_are st me.0 lines outline is are v (facts v own).0 (facts v own).1
+  data_is v own = are.rows v (facts v own).0 (facts v own).1
 
   sides_is : (v : ℕ) → Owned v → sides_at l v ≡ map as_side (halves v)
-  sides_is v own = played.sides v (known_own v own)
+  sides_is v own =
+      played.sides v (known_own v own) ∙ ap (λ b. sides_kept b many (map as_side (halves v))) own ∙ kept_all many (map as_side (halves v))
 
   beside : (v : ℕ) → Owned v → All (λ (h : Half). IsBeside st.graph v (data_half h)) (halves v)
   beside v own =
@@ -83,7 +75,7 @@ module _ (st : Setting) (me : MachineNo) (lines : Lines) (outline : Outline) (l 
   known_beside : (v x : ℕ) → Owned v → x < size st.graph → list_any (joins v x) st.graph.edges ≡ true → is_placed l x ≡ true
   known_beside v x own low joined =
       let f = facts v own in
-      known_is st me lines outline l is are played x ∙ ap (λ b. b && (st.owner x == me.0 || is_ghost_of st me.0 x)) (lt-ltb x (size st.graph) low)
+      known_is st me mine ghosts halves machines edges l is are played x ∙ ap (λ b. b && (st.owner x == me.0 || is_ghost_of st me.0 x)) (lt-ltb x (size st.graph) low)
       ∙ either (cases_Bool (st.owner x == me.0)) (neighbour_passes st.graph (λ u. st.owner u == me.0) x v f.0 (any_turned x v st.graph.edges ∙ joined) (eq-eqb (st.owner v) me.0 f.1))
     where
       either : ((st.owner x == me.0) ≡ true) ⊎ ((st.owner x == me.0) ≡ false) → list_any (λ u. st.owner u == me.0) (neighbours_of st.graph x) ≡ true
@@ -98,7 +90,7 @@ module _ (st : Setting) (me : MachineNo) (lines : Lines) (outline : Outline) (l 
       let k = p.0 in
       let at : place_of_vertex l.places h.other.0 ≡ Some k = p.1 in
       let inside = played.places.inside h.other.0 k at in
-      let few = known_few st me lines outline l is are played in
+      let few = known_few st me mine ghosts halves machines edges l is are played in
       let place : (as_side h).place ≡ k = ap (place_or 4294967295) at ∙ omega arith in
       record {
         owner = ap (λ (n : ℕ). (place_owner me many ghosts n).0) place ∙ owner_named h.other.0 k at;
@@ -108,9 +100,9 @@ module _ (st : Setting) (me : MachineNo) (lines : Lines) (outline : Outline) (l 
       owner_named : (x k : ℕ) → place_of_vertex l.places x ≡ Some k → (place_owner me many ghosts k).0 ≡ st.owner x
       owner_named x k at = elim (cases_lt k many) as (λ _. (place_owner me many ghosts k).0 ≡ st.owner x) [
         | inl low ↦
-            ap (λ b. (if b then me else machine_of me (slice_get ghosts (k - many))).0) (lt-ltb k many low) ∙ sym (owner_there st me lines outline l is are played x k at low).1
+            ap (λ b. (if b then me else machine_of me (slice_get ghosts (k - many))).0) (lt-ltb k many low) ∙ sym (owner_there st me mine ghosts halves machines edges l is are played x k at low).1
         | inr high ↦
-            let g = ghost_at st me lines outline l is are played x k at high in
+            let g = ghost_at st me mine ghosts halves machines edges l is are played x k at high in
             ap (λ b. (if b then me else machine_of me (slice_get ghosts (k - many))).0) (le-ltb k many high)
             ∙ ap (λ o. (machine_of me o).0) (slice_get-get_or ghosts (k - many) no_ghost g.low) ∙ g.line.owner ∙ ap st.owner g.stands
       ]
@@ -155,13 +147,13 @@ module _ (st : Setting) (me : MachineNo) (lines : Lines) (outline : Outline) (l 
   in_scope : (v x : ℕ) → x < size st.graph → (is_in (owner_numbers st) me.0 x && leads_to l v x) ≡ (is_in_scope st v x && st.owner x == me.0)
   in_scope v x low = elim (cases_eq (st.owner x) me.0) as (λ _. (is_in (owner_numbers st) me.0 x && leads_to l v x) ≡ (is_in_scope st v x && st.owner x == me.0)) [
     | inl own ↦
-        let mine = eq-eqb (st.owner x) me.0 own in
-        ap (λ b. b && leads_to l v x) (in_is st me.0 lines outline is are x low ∙ mine)
-        ∙ leads_near v x (is_own_from st me lines outline l is are played x low own)
-        ∙ ap (λ b. (x == v) || b) (any_turned x v st.graph.edges) ∙ sym (and_true (is_in_scope st v x)) ∙ ap (λ b. is_in_scope st v x && b) (sym mine)
+        let held = eq-eqb (st.owner x) me.0 own in
+        ap (λ b. b && leads_to l v x) (in_is st me.0 mine ghosts is are.lines x low ∙ held)
+        ∙ leads_near v x (is_own_from st me mine ghosts halves machines edges l is are played x low own)
+        ∙ ap (λ b. (x == v) || b) (any_turned x v st.graph.edges) ∙ sym (and_true (is_in_scope st v x)) ∙ ap (λ b. is_in_scope st v x && b) (sym held)
     | inr other ↦
         let others = ne_eqb (st.owner x) me.0 other in
-        ap (λ b. b && leads_to l v x) (in_is st me.0 lines outline is are x low ∙ others) ∙ sym (ap (λ b. is_in_scope st v x && b) others ∙ and_false (is_in_scope st v x))
+        ap (λ b. b && leads_to l v x) (in_is st me.0 mine ghosts is are.lines x low ∙ others) ∙ sym (ap (λ b. is_in_scope st v x && b) others ∙ and_false (is_in_scope st v x))
   ]
     where
       and_true : (b : Bool) → (b && true) ≡ b
@@ -176,7 +168,7 @@ module _ (st : Setting) (me : MachineNo) (lines : Lines) (outline : Outline) (l 
 
   part_known : (v : ℕ) → is_placed l v ≡ true → numbers_of (part_at l v) ≡ own_in_scope st v me.0
   part_known v known =
-      played.part v known ∙ ap (filter (leads_to l v)) (owned_list st me lines outline l is are played)
+      played.part v known ∙ ap (filter (leads_to l v)) (owned_list st me mine ghosts halves machines edges l is are played)
       ∙ filter_twice (leads_to l v) (is_in (owner_numbers st) me.0) (range_with_len 0 (size st.graph))
       ∙ filter_passing (λ x. is_in (owner_numbers st) me.0 x && leads_to l v x) (λ x. is_in_scope st v x && st.owner x == me.0) 0 (size st.graph) (λ x low high. in_scope v x (omega arith))
 
@@ -193,7 +185,7 @@ module _ (st : Setting) (me : MachineNo) (lines : Lines) (outline : Outline) (l 
       contrary : (x : ℕ) → x < size st.graph → (is_in_scope st v x && st.owner x == me.0) ≡ true → ⊥
       contrary x low_x both =
           let own = eqb-true (st.owner x) me.0 (right (is_in_scope st v x) (st.owner x == me.0) both) in
-          let owned = is_own_from st me lines outline l is are played x low_x own in
+          let owned = is_own_from st me mine ghosts halves machines edges l is are played x low_x own in
           elim (cases_eq x v) as (λ _. ⊥) [
             | inl same ↦ true≢false (sym (known_own x owned) ∙ ap (is_placed l) same ∙ unknown)
             | inr other ↦
@@ -301,7 +293,7 @@ module _ (st : Setting) (me : MachineNo) (lines : Lines) (outline : Outline) (l 
 
   pub parts_is : (v : ℕ) → Owned v → machine_numbers (parts_at l v) ≡ machines_from st v 0
   parts_is v own =
-      let n : outline.machines ≡ st.machines - 0 = are.machines ∙ omega arith in
+      let n : machines ≡ st.machines - 0 = are.count ∙ omega arith in
       played.parts v own ∙ ap (λ (n : ℕ). filter (meets me (sides_at l v)) (range_with_len 0 n)) n
       ∙ filter_passing (meets me (sides_at l v)) (takes_part st v) 0 (st.machines - 0) (λ a low high. same_truth (meets me (sides_at l v) a) (takes_part st v a) (meets_takes v a own) (takes_meets v a own))
 
@@ -314,13 +306,13 @@ module _ (st : Setting) (me : MachineNo) (lines : Lines) (outline : Outline) (l 
       here : IsLocalOf st (record l { me = me })
       here =
           record {
-            machine = are.machine;
-            owned = owned_is st me lines outline l is are played;
-            own = own_is st me lines outline l is are played;
-            ghosts = ghosts_is st me lines outline l is are played;
-            known = known_is st me lines outline l is are played;
-            ids = id_is st me lines outline l is are played;
-            edges = ap length played.numbers ∙ length-replicate outline.edges 0 ∙ are.edges;
+            machine = are.lines.machine;
+            owned = owned_is st me mine ghosts halves machines edges l is are played;
+            own = own_is st me mine ghosts halves machines edges l is are played;
+            ghosts = ghosts_is st me mine ghosts halves machines edges l is are played;
+            known = known_is st me mine ghosts halves machines edges l is are played;
+            ids = id_is st me mine ghosts halves machines edges l is are played;
+            edges = ap length played.numbers ∙ length-replicate edges 0 ∙ are.as_many;
             rows = row_is;
             sides = as_many;
             owners = λ v own k d low. (all_named v own k d low).owner;

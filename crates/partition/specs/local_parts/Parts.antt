@@ -3,13 +3,15 @@ pub use Rattle.cluster_laws.specs.cluster_core.Settings.{Setting, IsSetting, is_
 pub use Rattle.cluster_laws.specs.cluster_core.Scopes.{machines_from}
 pub use Rattle.cluster_laws.specs.cluster_core.Effects.{is_shared}
 pub use Rattle.local_graph.specs.Locals.{LocalView, place_at, is_placed, is_own, id_at, links_at, sides_at, parts_at, part_at, machine_numbers}
-pub use Rattle.local_graph.specs.Played.{IsPlayedFrom, numbers_of}
+pub use Rattle.local_graph.specs.Played.{IsMadeOf, IsPlayedFrom, graph_halves, numbers_of}
 pub use Rattle.local_graph.specs.Works.{IsRow}
-use Rattle.std.specs.Prelude.{◌≡◌, ℕ, ◌+◌, ◌^◌, ◌<◌, ◌≤◌, ◌==◌, ◌&&◌, ◌||◌, Bool, true, false, not, Option, Some, is_some, nat_lt, List, [], ◌∷◌, length, map, slice_index, slice_index_or}
+use Rattle.std.specs.Prelude.{◌≡◌, ℕ, ◌+◌, ◌^◌, ◌<◌, ◌≤◌, ◌==◌, ◌&&◌, ◌||◌, Bool, true, false, not, Some, is_some, nat_lt, List, [], ◌∷◌, length, map, slice_index}
 use Rattle.std.specs.List.{All, AllByRecursion, list_any, range_with_len}
+use Rattle.gl_base.specs.declared.atoms.GhostLine.{GhostLine}
 use Rattle.gl_base.specs.declared.atoms.Lines.{Lines}
+use Rattle.gl_base.specs.declared.atoms.VertexLine.{VertexLine}
 use Rattle.gl_base.specs.declared.limits.TheConstants.{MAX_VERTICES}
-use Rattle.graph_core.specs.DataGraph.{DataGraph, size}
+use Rattle.graph_core.specs.DataGraph.{size}
 use Rattle.graph_core.specs.Neighbours.{neighbours_of}
 use Rattle.graph_core.specs.Halves.{DataHalf, halves_of}
 use Rattle.update_api.specs.Directions.{leads_out, leads_into}
@@ -35,6 +37,12 @@ pub record AreLinesOf (st : Setting) (me : ℕ) (lines : Lines) (outline : Outli
   pub vertices : outline.vertices ≡ size st.graph
   pub edges : outline.edges ≡ length st.graph.edges
   pub directed : outline.directed ≡ st.graph.directed
+
+-- these are the lines of the vertices of machine `me`, and of the ghosts beside them
+pub record AreVerticesOf (st : Setting) (me : ℕ) (own : List VertexLine) (ghosts : List GhostLine) : Type 0 where
+  pub machine : me < st.machines
+  pub vertices : own ≡ (graph_atom st.graph (owner_numbers st) me).vertices
+  pub beside : ghosts ≡ (graph_atom st.graph (owner_numbers st) me).ghosts
 
 -- ---- rows
 

@@ -1,4 +1,4 @@
--- What machines hold that played the lines of a graph.
+-- What machines hold that were made from a graph.
 use Rattle.std.proofs.Common.{◌≡◌, ◌<◌, ◌≤◌, ℕ, ◌+◌, ◌∷◌, ◌++◌, ◌∙◌, true, false, Option, Some, None, is_some, List, [], length, get_or, replicate, All, ap, sym, subst, refl, inl, inr, slice_index, Result, Ok, Err, IfOk, zero-add, arith}
 use Rattle.std.specs.List.{range_with_len}
 use Rattle.std.proofs.lemmas.Bool.{cases_lt}
@@ -14,24 +14,15 @@ use Rattle.gl_base.specs.declared.numbers.AtomNo.{AtomNo}
 use Rattle.gl_base.specs.declared.numbers.MachineNo.{MachineNo}
 use Rattle.gl_base.specs.declared.scopes.Datum.{Datum}
 use Rattle.graph_core.specs.DataGraph.{DataGraph, IsDataGraph, size}
-use Rattle.graph_atoms.specs.atom_cut.Atoms.{AreAtoms}
+use Rattle.graph_atoms.specs.atom_cut.Atoms.{AreAtomVertices, graph_atom}
 use Rattle.update_api.specs.declared.woken.Woken.TheVariants.{Nobody}
 use Rattle.cluster_laws.specs.cluster_core.Settings.{IsSetting, Locking}
-use Rattle.local_graph.specs.declared.outlines.Outline.{Outline}
 use Rattle.local_graph.specs.Locals.{got_at, place_at}
-use Rattle.local_graph.specs.Played.{IsPlayedFrom}
-use Rattle.partition.specs.local_parts.Parts.{AreLinesOf, owner_numbers}
-use Rattle.partition.proofs.local_parts.MineLemmas.{can_be_played}
+use Rattle.partition.specs.local_parts.Parts.{AreVerticesOf, graph_halves, owner_numbers}
+use Rattle.partition.proofs.local_parts.MineLemmas.{few_lines, ghost_lines_are, lists_of_graph, own_lines}
 use Rattle.partition.proofs.local_parts.ScopeLemmas.{part_of_graph}
 use Rattle.placement.specs.graphs.Placed.{Setting, LocalView, AreUnsetParts, IsOwnedBy, IsUnsetPart, atom_numbers, no_datum}
-use Rattle.placement.specs.graphs.Inner.Playing.{ArePlayed, CanAllBePlayed}
-
--- the outline is the graph's
-pub record IsOutlineOf (g : DataGraph) (machines : ℕ) (outline : Outline) : Type 0 where
-  pub machines_are : outline.machines ≡ machines
-  pub vertices : outline.vertices ≡ size g
-  pub edges : outline.edges ≡ length g.edges
-  pub directed : outline.directed ≡ g.directed
+use Rattle.placement.specs.graphs.Inner.Making.{AreAllMade, CanAllBeMade, IsPartBy}
 
 -- some setting with this graph and these owners
 abbrev pub setting_with : DataGraph → ℕ → (ℕ → ℕ) → Setting
@@ -49,7 +40,7 @@ setting_with g machines owner =
       base = 0;
     }
 
--- ---- what a machine holds that played its lines
+-- ---- what a machine holds that was made from its lines
 
 no_some : false ≡ true → ⊥
 no_some e = cc
@@ -71,35 +62,36 @@ zero_there numbers n e is =
       | inr past ↦ ap (λ (xs : List ℕ). get_or xs e 0) is ∙ get_or_past (replicate n 0) e 0 (subst (λ (k : ℕ). k ≤ e) (sym (length-replicate {A = ℕ} n 0)) past)
     ]
 
-unset_part : (st : Setting) (a : ℕ) (lines : Lines) (outline : Outline) (l : LocalView) → IsSetting st → AreLinesOf st a lines outline →
-    IsPlayedFrom (record { 0 = a }) lines outline l → IsUnsetPart st a l
-unset_part st a lines outline l is are played =
-    let kept : length l.kept ≡ length played.order = ap length played.kept ∙ length-replicate (length played.order) no_datum in
-    let owned : length l.owned ≡ length played.order =
-    ap length played.owned ∙ length-map lines.vertices.items (λ (v : VertexLine). v.vertex) ∙ sym (length_permutation lines.vertices.items played.order played.same) in
+unset_part : (st : Setting) (a : ℕ) (lines : Lines) (l : LocalView) → IsSetting st → AreVerticesOf st a lines.vertices.items lines.ghosts.items →
+    IsPartBy st.graph st.machines (record { 0 = a }) lines l → IsUnsetPart st a l
+unset_part st a lines l is are made =
+    let kept : length l.kept ≡ length made.order = ap length made.kept ∙ length-replicate (length made.order) no_datum in
+    let owned : length l.owned ≡ length made.order =
+    ap length made.owned ∙ length-map lines.vertices.items (λ (v : VertexLine). v.vertex) ∙ sym (length_permutation lines.vertices.items made.order made.same) in
     record {
-      machine = ap (λ (m : MachineNo). m.0) played.machine;
-      local = part_of_graph st (record { 0 = a }) lines outline l is are played;
-      rows = λ v own. ap is_some (played.rows v own);
+      machine = ap (λ (m : MachineNo). m.0) made.machine;
+      local = part_of_graph st (record { 0 = a }) lines.vertices.items lines.ghosts.items (graph_halves st.graph) st.machines (length st.graph.edges) l is
+          (lists_of_graph st a lines.vertices.items lines.ghosts.items are) made;
+      rows = λ v own. ap is_some (made.rows v own);
       places = kept ∙ sym owned;
-      data_unset = λ v own. unset_there l.kept (length played.order) (place_at l v) played.kept own;
-      edges_unset = λ e. zero_there l.numbers outline.edges e played.numbers;
+      data_unset = λ v own. unset_there l.kept (length made.order) (place_at l v) made.kept own;
+      edges_unset = λ e. zero_there l.numbers (length st.graph.edges) e made.numbers;
     }
 
--- one machine more has played its lines
-pub played_more : (all : List Lines) (outline : Outline) (locals : List LocalView) (x : LocalView) (lines : Lines) (k : ℕ) → length locals ≡ k → k < length all →
-    lines ≡ get_or all k lines → IsPlayedFrom (record { 0 = k }) lines outline x → ArePlayed all outline locals → ArePlayed all outline (locals ++ x ∷ [])
-played_more all outline locals x lines k count inside at played so_far a d l low =
+-- one machine more has its part
+pub made_more : (g : DataGraph) (machines : ℕ) (all : List Lines) (locals : List LocalView) (x : LocalView) (lines : Lines) (k : ℕ) → length locals ≡ k → k < length all →
+    lines ≡ get_or all k lines → IsPartBy g machines (record { 0 = k }) lines x → AreAllMade g machines all locals → AreAllMade g machines all (locals ++ x ∷ [])
+made_more g machines all locals x lines k count inside at made so_far a d l low =
     elim (cases_lt a k) [
       | inl before ↦
-          subst (IsPlayedFrom (record { 0 = a }) (get_or all a d) outline) (sym (get_or-append locals (x ∷ []) l a (subst (λ (n : ℕ). a < n) (sym count) before)))
+          subst (IsPartBy g machines (record { 0 = a }) (get_or all a d)) (sym (get_or-append locals (x ∷ []) l a (subst (λ (n : ℕ). a < n) (sym count) before)))
           (so_far a d l (subst (λ (n : ℕ). a < n) (sym count) before))
       | inr past ↦
           let last : a ≡ k = omega (arith, length-append locals (x ∷ []), count, low) in
-          let here : IsPlayedFrom (record { 0 = k }) (get_or all k d) outline x =
-          subst (λ (ls : Lines). IsPlayedFrom (record { 0 = k }) ls outline x) (at ∙ get_or_default all k lines d inside) played in
-          subst (λ (n : ℕ). IsPlayedFrom (record { 0 = n }) (get_or all n d) outline (get_or (locals ++ x ∷ []) n l)) (sym last)
-          (subst (IsPlayedFrom (record { 0 = k }) (get_or all k d) outline) (sym (get_or_push locals x l k count)) here)
+          let here : IsPartBy g machines (record { 0 = k }) (get_or all k d) x =
+          subst (λ (ls : Lines). IsPartBy g machines (record { 0 = k }) ls x) (at ∙ get_or_default all k lines d inside) made in
+          subst (λ (n : ℕ). IsPartBy g machines (record { 0 = n }) (get_or all n d) (get_or (locals ++ x ∷ []) n l)) (sym last)
+          (subst (IsPartBy g machines (record { 0 = k }) (get_or all k d)) (sym (get_or_push locals x l k count)) here)
     ]
 
 -- the first of some lines
@@ -116,8 +108,7 @@ owner_below machines owners below v low =
 
 -- the numbers in the list are the owners of the setting
 module _ (g : DataGraph) (machines : ℕ) (owners : List AtomNo) (is_graph : IsDataGraph g) (each : length owners ≡ size g)
-    (below : All (λ (a : AtomNo). a.0 < machines) owners) (outline : Outline) (outlined : IsOutlineOf g machines outline)
-    (lines : List Lines) (atoms : AreAtoms g (atom_numbers owners) machines lines) where
+    (below : All (λ (a : AtomNo). a.0 < machines) owners) (lines : List Lines) (atoms : AreAtomVertices g (atom_numbers owners) machines lines) where
   abbrev IsFor : Setting → Type 0
   IsFor st = IsOwnedBy g machines (slice_index (atom_numbers owners)) st
 
@@ -142,35 +133,43 @@ module _ (g : DataGraph) (machines : ℕ) (owners : List AtomNo) (is_graph : IsD
       let plus : 0 + k ≡ k = zero-add k in
       sym (for.owners k inside) ∙ sym (get_or-map-range_with_len st.owner 0 (size st.graph) k k 0 (subst (λ (h : DataGraph). k < size h) (sym for.graph) inside) plus))
 
-  lines_are : (st : Setting) → IsFor st → (a : ℕ) (d : Lines) → a < machines → AreLinesOf st a (get_or lines a d) outline
+  lines_are : (st : Setting) → IsFor st → (a : ℕ) (d : Lines) → a < machines → AreVerticesOf st a (get_or lines a d).vertices.items (get_or lines a d).ghosts.items
   lines_are st for a d low =
       record {
         machine = subst (λ (n : ℕ). a < n) (sym for.machines) low;
-        atom =
-            atoms.each a d low ∙ ap (λ (of : List ℕ). Rattle.graph_atoms.specs.atom_cut.Atoms.graph_atom g of a) (numbers_are st for)
-            ∙ ap (λ (h : DataGraph). Rattle.graph_atoms.specs.atom_cut.Atoms.graph_atom h (owner_numbers st) a) (sym for.graph);
-        machines = outlined.machines_are ∙ sym for.machines;
-        vertices = outlined.vertices ∙ ap size (sym for.graph);
-        edges = outlined.edges ∙ ap (λ (h : DataGraph). length h.edges) (sym for.graph);
-        directed = outlined.directed ∙ ap (λ (h : DataGraph). h.directed) (sym for.graph);
+        vertices =
+            atoms.vertices a d low ∙ ap (λ (of : List ℕ). (graph_atom g of a).vertices) (numbers_are st for)
+            ∙ ap (λ (h : DataGraph). (graph_atom h (owner_numbers st) a).vertices) (sym for.graph);
+        beside =
+            atoms.ghosts a d low ∙ ap (λ (of : List ℕ). (graph_atom g of a).ghosts) (numbers_are st for)
+            ∙ ap (λ (h : DataGraph). (graph_atom h (owner_numbers st) a).ghosts) (sym for.graph);
       }
 
-  pub all_can_be_played : CanAllBePlayed lines outline
-  all_can_be_played a d low =
+  pub all_can_be_made : CanAllBeMade g lines
+  all_can_be_made a d low =
       let st = setting_with g machines (slice_index (atom_numbers owners)) in
       let for : IsFor st = record { graph = refl; machines = refl; owners = λ v inside. refl } in
-      can_be_played st a (get_or lines a d) outline (setting_is st for) (lines_are st for a d (subst (λ (n : ℕ). a < n) atoms.count low))
+      let is = setting_is st for in
+      let l : Lines = get_or lines a d in
+      let are = lines_are st for a d (subst (λ (n : ℕ). a < n) atoms.count low) in
+      record {
+        vertices = λ k e inside. (own_lines st a l.vertices.items l.ghosts.items is are k e inside).low;
+        ghosts = λ k e inside. (ghost_lines_are st a l.vertices.items l.ghosts.items is are k e inside).low;
+        few = few_lines st a l.vertices.items l.ghosts.items is are;
+      }
 
-  pub parts_are : (locals : List LocalView) → length locals ≡ length lines → ArePlayed lines outline locals → (st : Setting) → IsFor st → AreUnsetParts st locals
-  parts_are locals many played st for =
+  pub parts_are : (locals : List LocalView) → length locals ≡ length lines → AreAllMade g machines lines locals → (st : Setting) → IsFor st → AreUnsetParts st locals
+  parts_are locals many made st for =
       record {
         count = many ∙ atoms.count ∙ sym for.machines;
         each = λ a d low.
             let below_all : a < machines = subst (λ (n : ℕ). a < n) for.machines low in
             let inside : a < length lines = subst (λ (n : ℕ). a < n) (sym atoms.count) below_all in
             let no_lines : Lines = some_of lines (omega arith) in
-            unset_part st a (get_or lines a no_lines) outline (get_or locals a d) (setting_is st for) (lines_are st for a no_lines below_all)
-            (played a no_lines d (subst (λ (n : ℕ). a < n) (sym many) inside));
+            let part = made a no_lines d (subst (λ (n : ℕ). a < n) (sym many) inside) in
+            unset_part st a (get_or lines a no_lines) (get_or locals a d) (setting_is st for) (lines_are st for a no_lines below_all)
+            (subst (λ (n : ℕ). IsPartBy st.graph n (record { 0 = a }) (get_or lines a no_lines) (get_or locals a d)) (sym for.machines)
+            (subst (λ (h : DataGraph). IsPartBy h machines (record { 0 = a }) (get_or lines a no_lines) (get_or locals a d)) (sym for.graph) part));
       }
 
 -- ---- two clauses of one call

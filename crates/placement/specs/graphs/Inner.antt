@@ -1,3 +1,3 @@
 -- What clauses of private functions cite.
-pub mod Playing
+pub mod Making
 pub mod Weighing

@@ -2,13 +2,13 @@
 ghost use Rattle.std.specs.Prelude.{◌≡◌, ◌^◌, ◌<◌, length, slice_index, All, IfOk};
 ghost use Rattle.graph_core.specs.DataGraph.{size};
 ghost use Rattle.placement.specs.graphs.Placed.{AreUnsetParts, IsOwnedBy, Setting, atom_numbers, placed_owner};
-ghost use Rattle.placement.specs.graphs.Inner.Playing.{ArePlayed, CanAllBePlayed};
+ghost use Rattle.placement.specs.graphs.Inner.Making.{AreAllMade, CanAllBeMade};
 
 use crate::graphs::owners::vertex_owners;
 use gl_base::{AtomNo, Lines, MachineNo, NoMemory, Vertex};
-use graph_atoms::atom_cut::lines_of;
+use graph_atoms::atom_cut::vertices_of;
 use graph_core::Graph;
-use local_graph::{LocalGraph, Outline};
+use local_graph::LocalGraph;
 use std::alloc::Global;
 
 /// The part of each of so many machines, where `of` says in which atom each vertex is, and `owner` on which machine each atom.
@@ -43,32 +43,36 @@ pub fn parts_by_owner(
     requires below { All (λ a. a.0 < machines) owners.now }
     ensures { (st : Setting) → IsOwnedBy graph.now machines (slice_index (atom_numbers owners.now)) st → IfOk result (λ locals. AreUnsetParts st locals.items) }
 {
-    let outline = Outline {
-        machines,
-        vertices: graph.n(),
-        edges: graph.m(),
-        directed: graph.directed(),
-    };
-    let lines = lines_of(alloc, graph, owners, machines)?;
-    play_all(alloc, lines, outline, first)
+    let _ = graph.n();
+    let lines = vertices_of(alloc, graph, owners, machines)?;
+    make_all(alloc, graph, lines, machines, first)
 }
 
-/// Plays the lines of each machine, in turn, and drops them.
-fn play_all(
+/// Makes the part of each machine from its lines, in turn, and drops these.
+fn make_all(
     alloc: Global,
+    graph: &Graph,
     all: Vec<Lines>,
-    outline: Outline,
+    machines: u16,
     first: Vertex,
 ) -> Result<Vec<LocalGraph>, NoMemory>
     requires few { length all.items < 2 ^ 16 }
-    requires played { CanAllBePlayed all.items outline }
+    requires lines { CanAllBeMade graph.now all.items }
     ensures count { IfOk result (λ locals. length locals.items ≡ length all.items) }
-    ensures played { IfOk result (λ locals. ArePlayed all.items outline locals.items) }
+    ensures made { IfOk result (λ locals. AreAllMade graph.now machines all.items locals.items) }
 {
     let mut locals = Vec::with_capacity(alloc, all.len())?;
     for lines in all {
         let me = MachineNo(locals.len() as u16);
-        locals.push(LocalGraph::play(alloc, me, &lines, outline, first)?)?;
+        locals.push(LocalGraph::of(
+            alloc,
+            me,
+            graph,
+            &lines.vertices,
+            &lines.ghosts,
+            machines,
+            first,
+        )?)?;
     }
     Ok(locals)
 }

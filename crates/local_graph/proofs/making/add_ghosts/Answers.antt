@@ -1,6 +1,8 @@
-use Rattle.std.proofs.Common.{◌≡◌, ◌<◌, length, get_or, map, sym, ap, ◌∙◌, arith}
+use Rattle.std.proofs.Common.{◌≡◌, ◌<◌, ◌≤◌, false, List, length, get_or, map, sym, ap, ◌∙◌, arith}
+use Rattle.std.proofs.lemmas.Bool.{le-ltb}
 use Rattle.gl_base.specs.declared.numbers.Vertex.{Vertex}
-use Rattle.local_graph.specs.Played.{numbers_of, side_of}
+use Rattle.graph_core.specs.declared.halves.Half.{Half}
+use Rattle.local_graph.specs.Played.{numbers_of, side_of, sides_kept}
 use Rattle.local_graph.specs.Inner.AtPlaces.{halves_known, scope_numbers, sides_known}
 use Rattle.local_graph.proofs.MakeLemmas.{IsAddedAround, made_around}
 use Rattle.local_graph.proofs.making.add_ghosts.Goals as goal
@@ -18,11 +20,13 @@ loop-place-preserved c =
     let is : c.row-halves.result.now ≡ halves_known p.halves.now known k = c.row-halves.ensures in
     let sides = c.fill.new.self.sides.items in
     let scope = c.fill.new.self.scope.items in
-    let are_sides : sides ≡ sides_known side p.halves.now known k = c.in_ok-fill.ensures.sides ∙ ap (map side) is in
-    let is_scope : numbers_of scope ≡ scope_numbers p.owned.now v.0 sides =
-    c.in_ok-fill.ensures.scope ∙ ap (scope_numbers p.owned.now v.0) (sym c.in_ok-fill.ensures.sides) in
+    let past : s.many ≤ k = omega arith in
+    let are_sides : sides ≡ sides_known side s.many p.halves.now known k =
+    c.in_ok-fill.ensures.sides ∙ ap (λ (hs : List Half). sides_kept false s.many (map side hs)) is
+    ∙ ap (λ b. sides_kept b s.many (map side (halves_known p.halves.now known k))) (sym (le-ltb k s.many past)) in
+    let is_scope : numbers_of scope ≡ scope_numbers p.owned.now v.0 sides = c.in_ok-fill.ensures.scope in
     let old = c.loop-place.lists in
     let new = c.push_around.new.self in
-    let added : IsAddedAround side s.me p.machines p.halves.now known p.owned.now k old new sides scope =
+    let added : IsAddedAround side s.many s.me p.machines p.halves.now known p.owned.now k old new sides scope =
     record { to_sides = c.in_ok-push_around.ensures.sides; to_part = c.in_ok-push_around.ensures.part; are_sides = are_sides; is_scope = is_scope } in
-    made_around side s.me p.machines p.halves.now known p.owned.now s.many k old new sides scope c.loop-place.invariant added c.push_around.ensures.rest.0 c.push_around.ensures.rest.1
+    made_around side s.many s.me p.machines p.halves.now known p.owned.now s.many k old new sides scope c.loop-place.invariant added c.push_around.ensures.rest.0 c.push_around.ensures.rest.1

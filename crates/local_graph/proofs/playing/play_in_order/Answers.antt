@@ -53,16 +53,20 @@ invariant_of-result c =
     let low = ordered_low c.args.outline.vertices c.args.own.now c.args.order.now c.args.ghosts.now c.requires.order c.requires.vertices c.requires.ghosts in
     let below : All (λ (v : Vertex). v.0 < c.args.outline.vertices) known = subst (λ (vs : List Vertex). All (λ (v : Vertex). v.0 < c.args.outline.vertices) vs) (sym c.in_ok-known.ensures) low in
     let stand : AreTheirPlaces places known = subst (λ (vs : List Vertex). AreTheirPlaces places vs) c.deref.ensures.value c.in_ok-places.ensures in
-    let lists_made : AreMadeTo side c.args.me c.args.outline.machines c.args.halves.now known owned n (length known) lists =
-    subst (λ (vs : List Vertex). AreMadeTo side c.args.me c.args.outline.machines c.args.halves.now known vs n (length known) lists) c.deref-3.ensures.value
-    (subst (λ (vs : List Vertex). AreMadeTo side c.args.me c.args.outline.machines c.args.halves.now vs c.deref-3.result.now n (length vs) lists) c.deref-2.ensures.value c.in_ok-lists.ensures) in
+    let lists_made : AreMadeTo side n c.args.me c.args.outline.machines c.args.halves.now known owned n (length known) lists =
+    subst (λ (vs : List Vertex). AreMadeTo side n c.args.me c.args.outline.machines c.args.halves.now known vs n (length known) lists) c.deref-3.ensures.value
+    (subst (λ (vs : List Vertex). AreMadeTo side n c.args.me c.args.outline.machines c.args.halves.now vs c.deref-3.result.now n (length vs) lists) c.deref-2.ensures.value c.in_ok-lists.ensures) in
     let made : IsMade c.args.me c.args.own.now c.args.ghosts.now c.args.outline c.args.halves.now c.args.order.now (joined c.args.me owned places lists c.in_ok-beside.beside) =
     joined_made c.args.me c.args.own.now c.args.ghosts.now c.args.outline c.args.halves.now c.args.order.now known owned places lists c.in_ok-beside.beside
     c.in_ok-known.ensures c.in_ok-owned.ensures c.requires.order stand below lists_made c.in_ok-beside.ensures in
     made_sound c.args.me c.args.own.now c.args.ghosts.now c.args.outline c.args.halves.now c.args.order.now (joined c.args.me owned places lists c.in_ok-beside.beside) made c.requires.edges
 
 pub returns : goal.returns
-returns c = λ lines vertices ghosts are.
+returns c = λ at are back.
+    let same = length_permutation c.args.own.now c.args.order.now c.requires.order in
+    let fit = c.requires.few in
+    let limit = c.requires.limit in
+    let few : length c.args.order.now < 4294967295 = omega arith in
     let known = c.in_ok-known.known.items in
     let owned = c.in_ok-owned.owned.items in
     let places = c.in_ok-places.places in
@@ -72,10 +76,10 @@ returns c = λ lines vertices ghosts are.
     let low = ordered_low c.args.outline.vertices c.args.own.now c.args.order.now c.args.ghosts.now c.requires.order c.requires.vertices c.requires.ghosts in
     let below : All (λ (v : Vertex). v.0 < c.args.outline.vertices) known = subst (λ (vs : List Vertex). All (λ (v : Vertex). v.0 < c.args.outline.vertices) vs) (sym c.in_ok-known.ensures) low in
     let stand : AreTheirPlaces places known = subst (λ (vs : List Vertex). AreTheirPlaces places vs) c.deref.ensures.value c.in_ok-places.ensures in
-    let lists_made : AreMadeTo side c.args.me c.args.outline.machines c.args.halves.now known owned n (length known) lists =
-    subst (λ (vs : List Vertex). AreMadeTo side c.args.me c.args.outline.machines c.args.halves.now known vs n (length known) lists) c.deref-3.ensures.value
-    (subst (λ (vs : List Vertex). AreMadeTo side c.args.me c.args.outline.machines c.args.halves.now vs c.deref-3.result.now n (length vs) lists) c.deref-2.ensures.value c.in_ok-lists.ensures) in
+    let lists_made : AreMadeTo side n c.args.me c.args.outline.machines c.args.halves.now known owned n (length known) lists =
+    subst (λ (vs : List Vertex). AreMadeTo side n c.args.me c.args.outline.machines c.args.halves.now known vs n (length known) lists) c.deref-3.ensures.value
+    (subst (λ (vs : List Vertex). AreMadeTo side n c.args.me c.args.outline.machines c.args.halves.now vs c.deref-3.result.now n (length vs) lists) c.deref-2.ensures.value c.in_ok-lists.ensures) in
     let made : IsMade c.args.me c.args.own.now c.args.ghosts.now c.args.outline c.args.halves.now c.args.order.now (joined c.args.me owned places lists c.in_ok-beside.beside) =
     joined_made c.args.me c.args.own.now c.args.ghosts.now c.args.outline c.args.halves.now c.args.order.now known owned places lists c.in_ok-beside.beside
     c.in_ok-known.ensures c.in_ok-owned.ensures c.requires.order stand below lists_made c.in_ok-beside.ensures in
-    made_played c.args.me c.args.own.now c.args.ghosts.now c.args.outline c.args.halves.now c.args.order.now (joined c.args.me owned places lists c.in_ok-beside.beside) made lines vertices ghosts are
+    made_played c.args.me c.args.own.now c.args.ghosts.now c.args.outline c.args.halves.now c.args.order.now (joined c.args.me owned places lists c.in_ok-beside.beside) made few at are back
