@@ -10,7 +10,7 @@ use Rattle.cluster_laws.specs.cluster_model.Clusters.{Cluster, call_way, report_
 use Rattle.cluster_laws.specs.cluster_model.Counting.{Counting}
 use Rattle.cluster_laws.specs.cluster_model.Machines.{Machine, count_of, is_idle}
 use Rattle.cluster_laws.specs.cluster_model.Totals.{total}
-use Rattle.whole_laws.specs.cluster_whole.Steps.{Holds, IsCalled, Tells, Told, Turn, counts_in, under_way}
+use Rattle.whole_laws.specs.cluster_whole.Steps.{Holds, IsCalled, Tells, Told, Turn, counts_in, messages_between}
 use Rattle.whole_laws.specs.cluster_whole.Views.{world_of}
 use Rattle.whole_laws.proofs.cluster_whole.Flows.{below_all, same_flows, total_from-more}
 use Rattle.whole_laws.specs.cluster_ending.Watched.{AreWatched, HasAnswered, HasMoved, HoldsNoTask, HasNoTaskLeft, HasTold, HasSettled, IsDoneSince, IsNotAbove, IsTurnOf, SomeMoved, Watch, last_counts, shown_by, shown_in, told_behind}
@@ -117,8 +117,8 @@ pub record IsDeed (st : Setting) (c new : Cluster) : Type 0 where
   pub reports : (a : ℕ) → counts_in (report_way new a) ≡ counts_in (report_way c a)
   pub held : (a : ℕ) → (new.machine a).held ≡ (c.machine a).held
   pub seen : (a : ℕ) → a < st.machines → IsSeen st (begins_in (call_way c a)) (c.machine a) (new.machine a)
-  pub balanced : total st.machines (λ a. (c.machine a).sent) ≡ total st.machines (λ a. (c.machine a).received) + under_way st (world_of c) →
-      total st.machines (λ a. (new.machine a).sent) ≡ total st.machines (λ a. (new.machine a).received) + under_way st (world_of new)
+  pub balanced : total st.machines (λ a. (c.machine a).sent) ≡ total st.machines (λ a. (c.machine a).received) + messages_between st (world_of c) →
+      total st.machines (λ a. (new.machine a).sent) ≡ total st.machines (λ a. (new.machine a).received) + messages_between st (world_of new)
   pub rests : ((a : ℕ) → a < st.machines → begins_in (call_way c a) ≡ []) → HasSettled st c → HasSettled st new
   pub done : HasNoTaskLeft st (world_of c) → StaysDone st (world_of c) (world_of new)
 
@@ -159,11 +159,11 @@ pub record IsAlike (st : Setting) (c new : Cluster) : Type 0 where
   pub ways : (p q : ℕ) → way (world_of new) p q ≡ way (world_of c) p q
 
 module _ (st : Setting) (c new : Cluster) (alike : IsAlike st c new) where
-  alike_flows : under_way st (world_of new) ≡ under_way st (world_of c)
+  alike_flows : messages_between st (world_of new) ≡ messages_between st (world_of c)
   alike_flows = same_flows st (world_of c) (world_of new) alike.ways
 
-  pub alike_balanced : total st.machines (λ a. (c.machine a).sent) ≡ total st.machines (λ a. (c.machine a).received) + under_way st (world_of c) →
-      total st.machines (λ a. (new.machine a).sent) ≡ total st.machines (λ a. (new.machine a).received) + under_way st (world_of new)
+  pub alike_balanced : total st.machines (λ a. (c.machine a).sent) ≡ total st.machines (λ a. (c.machine a).received) + messages_between st (world_of c) →
+      total st.machines (λ a. (new.machine a).sent) ≡ total st.machines (λ a. (new.machine a).received) + messages_between st (world_of new)
   alike_balanced was =
       (λ i. total st.machines (λ a. (alike.counts a i).sent)) ∙ was
       ∙ λ i. total st.machines (λ a. (sym (alike.counts a) i).received) + sym alike_flows i
@@ -216,8 +216,8 @@ pub record IsWorkAt (st : Setting) (c new : Cluster) (a gain took : ℕ) : Type 
   pub seen : IsSeen st (begins_in (call_way c a)) (c.machine a) (new.machine a)
   pub sent : (new.machine a).sent ≡ (c.machine a).sent + gain
   pub received : (new.machine a).received ≡ (c.machine a).received + took
-  pub flows : under_way st (world_of new) + took ≡ under_way st (world_of c) + gain
-  pub was : took ≤ under_way st (world_of c)
+  pub flows : messages_between st (world_of new) + took ≡ messages_between st (world_of c) + gain
+  pub was : took ≤ messages_between st (world_of c)
 
 module _ (st : Setting) (c new : Cluster) (a gain took : ℕ) (low : a < st.machines) (work : IsWorkAt st c new a gain took) where
   work_seen : (b : ℕ) → b < st.machines → IsSeen st (begins_in (call_way c b)) (c.machine b) (new.machine b)
@@ -227,25 +227,25 @@ module _ (st : Setting) (c new : Cluster) (a gain took : ℕ) (low : a < st.mach
       (λ (off : b ≢ a). seen_alike st (begins_in (call_way c b)) (c.machine b) (new.machine b) (ap (count_of st) (work.others b off)) (ap (λ (m : Machine). m.part.task) (work.others b off)))
       (cases_eq b a)
 
-  work_balanced : total st.machines (λ b. (c.machine b).sent) ≡ total st.machines (λ b. (c.machine b).received) + under_way st (world_of c) →
-      total st.machines (λ b. (new.machine b).sent) ≡ total st.machines (λ b. (new.machine b).received) + under_way st (world_of new)
+  work_balanced : total st.machines (λ b. (c.machine b).sent) ≡ total st.machines (λ b. (c.machine b).received) + messages_between st (world_of c) →
+      total st.machines (λ b. (new.machine b).sent) ≡ total st.machines (λ b. (new.machine b).received) + messages_between st (world_of new)
   work_balanced was =
-      both_more (total st.machines (λ b. (c.machine b).sent)) (total st.machines (λ b. (c.machine b).received)) (under_way st (world_of c))
-      (total st.machines (λ b. (new.machine b).sent)) (total st.machines (λ b. (new.machine b).received)) (under_way st (world_of new)) gain took was
+      both_more (total st.machines (λ b. (c.machine b).sent)) (total st.machines (λ b. (c.machine b).received)) (messages_between st (world_of c))
+      (total st.machines (λ b. (new.machine b).sent)) (total st.machines (λ b. (new.machine b).received)) (messages_between st (world_of new)) gain took was
       (total_from-more 0 st.machines (λ b. (c.machine b).sent) (λ b. (new.machine b).sent) a gain (zero_low a) (below_all a st.machines low) work.sent (λ b off. ap (λ (m : Machine). m.sent) (work.others b off)))
       (total_from-more 0 st.machines (λ b. (c.machine b).received) (λ b. (new.machine b).received) a took (zero_low a) (below_all a st.machines low) work.received (λ b off. ap (λ (m : Machine). m.received) (work.others b off)))
       work.flows
 
   work_rests : ((b : ℕ) → b < st.machines → begins_in (call_way c b) ≡ []) → HasSettled st c → HasSettled st new
   work_rests none rest =
-      let nothing : took ≡ 0 = none_took (under_way st (world_of c)) took work.was rest.silent in
+      let nothing : took ≡ 0 = none_took (messages_between st (world_of c)) took work.was rest.silent in
       let same : count_of st (new.machine a) ≡ count_of st (c.machine a) = work.seen.rests (none a low) (none_more (c.machine a).received (new.machine a).received took work.received nothing) (rest.idle a low) in
       record {
         idle = λ b within. ⊎_elim
             (λ (at : b ≡ a). subst (λ (k : ℕ). (count_of st (new.machine k)).idle ≡ true) (sym at) (ap (λ (x : Counted). x.idle) same ∙ rest.idle a low))
             (λ (off : b ≢ a). ap (λ (m : Machine). (count_of st m).idle) (work.others b off) ∙ rest.idle b within)
             (cases_eq b a);
-        silent = none_flows (under_way st (world_of c)) (under_way st (world_of new)) gain took work.flows rest.silent (none_gained (c.machine a).sent (new.machine a).sent gain work.sent (ap (λ (x : Counted). x.sent) same)) nothing;
+        silent = none_flows (messages_between st (world_of c)) (messages_between st (world_of new)) gain took work.flows rest.silent (none_gained (c.machine a).sent (new.machine a).sent gain work.sent (ap (λ (x : Counted). x.sent) same)) nothing;
       }
 
   pub work_deed : ((b : ℕ) → IsLikeCalls (call_way c b) (call_way new b)) → ((b : ℕ) → counts_in (report_way new b) ≡ counts_in (report_way c b)) → ((b : ℕ) → (new.machine b).held ≡ (c.machine b).held) →

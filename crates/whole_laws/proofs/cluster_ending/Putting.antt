@@ -16,7 +16,7 @@ use Rattle.cluster_laws.specs.cluster_model.Leading.{begins_snapshot, puts_wave}
 use Rattle.cluster_laws.specs.cluster_model.Machines.{Machine, count_of}
 use Rattle.cluster_laws.specs.cluster_model.Totals.{total, total_from}
 use Rattle.cluster_laws.specs.cluster_model.TwoWaves.{IsIdleAnswer, TwoWaves, all_answered, no_counts, no_waves, received_of, sent_of, total_received, total_sent, turned}
-use Rattle.whole_laws.specs.cluster_whole.Steps.{Holds, IsCalled, Tells, Told, Turn, calls_of, come_of, held_of, is_told, reports_of, under_way}
+use Rattle.whole_laws.specs.cluster_whole.Steps.{Holds, IsCalled, Tells, Told, Turn, calls_of, come_of, held_of, is_told, reports_of, messages_between}
 use Rattle.whole_laws.specs.cluster_whole.Views.{world_of}
 use Rattle.whole_laws.proofs.cluster_whole.Due.{sums_are}
 use Rattle.whole_laws.proofs.cluster_whole.Flows.{nothing_under_way, total_from-none}
@@ -211,9 +211,9 @@ module _ (st : Setting) (begun : ℕ) (c : Cluster) (turn : ℕ → Turn) (befor
             sums_are received_of ws.wave 0 (λ a. (c.machine a).received) (λ i low. ap received_of (slot i (at_low i low) some) ∙ sym (same i (at_low i low)).0 ∙ ap (λ (a : ℕ). (c.machine a).received) (sym (zero_more i)))
             ∙ ap (λ (n : ℕ). total n (λ a. (c.machine a).received)) was.many
 
-        silent : under_way st (world_of c) ≡ 0
+        silent : messages_between st (world_of c) ≡ 0
         silent =
-            none_flows (total st.machines (λ a. (c.machine a).sent)) (total st.machines (λ a. (c.machine a).received)) (under_way st (world_of c)) (total_sent ws.wave) (total_received ws.wave)
+            none_flows (total st.machines (λ a. (c.machine a).sent)) (total st.machines (λ a. (c.machine a).received)) (messages_between st (world_of c)) (total_sent ws.wave) (total_received ws.wave)
             was.balanced sent_is received_is (subst (λ (xs : List (Option Counted)). total_received xs ≡ total_sent xs) (last_is 0 any some) idle.even)
 
         done_since : IsDoneSince st asked (last_counts next)
@@ -377,7 +377,7 @@ module _ (st later : Setting) (base : BaseView) (c : Cluster) (machines : later.
       (λ (part : all_answered (no_counts st.machines) ≡ false). ap (λ (x : TwoWaves). slice_index_or x.wave a None) (turned_part (no_waves st.machines) part) ∙ slot_first a low)
       (cases_Bool (all_answered (no_counts st.machines)))
 
-  quiet_first : under_way later (world_of again) ≡ 0
+  quiet_first : messages_between later (world_of again) ≡ 0
   quiet_first = total_from-none 0 later.machines (λ p. total later.machines (λ q. 0)) (λ p. total_from-none 0 later.machines (λ q. 0) (λ q. refl))
 
   -- where that would be an idle wave there is no machine
@@ -410,7 +410,7 @@ module _ (st later : Setting) (base : BaseView) (c : Cluster) (machines : later.
         many = length-replicate st.machines None ∙ sym machines;
         many_before = length-replicate st.machines None ∙ sym machines;
         numbers = (subst (λ (n : ℕ). n ≤ base.number) (sym number) (le_refl base.number), le_refl base.number, le_refl base.number);
-        balanced = all_none (total later.machines (λ a. 0)) (total later.machines (λ a. 0)) (under_way later (world_of again))
+        balanced = all_none (total later.machines (λ a. 0)) (total later.machines (λ a. 0)) (messages_between later (world_of again))
             (total_from-none 0 later.machines (λ a. 0) (λ a. refl)) (total_from-none 0 later.machines (λ a. 0) (λ a. refl)) quiet_first;
         after_idle = λ idle.
             let none = no_machine idle in

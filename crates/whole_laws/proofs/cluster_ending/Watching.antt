@@ -22,7 +22,7 @@ use Rattle.cluster_laws.specs.cluster_model.Counting.{Counting}
 use Rattle.cluster_laws.specs.cluster_model.Events.{Event, Admit, DeliverCall, DeliverReport, Deliver, Fail, Grant, Mark, MayDo, PutBegin, PutStep, PutWave, Record, Recover, Section, Send, SendCall, SendReport, Stop, Update, after_event, delivers_call, delivers_message, delivers_report, makes, saves, sends_call, sends_message, sends_report}
 use Rattle.cluster_laws.specs.cluster_model.Machines.{Machine, count_of, gained, is_idle}
 use Rattle.cluster_laws.specs.cluster_model.Working.{admits, asks_more, commits, fails, grants, hands, hands_report, makes_mark, makes_update, prompt, receives, sections, takes_call, works_on}
-use Rattle.whole_laws.specs.cluster_whole.Steps.{Turn, counts_in, under_way}
+use Rattle.whole_laws.specs.cluster_whole.Steps.{Turn, counts_in, messages_between}
 use Rattle.whole_laws.specs.cluster_whole.Views.{world_of}
 use Rattle.whole_laws.proofs.cluster_whole.Flows.{part_flows, same_flows, taken_flows}
 use Rattle.whole_laws.proofs.cluster_whole.Joining.{asked, begin_gone, changed, changed_world, one_machine}
@@ -149,7 +149,7 @@ module _ (st : Setting) (is : IsSetting st) (c : Cluster) (copies : AreCopies st
         sections_in (c.reports a ++ m1.out) ≡ sections_in (c.reports a ++ m.out) → ((b : ℕ) → begins_in (calls b ++ c.coordinator.out b) ≡ orders b) →
         m1.held ≡ m.held → counts_in (c.reports a ++ m1.out) ≡ counts_in (c.reports a ++ m.out) → ((b : ℕ) → IsLikeCalls (call_way c b) (calls b ++ c.coordinator.out b)) →
         IsSeen st (begins_in (call_way c a)) m m1 → m1.sent ≡ m.sent + gain → m1.received ≡ m.received + took →
-        under_way st (world_of (changed st c a m1 link calls next left)) + took ≡ under_way st w + gain → took ≤ under_way st w →
+        messages_between st (world_of (changed st c a m1 link calls next left)) + took ≡ messages_between st w + gain → took ≤ messages_between st w →
         Kept (changed st c a (prompt st a m1) link calls next left)
     work m1 action link calls orders next left gain took may made same heard held counts like seen sent received flows some =
         let new : Cluster = changed st c a m1 link calls next left in
@@ -169,10 +169,10 @@ module _ (st : Setting) (is : IsSetting st) (c : Cluster) (copies : AreCopies st
         (λ left_none. subst (StaysDone st w) (made ∙ sym (one_machine st c a m1 link calls orders next left same heard)) (done_action st is w copies.told left_none apart action may))))
 
     -- how much is on the way then, where the links are as they were
-    part_flow : (m1 : Machine) (calls : ℕ → List Call) (next left : ℕ) → IsLonger m.part m1.part → under_way st (world_of (changed st c a m1 c.link calls next left)) + 0 ≡ under_way st w + gained st m.part m1.part
+    part_flow : (m1 : Machine) (calls : ℕ → List Call) (next left : ℕ) → IsLonger m.part m1.part → messages_between st (world_of (changed st c a m1 c.link calls next left)) + 0 ≡ messages_between st w + gained st m.part m1.part
     part_flow m1 calls next left longer =
         let new : Cluster = changed st c a m1 c.link calls next left in
-        flows_none (under_way st (world_of new)) (under_way st w) (gained st m.part m1.part)
+        flows_none (messages_between st (world_of new)) (messages_between st w) (gained st m.part m1.part)
         (same_flows st (record w { part = set_at w.part a m1.part }) (world_of new) (λ p q. ap (λ (part : Part). c.link p q ++ part.out q) (read_at (λ (x : Machine). x.part) c.machine a m1 p))
         ∙ part_flows st w a m1.part low longer)
 
@@ -183,7 +183,7 @@ module _ (st : Setting) (is : IsSetting st) (c : Cluster) (copies : AreCopies st
         Kept (changed st c a (prompt st a m1) c.link c.calls next left)
     alone m1 action next left may made same held counts seen sent received longer =
         work m1 action c.link c.calls w.orders next left (gained st m.part m1.part) 0 may made same (λ b. refl) held counts (λ b. calls_again (call_way c b)) seen sent (received ∙ plus_none m.received)
-        (part_flow m1 c.calls next left longer) (zero_low (under_way st w))
+        (part_flow m1 c.calls next left longer) (zero_low (messages_between st w))
 
     admit_kept : (v : ℕ) → MayDo st c (Admit a v) → Kept (after_event st c (Admit a v))
     admit_kept v may =
@@ -216,15 +216,15 @@ module _ (st : Setting) (is : IsSetting st) (c : Cluster) (copies : AreCopies st
         let mid : World = taken w p a message behind first in
         let new : Cluster = changed st c a m1 link c.calls c.next c.left in
         let gain : ℕ = gained st m.part m1.part in
-        let one : under_way st w ≡ under_way st mid + 1 = taken_flows st w mid p a p_low low message (taken-here w p a message behind first) (λ p' q' off. taken-there w p a message behind first p' q' off) in
-        let two : under_way st (world_of new) ≡ under_way st mid + gain =
+        let one : messages_between st w ≡ messages_between st mid + 1 = taken_flows st w mid p a p_low low message (taken-here w p a message behind first) (λ p' q' off. taken-there w p a message behind first p' q' off) in
+        let two : messages_between st (world_of new) ≡ messages_between st mid + gain =
         same_flows st (record mid { part = set_at mid.part a m1.part }) (world_of new) (λ p' q'. ap (λ (part : Part). link p' q' ++ part.out q') (read_at (λ (x : Machine). x.part) c.machine a m1 p'))
         ∙ part_flows st mid a m1.part low (received_longer st a message m.part) in
         work m1 (act.Deliver p a) link c.calls w.orders c.next c.left gain 1
         (record { message = message; behind = behind; first = first }) (ap (delivers st w p a) first) refl (λ b. refl) refl refl (λ b. calls_again (call_way c b))
         (seen_taken st (begins_in (call_way c a)) m m1 (more_low m.sent gain) refl (le_of_eq (sym (received-log st a message m.part))))
         refl (suc_plus m.received)
-        (flows_taken (under_way st w) (under_way st mid) (under_way st (world_of new)) gain one two) (some_way (under_way st w) (under_way st mid) one)
+        (flows_taken (messages_between st w) (messages_between st mid) (messages_between st (world_of new)) gain one two) (some_way (messages_between st w) (messages_between st mid) one)
 
     -- ---- a call comes
 
@@ -249,8 +249,8 @@ module _ (st : Setting) (is : IsSetting st) (c : Cluster) (copies : AreCopies st
           rests = λ none got idle. absurd (nil_cons k rest (sym none ∙ orders_are));
         })
         (plus_none m.sent) (plus_none m.received)
-        (flows_same (under_way st (world_of new)) (under_way st w) (same_flows st w (world_of new) (λ p q. ap (λ (ms : List Message). c.link p q ++ ms) (set_at-kept (λ (x : Machine). x.part.out q) c.machine a m1 refl p))))
-        (zero_low (under_way st w))
+        (flows_same (messages_between st (world_of new)) (messages_between st w) (same_flows st w (world_of new) (λ p q. ap (λ (ms : List Message). c.link p q ++ ms) (set_at-kept (λ (x : Machine). x.part.out q) c.machine a m1 refl p))))
+        (zero_low (messages_between st w))
     called_kept (Committed k) behind first =
         still (takes_call st a (Committed k) m) (set_at c.calls a behind) refl refl refl refl (counts_told (asks_more st (commits k m)) (c.reports a) m.out (Want k) refl) (gone (Committed k) behind first refl)
     called_kept (Wave k) behind first =

@@ -13,7 +13,7 @@ use Rattle.cluster_laws.specs.cluster_model.Machines.{Machine}
 use Rattle.cluster_laws.specs.cluster_model.Rounds.{AreEven, Rounds, StepIsDue}
 use Rattle.cluster_laws.specs.cluster_model.Totals.{total, total_from}
 use Rattle.cluster_laws.specs.cluster_model.TwoWaves.{received_of, sent_of, total_received, total_sent}
-use Rattle.whole_laws.specs.cluster_whole.Steps.{AreInTurn, ComesBetween, IsCalled, Holds, StaysShut, Tells, Told, Turn, come_of, has_come, is_told, under_way}
+use Rattle.whole_laws.specs.cluster_whole.Steps.{AreInTurn, ComesBetween, IsCalled, Holds, StaysShut, Tells, Told, Turn, come_of, has_come, is_told, messages_between}
 use Rattle.whole_laws.specs.cluster_whole.Views.{world_of}
 use Rattle.whole_laws.proofs.cluster_whole.Flows.{nothing_under_way, total_from-below}
 
@@ -106,9 +106,9 @@ module _ (st : Setting) (colour : ℕ → ℕ) (c : Cluster) (t : AreInTurn st c
         ∙ ap (λ (n : ℕ). total n (λ a. received_of (come_of (t.turn a)))) t.many))
         (total_from-below 0 st.machines (λ a. received_of (come_of (t.turn a))) (λ a. (c.machine a).received) (λ a from to. (shown a (subst (λ (n : ℕ). a < n) (zero_more st.machines) to)).2))
 
-    none_flows : under_way st (world_of c) ≡ 0
+    none_flows : messages_between st (world_of c) ≡ 0
     none_flows =
-        nothing_more (total st.machines (λ a. (c.machine a).sent)) (total st.machines (λ a. (c.machine a).received)) (total_sent ws) (total_received ws) (under_way st (world_of c))
+        nothing_more (total st.machines (λ a. (c.machine a).sent)) (total st.machines (λ a. (c.machine a).received)) (total_sent ws) (total_received ws) (messages_between st (world_of c))
         t.balanced sent_is received_low (even.received ∙ sym even.sent)
 
     even_ways : (p q : ℕ) → way (world_of c) p q ≡ []

@@ -9,7 +9,7 @@ use Rattle.cluster_laws.specs.cluster_core.Worlds.{World, way}
 use Rattle.cluster_laws.proofs.cluster_core.Basics.{set_at-other, set_at-same}
 use Rattle.cluster_laws.specs.cluster_model.Machines.{gained}
 use Rattle.cluster_laws.specs.cluster_model.Totals.{total, total_from}
-use Rattle.whole_laws.specs.cluster_whole.Steps.{under_way}
+use Rattle.whole_laws.specs.cluster_whole.Steps.{messages_between}
 
 start_low : (k many : ℕ) → k < k + suc many
 start_low k many = omega arith
@@ -119,7 +119,7 @@ total_from-more k (suc many) f g a more low high here there =
 module _ (st : Setting) (w : World) where
   -- a part is set that has longer outboxes
   pub part_flows : (a : ℕ) (new : Part) → a < st.machines → ((q : ℕ) → length ((w.part a).out q) ≤ length (new.out q)) →
-      under_way st (record w { part = set_at w.part a new }) ≡ under_way st w + gained st (w.part a) new
+      messages_between st (record w { part = set_at w.part a new }) ≡ messages_between st w + gained st (w.part a) new
   part_flows a new low longer =
       total_from-more 0 st.machines (λ p. total st.machines (λ q. length (way w p q))) (λ p. total st.machines (λ q. length (w.link p q ++ (set_at w.part a new p).out q))) a (gained st (w.part a) new) (zero_is_low a) (below_all a st.machines low)
       (total_from-added 0 st.machines (λ q. length (way w a q)) (λ q. length (new.out q) - length ((w.part a).out q)) (λ q. length (w.link a q ++ (set_at w.part a new a).out q))
@@ -135,7 +135,7 @@ module _ (st : Setting) (w : World) where
 
 -- every way is as before, but for one, which loses its first message
 pub taken_flows : (st : Setting) (old new : World) (p q : ℕ) → p < st.machines → q < st.machines → (m : Message) → way old p q ≡ m ∷ way new p q →
-    ((p' q' : ℕ) → (p' ≢ p) ⊎ (q' ≢ q) → way new p' q' ≡ way old p' q') → under_way st old ≡ under_way st new + 1
+    ((p' q' : ℕ) → (p' ≢ p) ⊎ (q' ≢ q) → way new p' q' ≡ way old p' q') → messages_between st old ≡ messages_between st new + 1
 taken_flows st old new p q p_low q_low m here there =
     total_from-more 0 st.machines (λ a. total st.machines (λ b. length (way new a b))) (λ a. total st.machines (λ b. length (way old a b))) p 1 (zero_is_low p) (below_all p st.machines p_low)
     (total_from-more 0 st.machines (λ b. length (way new p b)) (λ b. length (way old p b)) q 1 (zero_is_low q) (below_all q st.machines q_low)
@@ -143,7 +143,7 @@ taken_flows st old new p q p_low q_low m here there =
     (λ b off. ap (λ (ms : List Message). length ms) (sym (there p b (inr off)))))
     (λ a off. total_from-same 0 st.machines (λ b. length (way new a b)) (λ b. length (way old a b)) (λ b from to. ap (λ (ms : List Message). length ms) (sym (there a b (inl off)))))
 
-pub same_flows : (st : Setting) (old new : World) → ((p q : ℕ) → way new p q ≡ way old p q) → under_way st new ≡ under_way st old
+pub same_flows : (st : Setting) (old new : World) → ((p q : ℕ) → way new p q ≡ way old p q) → messages_between st new ≡ messages_between st old
 same_flows st old new same =
     total_from-same 0 st.machines (λ a. total st.machines (λ b. length (way old a b))) (λ a. total st.machines (λ b. length (way new a b)))
     (λ a from to. total_from-same 0 st.machines (λ b. length (way old a b)) (λ b. length (way new a b)) (λ b low high. ap (λ (ms : List Message). length ms) (same a b)))
@@ -153,7 +153,7 @@ none_of_length [] is = refl
 none_of_length (m ∷ ms) is = absurd (suc_not (length ms) is)
 
 -- where nothing is under way each way is empty
-pub nothing_under_way : (st : Setting) (w : World) → under_way st w ≡ 0 → (p q : ℕ) → p < st.machines → q < st.machines → way w p q ≡ []
+pub nothing_under_way : (st : Setting) (w : World) → messages_between st w ≡ 0 → (p q : ℕ) → p < st.machines → q < st.machines → way w p q ≡ []
 nothing_under_way st w none p q p_low q_low =
     none_of_length (way w p q)
     (total_from-all_none 0 st.machines (λ b. length (way w p b))

@@ -9,7 +9,7 @@ use Rattle.cluster_laws.specs.cluster_model.Events.{recovers}
 use Rattle.cluster_laws.specs.cluster_model.Rounds.{first_rounds}
 use Rattle.cluster_laws.specs.cluster_model.Totals.{total}
 use Rattle.cluster_laws.specs.cluster_model.TwoWaves.{TwoWaves, all_answered, no_counts, no_waves, turned}
-use Rattle.whole_laws.specs.cluster_whole.Steps.{AreInTurn, Told, under_way}
+use Rattle.whole_laws.specs.cluster_whole.Steps.{AreInTurn, Told, messages_between}
 use Rattle.whole_laws.specs.cluster_whole.Views.{world_of}
 use Rattle.whole_laws.proofs.cluster_whole.Flows.{total_from-none}
 use Rattle.whole_laws.proofs.cluster_whole.Telling.{turned_part, turned_whole}
@@ -67,7 +67,7 @@ recovered_turn st later colour base c same =
       closed = λ s closed. refl;
       queues = λ a x. refl;
       between = λ p q. tt;
-      balanced = all_none (total later.machines (λ a. 0)) (total later.machines (λ a. 0)) (under_way later (world_of (recovers st base c)))
+      balanced = all_none (total later.machines (λ a. 0)) (total later.machines (λ a. 0)) (messages_between later (world_of (recovers st base c)))
           (total_from-none 0 later.machines (λ a. 0) (λ a. refl)) (total_from-none 0 later.machines (λ a. 0) (λ a. refl))
           (total_from-none 0 later.machines (λ p. total later.machines (λ q. 0)) (λ p. total_from-none 0 later.machines (λ q. 0) (λ q. refl)));
     }

@@ -29,7 +29,7 @@ use Rattle.cluster_laws.specs.cluster_model.Machines.{Machine, gained}
 use Rattle.cluster_laws.specs.cluster_model.Rounds.{Rounds}
 use Rattle.cluster_laws.specs.cluster_model.Totals.{total}
 use Rattle.cluster_laws.specs.cluster_model.Working.{admits, asks_more, commits, fails, hands, hands_report, makes_mark, makes_update, prompt, receives, sections, takes_call, works_on}
-use Rattle.whole_laws.specs.cluster_whole.Steps.{AreInTurn, ComesBetween, IsWordBetween, counts_in, rounds_in, under_way}
+use Rattle.whole_laws.specs.cluster_whole.Steps.{AreInTurn, ComesBetween, IsWordBetween, counts_in, rounds_in, messages_between}
 use Rattle.whole_laws.specs.cluster_whole.Views.{world_of}
 use Rattle.whole_laws.specs.cluster_whole.Windows.{AreWithin, StaysWithin}
 use Rattle.whole_laws.proofs.cluster_whole.Flows.{below_all, gained_none, part_flows, same_flows, taken_flows, total_from-more}
@@ -134,7 +134,7 @@ module _ (st : Setting) (is : IsSetting st) (colour : ℕ → ℕ) (colours : �
         ((s : ScopeId) → s.home.0 ≡ a → m1.part.closed ≡ true → m1.part.flight s ≡ None) →
         ((x : ℕ) → m1.part.queue x ≡ []) →
         ((p q : ℕ) → AllByRecursion (ComesBetween st rounds.steps p q) (way (world_of (changed st c a m1 link calls next left)) p q)) →
-        total st.machines (λ b. (set_at c.machine a m1 b).sent) ≡ total st.machines (λ b. (set_at c.machine a m1 b).received) + under_way st (world_of (changed st c a m1 link calls next left)) →
+        total st.machines (λ b. (set_at c.machine a m1 b).sent) ≡ total st.machines (λ b. (set_at c.machine a m1 b).received) + messages_between st (world_of (changed st c a m1 link calls next left)) →
         InTurn (changed st c a (prompt st a m1) link calls next left)
     work m1 link calls next left in_window held closed shut counts heard step flights queues between balanced =
         then_prompt m1 link calls next left in_window
@@ -210,7 +210,7 @@ module _ (st : Setting) (is : IsSetting st) (colour : ℕ → ℕ) (colours : �
           part_of = ap (λ (u : ℕ). takes_part st u q) (centre q) ∙ takes;
         } in
         let world_is = one_machine st c a m1 c.link c.calls w.orders next left same (λ b. refl) in
-        let flows : under_way st (world_of (changed st c a m1 c.link c.calls next left)) ≡ under_way st w + more = ap (under_way st) world_is ∙ part_flows st w a m1.part low longer in
+        let flows : messages_between st (world_of (changed st c a m1 c.link c.calls next left)) ≡ messages_between st w + more = ap (messages_between st) world_is ∙ part_flows st w a m1.part low longer in
         work m1 c.link c.calls next left in_window held closed (λ is_closed. absurd (open_ is_closed)) counts (λ b. refl) step
         (λ r own is_closed. absurd (open_ (sym closed ∙ is_closed)))
         (λ x. ap (λ (f : ℕ → List Claim). f x) queue ∙ t.queues a x)
@@ -219,7 +219,7 @@ module _ (st : Setting) (is : IsSetting st) (colour : ℕ → ℕ) (colours : �
         (told_between st rounds.steps a q s (news q) (takes_part st v q && not (q == a)) (λ told. word_told q (and_parts (takes_part st v q) (not (q == a)) told).0) (c.link a q) (m.part.out q) (t.between a q)))
         (λ off. t.between p q))
         (total_from-more 0 st.machines (λ b. (c.machine b).sent) (λ b. (set_at c.machine a m1 b).sent) a more (zero_low a) (below_all a st.machines low) (ap (λ (x : Machine). x.sent) (set_at-same c.machine a m1) ∙ sent) (λ b off. ap (λ (x : Machine). x.sent) (set_at-other c.machine a m1 b off))
-        ∙ both_more (total st.machines (λ b. (c.machine b).sent)) (total st.machines (λ b. (c.machine b).received)) (under_way st w) more t.balanced
+        ∙ both_more (total st.machines (λ b. (c.machine b).sent)) (total st.machines (λ b. (c.machine b).received)) (messages_between st w) more t.balanced
         ∙ λ i. total st.machines (λ b. sym (set_at-kept (λ (x : Machine). x.received) c.machine a m1 received b) i) + sym flows i)
 
     -- ---- word of an update comes
@@ -246,7 +246,7 @@ module _ (st : Setting) (is : IsSetting st) (colour : ℕ → ℕ) (colours : �
         (λ (off : (p' ≢ p) ⊎ (q' ≢ a)). subst (AllByRecursion (ComesBetween st rounds.steps p' q')) (sym (taken-there w p a (Done s news) behind first p' q' off)) (t.between p' q'))
         (same_way p a p' q')))
         ((λ i. total st.machines (λ b. set_at-kept (λ (x : Machine). x.sent) c.machine a m1 sent b i))
-        ∙ one_taken (total st.machines (λ b. (c.machine b).sent)) (total st.machines (λ b. (c.machine b).received)) (under_way st w) (under_way st (world_of new)) (total st.machines (λ b. (set_at c.machine a m1 b).received))
+        ∙ one_taken (total st.machines (λ b. (c.machine b).sent)) (total st.machines (λ b. (c.machine b).received)) (messages_between st w) (messages_between st (world_of new)) (total st.machines (λ b. (set_at c.machine a m1 b).received))
         t.balanced
         (taken_flows st w mid p a p_low low (Done s news) here (λ p' q' off. taken-there w p a (Done s news) behind first p' q' off) ∙ ap (λ (n : ℕ). n + 1) (sym (same_flows st mid (world_of new) ways)))
         (total_from-more 0 st.machines (λ b. (c.machine b).received) (λ b. (set_at c.machine a m1 b).received) a 1 (zero_low a) (below_all a st.machines low) (ap (λ (x : Machine). x.received) (set_at-same c.machine a m1) ∙ suc_plus m.received) (λ b off. ap (λ (x : Machine). x.received) (set_at-other c.machine a m1 b off))))

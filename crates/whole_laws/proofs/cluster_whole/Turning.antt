@@ -16,7 +16,7 @@ use Rattle.cluster_laws.specs.cluster_model.Totals.{total}
 use Rattle.cluster_laws.specs.cluster_model.Working.{answers_if, is_done, is_offered, or_zero, prompt}
 use Rattle.cluster_laws.specs.cluster_places.Steps.{IsInStep, IsOfColour}
 use Rattle.graph_core.specs.DataGraph.{size}
-use Rattle.whole_laws.specs.cluster_whole.Steps.{AreInTurn, Holds, IsAt, ComesBetween, IsCalled, StaysShut, Tells, Told, Turn, calls_of, come_of, counts_in, has_come, held_of, is_told, reports_of, rounds_in, step_of, under_way}
+use Rattle.whole_laws.specs.cluster_whole.Steps.{AreInTurn, Holds, IsAt, ComesBetween, IsCalled, StaysShut, Tells, Told, Turn, calls_of, come_of, counts_in, has_come, held_of, is_told, reports_of, rounds_in, step_of, messages_between}
 use Rattle.whole_laws.specs.cluster_whole.Views.{world_of}
 use Rattle.whole_laws.specs.cluster_whole.Windows.{StaysWithin}
 use Rattle.whole_laws.proofs.cluster_whole.Flows.{same_flows}
@@ -91,7 +91,7 @@ module _ (st : Setting) (colour : ℕ → ℕ) (rounds : Rounds) (c : Cluster) (
       ((s : ScopeId) → (new.machine s.home.0).part.closed ≡ true → (new.machine s.home.0).part.flight s ≡ None) →
       ((a x : ℕ) → (new.machine a).part.queue x ≡ []) →
       ((p q : ℕ) → AllByRecursion (ComesBetween st rounds.steps p q) (way (world_of new) p q)) →
-      total st.machines (λ a. (new.machine a).sent) ≡ total st.machines (λ a. (new.machine a).received) + under_way st (world_of new) →
+      total st.machines (λ a. (new.machine a).sent) ≡ total st.machines (λ a. (new.machine a).received) + messages_between st (world_of new) →
       AreInTurn st colour rounds new
   calm_turn new calm step closed queues between balanced =
       record {

@@ -12,7 +12,7 @@ use Rattle.cluster_laws.specs.cluster_model.Events.{Admit, Deliver, DeliverCall,
 use Rattle.cluster_laws.specs.cluster_model.Machines.{Machine, count_of}
 use Rattle.cluster_laws.specs.cluster_model.Totals.{total}
 use Rattle.cluster_laws.specs.cluster_model.TwoWaves.{IsIdleAnswer, total_received, total_sent, turned}
-use Rattle.whole_laws.specs.cluster_whole.Steps.{Holds, IsCalled, Tells, Told, Turn, calls_of, come_of, counts_in, held_of, is_told, reports_of, under_way}
+use Rattle.whole_laws.specs.cluster_whole.Steps.{Holds, IsCalled, Tells, Told, Turn, calls_of, come_of, counts_in, held_of, is_told, reports_of, messages_between}
 use Rattle.whole_laws.specs.cluster_whole.Views.{world_of}
 use Rattle.graph_core.specs.DataGraph.{size}
 
@@ -83,7 +83,7 @@ pub record HasNoTaskLeft (st : Setting) (w : World) : Type 0 where
 -- Each machine is idle, and no message is on its way between machines.
 pub record HasSettled (st : Setting) (c : Cluster) : Type 0 where
   pub idle : (a : ℕ) → a < st.machines → (count_of st (c.machine a)).idle ≡ true
-  pub silent : under_way st (world_of c) ≡ 0
+  pub silent : messages_between st (world_of c) ≡ 0
 
 -- No task is left, and since these counts no update was made.
 pub record IsDoneSince (st : Setting) (c : Cluster) (counts : List (Option Counted)) : Type 0 where
@@ -157,7 +157,7 @@ pub record AreWatched (st : Setting) (counting : Counting) (begun : ℕ) (c : Cl
   pub many_before : length counting.waves.before ≡ st.machines
   pub numbers : (st.base ≤ watch.begun_before) × (watch.begun_before ≤ watch.begun_newest) × (watch.begun_newest ≤ begun)
   -- what was sent was received or is on its way
-  pub balanced : total st.machines (λ a. (c.machine a).sent) ≡ total st.machines (λ a. (c.machine a).received) + under_way st (world_of c)
+  pub balanced : total st.machines (λ a. (c.machine a).sent) ≡ total st.machines (λ a. (c.machine a).received) + messages_between st (world_of c)
   -- where the wave before was idle, no task is left, or a machine has moved since; and where besides no snapshot was begun since,
   -- all is at rest, or a machine has moved
   pub after_idle : IsIdleWave (last_counts counting) → IsDoneSince st c (last_counts counting) ⊎ SomeMoved st counting c watch

@@ -33,8 +33,8 @@ counts_in (Count k counts ∷ reports) = Count k counts ∷ counts_in reports
 counts_in (Want k ∷ reports) = counts_in reports
 
 -- how many messages are on their way from one machine to another
-abbrev pub under_way : Setting → World → ℕ
-under_way st w = total st.machines (λ p. total st.machines (λ q. length (way w p q)))
+abbrev pub messages_between : Setting → World → ℕ
+messages_between st w = total st.machines (λ p. total st.machines (λ q. length (way w p q)))
 
 -- ---- where a machine is with the newest wave
 
@@ -153,4 +153,4 @@ pub record AreInTurn (st : Setting) (colour : ℕ → ℕ) (rounds : Rounds) (c 
   pub queues : (a x : ℕ) → (c.machine a).part.queue x ≡ []
   pub between : (p q : ℕ) → AllByRecursion (ComesBetween st rounds.steps p q) (way (world_of c) p q)
   -- what was sent was received or is on its way
-  pub balanced : total st.machines (λ a. (c.machine a).sent) ≡ total st.machines (λ a. (c.machine a).received) + under_way st (world_of c)
+  pub balanced : total st.machines (λ a. (c.machine a).sent) ≡ total st.machines (λ a. (c.machine a).received) + messages_between st (world_of c)

@@ -17,7 +17,7 @@ ghost use Rattle.cluster_laws.specs.cluster_model.Leading.{HasSeenTheEnd};
 ghost use Rattle.cluster_laws.specs.cluster_model.Machines.{Machine, count_of};
 ghost use Rattle.cluster_laws.specs.cluster_model.Totals.{total};
 ghost use Rattle.cluster_laws.specs.cluster_model.Working.{prompt};
-ghost use Rattle.whole_laws.specs.cluster_whole.Steps.{counts_in, under_way};
+ghost use Rattle.whole_laws.specs.cluster_whole.Steps.{counts_in, messages_between};
 ghost use Rattle.whole_laws.specs.cluster_whole.Views.{world_of};
 ghost use Rattle.whole_laws.specs.cluster_whole.Whole.{AreColoured, IsNoRecovery, IsWhole, setting_behind};
 
@@ -80,7 +80,7 @@ pub fn no_task_comes_again()
 /// neither counts on their way nor those that have come are above its counts now.
 pub fn counts_are_true()
     ensures balanced { (st : Setting) (c : Cluster) (watch : Watch) → IsWatched st c watch →
-        total st.machines (λ a. (c.machine a).sent) ≡ total st.machines (λ a. (c.machine a).received) + under_way st (world_of c) }
+        total st.machines (λ a. (c.machine a).sent) ≡ total st.machines (λ a. (c.machine a).received) + messages_between st (world_of c) }
     ensures told { (st : Setting) (a : ℕ) (m : Machine) →
         ((prompt st a m).out ≡ m.out) ⊎ ((k : ℕ) × ((prompt st a m).out ≡ m.out ++ Count k (count_of st (prompt st a m)) ∷ [])) }
     ensures on_way { (st : Setting) (c : Cluster) (watch : Watch) (a k : ℕ) (counts : Counted) (rest : List Report) →

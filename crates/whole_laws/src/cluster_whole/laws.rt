@@ -26,7 +26,7 @@ ghost use Rattle.cluster_laws.specs.cluster_model.Machines.{outside};
 ghost use Rattle.cluster_laws.specs.cluster_model.Rounds.{StepIsDue};
 ghost use Rattle.cluster_laws.specs.cluster_model.Totals.{total};
 ghost use Rattle.whole_laws.specs.cluster_whole.Logged.{IsLogged, Logged, entries_to};
-ghost use Rattle.whole_laws.specs.cluster_whole.Steps.{ComesBetween, under_way};
+ghost use Rattle.whole_laws.specs.cluster_whole.Steps.{ComesBetween, messages_between};
 ghost use Rattle.whole_laws.specs.cluster_whole.Views.{IsMove, world_of};
 ghost use Rattle.whole_laws.specs.cluster_whole.Windows.{AreWithin};
 ghost use Rattle.whole_laws.specs.cluster_whole.Whole.{AreColoured, IsNoRecovery, IsWhole, setting_behind};
@@ -94,7 +94,7 @@ pub fn grants_never_happen()
 /// With colours, what machines sent each other was received or is on its way.
 pub fn counts_are_balanced()
     ensures { (st : Setting) (colour : ℕ → ℕ) (colours : ℕ) (c : Cluster) → IsWhole st c → st.engine ≡ Chromatic colour colours →
-        total st.machines (λ a. (c.machine a).sent) ≡ total st.machines (λ a. (c.machine a).received) + under_way st (world_of c) }
+        total st.machines (λ a. (c.machine a).sent) ≡ total st.machines (λ a. (c.machine a).received) + messages_between st (world_of c) }
 {}
 
 /// Each event keeps what a machine counts by itself: its scopes in flight, those of them that were admitted for an update, and that its
