@@ -22,7 +22,7 @@ use Rattle.partition.specs.local_parts.Parts.{AreVerticesOf, graph_halves, owner
 use Rattle.partition.proofs.local_parts.MineLemmas.{few_lines, ghost_lines_are, lists_of_graph, own_lines}
 use Rattle.partition.proofs.local_parts.ScopeLemmas.{part_of_graph}
 use Rattle.placement.specs.graphs.Placed.{Setting, LocalView, AreUnsetParts, IsOwnedBy, IsUnsetPart, atom_numbers, no_datum}
-use Rattle.placement.specs.graphs.Inner.Making.{AreAllMade, CanAllBeMade, IsPartBy}
+use Rattle.placement.specs.graphs.Inner.Making.{AreAllMade, AreAllOfGraph, IsPartBy}
 
 -- some setting with this graph and these owners
 abbrev pub setting_with : DataGraph → ℕ → (ℕ → ℕ) → Setting
@@ -145,7 +145,7 @@ module _ (g : DataGraph) (machines : ℕ) (owners : List AtomNo) (is_graph : IsD
             ∙ ap (λ (h : DataGraph). (graph_atom h (owner_numbers st) a).ghosts) (sym for.graph);
       }
 
-  pub all_can_be_made : CanAllBeMade g lines
+  pub all_can_be_made : AreAllOfGraph g lines
   all_can_be_made a d low =
       let st = setting_with g machines (slice_index (atom_numbers owners)) in
       let for : IsFor st = record { graph = refl; machines = refl; owners = λ v inside. refl } in

@@ -2,7 +2,7 @@
 ghost use Rattle.std.specs.Prelude.{◌≡◌, ◌^◌, ◌<◌, length, slice_index, All, IfOk};
 ghost use Rattle.graph_core.specs.DataGraph.{size};
 ghost use Rattle.placement.specs.graphs.Placed.{AreUnsetParts, IsOwnedBy, Setting, atom_numbers, placed_owner};
-ghost use Rattle.placement.specs.graphs.Inner.Making.{AreAllMade, CanAllBeMade};
+ghost use Rattle.placement.specs.graphs.Inner.Making.{AreAllMade, AreAllOfGraph};
 
 use crate::graphs::owners::vertex_owners;
 use gl_base::{AtomNo, Lines, MachineNo, NoMemory, Vertex};
@@ -57,7 +57,7 @@ fn make_all(
     first: Vertex,
 ) -> Result<Vec<LocalGraph>, NoMemory>
     requires few { length all.items < 2 ^ 16 }
-    requires lines { CanAllBeMade graph.now all.items }
+    requires lines { AreAllOfGraph graph.now all.items }
     ensures count { IfOk result (λ locals. length locals.items ≡ length all.items) }
     ensures made { IfOk result (λ locals. AreAllMade graph.now machines all.items locals.items) }
 {

@@ -7,13 +7,13 @@ use Rattle.placement.specs.graphs.Placed.{LocalView}
 pub use Rattle.partition.specs.local_parts.Parts.{IsMadeOf, graph_halves}
 
 -- the vertices and ghosts of the lines are the graph's, and no more
-pub record CanBeMade (g : DataGraph) (lines : Lines) : Type 0 where
+pub record AreOfGraph (g : DataGraph) (lines : Lines) : Type 0 where
   pub vertices : All (λ v. v.vertex.0 < size g) lines.vertices.items
   pub ghosts : All (λ v. v.vertex.0 < size g) lines.ghosts.items
   pub few : length lines.vertices.items + length lines.ghosts.items ≤ size g
 
-abbrev pub CanAllBeMade : DataGraph → List Lines → Type 0
-CanAllBeMade g lines = (a : ℕ) (d : Lines) → a < length lines → CanBeMade g (slice_index_or lines a d)
+abbrev pub AreAllOfGraph : DataGraph → List Lines → Type 0
+AreAllOfGraph g lines = (a : ℕ) (d : Lines) → a < length lines → AreOfGraph g (slice_index_or lines a d)
 
 -- machine `me` of so many has its part of the graph, made from these lines
 abbrev pub IsPartBy : DataGraph → ℕ → MachineNo → Lines → LocalView → Type 0
