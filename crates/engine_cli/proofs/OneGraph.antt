@@ -191,7 +191,7 @@ unspent told asked old new job lists left vertices edges none enough made =
         let ends : StoredEnd → Type 0 = λ e. MatchOption (left_at e) (IsFinished g p order) (IsSpent g p job.fields.budget order) in
         let spent : IsSpent g p job.fields.budget order left = subst ends made.ended was.runs.ended in
         let longer : IsValidOrder g p (order ++ next ∷ []) = one-more g p order left was.runs.play.valid spent.task in
-        let few = bound-of job.fields.algorithm job.fields.source g (order ++ next ∷ []) made.graph_is.graph.graph made.start longer in
+        let few = bound-of job.fields.algorithm job.fields.source g (order ++ next ∷ []) made.graph_is.graph.graph made.start made.edges_fit longer in
         let alone : (1 + 0) * step_bound g job.fields.algorithm ≤ job.fields.budget =
         subst (λ (fs : List FailureAt). (1 + length fs) * step_bound g job.fields.algorithm ≤ job.fields.budget) none (enough g made.graph_is) in
         omega (arith, few, spent.spent, alone, since-one-more order left was.runs.play.tickets)

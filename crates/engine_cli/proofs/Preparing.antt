@@ -1,10 +1,15 @@
 -- What running a job says over what was read before.
-use Rattle.std.proofs.Common.{◌≡◌, inl, inr, ℕ, ◌≤◌, Bool, true, false, IsTrue, is_some, List, [], ◌∷◌, Option, None, Some, IfSome, Result, Err, refl, sym, ap, ◌∙◌, subst, ⊎_elim, arith}
-use Rattle.std.specs.Prelude.{bytes_eq, ◌⊎◌}
+use Rattle.std.proofs.Common.{◌≡◌, inl, inr, ℕ, ◌≤◌, Bool, true, false, IsTrue, is_some, List, [], ◌∷◌, Option, None, Some, IfSome, Result, Ok, Err, refl, sym, ap, ◌∙◌, subst, ⊎_elim, arith}
+use Rattle.std.specs.Prelude.{bytes_eq, ◌⊎◌, if◌then◌else◌}
 use Rattle.std.proofs.lemmas.Slice.Eq.{bytes_eq-Decides}
 use Rattle.graph_atoms.specs.atom_gather.Cuts.{CanBeCut}
 use Rattle.graph_atoms.specs.declared.atom_gather.cuts.Cut.{Cut}
 use Rattle.graph_atoms.specs.declared.atom_gather.cuts.Cut.TheVariants.{Grown, Told}
+use Rattle.gl_base.specs.declared.job_faults.JobFault.{JobFault}
+use Rattle.gl_base.specs.declared.job_faults.JobFault.TheVariants.{Missing}
+use Rattle.gl_base.specs.declared.job_faults.Key.TheVariants as key
+use Rattle.gl_base.specs.declared.jobs.Algorithm.{Algorithm}
+use Rattle.gl_base.specs.declared.jobs.Algorithm.TheVariants.{Levels, Components, Paths, Colours, Cores}
 use Rattle.gl_outside.specs.Disk.{DiskPast}
 use Rattle.gl_outside.specs.Faults.{Rose}
 use Rattle.gl_outside.specs.FilesState.{FilesState, Opened}
@@ -15,12 +20,14 @@ use Rattle.job_io.specs.job_config.Jobs.{JobSayings}
 use Rattle.job_io.specs.job_config.Views.{job_view}
 use Rattle.job_io.specs.job_files.Atoms.{IsCutAt, IsCutOf, OfJobCut}
 use Rattle.job_io.specs.job_files.Inputs.{IsInputFrom, IsRunInput, RefusesEarly}
+use Rattle.job_io.specs.job_files.DoableJobs.{agreeing, clash_of, doable, unless_key}
 use Rattle.job_io.specs.job_files.JobTexts.{SaysJob}
 use Rattle.job_io.specs.job_files.NamesRead.{HandsForRun, names_of}
 use Rattle.job_io.specs.declared.job_files.inputs.Input.{Input}
 use Rattle.job_io.specs.declared.job_files.inputs.NoInput.{NoInput}
 use Rattle.job_io.specs.declared.job_files.inputs.NoInput.TheVariants as why
 use Rattle.job_io.specs.declared.job_files.jobs.JobVerb.{JobVerb}
+use Rattle.job_io.specs.declared.job_files.jobs.JobVerb.TheVariants as verb
 use Rattle.job_io.proofs.job_files.InputsRead.{of-graph}
 use Rattle.job_io.specs.job_stores.JobHeaders.{header_for}
 use Rattle.job_io.specs.job_stores.NewStores.{IfDisksTold, UsesDisk}
@@ -29,11 +36,12 @@ use Rattle.job_io.specs.declared.job_stores.making.NoStore.TheVariants as no_sto
 use Rattle.job_io.proofs.job_stores.DisksUsed.{always-told}
 use Rattle.engine_runs.specs.declared.answers.runs.StoredRun.{StoredRun}
 use Rattle.job_io.specs.whole_files.FilesUsed.{HandsOver}
-use Rattle.engine_cli.specs.Inner.Prepares.{ChangesInput, IsWhyNoneMade, UsesNamed}
+use Rattle.engine_cli.specs.Inner.Prepares.{ChangesInput, IsOfRun, IsWhyNoneMade, UsesNamed}
 use Rattle.engine_cli.specs.Inner.Storing.{IsWhyNoStoredRun}
 use Rattle.engine_cli.specs.JobRuns.{RunsOnStore, RunsSo, is_resumed}
 use Rattle.engine_cli.specs.JobStores.{IsNotRunFrom, KeepsAllImages, KeepsGoing, KeepsImages, NamesStore, OfStoredJob, RefusesStore, UsesStore}
 use Rattle.engine_cli.specs.NamesWritten.{order_names}
+use Rattle.engine_cli.specs.Plays.{HasEdgesFor}
 use Rattle.engine_cli.specs.Says.{Refuses}
 use Rattle.engine_cli.specs.Status.{IsBeforeMaking, IsRefusedInput, status_of_no_input, status_of_no_store}
 use Rattle.engine_cli.proofs.DisksLeft.{leaves-same}
@@ -48,6 +56,36 @@ can-cut input files some is = go input.job.atoms_at input.job.atoms input.cut so
     go None atoms cut some is = subst (CanBeCut input.graph) (sym is) some
     go (Some prefix) atoms (Grown n) some is = absurd is
     go (Some prefix) atoms (Told n of) some is = is.0
+
+-- ---- a job that is run names an algorithm for its edges
+
+-- no key was told that does not go with the algorithm
+edges-agree : (algorithm : Algorithm) (job : JobSayings) (g : DataGraph) → unless_key job (clash_of algorithm job) ≡ Ok job → g.directed ≡ job.fields.directed → HasEdgesFor algorithm g
+edges-agree Levels job g agrees same = tt
+edges-agree Components job g agrees same = tt
+edges-agree Paths job g agrees same = tt
+edges-agree Colours job g agrees same = tt
+edges-agree Cores job g agrees same = same ∙ none job.fields.directed agrees
+  where
+    no_error : {x : JobSayings} → {fault : JobFault} → Err fault ≡ Ok x → ⊥
+    no_error e = cc
+
+    none : (directed : Bool) → unless_key job (if directed then Some key.Directed else None) ≡ Ok job → directed ≡ false
+    none false agrees = refl
+    none true agrees = absurd (no_error agrees)
+
+pub edges-fit : (asked : JobVerb) (job : JobSayings) (g : DataGraph) → IsOfRun asked → doable asked job ≡ Ok job → g.directed ≡ job.fields.directed → HasEdgesFor job.fields.algorithm g
+edges-fit verb.Run job g run does same = edges-agree job.fields.algorithm job g does same
+edges-fit verb.Resume job g run does same = edges-agree job.fields.algorithm job g (named (is_some job.fields.store) does) same
+  where
+    no_error : {x : JobSayings} → {fault : JobFault} → Err fault ≡ Ok x → ⊥
+    no_error e = cc
+
+    named : (is : Bool) → (if is then agreeing job else Err (Missing key.Store)) ≡ Ok job → agreeing job ≡ Ok job
+    named true does = does
+    named false does = absurd (no_error does)
+edges-fit verb.Cut job g run does same = absurd run
+edges-fit verb.Init job g run does same = absurd run
 
 -- ---- what is read changes no disk
 

@@ -58,7 +58,7 @@ module _ (told : Bool) (asked : JobVerb) (old mid : FilesState) (file : List ℕ
   abbrev pub makes : (ending : StoredEnd) → prepared.run.end ≡ ending → (vertices edges : List ℕ) → DescribeJobGraph job.fields vertices edges prepared.graph
       → MakesRun told asked old new job lists ending vertices edges
   makes ending ended vertices edges described =
-      record { graph = prepared.graph; graph_is = described; start = is.start; cut = is.cut; cut_is = is.cut_is; run = prepared.run; lists_are = refl; ended = ended; runs = runs-now }
+      record { graph = prepared.graph; graph_is = described; start = is.start; edges_fit = is.edges_fit; cut = is.cut; cut_is = is.cut_is; run = prepared.run; lists_are = refl; ended = ended; runs = runs-now }
 
   -- how it ended
   pub ends-run : (ending : StoredEnd) → prepared.run.end ≡ ending → EndsRun told asked old new file lists ending

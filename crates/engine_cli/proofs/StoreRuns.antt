@@ -29,7 +29,7 @@ use Rattle.update_api.specs.Updates.{Update}
 use Rattle.engine_cli.specs.Inner.Storing.{IsStoreKept, IsNotGood, IsNotGoneOnFrom, IsStoreRunFrom, IsWhyNotOnDisk, IsWhyNotOnJournal, IsWhyNoneStored, no_store_of_journal, no_store_of_run}
 use Rattle.engine_cli.specs.JobRuns.{AreGoodImages, GoesOnFrom, KeepsStore, RunsOnStore, records_size, shared_by, snapshots_on}
 use Rattle.engine_cli.specs.JobStores.{IsNotRunFrom, IsOtherStore, KeepsGoing, KeepsImages}
-use Rattle.engine_cli.specs.Plays.{AreResults, update_of}
+use Rattle.engine_cli.specs.Plays.{AreResults, HasEdgesFor, update_of}
 use Rattle.engine_cli.proofs.Bounds.{bound-of}
 use Rattle.engine_cli.proofs.DisksLeft.{leaves-more, leaves-twice}
 use Rattle.engine_cli.proofs.Results.{results-of}
@@ -57,13 +57,13 @@ good-front shared header front behind image holds =
 
 -- a run that finished has the results of its algorithm
 pub stored-results : (job : JobSayings) (g : DataGraph) (owner : ℕ → ℕ) (count : ℕ) (kept : List Entry) (resumed : Bool) (snapshots : List (List Entry)) (run : StoredRun)
-    → IsDataGraph g → HasStart job.fields.algorithm job.fields.source g
+    → IsDataGraph g → HasStart job.fields.algorithm job.fields.source g → HasEdgesFor job.fields.algorithm g
     → IsStoredRun true (shared_by job g owner) job.fields.machines job.fields.window job.fields.budget count kept resumed snapshots run
     → run.end ≡ end.Finished → AreResults job.fields.algorithm job.fields.source g run.numbers.items
-stored-results job g owner count kept resumed snapshots run is start ran finished =
+stored-results job g owner count kept resumed snapshots run is start edges ran finished =
     let E : StoredEnd → Type 0 = λ e. RunEndsSo true (shared_by job g owner) job.fields.machines job.fields.window job.fields.budget kept snapshots ran.unanswered (lists_of run) e in
     let ends : E end.Finished = subst E finished ran.ends in
-    results-of job.fields.algorithm job.fields.source g run.order.items run.numbers.items is start ran.is.in_turn.valid ran.numbers_are ends.finished
+    results-of job.fields.algorithm job.fields.source g run.order.items run.numbers.items is start edges ran.is.in_turn.valid ran.numbers_are ends.finished
 
 -- The store was opened, on a disk that reads as it did, and whatever a crash left of it as the call began was left since.
 module _ (job : JobSayings) (g : DataGraph) (cut : Cut) (old mid new : DiskPast) (bodies : List (List ℕ)) (seen : IsImage old.now old.now.seen) (stands : StandsFor (header_for job.fields g) bodies old.now.seen)
@@ -98,9 +98,9 @@ module _ (job : JobSayings) (g : DataGraph) (cut : Cut) (old mid new : DiskPast)
   program = update_of job.fields.algorithm job.fields.source
 
   -- the run is one on its store
-  pub runs-on-store : (resumed : Bool) (run : StoredRun) → IsDataGraph g → HasStart job.fields.algorithm job.fields.source g → (resumed ≡ false → length bodies ≡ 0)
+  pub runs-on-store : (resumed : Bool) (run : StoredRun) → IsDataGraph g → HasStart job.fields.algorithm job.fields.source g → HasEdgesFor job.fields.algorithm g → (resumed ≡ false → length bodies ≡ 0)
       → IsStoreRunFrom job g cut program header true job.fields.window resumed (length bodies) bodies mid new run → RunsOnStore resumed job g cut old new run
-  runs-on-store resumed run is start fresh from =
+  runs-on-store resumed run is start edges fresh from =
       let same : bodies ≡ snapshots_on job g old = sym (stands_are header old.now.seen bodies stands) in
       record {
         stands = subst (λ (b : List (List ℕ)). StandsFor header b old.now.seen) same stands;
@@ -115,8 +115,8 @@ module _ (job : JobSayings) (g : DataGraph) (cut : Cut) (old mid new : DiskPast)
               snapshots = went.0;
               is = went.1;
               keeps = keeps-store shared front went.0 is_for.images went.2;
-              results = stored-results job g owner _ _ resumed went.0 run is start went.1;
-              enough = from.enough owner is_for.placed found.2 (step_bound g job.fields.algorithm) (λ order valid. bound-of job.fields.algorithm job.fields.source g order is start valid);
+              results = stored-results job g owner _ _ resumed went.0 run is start edges went.1;
+              enough = from.enough owner is_for.placed found.2 (step_bound g job.fields.algorithm) (λ order valid. bound-of job.fields.algorithm job.fields.source g order is start edges valid);
               roomy = from.roomy owner is_for.placed found.2;
             });
         machines = λ owner front is_for. from.machines owner is_for.placed (front-opened (shared_by job g owner) front is_for.images).2;

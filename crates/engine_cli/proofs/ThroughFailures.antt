@@ -23,7 +23,7 @@ use Rattle.engine_cli.specs.Inner.Failing.{IsRunWithoutSnapshots}
 use Rattle.engine_cli.specs.Inner.Prepares.{IsPrintable}
 use Rattle.engine_cli.specs.Inner.Storing.{IsStoreRunFrom}
 use Rattle.engine_cli.specs.JobRuns.{BeginsAgain, HasEnough, HasNamedMachines, IsEndAlone, IsRunWithFailures, IsStoredRun, RunsAsNamed, RunsThroughFailures, lists_of, shared_by}
-use Rattle.engine_cli.specs.Plays.{update_of}
+use Rattle.engine_cli.specs.Plays.{HasEdgesFor, update_of}
 use Rattle.engine_cli.proofs.Bounds.{bound-of}
 use Rattle.engine_cli.proofs.Results.{results-of}
 
@@ -42,9 +42,9 @@ module _ (job : JobSayings) (g : DataGraph) (owner : ℕ → ℕ) (saves : Bool)
       go (end.Full stored bytes) ends alone = absurd alone
       go end.DiskFault ends alone = absurd alone
 
-  pub begins-again : IsDataGraph g → HasStart job.fields.algorithm job.fields.source g → IsEndAlone was.end → (HasEnough job g → (left : Vertex) → was.end ≡ end.Spent left → ⊥)
+  pub begins-again : IsDataGraph g → HasStart job.fields.algorithm job.fields.source g → HasEdgesFor job.fields.algorithm g → IsEndAlone was.end → (HasEnough job g → (left : Vertex) → was.end ≡ end.Spent left → ⊥)
       → BeginsAgain job (shared_by job g owner) was
-  begins-again is start alone enough =
+  begins-again is start edges alone enough =
       let none = answered alone in
       let finished : was.end ≡ end.Finished → IsFinished g (update_of job.fields.algorithm job.fields.source) was.order.items =
       λ same. let ends : ends-so end.Finished = subst ends-so same ran.ends in ends.finished in
@@ -53,7 +53,7 @@ module _ (job : JobSayings) (g : DataGraph) (owner : ℕ → ℕ) (saves : Bool)
         few = ran.few;
         numbers_are = ran.numbers_are;
         finished = finished;
-        results = λ same. results-of job.fields.algorithm job.fields.source g was.order.items was.numbers.items is start ran.is.in_turn.valid ran.numbers_are (finished same);
+        results = λ same. results-of job.fields.algorithm job.fields.source g was.order.items was.numbers.items is start edges ran.is.in_turn.valid ran.numbers_are (finished same);
         spent = λ left same.
             let ends : ends-so (end.Spent left) = subst ends-so same ran.ends in
             subst (λ (n : ℕ). SpendsRun (shared_by job g owner) job.fields.budget left.0 n (lists_of was)) none ends;
@@ -62,9 +62,9 @@ module _ (job : JobSayings) (g : DataGraph) (owner : ℕ → ℕ) (saves : Bool)
 
 -- a run from a store that has no snapshot
 pub through-failures : (job : JobSayings) (g : DataGraph) (cut : Cut) (header : Header) (saves : Bool) (window count : ℕ) (bodies : List (List ℕ)) (old new : DiskPast) (was run : StoredRun) → IsDataGraph g
-    → HasStart job.fields.algorithm job.fields.source g → bodies ≡ [] → IsStoreRunFrom job g cut (update_of job.fields.algorithm job.fields.source) header saves window false count bodies old new was
+    → HasStart job.fields.algorithm job.fields.source g → HasEdgesFor job.fields.algorithm g → bodies ≡ [] → IsStoreRunFrom job g cut (update_of job.fields.algorithm job.fields.source) header saves window false count bodies old new was
     → IsRunWithoutSnapshots was run → RunsThroughFailures job g cut run
-through-failures job g cut header saves window count bodies old new was run is start none from alone =
+through-failures job g cut header saves window count bodies old new was run is start edges none from alone =
     let R : StoredRun → Type 0 = λ r. (owner : ℕ → ℕ) → IsPlacement g cut job.fields.machines owner → BeginsAgain job (shared_by job g owner) r in
     let again : R (record was { snapshots = run.snapshots }) = λ owner placed.
     let shared = shared_by job g owner in
@@ -72,8 +72,8 @@ through-failures job g cut header saves window count bodies old new was run is s
     let good : IsGoodStore shared header bodies = subst (IsGoodStore shared header) (sym none) (none_good shared header) in
     let went = from.goes_on owner placed good in
     let ran : G [] = subst G none (went.0, went.1) in
-    let enough = from.enough owner placed good (step_bound g job.fields.algorithm) (λ order valid. bound-of job.fields.algorithm job.fields.source g order is start valid) in
-    let b = begins-again job g owner saves window count ran.0 was ran.1 is start alone.ended enough in
+    let enough = from.enough owner placed good (step_bound g job.fields.algorithm) (λ order valid. bound-of job.fields.algorithm job.fields.source g order is start edges valid) in
+    let b = begins-again job g owner saves window count ran.0 was ran.1 is start edges alone.ended enough in
     record { is = b.is; few = b.few; numbers_are = b.numbers_are; finished = b.finished; results = b.results; spent = b.spent; enough = b.enough } in
     record {
       placed = from.placed;

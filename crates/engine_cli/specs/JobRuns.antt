@@ -33,7 +33,7 @@ use Rattle.engine_runs.specs.declared.answers.runs.StoredEnd.TheVariants.{DiskFa
 use Rattle.engine_runs.specs.declared.answers.runs.StoredPlan.{StoredPlan}
 use Rattle.engine_runs.specs.declared.answers.runs.StoredRun.{StoredRun}
 use Rattle.engine_cli.specs.declared.ended.Ended.{Ended}
-use Rattle.engine_cli.specs.Plays.{AreResults, CountsByMachine, RunsTo, update_of}
+use Rattle.engine_cli.specs.Plays.{AreResults, CountsByMachine, HasEdgesFor, RunsTo, update_of}
 
 -- ---- what a call leaves of its run
 
@@ -215,6 +215,7 @@ pub record MakesRun (told : Bool) (asked : JobVerb) (old : FilesState) (new : Li
   pub graph : DataGraph
   pub graph_is : DescribeJobGraph job.fields vertices edges graph
   pub start : HasStart job.fields.algorithm job.fields.source graph
+  pub edges_fit : HasEdgesFor job.fields.algorithm graph
   pub cut : Cut
   pub cut_is : IsCutOf old job.fields graph cut
   pub run : StoredRun

@@ -4,7 +4,7 @@ use Rattle.std.specs.Io.KnownBytes.{Appends}
 use Rattle.gl_base.specs.declared.atoms.AtomsFault.{AtomsFault}
 use Rattle.gl_base.specs.declared.atoms.AtomsKind.{AtomsKind}
 use Rattle.gl_base.specs.declared.job_faults.JobFault.{JobFault}
-use Rattle.gl_base.specs.declared.job_faults.JobFault.TheVariants.{NotJson, TooLong, UnknownKey, Missing, WrongKind, OutOfRange}
+use Rattle.gl_base.specs.declared.job_faults.JobFault.TheVariants.{NotJson, TooLong, UnknownKey, Missing, WrongKind, OutOfRange, Clash}
 use Rattle.gl_base.specs.FaultNames.{key_name, text_file_name, text_kind_name}
 use Rattle.gl_base.specs.declared.text_faults.TextFault.{TextFault}
 use Rattle.gl_outside.specs.Faults.{Rose}
@@ -28,6 +28,7 @@ job_note (UnknownKey name) = joined (codes "job: unknown key " ∷ name ∷ code
 job_note (Missing k) = joined (codes "job: missing key " ∷ key_name k ∷ codes "\n" ∷ [])
 job_note (WrongKind k) = joined (codes "job: wrong kind " ∷ key_name k ∷ codes "\n" ∷ [])
 job_note (OutOfRange k value) = joined (codes "job: out of range " ∷ key_name k ∷ codes " " ∷ decimal value ∷ codes "\n" ∷ [])
+job_note (Clash k) = joined (codes "job: clash " ∷ key_name k ∷ codes "\n" ∷ [])
 
 -- what is told of a text's fault: the text, the line and the kind
 abbrev pub graph_note : TextFault → List ℕ

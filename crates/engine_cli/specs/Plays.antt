@@ -2,15 +2,16 @@
 pub use Rattle.graph_programs.specs.selection.ProgramUpdates.{update_of_program}
 pub use Rattle.placement.specs.plans.Plays.{CountsByMachine, IsPlay, IsSpent, RunsTo}
 use Rattle.gl_base.specs.Lists.{AreEach}
-use Rattle.std.specs.Prelude.{◌≡◌, ℕ, List, length, slice_index, Option, None, Some}
+use Rattle.std.specs.Prelude.{◌≡◌, ℕ, false, List, length, slice_index, ⊤, Option, None, Some}
 use Rattle.gl_base.specs.declared.jobs.Algorithm.{Algorithm}
-use Rattle.gl_base.specs.declared.jobs.Algorithm.TheVariants.{Levels, Components, Paths, Colours}
+use Rattle.gl_base.specs.declared.jobs.Algorithm.TheVariants.{Levels, Components, Paths, Colours, Cores}
 use Rattle.gl_base.specs.declared.limits.TheConstants.{INF}
 use Rattle.graph_core.specs.Colourings.{IsProperColouring}
 use Rattle.graph_core.specs.Components.{IsComponentLabel}
 use Rattle.graph_core.specs.DataGraph.{DataGraph, size}
 use Rattle.graph_core.specs.Levels.{IsDistanceOrInf, IsLevelOrInf}
 use Rattle.graph_programs.specs.selection.ProgramUpdates.{update_of_algorithm}
+use Rattle.seq_run.specs.CoreNumbers.{IsCoreNumber}
 use Rattle.update_api.specs.Updates.{Update}
 use Rattle.job_io.specs.job_files.JobTexts.{IsVertexOf}
 
@@ -27,9 +28,18 @@ update_of algorithm source = update_of_algorithm algorithm (source_id source)
 abbrev pub FromSource : DataGraph → Option ℕ → (ℕ → Type 0) → Type 0
 FromSource g source holds = (start : ℕ) × (id : ℕ) × (source ≡ Some id) × IsVertexOf g start id × holds start
 
--- the numbers are levels, component labels or distances, or a proper colouring
+-- edges have no direction, where the algorithm is one of such edges alone
+abbrev pub HasEdgesFor : Algorithm → DataGraph → Type 0
+HasEdgesFor Levels g = ⊤
+HasEdgesFor Components g = ⊤
+HasEdgesFor Paths g = ⊤
+HasEdgesFor Colours g = ⊤
+HasEdgesFor Cores g = g.directed ≡ false
+
+-- the numbers are levels, component labels, distances or core numbers, or a proper colouring
 abbrev pub AreResults : Algorithm → Option ℕ → DataGraph → List ℕ → Type 0
 AreResults Levels source g numbers = FromSource g source (λ start. AreEach (size g) (IsLevelOrInf g start) numbers)
 AreResults Components source g numbers = AreEach (size g) (IsComponentLabel g) numbers
 AreResults Paths source g numbers = FromSource g source (λ start. AreEach (size g) (IsDistanceOrInf g start) numbers)
 AreResults Colours source g numbers = (length numbers ≡ size g) × IsProperColouring g (slice_index numbers)
+AreResults Cores source g numbers = AreEach (size g) (IsCoreNumber g) numbers

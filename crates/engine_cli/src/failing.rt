@@ -12,6 +12,7 @@ ghost use Rattle.call_laws.specs.whole_calls.Following.{AreJobFailures};
 ghost use Rattle.engine_cli.specs.JobRuns.{HasNamedMachines, IsEndAlone, RunsThroughFailures, RunsWithoutStore};
 ghost use Rattle.engine_cli.specs.Inner.Failing.{IsRunWithoutSnapshots};
 ghost use Rattle.engine_cli.specs.Inner.Prepares.{IsPrintable};
+ghost use Rattle.engine_cli.specs.Plays.{HasEdgesFor};
 
 use crate::storing::run_stored_on;
 use engine_runs::answers::{StoredEnd, StoredRun};
@@ -39,6 +40,7 @@ pub fn run_without_store<R: Wait>(
     requires graph { IsDataGraph graph.now }
     requires cut { CanBeCut graph.now cut.now }
     requires start { HasStart job.now.algorithm job.now.source graph.now }
+    requires edges_fit { HasEdgesFor job.now.algorithm graph.now }
     requires numbers { HasNumbers (job_view job.now).fields }
     requires failures { AreJobFailures job.now.machines job.now.failures.items }
     requires few { length job.now.failures.items ≤ 64 }
@@ -85,6 +87,7 @@ fn run_through_failures<R: Wait, D: Disk + Drop>(
     requires graph { IsDataGraph graph.now }
     requires cut { CanBeCut graph.now cut.now }
     requires start { HasStart job.now.algorithm job.now.source graph.now }
+    requires edges_fit { HasEdgesFor job.now.algorithm graph.now }
     requires numbers { HasNumbers (job_view job.now).fields }
     requires failures { AreJobFailures job.now.machines job.now.failures.items }
     requires few { length job.now.failures.items ≤ 64 }

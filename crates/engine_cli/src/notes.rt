@@ -62,6 +62,7 @@ fn tell_job<N: Sink>(note: &mut N, fault: &JobFault) -> Result<(), Failed>
         JobFault::Missing(key) => tell_key(note, "job: missing key ", *key),
         JobFault::WrongKind(key) => tell_key(note, "job: wrong kind ", *key),
         JobFault::OutOfRange(key, value) => tell_range(note, *key, *value),
+        JobFault::Clash(key) => tell_key(note, "job: clash ", *key),
     }
 }
 

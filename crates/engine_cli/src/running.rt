@@ -83,6 +83,7 @@ fn prepare<R: Wait, F: Files>(
     file: &str,
     files: &mut F,
 ) -> Result<Prepared, Status>
+    requires { IsOfRun asked }
     ensures answer { IsPrepared F.disks_told asked (F.state files.old) (F.state files.new) file.now result }
     ensures frame { ChangesInput (F.state files.old) (F.state files.new) }
     ensures early { IfErr result (λ status. IsBeforeMaking status → ChangesSources (F.state files.old) (F.state files.new)) }

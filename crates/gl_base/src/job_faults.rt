@@ -79,4 +79,7 @@ pub enum JobFault {
     /// the first faulty failure.
     #[error("the value of {0} is out of its range: {1}")]
     OutOfRange(Key, u64),
+    /// The key's value does not go with the job's algorithm.
+    #[error("the value of {0} does not go with the algorithm")]
+    Clash(Key),
 }

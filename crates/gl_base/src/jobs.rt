@@ -12,6 +12,9 @@ pub enum Algorithm {
     Paths,
     /// A number that no neighbour has.
     Colours,
+    /// The core number: the greatest k for which the vertex lies in a part of the graph whose vertices all have at least k
+    /// neighbours in that part. Edges have no direction.
+    Cores,
 }
 
 /// How updates that run side by side are kept apart.

@@ -123,9 +123,9 @@ module _ (ids : List ℕ) (directed weighted : Bool) where
   -- the graph that is built of what is found is that of the text
   pub edges_answered : (found : Found EdgeIn) (result : Result DataGraph Reading) (text : Option (List ℕ)) (before now : ℕ) → FindsIn MAX_EDGES (edge_said weighted) found text
       → Builds ids directed found result → ReadsGraph ids directed weighted result text before now
-  edges_answered found (Ok g) None before now finds builds = (builds.1.graph, tt)
+  edges_answered found (Ok g) None before now finds builds = (builds.1.graph, builds.1.direction, tt)
   edges_answered found (Ok g) (Some told) before now finds builds =
-      (builds.1.graph, (found.items, ap (edges_of ids directed weighted) finds.2 ∙ edges_settled finds.0 found finds.1 ∙ builds.0 weighted, builds.1))
+      (builds.1.graph, builds.1.direction, (found.items, ap (edges_of ids directed weighted) finds.2 ∙ edges_settled finds.0 found finds.1 ∙ builds.0 weighted, builds.1))
   edges_answered found (Err (Text fault)) None before now finds builds = tt
   edges_answered found (Err (Text fault)) (Some told) before now finds builds = ap (edges_of ids directed weighted) finds.2 ∙ edges_settled finds.0 found finds.1 ∙ builds weighted
   edges_answered found (Err ReadFault) text before now finds builds = absurd builds

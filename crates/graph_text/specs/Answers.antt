@@ -25,7 +25,7 @@ ReadsVertices (Err NoMemory) text before now = Unit {0}
 -- what the reader of edges answers to a text, over these identifiers, where the count of faults went from `before` to `now`
 abbrev pub ReadsGraph : List ℕ → Bool → Bool → Result DataGraph Reading → Option (List ℕ) → ℕ → ℕ → Type 0
 ReadsGraph ids directed weighted (Ok g) text before now =
-    IsDataGraph g × IfSome text (λ bytes. (listed : List EdgeIn) × (edges_of ids directed weighted bytes ≡ Ok listed) × IsGraphOf ids listed directed g)
+    IsDataGraph g × (g.directed ≡ directed) × IfSome text (λ bytes. (listed : List EdgeIn) × (edges_of ids directed weighted bytes ≡ Ok listed) × IsGraphOf ids listed directed g)
 ReadsGraph ids directed weighted (Err (Text fault)) text before now = IfSome text (λ bytes. edges_of ids directed weighted bytes ≡ Err fault)
 ReadsGraph ids directed weighted (Err ReadFault) text before now = Rose before now
 ReadsGraph ids directed weighted (Err NoMemory) text before now = Unit {0}

@@ -4,7 +4,7 @@ use Rattle.std.specs.List.{list_any}
 use Rattle.std.proofs.lemmas.Bool.{cases_eq, and_left, false_from_ne_true}
 use Rattle.std.proofs.lemmas.List.Folds.{list_any_none}
 use Rattle.gl_base.specs.declared.entries.Entry.{Entry}
-use Rattle.gl_base.specs.declared.jobs.Algorithm.TheVariants.{Levels, Components, Paths, Colours}
+use Rattle.gl_base.specs.declared.jobs.Algorithm.TheVariants.{Levels, Components, Paths, Colours, Cores}
 use Rattle.graph_core.specs.DataGraph.{DataEdge, DataGraph, size, IsDataGraph}
 use Rattle.graph_core.specs.Colourings.{joins}
 use Rattle.graph_core.specs.Halves.{halves_of}
@@ -93,7 +93,7 @@ module _ (g : DataGraph) (is : IsDataGraph g) where
       let few = count_below-le (λ u. true) (size g) in
       omega arith
 
-  pub cores_bound : g.directed ≡ false → (order : List Entry) → IsValidOrder g update_of_cores order → updates_since_restart order ≤ steps_at_most g (size g)
+  pub cores_bound : g.directed ≡ false → (order : List Entry) → IsValidOrder g update_of_cores order → updates_since_restart order ≤ step_bound g Cores
   cores_bound undirected order valid =
       bounded g is update_of_cores (λ s. Unit {0}) (λ s v within good. tt) (λ x. min x (size g)) (size g) (λ x. omega arith)
       (λ s v within good.

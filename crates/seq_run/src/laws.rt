@@ -3,7 +3,7 @@
 ghost use Rattle.std.specs.Prelude.{◌≡◌, ℕ, ◌+◌, ◌<◌, ◌≤◌, ◌↔◌, true, false, List, [], ◌∷◌, ◌++◌, slice_get, slice_index, Some};
 ghost use Rattle.gl_base.specs.declared.entries.Entry.{Entry};
 ghost use Rattle.gl_base.specs.declared.entries.Entry.TheVariants.{Go, Restart};
-ghost use Rattle.gl_base.specs.declared.jobs.Algorithm.TheVariants.{Levels, Components, Paths, Colours};
+ghost use Rattle.gl_base.specs.declared.jobs.Algorithm.TheVariants.{Levels, Components, Paths, Colours, Cores};
 ghost use Rattle.gl_base.specs.declared.numbers.MachineNo.{MachineNo};
 ghost use Rattle.gl_base.specs.declared.numbers.Vertex.{Vertex};
 ghost use Rattle.graph_core.specs.Colourings.{IsProperColouring};
@@ -13,7 +13,7 @@ ghost use Rattle.graph_core.specs.Levels.{IsLevelOrInf, IsDistanceOrInf};
 ghost use Rattle.seq_run.specs.CoreNumbers.{IsCoreNumber};
 ghost use Rattle.seq_run.specs.FirstColours.{WasLeastFree};
 ghost use Rattle.seq_run.specs.Orders.{after_entry, replay, tasks_after_entry, tasks_after, MayCome, IsValidOrder, IsFinished};
-ghost use Rattle.seq_run.specs.StepBound.{updates_since_restart, steps_at_most, step_bound};
+ghost use Rattle.seq_run.specs.StepBound.{updates_since_restart, step_bound};
 ghost use Rattle.seq_run.specs.TightEdges.{IsTight, IsMark};
 ghost use Rattle.update_api.specs.Updates.{Update, update_of_levels, update_of_components, update_of_paths, update_of_colours, update_of_cores};
 
@@ -116,5 +116,5 @@ pub fn updates_are_few()
         updates_since_restart order ≤ step_bound g Colours }
     ensures cores { (g : DataGraph) → IsDataGraph g → g.directed ≡ false →
         (order : List Entry) → IsValidOrder g update_of_cores order →
-        updates_since_restart order ≤ steps_at_most g (size g) }
+        updates_since_restart order ≤ step_bound g Cores }
 {}

@@ -67,7 +67,7 @@ fn print_merge(rt: &impl Print, front: Fold, rest: Fold) -> io::Result<()> {
 /// Identifiers and numbers of vertices, and what the numbers are.
 type Answer = (&'static str, &'static [u64], &'static [u64], Algorithm);
 
-static ANSWERS: [Answer; 6] = [
+static ANSWERS: [Answer; 7] = [
     ("levels", &[4, 1, 3, 2], &[0, 1, 2, INF], Algorithm::Levels),
     (
         "components",
@@ -81,6 +81,7 @@ static ANSWERS: [Answer; 6] = [
         &[0, 1, 2, INF],
         Algorithm::Colours,
     ),
+    ("cores", &[4, 1, 3, 2], &[0, 1, 2, INF], Algorithm::Cores),
     ("paths", &[4, 1, 3, 2], &[0, 1, 2, INF], Algorithm::Paths),
     ("paths without vertices", &[], &[], Algorithm::Paths),
     (

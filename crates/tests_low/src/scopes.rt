@@ -1,6 +1,7 @@
 //! Numbers before and after an update of a vertex with three neighbours.
 use gl_base::INF;
 use graph_programs::prog_colours::Colours;
+use graph_programs::prog_cores::Cores;
 use graph_programs::prog_labels::{Components, Levels};
 use graph_programs::prog_paths::Paths;
 use seq_run::update_vertex;
@@ -13,6 +14,7 @@ pub fn print_scopes(rt: &impl Print) -> io::Result<()> {
     print_updates(rt, "components", &Components, &COMPONENTS)?;
     print_updates(rt, "paths from 7", &Paths { source: 7 }, &PATHS)?;
     print_updates(rt, "colours", &Colours, &COLOURS)?;
+    print_updates(rt, "cores", &Cores, &CORES)?;
     print_flat(rt)?;
     print_edges(rt)
 }
@@ -37,6 +39,14 @@ static PATHS: [Numbers; 4] = [
 ];
 
 static COLOURS: [Numbers; 4] = [(0, 0, 0, 0), (1, 0, 3, 0), (2, 0, 1, 3), (2, 2, 2, 2)];
+
+static CORES: [Numbers; 5] = [
+    (INF, INF, INF, INF),
+    (2, INF, 1, INF),
+    (2, 1, 1, INF),
+    (0, INF, 0, 0),
+    (3, 2, 2, 9),
+];
 
 /// An edge comes from the first neighbour, one leads to the second, and one without direction to the third.
 static LINKS: [Link; 3] = [

@@ -40,6 +40,7 @@ enum Part {
     Levels,
     Paths,
     Colours,
+    Cores,
     On,
     Locking,
     Chromatic,
@@ -53,7 +54,7 @@ enum Part {
 }
 
 /// Each of them with its word.
-static PARTS: [(&str, Part); 19] = [
+static PARTS: [(&str, Part); 20] = [
     ("given", Part::Heading),
     ("scenario", Part::Heading),
     ("vertices", Part::Vertices),
@@ -63,6 +64,7 @@ static PARTS: [(&str, Part); 19] = [
     ("levels", Part::Levels),
     ("paths", Part::Paths),
     ("colours", Part::Colours),
+    ("cores", Part::Cores),
     ("on", Part::On),
     ("locking", Part::Locking),
     ("chromatic", Part::Chromatic),
@@ -150,6 +152,7 @@ impl Plan {
             Part::Levels => self.run(Algorithm::Levels, number),
             Part::Paths => self.run(Algorithm::Paths, number),
             Part::Colours => self.run(Algorithm::Colours, 0),
+            Part::Cores => self.run(Algorithm::Cores, 0),
             Part::Directed => self.is_directed = true,
             Part::Locking => self.engine = EngineKind::Locking,
             Part::Chromatic => self.engine = EngineKind::Chromatic,

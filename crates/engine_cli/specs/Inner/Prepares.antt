@@ -25,6 +25,7 @@ use Rattle.engine_cli.specs.declared.status.Status.{Status}
 use Rattle.engine_cli.specs.declared.status.Status.TheVariants.{BudgetSpent, DiskFault, SnapshotsFull}
 use Rattle.engine_cli.specs.Inner.Storing.{IsWhyNoStoredRun}
 use Rattle.engine_cli.specs.JobRuns.{RunsSo, is_resumed}
+use Rattle.engine_cli.specs.Plays.{HasEdgesFor}
 use Rattle.engine_cli.specs.Says.{Refuses}
 
 -- a verb that runs a job
@@ -34,13 +35,15 @@ IsOfRun verb.Resume = ⊤
 IsOfRun verb.Cut = ⊥
 IsOfRun verb.Init = ⊥
 
--- The job's numbers and failures are those that a job may have, its source is there, and its graph can be cut so.
+-- The job's numbers and failures are those that a job may have, its source is there, its edges are such as
+-- the algorithm is of, and its graph can be cut so.
 pub record IsRunnable (input : Input) : Type 0 where
   pub numbers : HasNumbers (job_view input.job).fields
   pub failures : AreJobFailures input.job.machines input.job.failures.items
   pub few : length input.job.failures.items ≤ 64
   pub graph : IsDataGraph input.graph
   pub start : HasStart input.job.algorithm input.job.source input.graph
+  pub edges_fit : HasEdgesFor input.job.algorithm input.graph
   pub cut : CanBeCut input.graph input.cut
 
 -- there is a number for each vertex, and each update is of one
@@ -70,6 +73,7 @@ pub record IsPreparedFrom (told : Bool) (asked : JobVerb) (old new : FilesState)
   pub atoms : HasAtoms old (job_view prepared.job).fields
   pub graph : IsDataGraph prepared.graph
   pub start : HasStart prepared.job.algorithm prepared.job.source prepared.graph
+  pub edges_fit : HasEdgesFor prepared.job.algorithm prepared.graph
   pub cut : Cut
   pub cut_is : IsCutOf old (job_view prepared.job).fields prepared.graph cut
   pub runs : RunsSo told asked old new.pasts (job_view prepared.job) prepared.graph cut prepared.run prepared.job.store

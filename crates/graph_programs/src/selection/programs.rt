@@ -3,6 +3,7 @@ ghost use Rattle.std.specs.Prelude.{◌≡◌};
 ghost use Rattle.graph_programs.specs.selection.ProgramUpdates.{update_of_program, update_of_algorithm};
 
 use crate::prog_colours::Colours;
+use crate::prog_cores::Cores;
 use crate::prog_labels::{Components, Levels};
 use crate::prog_paths::Paths;
 use gl_base::Algorithm;
@@ -15,6 +16,7 @@ pub enum JobProgram {
     Components(Components),
     Paths(Paths),
     Colours(Colours),
+    Cores(Cores),
 }
 
 impl JobProgram {
@@ -27,6 +29,7 @@ impl JobProgram {
             Algorithm::Components => JobProgram::Components(Components),
             Algorithm::Paths => JobProgram::Paths(Paths { source }),
             Algorithm::Colours => JobProgram::Colours(Colours),
+            Algorithm::Cores => JobProgram::Cores(Cores),
         }
     }
 }
@@ -40,6 +43,7 @@ impl Program for JobProgram {
             JobProgram::Components(components) => components.start(id),
             JobProgram::Paths(paths) => paths.start(id),
             JobProgram::Colours(colours) => colours.start(id),
+            JobProgram::Cores(cores) => cores.start(id),
         }
     }
 
@@ -49,6 +53,7 @@ impl Program for JobProgram {
             JobProgram::Components(components) => components.update(scope),
             JobProgram::Paths(paths) => paths.update(scope),
             JobProgram::Colours(colours) => colours.update(scope),
+            JobProgram::Cores(cores) => cores.update(scope),
         }
     }
 }

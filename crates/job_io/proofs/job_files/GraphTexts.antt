@@ -48,9 +48,10 @@ pub edges-given : (directed weighted : Bool) (ids : List ℕ) (names : Option (L
     → left ≡ given → IfSome names (λ told. IsTrue (is_some given)) → before ≤ mid → ReadsGraph ids directed weighted r left mid now → TakesEdges directed weighted ids names given before now r
 edges-given directed weighted ids names given left before mid now (Ok g) same there later reads = (
   reads.0,
+  reads.1,
   OfRead-given names given (λ bytes. ListsEdges directed weighted ids g bytes) there
       (OfRead-if given Lists (λ bytes. ListsEdges directed weighted ids g bytes) (λ bytes h. record { listed = h.0; lines = h.1; graph = h.2 })
-      (subst (λ (t : Option (List ℕ)). IfSome t Lists) same reads.1)),
+      (subst (λ (t : Option (List ℕ)). IfSome t Lists) same reads.2)),
 )
   where
     Lists : List ℕ → Type 0

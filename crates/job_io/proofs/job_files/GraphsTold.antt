@@ -62,9 +62,10 @@ edges-taken files mid now job v e ids weighted names taken v_is e_is weighted_is
         → TakesEdges job.directed (is_weighted job.algorithm) ids mid.sources.names (mid.contents job.edges) mid.sources.faults now taken → TakesGraph files now job taken
     go (Ok g) lists takes = (
       takes.0,
+      takes.1,
       OfRead-both files.sources.names (files.contents job.vertices) (files.contents job.edges) (λ bytes. ListsIds bytes ids)
           (λ bytes. ListsEdges job.directed (is_weighted job.algorithm) ids g bytes) (λ v e. DescribeJobGraph job v e g) (λ v e p q. tells job v e ids g p q) lists
-          (text-before files mid names job.edges (λ bytes. ListsEdges job.directed (is_weighted job.algorithm) ids g bytes) frame noted takes.1),
+          (text-before files mid names job.edges (λ bytes. ListsEdges job.directed (is_weighted job.algorithm) ids g bytes) frame noted takes.2),
     )
     go (Err (reading.Text fault)) lists takes =
         inr (OfRead-both files.sources.names (files.contents job.vertices) (files.contents job.edges) (λ bytes. ListsIds bytes ids)

@@ -107,7 +107,7 @@ named-atoms files now g named atoms cut prefix is takes =
 pub run-read : (asked : JobVerb) (files : FilesState) (now : ℕ) (file : List ℕ) (input : Input) (cut : Cut) → IsInputFrom asked files file input
     → TakesNamedAtoms input.job.atoms_at input.job.atoms files now input.graph (Ok cut) → IsRunInput asked files now file (Ok (record { job = input.job; graph = input.graph; cut = cut }))
 run-read asked files now file input cut is takes = (
-  record { ready = is.ready; job = is.job; texts = is.texts; graph = is.graph; start = is.start },
+  record { ready = is.ready; job = is.job; texts = is.texts; graph = is.graph; directed = is.directed; start = is.start },
   λ prefix named. of-graph files (job_view input.job).fields input.graph (λ g. FindsInAtoms files prefix g None) is.texts is.start
       (named-atoms files now input.graph input.job.atoms_at input.job.atoms cut prefix named takes),
 )

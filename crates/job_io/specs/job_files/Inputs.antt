@@ -23,12 +23,14 @@ pub record IsReady (verb : JobVerb) (job : JobSayings) : Type 0 where
   pub numbers : HasNumbers job.fields
   pub failures : first_faulty job.fields.machines [] job.failures ≡ None
 
--- the job is that of the file, and the graph is that of its two texts and has the source that the algorithm needs
+-- the job is that of the file, and the graph is that of its two texts and has the source that the algorithm needs; its edges have
+-- a direction where the job says so
 pub record IsInputFrom (verb : JobVerb) (files : FilesState) (file : List ℕ) (input : Input) : Type 0 where
   pub ready : IsReady verb (job_view input.job)
   pub job : SaysJob verb files file (job_view input.job)
   pub texts : OfTexts files (job_view input.job).fields (λ vertices edges. DescribeJobGraph (job_view input.job).fields vertices edges input.graph)
   pub graph : IsDataGraph input.graph
+  pub directed : input.graph.directed ≡ input.job.directed
   pub start : HasStart input.job.algorithm input.job.source input.graph
 
 -- the job with its graph; or why there is none

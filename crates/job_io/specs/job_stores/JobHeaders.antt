@@ -2,7 +2,7 @@
 use Rattle.std.specs.Prelude.{ℕ, if◌then◌else◌, length, Option, None, Some}
 use Rattle.sha2.specs.Sha256.{sha256}
 use Rattle.gl_base.specs.declared.jobs.Algorithm.{Algorithm}
-use Rattle.gl_base.specs.declared.jobs.Algorithm.TheVariants.{Levels, Components, Paths, Colours}
+use Rattle.gl_base.specs.declared.jobs.Algorithm.TheVariants.{Levels, Components, Paths, Colours, Cores}
 use Rattle.graph_core.specs.DataGraph.{DataGraph, size}
 use Rattle.graph_core.specs.Digest.{digest_bytes}
 use Rattle.job_io.specs.job_config.Fields.{JobFields}
@@ -14,6 +14,7 @@ algorithm_number Levels = 1
 algorithm_number Components = 2
 algorithm_number Paths = 3
 algorithm_number Colours = 4
+algorithm_number Cores = 5
 
 -- a number, or 0
 abbrev pub number_or_zero : Option ℕ → ℕ
@@ -26,6 +27,7 @@ used_source Levels source = number_or_zero source
 used_source Components source = 0
 used_source Paths source = number_or_zero source
 used_source Colours source = 0
+used_source Cores source = 0
 
 -- what the store of a job on this graph is for
 abbrev pub header_for : JobFields → DataGraph → Header

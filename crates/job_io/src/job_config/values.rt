@@ -65,6 +65,7 @@ pub fn read_algorithm(value: &Value) -> Result<Algorithm, KeyFault>
         "components" => Ok(Algorithm::Components),
         "paths" => Ok(Algorithm::Paths),
         "colours" => Ok(Algorithm::Colours),
+        "cores" => Ok(Algorithm::Cores),
         _ => Err(KeyFault::OutOfRange(Key::Algorithm, name.len() as u64)),
     }
 }

@@ -36,7 +36,8 @@ pub struct Input {
 /// Why a job or its graph was not read.
 #[derive(Drop)]
 pub enum NoInput {
-    /// The job is refused: its bytes are no job, it lacks a key that the verb needs, or its source is no vertex of the graph.
+    /// The job is refused: its bytes are no job, it lacks a key that the verb needs, a key does not go with its algorithm, or its
+    /// source is no vertex of the graph.
     BadJob(JobFault),
     /// A graph text is refused.
     BadGraph(TextFault),
@@ -92,8 +93,8 @@ impl From<gl_base::NoMemory> for NoInput {
 }
 
 /// Reads the job in the file of this name and the graph that it names. The job's file is looked at first, then what it says
-/// and the key that the verb needs, then the vertex text, the edge text, and last whether the source that the algorithm
-/// needs is a vertex. The graph is cut by its growth into as many atoms as the job says.
+/// and the key that the verb needs, then, unless the verb cuts the graph, whether each key goes with the algorithm, then the vertex
+/// text, the edge text, and last whether the source that the algorithm needs is a vertex. The graph is cut by its growth into as many atoms as the job says.
 pub fn read_input<F: Files>(
     alloc: Global,
     files: &mut F,

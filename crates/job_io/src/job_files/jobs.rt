@@ -3,13 +3,13 @@ ghost use Rattle.std.specs.Prelude.{◌≡◌, [], ◌∷◌, OnOk};
 ghost use Rattle.gl_outside.specs.Names.{AppendsNames};
 ghost use Rattle.job_io.specs.job_config.Views.{job_view};
 ghost use Rattle.job_io.specs.whole_files.FilesUsed.{ReadsFiles};
-ghost use Rattle.job_io.specs.job_files.DoableJobs.{doable};
+ghost use Rattle.job_io.specs.job_files.DoableJobs.{agreeing, doable};
 ghost use Rattle.job_io.specs.job_files.Inner.Causes.{no_job_of_bytes, no_job_of_file};
 ghost use Rattle.job_io.specs.job_files.Inner.Jobs.{TakesJob, said_unless};
 
 use crate::job_config::{JobReading, read_job};
 use crate::whole_files::{NotRead, front_of};
-use gl_base::{Job, JobFault, Key, MAX_JOB_BYTES};
+use gl_base::{Algorithm, Job, JobFault, Key, MAX_JOB_BYTES};
 use gl_outside::Files;
 use std::alloc::Global;
 
@@ -29,7 +29,7 @@ pub enum JobVerb {
 /// Why there is no job.
 #[derive(Drop)]
 pub enum NoJob {
-    /// The bytes are no job, or it lacks a key that the verb needs.
+    /// The bytes are no job, it lacks a key that the verb needs, or a key does not go with its algorithm.
     Refused(JobFault),
     /// Its file could not be read.
     ReadFault,
@@ -59,8 +59,8 @@ impl From<JobReading> for NoJob {
     }
 }
 
-/// The job that the file of this name says. It is refused where its bytes are no job, and where it lacks a key that the verb
-/// needs.
+/// The job that the file of this name says. It is refused where its bytes are no job, where it lacks a key that the verb
+/// needs, and, unless the verb cuts the graph, where a key does not go with its algorithm.
 pub fn job_of<F: Files>(
     alloc: Global,
     files: &mut F,
@@ -79,7 +79,7 @@ pub fn job_of<F: Files>(
     }
 }
 
-/// Why the verb can't do the job: it lacks the key that the verb needs.
+/// Why the verb can't do the job: it lacks the key that the verb needs, or a key does not go with its algorithm.
 fn refused(job: &Job, verb: JobVerb) -> Option<JobFault>
     ensures { doable verb (job_view job.now) ≡ said_unless (job_view job.now) result }
 {
@@ -88,6 +88,18 @@ fn refused(job: &Job, verb: JobVerb) -> Option<JobFault>
         JobVerb::Resume | JobVerb::Init if job.store.is_none() => Some(JobFault::Missing(
             Key::Store,
         )),
-        _ => None,
+        JobVerb::Cut => None,
+        JobVerb::Run | JobVerb::Resume | JobVerb::Init => clash(job),
+    }
+}
+
+/// Tells the first key whose value does not go with the job's algorithm.
+fn clash(job: &Job) -> Option<JobFault>
+    ensures { agreeing (job_view job.now) ≡ said_unless (job_view job.now) result }
+{
+    match job.algorithm {
+        Algorithm::Levels | Algorithm::Components | Algorithm::Paths | Algorithm::Colours => None,
+        Algorithm::Cores if job.directed => Some(JobFault::Clash(Key::Directed)),
+        Algorithm::Cores => None,
     }
 }

@@ -18,6 +18,7 @@ pub fn lacked_source(graph: &Graph, job: &Job) -> Option<u64>
         Algorithm::Components => None,
         Algorithm::Paths => missed_source(graph, job),
         Algorithm::Colours => None,
+        Algorithm::Cores => None,
     }
 }
 

@@ -35,6 +35,7 @@ fn algorithm_number(algorithm: Algorithm) -> u8
         Algorithm::Components => 2,
         Algorithm::Paths => 3,
         Algorithm::Colours => 4,
+        Algorithm::Cores => 5,
     }
 }
 
@@ -47,5 +48,6 @@ fn used_source(job: &Job) -> u64
         Algorithm::Components => 0,
         Algorithm::Paths => job.source.unwrap_or(0),
         Algorithm::Colours => 0,
+        Algorithm::Cores => 0,
     }
 }

@@ -67,7 +67,7 @@ module _ (header : Header) (allowed : IsAllowed header) (fits : HeaderFits heade
       or_none (field_fault bytes 0 8 store_word store_word) _ (field_fine bytes 0 8 store_word store_word (omega (arith, long)) (omega arith) (omega arith))
       (or_none (field_fault bytes 8 4 1 1) _ (field_fine bytes 8 4 1 1 (omega (arith, long)) (omega arith) (omega arith))
       (or_none (field_fault bytes 12 2 1 16) _ (field_fine bytes 12 2 1 16 (omega (arith, long)) (omega (arith, machines, allowed.some)) (omega (arith, machines, allowed.machines)))
-      (or_none (field_fault bytes 14 1 1 4) _ (field_fine bytes 14 1 1 4 (omega (arith, long)) (omega (arith, algorithm, allowed.known)) (omega (arith, algorithm, allowed.algorithm)))
+      (or_none (field_fault bytes 14 1 1 5) _ (field_fine bytes 14 1 1 5 (omega (arith, long)) (omega (arith, algorithm, allowed.known)) (omega (arith, algorithm, allowed.algorithm)))
       (or_none (field_fault bytes 15 1 0 1) _ (field_fine bytes 15 1 0 1 (omega (arith, long)) (omega arith) (omega (arith, directed, allowed.directed)))
       (rw (le-ltb (length bytes) 64 (omega (arith, long))) refl)))))
 

@@ -60,7 +60,7 @@ unformed_fault bytes =
     option_or (field_fault bytes 0 8 store_word store_word)
     (option_or (field_fault bytes 8 4 1 1)
     (option_or (field_fault bytes 12 2 1 16)
-    (option_or (field_fault bytes 14 1 1 4)
+    (option_or (field_fault bytes 14 1 1 5)
     (option_or (field_fault bytes 15 1 0 1)
     (if nat_lt (length bytes) 64 then Some (Torn (length bytes)) else None)))))
 
@@ -78,7 +78,7 @@ pub record IsAllowed (header : Header) : Type 0 where
   pub some : 1 ≤ header.machines
   pub machines : header.machines ≤ 16
   pub known : 1 ≤ header.algorithm
-  pub algorithm : header.algorithm ≤ 4
+  pub algorithm : header.algorithm ≤ 5
   pub directed : header.directed ≤ 1
 
 -- each field has the size of its type, as the numbers of a program have

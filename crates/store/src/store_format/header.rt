@@ -4,7 +4,7 @@
 #[derive(Clone, Copy, Debug, PartialEq, Eq)]
 pub struct Digest(pub [u8; 32]);
 
-/// The program that a store is for: its algorithm (1 levels, 2 components, 3 paths, 4 colours), whether edges have a direction
+/// The program that a store is for: its algorithm (1 levels, 2 components, 3 paths, 4 colours, 5 cores), whether edges have a direction
 /// (1) or not (0), and its source.
 #[derive(Clone, Copy, Debug, PartialEq, Eq)]
 pub struct ProgramKey {

@@ -126,7 +126,7 @@ fn check_form(bytes: &[u8]) -> Result<(), StoreFault>
     check_field(bytes, 0, 8, WORD, WORD)?;
     check_field(bytes, 8, 4, 1, 1)?;
     check_field(bytes, 12, 2, 1, 16)?;
-    check_field(bytes, 14, 1, 1, 4)?;
+    check_field(bytes, 14, 1, 1, 5)?;
     check_field(bytes, 15, 1, 0, 1)?;
     if bytes.len() < HEADER {
         return Err(StoreFault::Torn(bytes.len() as u64));

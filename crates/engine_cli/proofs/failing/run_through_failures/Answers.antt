@@ -11,7 +11,7 @@ returns-in-Ok-run_stored_on-clause-run g c =
     let none : bodies ≡ [] = one_store c.args.header.now (g.D.Disk.past c.args.disk).now.seen bodies [] (c.in-Ok.ensures.stands c.requires.told) c.requires.empty in
     IfOk-map c.without_snapshots.result _ _
     (λ run alone.
-    through-failures _ c.args.graph.now c.args.cut.now c.in-Ok.journal.header _ _ c.in-Ok.journal.count bodies _ _ c.in-Ok-run_stored_on.run' run c.requires.graph c.requires.start none (c.in-Ok-run_stored_on.ensures.run c.requires.told) alone)
+    through-failures _ c.args.graph.now c.args.cut.now c.in-Ok.journal.header _ _ c.in-Ok.journal.count bodies _ _ c.in-Ok-run_stored_on.run' run c.requires.graph c.requires.start c.requires.edges_fit none (c.in-Ok-run_stored_on.ensures.run c.requires.told) alone)
     c.without_snapshots.ensures
 
 pub returns-in-Ok-run_stored_on-clause-machines : goal.returns-in-Ok-run_stored_on-clause-machines

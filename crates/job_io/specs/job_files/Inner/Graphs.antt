@@ -31,14 +31,16 @@ pub record ListsEdges (directed weighted : Bool) (ids : List ℕ) (g : DataGraph
 
 -- what reading the edge file answers, over the vertices with these identifiers
 abbrev pub TakesEdges : Bool → Bool → List ℕ → Option (List (List ℕ)) → Option (List ℕ) → ℕ → ℕ → Result DataGraph Reading → Type 0
-TakesEdges directed weighted ids names text before now (Ok g) = IsDataGraph g × OfRead names text (λ bytes. ListsEdges directed weighted ids g bytes)
+TakesEdges directed weighted ids names text before now (Ok g) =
+    IsDataGraph g × (g.directed ≡ directed) × OfRead names text (λ bytes. ListsEdges directed weighted ids g bytes)
 TakesEdges directed weighted ids names text before now (Err (reading.Text fault)) = OfRead names text (λ bytes. edges_of ids directed weighted bytes ≡ Err fault)
 TakesEdges directed weighted ids names text before now (Err reading.ReadFault) = Rose before now
 TakesEdges directed weighted ids names text before now (Err reading.NoMemory) = ⊤
 
 -- what reading both files of the job answers
 abbrev pub TakesGraph : FilesState → ℕ → JobFields → Result DataGraph Reading → Type 0
-TakesGraph files now job (Ok g) = IsDataGraph g × OfTexts files job (λ vertices edges. DescribeJobGraph job vertices edges g)
+TakesGraph files now job (Ok g) =
+    IsDataGraph g × (g.directed ≡ job.directed) × OfTexts files job (λ vertices edges. DescribeJobGraph job vertices edges g)
 TakesGraph files now job (Err (reading.Text fault)) = RefusesTexts files fault job
 TakesGraph files now job (Err reading.ReadFault) = Rose files.sources.faults now
 TakesGraph files now job (Err reading.NoMemory) = ⊤

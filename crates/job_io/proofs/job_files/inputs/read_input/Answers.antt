@@ -60,8 +60,9 @@ returns-in-None-clause-answer g c =
       ready = c.in_ok-job.ensures.answer.0;
       job = c.in_ok-job.ensures.answer.1;
       texts = texts-before files (g.F.Files.state c.job_of.new.files) (c.args.file.now ∷ []) job.fields (λ vertices edges. DescribeJobGraph job.fields vertices edges c.in_ok-graph.graph)
-          c.in_ok-job.ensures.read.frame c.in_ok-job.ensures.handed c.in_ok-graph.ensures.answer.1;
+          c.in_ok-job.ensures.read.frame c.in_ok-job.ensures.handed c.in_ok-graph.ensures.answer.2;
       graph = c.in_ok-graph.ensures.answer.0;
+      directed = c.in_ok-graph.ensures.answer.1;
       start = c.in-None.ensures;
     }
 
@@ -80,6 +81,6 @@ returns-in-Some-clause-answer g c =
     let job = job_view c.in_ok-job.job in
     let texts : OfTexts files job.fields (λ vertices edges. DescribeJobGraph job.fields vertices edges c.in_ok-graph.graph) =
     texts-before files (g.F.Files.state c.job_of.new.files) (c.args.file.now ∷ []) job.fields (λ vertices edges. DescribeJobGraph job.fields vertices edges c.in_ok-graph.graph)
-    c.in_ok-job.ensures.read.frame c.in_ok-job.ensures.handed c.in_ok-graph.ensures.answer.1 in
+    c.in_ok-job.ensures.read.frame c.in_ok-job.ensures.handed c.in_ok-graph.ensures.answer.2 in
     no-input-source c.args.verb files (g.F.Files.state c.graph_of.new.files).sources.faults c.args.file.now job c.in_ok-graph.graph c.in-Some.source
     c.in_ok-job.ensures.answer.1 texts c.in-Some.ensures
