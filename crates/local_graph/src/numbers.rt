@@ -9,23 +9,24 @@ use gl_base::{EdgeNo, NoMemory};
 use std::alloc::Global;
 use std::marker::Model;
 
-/// The numbers of edges, by the number of the edge. While it is known that each is 0, none is looked at where they are lent and come
-/// back as they were. Contracts see the numbers.
+/// The numbers of edges, by the number of the edge. While it is known that each is 0 the list has none, and none is looked at where they
+/// are lent and come back as they were. It has room for all, so that the first mark takes no memory. Contracts see the numbers.
 #[derive(Drop)]
 pub struct EdgeNumbers {
     numbers: Vec<u64>,
+    count: usize,
     blank: bool,
 }
 
 impl Model for EdgeNumbers {
-    ghost use Rattle.std.specs.Prelude.{◌≡◌, ℕ, List, true};
-    ghost use Rattle.local_graph.specs.Inner.Blank.{AreBlank};
+    ghost use Rattle.std.specs.Prelude.{ℕ, List};
+    ghost use Rattle.local_graph.specs.Inner.Blank.{AreKept, kept_numbers};
 
     ghost Value = { List ℕ };
 
-    ghost view = { λ n. n.numbers.items };
+    ghost view = { λ n. kept_numbers n.blank n.count n.numbers.items };
 
-    ghost invariant = { λ n. n.blank ≡ true → AreBlank n.numbers.items };
+    ghost invariant = { λ n. AreKept n.blank n.count n.numbers.items n.numbers.cap };
 }
 
 impl EdgeNumbers {
@@ -34,7 +35,8 @@ impl EdgeNumbers {
         ensures { IfOk result (λ numbers. numbers ≡ replicate count 0) }
     {
         Ok(EdgeNumbers {
-            numbers: Vec::from_elem(alloc, 0u64, count)?,
+            numbers: Vec::with_capacity(alloc, count)?,
+            count,
             blank: true,
         })
     }
@@ -43,7 +45,7 @@ impl EdgeNumbers {
     pub fn count(&self) -> usize
         ensures { result ≡ length self.now }
     {
-        self.numbers.len()
+        self.count
     }
 
     /// The number of an edge.
@@ -51,7 +53,11 @@ impl EdgeNumbers {
         requires { edge.0 < length self.now }
         ensures { result ≡ slice_index self.now edge.0 }
     {
-        self.numbers[edge.0 as usize]
+        if self.blank {
+            0
+        } else {
+            self.numbers[edge.0 as usize]
+        }
     }
 
     /// Writes the number of an edge.
@@ -59,7 +65,13 @@ impl EdgeNumbers {
         requires { edge.0 < length self.old }
         ensures { self.new ≡ slice_set self.old edge.0 number }
     {
-        self.blank = self.blank && number == 0;
+        if self.blank {
+            if number == 0 {
+                return;
+            }
+            add_zeros(&mut self.numbers, self.count);
+            self.blank = false;
+        }
         self.numbers[edge.0 as usize] = number;
     }
 
@@ -85,11 +97,25 @@ impl EdgeNumbers {
         ensures written { (e : ℕ) → slice_index self.new e ≡ written sides.now new.now (slice_index self.old) e }
         ensures many { length self.new ≡ length self.old }
     {
-        if self.blank && are_blank(new) {
-            return;
+        if self.blank {
+            if are_blank(new) {
+                return;
+            }
+            add_zeros(&mut self.numbers, self.count);
+            self.blank = false;
         }
-        self.blank = false;
         write_numbers(&mut self.numbers, sides, new);
+    }
+}
+
+/// So many zeros, in a list that has none and room for them.
+fn add_zeros(numbers: &mut Vec<u64>, count: usize)
+    requires none { numbers.old.items ≡ [] }
+    requires room { count ≤ vec_capacity numbers.old }
+    ensures { numbers.new.items ≡ replicate count 0 }
+{
+    for _place in 0..count {
+        numbers.push_reserved(0);
     }
 }
 
