@@ -1,5 +1,5 @@
 -- What the events of a call make, part by part.
-use Rattle.std.proofs.Common.{◌≡◌, ◌⊎◌, ℕ, suc, ◌+◌, ◌/◌, ◌<◌, ◌≤◌, Bool, true, false, filter, if◌then◌else◌, List, [], ◌∷◌, ◌++◌, length, map, sum_by, inl, inr, refl, sym, ◌∙◌, ap, ap₂, subst, ⊎_elim, append-nil, arith}
+use Rattle.std.proofs.Common.{◌≡◌, ◌⊎◌, ℕ, zero, suc, ◌+◌, ◌/◌, ◌<◌, ◌≤◌, Bool, true, false, filter, if◌then◌else◌, List, [], ◌∷◌, ◌++◌, length, map, sum_by, inl, inr, refl, sym, ◌∙◌, ap, ap₂, subst, ⊎_elim, append-nil, arith}
 use Rattle.std.proofs.lemmas.Bool.{both_ways, cases_eq, cond-false, false_from_ne_true}
 use Rattle.std.specs.List.{AllByRecursion}
 use Rattle.std.proofs.lemmas.List.{append_cancel_left, length-append, length-map}
@@ -26,10 +26,11 @@ use Rattle.whole_laws.specs.cluster_ending.Watched.{HasNoTaskLeft}
 use Rattle.whole_laws.proofs.cluster_ending.Courses.{start_followed}
 use Rattle.whole_laws.proofs.cluster_ending.Finding.{no_task_left}
 use Rattle.whole_laws.proofs.cluster_ending.Leaving.{none_woken}
-use Rattle.cluster_laws.specs.cluster_model.Clusters.{BaseView, Cluster}
+use Rattle.cluster_laws.specs.cluster_model.Clusters.{BaseView, Cluster, report_way}
 use Rattle.cluster_laws.specs.cluster_model.ByTicket.{restarts}
 use Rattle.cluster_laws.specs.cluster_model.Events.{Event, GoesBackTo, PutBegin, Record, after_event, failures_in, recovers, setting_after}
 use Rattle.cluster_laws.specs.cluster_model.Leading.{HasSeenTheEnd, HasStoreRoom, HoldsAll, RecordIsDue, Snapshot, SnapshotIsDue, entries_in, updates_told}
+use Rattle.cluster_laws.specs.cluster_model.Machines.{outside}
 use Rattle.cluster_laws.specs.cluster_model.Working.{half_window}
 use Rattle.cluster_laws.specs.cluster_runs.Attempts.{Attempt, Beginning}
 use Rattle.cluster_laws.specs.cluster_runs.Recorded.{shared_of}
@@ -39,6 +40,8 @@ use Rattle.whole_laws.specs.cluster_whole.Whole.{setting_behind}
 use Rattle.whole_laws.proofs.cluster_whole.Flows.{total_from-none, total_from-same}
 use Rattle.whole_laws.specs.cluster_records.Recorded.{HaveSameNumbers, snapshot_due}
 use Rattle.whole_laws.specs.cluster_records.Few.{snapshot_at, snapshots_in_all, unasked_in, under_way}
+use Rattle.whole_laws.specs.cluster_records.Wanting.{known_by_calls, numbers_from, want_told}
+use Rattle.whole_laws.proofs.cluster_records.Asking.{counted}
 use Rattle.whole_laws.proofs.cluster_records.Fewness.{attempts_few, by_half}
 use Rattle.whole_laws.proofs.cluster_records.Outside.{many_outside}
 use Rattle.seq_run.specs.Orders.{replay, tasks_after}
@@ -48,7 +51,7 @@ use Rattle.call_laws.specs.whole_calls.Following.{has_reached}
 use Rattle.call_laws.specs.whole_calls.Lost.{AreLostIn, TakesAway, all_logged, is_lacking, machine_logs}
 use Rattle.call_laws.specs.whole_calls.Opened.{IsCourseOfCall}
 use Rattle.call_laws.specs.whole_calls.Saved.{AreNextOrders, AreSnapshotsOf, fronts_in, IsSnapshotOf, recorded_at, recorded_in}
-use Rattle.call_laws.specs.whole_calls.Telling.{HasSavedTheEnd, NeedsMoreStore, TellsOfCall, length_with}
+use Rattle.call_laws.specs.whole_calls.Telling.{AsksForNone, HasHalfOutside, HasSavedTheEnd, NeedsMoreStore, TellsOfCall, length_with}
 use Rattle.call_laws.proofs.whole_calls.Acknowledged.{good_snapshots, pending_is, snapshots_append, snapshots_long}
 use Rattle.call_laws.proofs.whole_calls.Ending.{EndsBehind, GoOnFrom, all_fronted, HasAskedAll, IsEnding, IsPlain, courses_end, which}
 use Rattle.call_laws.proofs.whole_calls.Fronting.{all_in_turn, next_once, next_orders}
@@ -67,6 +70,14 @@ use Rattle.call_laws.proofs.whole_calls.Windowed.{unheld_many}
 
 of_budget : (n left first budget made : ℕ) → n + left ≡ first + budget → n ≡ first + made → made + left ≡ budget
 of_budget n left first budget made one other = omega arith
+
+-- a machine of which no word is on its way knows of the last snapshot
+none_late : (late known newest : ℕ) → newest ≡ known + late → numbers_from (suc known) late ≡ [] → known ≡ newest
+none_late zero known newest is none = sym (is ∙ plus_zero known)
+  where
+    plus_zero : (n : ℕ) → n + 0 ≡ n
+    plus_zero n = omega arith
+none_late (suc late) known newest is none = absurd (cc)
 
 one_some : (n : ℕ) → 1 ≤ suc n
 one_some n = omega arith
@@ -186,23 +197,59 @@ module _ (failures : List FailureAt) (kept : List Entry) (resumed : Bool) (numbe
       ∙ append_cancel_left behind.front (held_updates made_call.last) made_call.last.made (sym held ∙ sym last_is ∙ same)))
       (newest_is newest behind made_call.last))
 
-  needs_more : RecordIsDue st c.coordinator → (HasStoreRoom st c.coordinator → ⊥) → NeedsMoreStore st c.coordinator made_call
-  needs_more due refused = (
-    due.under,
-    ⊎_elim
-        (λ (many : 4096 ≤ c.coordinator.acknowledged).
-        inl (
-          many,
-          ⊎_elim
-              (λ (half : (m : ℕ) × (m < st.machines) × (half_window st ≤ many_outside m c.coordinator.acknowledged logged)).
-              inl (half.0, half.1, subst (λ (n : ℕ). half_window st ≤ n) (sym (unheld_many st at.is c at.whole logged at.account failures behind at.so.tickets half.0)) half.2))
-              (λ (done : HasNoTaskLeft st (world_of c) × ((c.coordinator.snapshots ≡ []) ⊎ (entries_to c.coordinator.acknowledged logged ≡ all_entries logged → ⊥))).
-              inr (none_left done.0, ⊎_elim none_last other_last done.1))
-              (e.reason due.under),
-        ))
-        (λ (long : 1073741824 < c.coordinator.store_end + length_with st (length (unheld_updates made_call.last))). inr long)
-        (refused_by st at.is c at.whole logged at.account failures behind at.so.tickets due refused),
+  many_under : c.coordinator.acknowledged < c.coordinator.begun → 4096 ≤ c.coordinator.acknowledged → NeedsMoreStore st c.coordinator made_call
+  many_under under many = (
+    under,
+    inl (
+      many,
+      ⊎_elim
+          (λ (half : (m : ℕ) × (m < st.machines) × (half_window st ≤ many_outside m c.coordinator.acknowledged logged)).
+          inl (half.0, half.1, subst (λ (n : ℕ). half_window st ≤ n) (sym (unheld_many st at.is c at.whole logged at.account failures behind at.so.tickets half.0)) half.2))
+          (λ (done : HasNoTaskLeft st (world_of c) × ((c.coordinator.snapshots ≡ []) ⊎ (entries_to c.coordinator.acknowledged logged ≡ all_entries logged → ⊥))).
+          inr (none_left done.0, ⊎_elim none_last other_last done.1))
+          (e.reason under),
+    ),
   )
+
+  many_stored : (c.coordinator.acknowledged ≡ c.coordinator.begun → ⊥) → 4096 ≤ c.coordinator.acknowledged → NeedsMoreStore st c.coordinator made_call
+  many_stored off many =
+      many_under
+      (⊎_elim
+      (λ (same : c.coordinator.begun ≡ c.coordinator.acknowledged). absurd (off (sym same)))
+      (λ (next : c.coordinator.begun ≡ suc c.coordinator.acknowledged). one_above c.coordinator.acknowledged c.coordinator.begun next)
+      at.whole.consistent.marks.under)
+      many
+    where
+      one_above : (n k : ℕ) → k ≡ suc n → n < k
+      one_above n k is = omega arith
+
+  needs_more : RecordIsDue st c.coordinator → (HasStoreRoom st c.coordinator → ⊥) → NeedsMoreStore st c.coordinator made_call
+  needs_more due refused =
+      ⊎_elim
+      (λ (many : 4096 ≤ c.coordinator.acknowledged). many_under due.under many)
+      (λ (long : 1073741824 < c.coordinator.store_end + length_with st (length (unheld_updates made_call.last))). (due.under, inr long))
+      (refused_by st at.is c at.whole logged at.account failures behind at.so.tickets due refused)
+
+  -- who knows of the last snapshot and lacks half of its window there has asked, and the coordinator would know
+  none_outside : AsksForNone st c → HasHalfOutside st made_call.last → ⊥
+  none_outside none half =
+      let m : ℕ = half.0 in
+      let way = none.quiet m half.1 in
+      let counting = at.asking.counting m half.1 in
+      let its = at.asking.asking m half.1 in
+      let newest : (c.machine m).acknowledged ≡ c.coordinator.acknowledged =
+      none_late counting.late (c.machine m).acknowledged c.coordinator.acknowledged counting.newest (sym counting.commits ∙ ap known_by_calls way.0) in
+      let outside_half : half_window st ≤ outside (c.machine m) =
+      subst (λ (n : ℕ). half_window st ≤ n)
+      (unheld_many st at.is c at.whole logged at.account failures behind at.so.tickets m ∙ ap (λ (k : ℕ). many_outside m k logged) (sym newest) ∙ sym (counted st at.is c at.whole logged at.account.lists at.asking m half.1))
+      half.2 in
+      ⊎_elim
+      (λ (told : want_told (c.machine m).acknowledged (report_way c m) ≡ true). not_told (sym (ap (want_told (c.machine m).acknowledged) way.1) ∙ told))
+      (λ (wanted : c.coordinator.wanted ≡ true). none.settled.due (record { stored = none.stored; none = none.settled.none; wanted = inl wanted }))
+      (its.told (its.asked none.half none.stored outside_half) newest)
+    where
+      not_told : false ≡ true → ⊥
+      not_told is = cc
 
   tells : TellsOfCall st budget c made_call
   tells =
@@ -216,6 +263,8 @@ module _ (failures : List FailureAt) (kept : List Entry) (resumed : Bool) (numbe
             let may = pending_is st at.is c at.whole logged at.account at.based failures behind at.so.front at.so.tickets newest e.resumes due in
             (may.0, may.1, may.2, subst (λ (order : List Entry). IsSnapshotOf st c.coordinator.begun order (snapshot_order behind made_call.last may.0) (snapshot_due c.coordinator)) (sym last_is) may.3, due_says st at.is c at.whole e.own logged at.account due);
         full = needs_more;
+        many = many_stored;
+        unasked = none_outside;
         spent = of_budget c.next c.left (ticket_above kept) budget (length (made_of made_call)) e.tickets its_call.next;
       }
 
@@ -306,6 +355,18 @@ module _ (st : Setting) (failures : List FailureAt) (kept : List Entry) (resumed
   due_then : (start : GraphState) (number : ℕ) → RecordIsDue st c.coordinator → RecordIsDue (since st start number) c.coordinator
   due_then start number is = record { under = is.under; sections = is.sections }
 
+  none_then : (start : GraphState) (number : ℕ) → AsksForNone st c → AsksForNone (since st start number) c
+  none_then start number is =
+      record {
+        stored = is.stored;
+        half = is.half;
+        quiet = is.quiet;
+        settled = record {
+          none = is.settled.none;
+          due = λ (due : SnapshotIsDue (since st start number) c.coordinator). is.settled.due (record { stored = due.stored; none = due.none; wanted = due.wanted });
+        };
+      }
+
   room_then : (start : GraphState) (number : ℕ) → (HasStoreRoom st c.coordinator → ⊥) → HasStoreRoom (since st start number) c.coordinator → ⊥
   room_then start number refused room = refused (record { few = room.few; short = room.short })
 
@@ -345,7 +406,7 @@ module _ (st : Setting) (failures : List FailureAt) (kept : List Entry) (resumed
             (one_at_most (unasked_in now begun events) (snapshots_in_all events + under_way c) (first.left / half_window st)
             (by_half (half_window st) (snapshots_in_all events + under_way c) (unasked_in now begun events) first.left half (attempts_few st course.is course.coloured base first events c course.course))
             (once_or last_st logged unasked e.once)),
-        record { tasks = told.tasks; unharmed = told.unharmed; told = told.told; some = λ stored is. told.some stored (saved_then last.start last.base is); saved = λ stored is. told.saved stored (saved_then last.start last.base is); pending = λ due. let p = told.pending (due_then last.start last.base due) in (p.0, p.1, p.2, p.3, record { updates = p.4.updates; some_vertex = p.4.some_vertex; some_edge = p.4.some_edge; vertices = p.4.vertices; edges = p.4.edges }); full = λ due refused. told.full (due_then last.start last.base due) (room_then last.start last.base refused); spent = told.spent },
+        record { tasks = told.tasks; unharmed = told.unharmed; told = told.told; some = λ stored is. told.some stored (saved_then last.start last.base is); saved = λ stored is. told.saved stored (saved_then last.start last.base is); pending = λ due. let p = told.pending (due_then last.start last.base due) in (p.0, p.1, p.2, p.3, record { updates = p.4.updates; some_vertex = p.4.some_vertex; some_edge = p.4.some_edge; vertices = p.4.vertices; edges = p.4.edges }); full = λ due refused. told.full (due_then last.start last.base due) (room_then last.start last.base refused); many = told.many; unasked = λ none. told.unasked (none_then last.start last.base none); spent = told.spent },
         ended.3,
         next_orders (shared_of st failures) st base.number kept (fronts_in now begun events) taken (snapshots_of one) are
             (all_fronted failures (opened_at kept resumed) kept base.number (ticket_above kept + first.left) last_st c logged failed taken unasked e (fronts_in now begun events)

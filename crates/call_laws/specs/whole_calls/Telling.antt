@@ -4,7 +4,7 @@ use Rattle.call_laws.specs.attempts.Beginnings.{unheld_updates}
 use Rattle.call_laws.specs.attempts.EngineCalls.{EngineCall, call_order, made_of}
 use Rattle.call_laws.specs.attempts.Stores.{last_order, snapshots_of}
 use Rattle.cluster_laws.specs.cluster_core.Settings.{Setting}
-use Rattle.cluster_laws.specs.cluster_model.Clusters.{Cluster}
+use Rattle.cluster_laws.specs.cluster_model.Clusters.{Cluster, call_way, report_way}
 use Rattle.cluster_laws.specs.cluster_model.Leading.{Coordinator, HasSeenTheEnd, HasStoreRoom, RecordIsDue, SnapshotIsDue, updates_told}
 use Rattle.cluster_laws.specs.cluster_model.Working.{half_window}
 use Rattle.cluster_laws.specs.cluster_runs.Attempts.{Attempt, made_by}
@@ -45,6 +45,28 @@ LacksStoreRoom st c call =
 abbrev pub NeedsMoreStore : Setting → Coordinator → EngineCall → Type 0
 NeedsMoreStore st c call = (c.acknowledged < c.begun) × LacksStoreRoom st c call
 
+-- ---- where nobody asks for a snapshot
+
+-- nothing is on its way between the coordinator and machine a
+abbrev pub HasNoWordAt : Cluster → ℕ → Type 0
+HasNoWordAt c a = (call_way c a ≡ []) × (report_way c a ≡ [])
+
+-- no snapshot is under way, and none is due
+pub record IsSettled (st : Setting) (c : Coordinator) : Type 0 where
+  pub none : c.acknowledged ≡ c.begun
+  pub due : SnapshotIsDue st c → ⊥
+
+-- Machines ask for snapshots; but no word is on its way, and the coordinator knows of none that is asked for.
+pub record AsksForNone (st : Setting) (c : Cluster) : Type 0 where
+  pub stored : st.stored ≡ true
+  pub half : 0 < half_window st
+  pub quiet : (a : ℕ) → a < st.machines → HasNoWordAt c a
+  pub settled : IsSettled st c.coordinator
+
+-- where as many snapshots are stored as may be, of each machine less than half of the window is outside the last one
+abbrev pub LacksNoSnapshot : Setting → Coordinator → EngineCall → Type 0
+LacksNoSnapshot st c call = 0 < half_window st → 4096 ≤ c.acknowledged → HasHalfOutside st call.last → ⊥
+
 -- ---- all of it
 
 -- What is so of a call with this budget by what its coordinator and its tickets tell.
@@ -61,5 +83,9 @@ pub record TellsOfCall (st : Setting) (budget : ℕ) (c : Cluster) (call : Engin
   pub pending : RecordIsDue st c.coordinator → MayFollow st c.coordinator call
   -- where a record is due for which the store has no room, more of it was needed
   pub full : RecordIsDue st c.coordinator → (HasStoreRoom st c.coordinator → ⊥) → NeedsMoreStore st c.coordinator call
+  -- and so where a snapshot is under way and as many are stored as may be
+  pub many : (c.coordinator.acknowledged ≡ c.coordinator.begun → ⊥) → 4096 ≤ c.coordinator.acknowledged → NeedsMoreStore st c.coordinator call
+  -- where no snapshot is asked for, of each machine less than half of the window is outside the last one
+  pub unasked : AsksForNone st c → HasHalfOutside st call.last → ⊥
   -- the budget is the updates that were made, lost ones among them, and the tickets that are left
   pub spent : length (made_of call) + c.left ≡ budget
