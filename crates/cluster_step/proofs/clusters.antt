@@ -10,3 +10,4 @@ pub mod Next
 pub mod Ordering
 pub mod Stopping
 pub mod Acknowledging
+pub mod Words

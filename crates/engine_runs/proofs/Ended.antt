@@ -49,19 +49,19 @@ module _ {P : Type 0} (meaning : P → Update) (g : DataGraph) (program : Update
     shared_is : shared_of st at.paused.failures ≡ shared_of st failures
     shared_is = ap (λ (fs : List FailureAt). shared_of st fs) (at.failures ∙ same)
 
-    ends_by : (e : StoredEnd) → PauseGives call.saves_end meaning at.paused (start ++ added) st o c e → CallEndsSo call.saves_end at.paused st o all.call found e
+    ends_by : (e : StoredEnd) → PauseGives call.saves_end meaning at.paused (start ++ added) st o c e → CallEndsSo call.saves_end at.paused st o (length start) all.call found e
     ends_by end.Finished (inl ended) = all.finished call.saves_end ended
-    ends_by end.Finished (inr quiet) = subst (λ (saves : Bool). CallEndsSo saves at.paused st o all.call found end.Finished) (sym quiet.0) (all.quiet quiet.1)
+    ends_by end.Finished (inr quiet) = subst (λ (saves : Bool). CallEndsSo saves at.paused st o (length start) all.call found end.Finished) (sym quiet.0) (all.quiet quiet.1)
     ends_by (end.Spent left) gives = all.spent gives.0 left gives.1 call.saves_end
     ends_by (end.Full stored bytes) gives =
-        subst₂ (λ (n k : ℕ). CallEndsSo call.saves_end at.paused st o all.call found (end.Full n k)) (sym gives.0) (sym gives.1)
+        subst₂ (λ (n k : ℕ). CallEndsSo call.saves_end at.paused st o (length start) all.call found (end.Full n k)) (sym gives.0) (sym gives.1)
         (all.full gives.2 (gives.3 events c at.known.was.now all.call all.makes (at.now.code.stopped ∙ running)) call.saves_end)
     ends_by end.DiskFault gives = tt
 
-    ends_so : RunEndsSo call.saves_end (shared_of st failures) st.machines st.window o.first.left (stored_order start) (orders_behind (stored_order start) added) all.call.last.struck found how
+    ends_so : RunEndsSo call.saves_end (shared_of st failures) st.machines st.window o.first.left (length start) (stored_order start) (orders_behind (stored_order start) added) all.call.last.struck found how
     ends_so =
-        subst (λ (s : Shared). RunEndsSo call.saves_end s st.machines st.window o.first.left (stored_order start) (orders_behind (stored_order start) added) all.call.last.struck found how) shared_is
-        (subst₂ (λ (ks : List Entry) (os : List (List Entry)). RunEndsSo call.saves_end (shared_of st at.paused.failures) st.machines st.window o.first.left ks os all.call.last.struck found how) at.known.kept orders (ends_by how at.gives))
+        subst (λ (s : Shared). RunEndsSo call.saves_end s st.machines st.window o.first.left (length start) (stored_order start) (orders_behind (stored_order start) added) all.call.last.struck found how) shared_is
+        (subst₂ (λ (ks : List Entry) (os : List (List Entry)). RunEndsSo call.saves_end (shared_of st at.paused.failures) st.machines st.window o.first.left (length start) ks os all.call.last.struck found how) at.known.kept orders (ends_by how at.gives))
 
     pub run_so : IsRunSo call.saves_end st failures o start added (record { order = lists.order; lost = lists.lost; done = lists.done; fired = lists.fired; snapshots = call.snapshots; numbers = lists.numbers; end = how })
     run_so = record {

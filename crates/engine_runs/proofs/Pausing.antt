@@ -1,5 +1,5 @@
 -- A call goes on to its next pause, and is led on or ended there.
-use Rattle.std.proofs.Common.{◌≡◌, ◌∙◌, List, ap, inl, inr, refl, sym, subst}
+use Rattle.std.proofs.Common.{◌≡◌, ◌∙◌, ◌+◌, List, ap, inl, inr, length, refl, sym, subst}
 use Rattle.std.specs.Prelude.{Err, IfOk, IfSome, None, Ok, Option, Result, Some, false, ◌++◌, ℕ}
 use Rattle.gl_base.specs.declared.numbers.Vertex.{Vertex}
 use Rattle.cluster_step.specs.trace.Courses.{InEachCourse}
@@ -9,8 +9,9 @@ use Rattle.store.specs.declared.snap_journal.faults.JournalFault.{JournalFault}
 use Rattle.engine_runs.specs.declared.answers.runs.StoredEnd.{StoredEnd}
 use Rattle.engine_runs.specs.declared.answers.runs.StoredEnd.TheVariants as end
 use Rattle.engine_runs.proofs.Going.{still_there}
-use Rattle.engine_runs.specs.Calls.{CallOpening, DiskPast, EndsCall, Header, IsCallAt, IsEngineSaverOf, IsKnownAt, IsRunAt, IsSameCall, IsTaskIn, JournalState, KeepsCall, PausesSo, Setting}
+use Rattle.engine_runs.specs.Calls.{CallOpening, DiskPast, EndsCall, Header, IsCallAt, IsEngineSaverOf, IsKnownAt, IsRunAt, IsSameCall, IsTaskIn, JournalState, KeepsCall, PausesSo, Setting, snapshots_in}
 use Rattle.engine_runs.specs.declared.calls.StoredCall.{StoredCall}
+use Rattle.recovery.specs.Journals.{records_size}
 use Rattle.update_api.specs.Updates.{Update}
 
 -- what a call answers as its end is so of another
@@ -48,6 +49,25 @@ module _ {D P : Type 0} (meaning : P → Update) (past : D → DiskPast) (g : Da
   quiet unsaved pauses start first st o runs at =
       let now = on_at start first st o at in
       record { at = now; paused = mid.course; known = now.known; failures = refl; now = now.known.was.now; gives = inr (attempt.saves ∙ unsaved, pauses) }
+
+  -- the store has as many snapshots as may be, and the call needs more of it
+  pub full : (stored bytes : ℕ) → stored ≡ length (snapshots_in past journal) → bytes ≡ 65 + records_size (snapshots_in past journal) → PausesSo (IsEngineSaverOf meaning) mid.course pause.Full →
+      EndsCall meaning past g program call journal mid journal (end.Full stored bytes)
+  full stored bytes count size pauses start first st o runs at =
+      let now = on_at start first st o at in
+      record {
+        at = now;
+        paused = mid.course;
+        known = now.known;
+        failures = refl;
+        now = now.known.was.now;
+        gives = (
+          count ∙ ap (length {A = List ℕ}) (now.stored well),
+          size ∙ ap (λ (bodies : List (List ℕ)). 65 + records_size bodies) (now.stored well),
+          pauses.0,
+          λ events c is call makes running. pauses.1 st o events c is call makes,
+        );
+      }
 
   -- no ticket is left, and this vertex is a task
   pub spent : (left : Vertex) → PausesSo (IsEngineSaverOf meaning) mid.course pause.Spent → InEachCourse (IsEngineSaverOf meaning) mid.course (λ st o events c. IsTaskIn st c left.0) →

@@ -127,7 +127,7 @@ size_parted [] added = from_none (records_size added)
     from_none n = omega arith
 size_parted (body ∷ start) added = ap (λ (n : ℕ). 9 + length body + n) (size_parted start added) ∙ sym (grouped (9 + length body) (records_size start) (records_size added))
 
-orders_many : (order : List Entry) (bodies : List (List ℕ)) → length (orders_behind order bodies) ≡ length bodies
+pub orders_many : (order : List Entry) (bodies : List (List ℕ)) → length (orders_behind order bodies) ≡ length bodies
 orders_many order [] = refl
 orders_many order (body ∷ bodies) = ap (λ (n : ℕ). suc n) (orders_many (with_entries order (body_entries body)) bodies)
 

@@ -44,7 +44,7 @@ pub(crate) fn play_to_end<R: Wait, D: Disk, P: Program>(
 }
 
 /// Goes on to the next pause, and does what is asked there: all go back where a machine has reached the count of a failure, and a snapshot that is
-/// due is added to the store. Says how the run ended, where it has.
+/// due is added to the store. Says how the run ended, where it has: a store that has as many snapshots as may be ends it before the budget does.
 fn step<R: Wait, D: Disk, P: Program>(
     rt: &R,
     alloc: Global,
@@ -71,6 +71,10 @@ fn step<R: Wait, D: Disk, P: Program>(
         Pause::Record(_) => save_due(alloc, call, journal),
         Pause::Ended => Ok(Some(StoredEnd::Finished)),
         Pause::Quiet => Ok(Some(StoredEnd::Finished)),
+        Pause::Full => Ok(Some(StoredEnd::Full {
+            stored: journal.count(),
+            length: journal.length(),
+        })),
         Pause::Spent => Ok(Some(StoredEnd::Spent(task_left(&call.course)))),
     }
 }

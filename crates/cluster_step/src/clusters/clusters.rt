@@ -1,6 +1,7 @@
 //! A cluster that takes snapshots.
 ghost use Rattle.std.specs.Prelude.{◌≡◌, ◌+◌, ◌^◌, ◌<◌, ◌≤◌, ◌↔◌, false, length, slice_get, slice_index_or, IfOk, IfSome, IfNone, IsErrOf, IsTrue, OnOk, OnErr, Some};
 ghost use Rattle.std.specs.List.{AllByRecursion};
+ghost use Rattle.call_laws.specs.whole_calls.Telling.{HasNoWordAt};
 ghost use Rattle.cluster_laws.specs.cluster_core.Recovering.{going_on};
 ghost use Rattle.whole_laws.specs.cluster_ending.Ends.{HasFinishedOrder};
 ghost use Rattle.cluster_laws.specs.cluster_model.Events.{HasNext, recovers};
@@ -312,5 +313,17 @@ impl<M: SavingMachine> SnapCluster<M> {
         ensures { InEachCluster M.stands self.now (λ st c. IsTrue result ↔ HasNext (c.coordinator.out to.0)) }
     {
         self.parts.coordinator.waits(to)
+    }
+
+    /// Whether word is on its way between the coordinator and the machine: it waits at one of them, or is on a link.
+    pub fn has_word(&self, at: MachineNo) -> bool
+        requires { at.0 < length self.now.machines.items }
+        ensures { InEachCluster M.stands self.now (λ st c. (result ≡ false) ↔ HasNoWordAt c at.0) }
+    {
+        let waits = self.call_waits(at);
+        let called = self.has_call(at);
+        let reports = self.machine(at).has_report();
+        let reported = self.has_report(at);
+        waits | called | reports | reported
     }
 }

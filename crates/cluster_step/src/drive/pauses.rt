@@ -2,6 +2,7 @@
 ghost use Rattle.std.specs.Prelude.{◌≡◌, false, IfNone, IfSome, IsTrue};
 ghost use Rattle.cluster_step.specs.drive.Pauses.{HasFlaggedTask, HasTaskLeft, IsReachedAt, IsSpentNow, NoneReached, OfTheCall, PausesSo};
 
+use crate::drive::asking::{is_full, lacks_no_snapshot};
 use crate::trace::{Course, Due, SavingMachine};
 use gl_base::MachineNo;
 
@@ -16,7 +17,9 @@ pub enum Pause {
     Ended,
     /// Nothing is left to do in a call whose end is not saved.
     Quiet,
-    /// No ticket is left, and a task is.
+    /// As many snapshots are stored as may be, and one more is under way.
+    Full,
+    /// No ticket is left, and a task is; and a store that has as many snapshots as may be lacks none.
     Spent,
 }
 
@@ -52,6 +55,8 @@ fn last_pause<M: SavingMachine>(course: &Course<M>, saves_end: bool) -> Option<P
 {
     if !saves_end && course.leaves_nothing() {
         Some(Pause::Quiet)
+    } else if is_full(course) {
+        Some(Pause::Full)
     } else if is_spent(course) {
         Some(Pause::Spent)
     } else {
@@ -59,7 +64,7 @@ fn last_pause<M: SavingMachine>(course: &Course<M>, saves_end: bool) -> Option<P
     }
 }
 
-/// Whether no ticket is left of the budget, and a task is.
+/// Whether no ticket is left of the budget, and a task is; and a store that has as many snapshots as may be lacks none.
 fn is_spent<M: SavingMachine>(course: &Course<M>) -> bool
     ensures spent { IsTrue result → IsSpentNow M.stands course.now }
     ensures task { IsTrue result → HasFlaggedTask M.stands course.now }
@@ -67,7 +72,10 @@ fn is_spent<M: SavingMachine>(course: &Course<M>) -> bool
     if course.left() > 0 {
         return false;
     }
-    has_task(course)
+    if !has_task(course) {
+        return false;
+    }
+    lacks_no_snapshot(course)
 }
 
 /// The first machine that has reached the count of a failure.

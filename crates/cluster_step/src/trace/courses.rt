@@ -1,5 +1,5 @@
 //! The course of a call.
-ghost use Rattle.std.specs.Prelude.{[], ◌≡◌, ◌+◌, ◌^◌, ◌<◌, ◌≤◌, ℕ, length, slice_index_or, false, true, IfNone, IfOk, IfSome, IsErrOf, IsTrue, OnErr, OnOk};
+ghost use Rattle.std.specs.Prelude.{[], ◌≡◌, ◌+◌, ◌^◌, ◌<◌, ◌≤◌, ◌↔◌, ℕ, length, slice_index_or, false, true, IfNone, IfOk, IfSome, IsErrOf, IsTrue, OnErr, OnOk};
 ghost use Rattle.call_laws.specs.attempts.EngineCalls.{done_of, first_ticket, made_of};
 ghost use Rattle.cluster_step.specs.trace.AtOnce.{CanHappenAtOnceInCall, CanNotHappenAtOnceInCall, HappensAtOnceInCall};
 ghost use Rattle.cluster_step.specs.trace.Calls.{HasCall, HasEndedCall, HasTaskLeft, LeavesNothing, OfTheCall};
@@ -13,6 +13,7 @@ ghost use Rattle.cluster_step.specs.clusters.Cuts.{snapshot_due};
 ghost use Rattle.cluster_step.specs.clusters.Events.{CanNotTakePlace, CanTakePlace, IsReadyToAcknowledge, NamesItsMachines};
 ghost use Rattle.call_laws.specs.whole_calls.Following.{has_reached};
 ghost use Rattle.call_laws.specs.whole_calls.Saved.{MayFollow};
+ghost use Rattle.call_laws.specs.whole_calls.Telling.{HasNoWordAt};
 
 use crate::clusters::{
     Coordinator, Due, Engine, Event, Lead, Local, SavingMachine, SnapCluster, Store,
@@ -328,6 +329,14 @@ impl<M: SavingMachine> Course<M> {
         ensures { InEachCourse M.stands self.now (λ st o events c. M.stands (newest_setting st o events) m.0 (c.machine m.0) result.now) }
     {
         self.cluster.machine(m)
+    }
+
+    /// Whether word is on its way between the coordinator and the machine: it waits at one of them, or is on a link.
+    pub fn has_word(&self, at: MachineNo) -> bool
+        requires { at.0 < length self.now.now.machines.items }
+        ensures { InEachCourse M.stands self.now (λ st o events c. (result ≡ false) ↔ HasNoWordAt c at.0) }
+    {
+        self.cluster.has_word(at)
     }
 
     /// The coordinator, to be read.

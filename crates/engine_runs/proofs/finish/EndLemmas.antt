@@ -1,5 +1,5 @@
 -- As the course of a call ends, its lists end.
-use Rattle.std.proofs.Common.{Bool, List, [], ap, ap₂, filter, inl, length, true≢false, map, refl, subst, subst₂, sym, ℕ, ◌++◌, ◌+◌, ◌<◌, ◌∙◌, ◌∷◌, ◌≡◌, ◌≤◌, arith}
+use Rattle.std.proofs.Common.{Bool, List, [], ap, ap₂, filter, inl, length, length-append, true, true≢false, map, refl, subst, subst₂, sym, ℕ, ◌++◌, ◌+◌, ◌<◌, ◌∙◌, ◌∷◌, ◌≡◌, ◌≤◌, arith}
 use Rattle.std.specs.List.{range_with_len}
 use Rattle.std.specs.Prelude.{sum_by}
 use Rattle.gl_base.specs.Lists.{AreEach}
@@ -15,7 +15,8 @@ use Rattle.cluster_step.specs.trace.Calls.{HasEndedCall, LeavesNothing, MakesCal
 use Rattle.cluster_step.specs.trace.Courses.{CallOpening, Cluster, CourseView, IsCourseNow, Machine, Setting, first_cluster, first_setting}
 use Rattle.engine_runs.specs.finish.Ends.{IsEndedRun, IsKnownCourse, NoneReached, orders_behind, records_size, shared_of, stored_order}
 use Rattle.engine_runs.specs.finish.Gathered.{RunLists, reached_places}
-use Rattle.engine_runs.proofs.finish.RoomLemmas.{needs_room}
+use Rattle.engine_runs.proofs.Sizes.{orders_many}
+use Rattle.engine_runs.proofs.finish.RoomLemmas.{needs_room, never_full}
 use Rattle.cluster_laws.specs.cluster_model.Leading.{Snapshot}
 use Rattle.cluster_laws.specs.cluster_model.Machines.{completed}
 use Rattle.cluster_laws.proofs.merged_logs.PartLemmas.{logs_merge, updates_rise}
@@ -102,12 +103,19 @@ module _ {M : Type 0} (stands : Setting → ℕ → Machine → M → Type 0) (v
           some = λ saves. absurd (true≢false (sym saves));
           saved = λ saves. absurd (true≢false (sym saves));
         };
-        spent = λ paused left task saves. let spent = (paused.1 st o known.was.events c now call makes).0 in record {
-          spent = counts_sum (shared_of st v.failures) call is lists order_is lost_is fired st.machines done made.8 ∙ spent;
-          answered = unharmed paused.0;
-          inside = task.0;
-          task = ap (λ (es : List Entry). tasks_after st.graph st.program es left.0) order_is ∙ (of.tasks left.0 task.0).1 (inl task.1);
-        };
+        spent = λ paused left task saves.
+            let spent = paused.1 st o known.was.events c now call makes in
+            let left_task : tasks_after st.graph st.program lists.order left.0 ≡ true = ap (λ (es : List Entry). tasks_after st.graph st.program es left.0) order_is ∙ (of.tasks left.0 task.0).1 (inl task.1) in (
+              record {
+                spent = counts_sum (shared_of st v.failures) call is lists order_is lost_is fired st.machines done made.8 ∙ spent.0;
+                answered = unharmed paused.0;
+                inside = task.0;
+                task = left_task;
+              },
+              never_full st v.failures o.kept o.resumed c call of (length start + length (snapshots_of call)) 0 [] [] [] spent.2
+                  (known.count ∙ ap (length {A = List ℕ}) known.was.keeps.stored ∙ length-append start added ∙ ap (λ (n : ℕ). length start + n) (sym (orders_many (stored_order start) added) ∙ ap (length {A = List Entry}) once))
+                  lists.order order_is left.0 task.0 left_task,
+            );
         full = λ none needs saves. (
           unharmed none,
           needs_room st v.failures o.kept o.resumed c call of (length bodies) (65 + records_size bodies) stored front bodies

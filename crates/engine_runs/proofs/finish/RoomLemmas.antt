@@ -1,12 +1,15 @@
 -- Where a call needs more of a store, its lists say so.
-use Rattle.std.proofs.Common.{Bool, IsPermutation, List, [], ap, ap₂, append-nil, append_assoc, arith, filter, inl, inr, length, length-append, refl, subst, sym, suc, true, false, ℕ, ◌*◌, ◌++◌, ◌+◌, ◌-◌, ◌<◌, ◌∙◌, ◌∷◌, ◌≡◌, ◌≤◌}
+use Rattle.std.proofs.Common.{Bool, IsPermutation, List, [], ap, ap₂, append-nil, append_assoc, arith, filter, inl, inr, length, length-append, refl, subst, sym, suc, true, false, ℕ, ◌*◌, ◌++◌, ◌+◌, ◌-◌, ◌/◌, ◌<◌, ◌∙◌, ◌∷◌, ◌≡◌, ◌≤◌}
 use Rattle.std.specs.List.{AllByRecursion}
+use Rattle.std.specs.Prelude.{if◌then◌else◌}
+use Rattle.std.proofs.lemmas.Bool.{both_ways}
 use Rattle.std.proofs.lemmas.List.Elements.{filter-append}
-use Rattle.std.proofs.lemmas.List.Sorted.{IsPermutation-append_right, length_permutation}
+use Rattle.std.proofs.lemmas.List.Sorted.{IsPermutation-append_right, length_permutation, sum_by-IsPermutation}
 use Rattle.gl_base.specs.declared.entries.Entry.{Entry}
 use Rattle.gl_base.specs.declared.entries.Entry.TheVariants.{Go, Restart}
 use Rattle.gl_base.specs.declared.jobs.FailureAt.{FailureAt}
 use Rattle.call_laws.proofs.attempts.Accounting.{filter_all, filter_none}
+use Rattle.call_laws.proofs.attempts.Counting.{made_by-append}
 use Rattle.call_laws.proofs.attempts.Cutting.{all_cut, cut_and_left}
 use Rattle.call_laws.proofs.attempts.Failing.{all_restarts, no_restart}
 use Rattle.call_laws.proofs.attempts.Opening.{last_begins, opening_begins}
@@ -18,16 +21,18 @@ use Rattle.call_laws.specs.attempts.Entries.{is_restart, is_update}
 use Rattle.call_laws.specs.attempts.Stores.{ResumesFrom, attempted_snapshots, last_order, snapshot_orders, snapshots_of}
 use Rattle.cluster_laws.specs.cluster_runs.Recorded.{shared_of}
 use Rattle.recovery.specs.Journals.{stored_order}
+use Rattle.cluster_laws.specs.cluster_core.Replays.{is_of}
 use Rattle.cluster_laws.specs.cluster_core.Settings.{Setting}
 use Rattle.cluster_laws.specs.cluster_cuts.Goings.{AreUpdatesFrom}
 use Rattle.cluster_laws.specs.cluster_model.ByTicket.{restarts}
 use Rattle.cluster_laws.specs.cluster_model.Clusters.{Cluster}
-use Rattle.cluster_laws.specs.cluster_runs.Attempts.{Attempt, Beginning, IsAttempt, Shared}
+use Rattle.cluster_laws.specs.cluster_model.Working.{half_window}
+use Rattle.cluster_laws.specs.cluster_runs.Attempts.{Attempt, Beginning, IsAttempt, Shared, made_by}
 use Rattle.graph_core.specs.DataGraph.{size}
 use Rattle.seq_run.specs.Orders.{tasks_after}
-use Rattle.engine_runs.specs.answers.Ends.{NeedsMoreRoom}
+use Rattle.engine_runs.specs.answers.Ends.{IsFullOfSnapshots, NeedsMoreRoom}
 use Rattle.call_laws.specs.whole_calls.Called.{IsCallOf}
-use Rattle.call_laws.specs.whole_calls.Telling.{LacksStoreRoom}
+use Rattle.call_laws.specs.whole_calls.Telling.{LacksNoSnapshot, LacksStoreRoom}
 
 -- ---- updates and restarts of an order
 
@@ -113,6 +118,18 @@ module _ (shared : Shared) (call : EngineCall) (is : IsEngineCall shared call) w
       both_kinds (call_order call)
       ∙ ap₂ (λ (n k : ℕ). n + k) (length_permutation (filter is_update newest ++ unheld_updates a) (filter is_update (call_order call)) outside_is ∙ length-append (filter is_update newest) (unheld_updates a)) (ap length restarts_are)
 
+  -- of each machine as many are outside by whichever list of them
+  pub outside_many : (outside : List Entry) → IsPermutation (filter is_update newest ++ outside) (filter is_update (call_order call)) → (m : ℕ) → made_by outside m ≡ made_by (unheld_updates a) m
+  outside_many outside same m =
+      rest_same (made_by (filter is_update newest) m) (made_by outside m) (made_by (unheld_updates a) m)
+      (sym (made_by-append (filter is_update newest) outside m) ∙ sym (by_permutation outside same) ∙ by_permutation (unheld_updates a) outside_is ∙ made_by-append (filter is_update newest) (unheld_updates a) m)
+    where
+      by_permutation : (es : List Entry) → IsPermutation (filter is_update newest ++ es) (filter is_update (call_order call)) → made_by (filter is_update (call_order call)) m ≡ made_by (filter is_update newest ++ es) m
+      by_permutation es is_same = sum_by-IsPermutation (λ (e : Entry). if is_of m e then 1 else 0) (filter is_update newest ++ es) (filter is_update (call_order call)) is_same
+
+      rest_same : (n x y : ℕ) → n + x ≡ n + y → x ≡ y
+      rest_same n x y is_same = omega arith
+
 -- ---- so the store has no room for what is needed
 
 room_of : (ends bytes held unheld stored front with long newest : ℕ) → ends + 16 * stored ≡ bytes + 16 * front → long ≡ held + unheld + front → newest ≡ held + stored → 1073741824 < ends + (8 + 16 * unheld + with) →
@@ -167,3 +184,22 @@ module _ (st : Setting) (failures : List FailureAt) (kept : List Entry) (resumed
           (room_of c.coordinator.store_end bytes (length (filter is_update (last_order kept (snapshots_of call)))) (length (unheld_updates call.last)) (length stored) (length front)
           (8 * st.machines + 12 * size st.graph + 12 * length st.graph.edges + 9) (length order) (length (last_order kept (snapshots_of call))) place order_long newest_long
           (subst (λ (n : ℕ). 1073741824 < n) (shifted c.coordinator.store_end (length (unheld_updates call.last)) st.machines (size st.graph) (length st.graph.edges)) over))
+
+  -- where no snapshot lacks of a full store and a task is left, the store is not full for the run
+  pub never_full : LacksNoSnapshot st c.coordinator call → c.coordinator.acknowledged ≡ count → (order : List Entry) → order ≡ call_order call → (left : ℕ) → left < size st.graph → tasks_after st.graph st.program order left ≡ true → 0 < st.window →
+      IsFullOfSnapshots (shared_of st failures) st.machines st.window kept (snapshots_of call) count order → ⊥
+  never_full lacks count_is order order_is left low task some full =
+      elim full.1 [
+        | inl half ↦
+            let newest : List Entry = last_order call.base (snapshots_of call) in
+            let same : IsPermutation (filter is_update newest ++ half.outside) (filter is_update (call_order call)) =
+            subst (λ (ks : List Entry). IsPermutation (filter is_update (last_order ks (snapshots_of call)) ++ half.outside) (filter is_update (call_order call))) (sym of.base)
+            (subst (λ (es : List Entry). IsPermutation (filter is_update (last_order kept (snapshots_of call)) ++ half.outside) (filter is_update es)) order_is half.same)
+            in
+            lacks (some_half st.window some) (subst (λ (n : ℕ). 4096 ≤ n) (sym count_is) full.0)
+            (half.machine, half.below, subst (λ (n : ℕ). half_window st ≤ n) (outside_many (shared_of st failures) call of.is half.outside same half.machine) half.enough)
+        | inr last ↦ both_ways (tasks_after st.graph st.program order left) (last.tasks left low) task
+      ]
+    where
+      some_half : (window : ℕ) → 0 < window → 0 < (window + 1) / 2
+      some_half window is_some = omega arith

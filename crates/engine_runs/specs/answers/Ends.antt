@@ -31,18 +31,29 @@ pub record LacksLast (shared : Shared) (kept : List Entry) (snapshots : List (Li
 abbrev pub bytes_with : Shared → ℕ → ℕ → ℕ
 bytes_with shared machines entries = 8 + 16 * entries + 8 * machines + 12 * size shared.graph + 12 * length shared.graph.edges + 9
 
--- A store of so many snapshots and bytes has no room for what the run needs: it has as many snapshots as may be, and one more is due, since
--- half of a machine's window is outside the last one or for the end; or a record of all that is outside the last one would end too far.
+-- A store of so many snapshots has as many as may be, and one more is due: half of a machine's window is outside the last one, or it is for
+-- the end.
+abbrev pub IsFullOfSnapshots : Shared → ℕ → ℕ → List Entry → List (List Entry) → ℕ → List Entry → Type 0
+IsFullOfSnapshots shared machines window kept snapshots stored order =
+    (4096 ≤ stored)
+    × (HasOutside machines (half_of window) (last_order kept snapshots) order ⊎ LacksLast shared kept snapshots order)
+
+-- A store of so many snapshots and bytes has no room for what the run needs: it is full of snapshots; or a record of all that is outside the
+-- last one would end too far.
 abbrev pub NeedsMoreRoom : Shared → ℕ → ℕ → List Entry → List (List Entry) → ℕ → ℕ → List Entry → Type 0
 NeedsMoreRoom shared machines window kept snapshots stored bytes order =
-    ((4096 ≤ stored) × (HasOutside machines (half_of window) (last_order kept snapshots) order ⊎ LacksLast shared kept snapshots order))
+    IsFullOfSnapshots shared machines window kept snapshots stored order
     ⊎ (1073741824 < bytes + bytes_with shared machines (length order - length (last_order kept snapshots)))
 
--- What a run that ended so says by its lists, whose end is saved or not, where these are the orders of the snapshots that it acknowledged, so many failures went
--- unanswered, and its store had this order and so many bytes.
-abbrev pub RunEndsSo : Bool → Shared → ℕ → ℕ → ℕ → List Entry → List (List Entry) → ℕ → RunLists → StoredEnd → Type 0
-RunEndsSo saves shared machines window budget kept snapshots unanswered lists Finished = FinishesRun saves shared kept snapshots unanswered lists
-RunEndsSo saves shared machines window budget kept snapshots unanswered lists (Spent left) = SpendsRun shared budget left.0 unanswered lists
-RunEndsSo saves shared machines window budget kept snapshots unanswered lists (Full stored bytes) =
+-- What a run that ended so says by its lists, whose end is saved or not, where its store had so many snapshots, of which the last has this
+-- order, these are the orders of the snapshots that it acknowledged, and so many failures went unanswered. A run that spent its budget is one
+-- whose store is not full of snapshots.
+abbrev pub RunEndsSo : Bool → Shared → ℕ → ℕ → ℕ → ℕ → List Entry → List (List Entry) → ℕ → RunLists → StoredEnd → Type 0
+RunEndsSo saves shared machines window budget had kept snapshots unanswered lists Finished =
+    FinishesRun saves shared kept snapshots unanswered lists
+RunEndsSo saves shared machines window budget had kept snapshots unanswered lists (Spent left) =
+    SpendsRun shared budget left.0 unanswered lists
+    × (0 < window → IsFullOfSnapshots shared machines window kept snapshots (had + length snapshots) lists.order → ⊥)
+RunEndsSo saves shared machines window budget had kept snapshots unanswered lists (Full stored bytes) =
     (unanswered ≡ 0) × NeedsMoreRoom shared machines window kept snapshots stored bytes lists.order
-RunEndsSo saves shared machines window budget kept snapshots unanswered lists DiskFault = ⊤
+RunEndsSo saves shared machines window budget had kept snapshots unanswered lists DiskFault = ⊤

@@ -3,7 +3,7 @@ pub use Rattle.call_laws.specs.call_answers.Answers.{IsRunWithFailures, KeepsToW
 pub use Rattle.engine_runs.specs.answers.Ends.{RunEndsSo}
 pub use Rattle.engine_runs.specs.answers.Lines.{AreSnapLines}
 pub use Rattle.engine_runs.specs.declared.answers.runs.StoredRun.{StoredRun}
-use Rattle.std.specs.Prelude.{Bool, List, suc, sum_by, ℕ, ◌≡◌, ◌≤◌}
+use Rattle.std.specs.Prelude.{Bool, List, suc, sum_by, ℕ, ◌≤◌}
 use Rattle.gl_base.specs.declared.entries.Entry.{Entry}
 use Rattle.graph_core.specs.DataGraph.{size}
 use Rattle.seq_run.specs.Orders.{replay}
@@ -23,4 +23,4 @@ pub record IsStoredRun (saves : Bool) (shared : Shared) (machines window budget 
   pub few : sum_by (λ count. count) run.done.items ≤ budget
   pub lines : AreSnapLines shared (suc stored) snapshots run.snapshots.items
   pub numbers_are : AreNumbers (size shared.graph) (replay shared.graph shared.program run.order.items).vertex run.numbers.items
-  pub ends : RunEndsSo saves shared machines window budget kept snapshots unanswered (lists_of run) run.end
+  pub ends : RunEndsSo saves shared machines window budget stored kept snapshots unanswered (lists_of run) run.end

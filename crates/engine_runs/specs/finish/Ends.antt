@@ -17,9 +17,10 @@ use Rattle.gl_base.specs.declared.numbers.Vertex.{Vertex}
 use Rattle.engine_runs.specs.declared.answers.runs.StoredEnd.{StoredEnd}
 use Rattle.engine_runs.specs.declared.answers.runs.StoredEnd.TheVariants as end
 
--- the run of this call, whose end is saved or not, ends so
-abbrev pub CallEndsSo : {M : Type 0} → Bool → CourseView M → Setting → CallOpening → EngineCall → RunLists → StoredEnd → Type 0
-CallEndsSo saves v st o call lists how = RunEndsSo saves (shared_of st v.failures) st.machines st.window o.first.left o.kept (snapshots_of call) call.last.struck lists how
+-- the run of this call, whose end is saved or not and whose store had so many snapshots, ends so
+abbrev pub CallEndsSo : {M : Type 0} → Bool → CourseView M → Setting → CallOpening → ℕ → EngineCall → RunLists → StoredEnd → Type 0
+CallEndsSo saves v st o had call lists how =
+    RunEndsSo saves (shared_of st v.failures) st.machines st.window o.first.left had o.kept (snapshots_of call) call.last.struck lists how
 
 -- The course makes this call, whose lists are those of a run with failures that keeps to the window and makes no more updates than there were
 -- tickets. A store with these snapshots has its snapshots behind those with which it began; and as the course pauses the run ends.
@@ -32,7 +33,7 @@ pub record IsEndedRun {M : Type 0} (stands : Setting → ℕ → Machine → M �
   pub is : IsRunWithFailures (shared_of st v.failures) st.machines o.kept o.resumed call.last.struck lists
   pub keeps : KeepsToWindow st.window o.kept (snapshots_of call) lists
   pub few : sum_by (λ count. count) lists.done ≤ o.first.left
-  pub finished : (saves : Bool) → PausesSo stands v pause.Ended → CallEndsSo saves v st o call lists end.Finished
-  pub quiet : PausesSo stands v pause.Quiet → CallEndsSo false v st o call lists end.Finished
-  pub spent : PausesSo stands v pause.Spent → (left : Vertex) → IsTaskIn st c left.0 → (saves : Bool) → CallEndsSo saves v st o call lists (end.Spent left)
-  pub full : NoneReached stands v → NeedsMoreStore st c.coordinator call → (saves : Bool) → CallEndsSo saves v st o call lists (end.Full (length bodies) (65 + records_size bodies))
+  pub finished : (saves : Bool) → PausesSo stands v pause.Ended → CallEndsSo saves v st o (length start) call lists end.Finished
+  pub quiet : PausesSo stands v pause.Quiet → CallEndsSo false v st o (length start) call lists end.Finished
+  pub spent : PausesSo stands v pause.Spent → (left : Vertex) → IsTaskIn st c left.0 → (saves : Bool) → CallEndsSo saves v st o (length start) call lists (end.Spent left)
+  pub full : NoneReached stands v → NeedsMoreStore st c.coordinator call → (saves : Bool) → CallEndsSo saves v st o (length start) call lists (end.Full (length bodies) (65 + records_size bodies))
