@@ -61,7 +61,7 @@ pub stored-results : (job : JobSayings) (g : DataGraph) (owner : ℕ → ℕ) (c
     → IsStoredRun true (shared_by job g owner) job.fields.machines job.fields.window job.fields.budget count kept resumed snapshots run
     → run.end ≡ end.Finished → AreResults job.fields.algorithm job.fields.source g run.numbers.items
 stored-results job g owner count kept resumed snapshots run is start edges ran finished =
-    let E : StoredEnd → Type 0 = λ e. RunEndsSo true (shared_by job g owner) job.fields.machines job.fields.window job.fields.budget kept snapshots ran.unanswered (lists_of run) e in
+    let E : StoredEnd → Type 0 = λ e. RunEndsSo true (shared_by job g owner) job.fields.machines job.fields.window job.fields.budget count kept snapshots ran.unanswered (lists_of run) e in
     let ends : E end.Finished = subst E finished ran.ends in
     results-of job.fields.algorithm job.fields.source g run.order.items run.numbers.items is start edges ran.is.in_turn.valid ran.numbers_are ends.finished
 

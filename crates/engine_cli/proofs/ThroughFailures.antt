@@ -30,7 +30,7 @@ use Rattle.engine_cli.proofs.Results.{results-of}
 module _ (job : JobSayings) (g : DataGraph) (owner : ℕ → ℕ) (saves : Bool) (window stored : ℕ) (snapshots : List (List Entry)) (was : StoredRun)
     (ran : IsStoredRun saves (shared_by job g owner) job.fields.machines window job.fields.budget stored [] false snapshots was) where
   abbrev pub ends-so : StoredEnd → Type 0
-  ends-so = RunEndsSo saves (shared_by job g owner) job.fields.machines window job.fields.budget [] snapshots ran.unanswered (lists_of was)
+  ends-so = RunEndsSo saves (shared_by job g owner) job.fields.machines window job.fields.budget stored [] snapshots ran.unanswered (lists_of was)
 
   -- no failure went unanswered
   answered : IsEndAlone was.end → ran.unanswered ≡ 0
@@ -38,7 +38,7 @@ module _ (job : JobSayings) (g : DataGraph) (owner : ℕ → ℕ) (saves : Bool)
     where
       go : (how : StoredEnd) → ends-so how → IsEndAlone how → ran.unanswered ≡ 0
       go end.Finished ends alone = ends.answered
-      go (end.Spent left) ends alone = ends.answered
+      go (end.Spent left) ends alone = ends.0.answered
       go (end.Full stored bytes) ends alone = absurd alone
       go end.DiskFault ends alone = absurd alone
 
@@ -56,7 +56,7 @@ module _ (job : JobSayings) (g : DataGraph) (owner : ℕ → ℕ) (saves : Bool)
         results = λ same. results-of job.fields.algorithm job.fields.source g was.order.items was.numbers.items is start edges ran.is.in_turn.valid ran.numbers_are (finished same);
         spent = λ left same.
             let ends : ends-so (end.Spent left) = subst ends-so same ran.ends in
-            subst (λ (n : ℕ). SpendsRun (shared_by job g owner) job.fields.budget left.0 n (lists_of was)) none ends;
+            subst (λ (n : ℕ). SpendsRun (shared_by job g owner) job.fields.budget left.0 n (lists_of was)) none ends.0;
         enough = enough;
       }
 
