@@ -3,7 +3,7 @@ use Rattle.std.proofs.Common.{◌≡◌, ℕ, suc, zero, ◌+◌, ◌<◌, ◌==
 use Rattle.std.proofs.lemmas.List.{length-replicate, map-append, take_more}
 use Rattle.local_graph.specs.declared.sides.Side.{Side}
 use Rattle.local_graph.specs.Locals.{numbers_along, written}
-use Rattle.local_graph.specs.Inner.Blank.{AreBlank, AreKept, kept_numbers}
+use Rattle.local_graph.specs.Inner.Blank.{AreBlank, AreNumbersKept, kept_numbers}
 use Rattle.local_graph.proofs.FillLemmas.{no_side}
 
 abbrev pub zeros : ℕ → List ℕ
@@ -29,7 +29,7 @@ zero_set (suc count) zero = refl
 zero_set (suc count) (suc e) = ap (λ (xs : List ℕ). 0 ∷ xs) (zero_set count e)
 
 -- how many numbers there are
-pub count_kept : (blank : Bool) (count : ℕ) (numbers : List ℕ) (capacity : ℕ) → AreKept blank count numbers capacity → length (kept_numbers blank count numbers) ≡ count
+pub count_kept : (blank : Bool) (count : ℕ) (numbers : List ℕ) (capacity : ℕ) → AreNumbersKept blank count numbers capacity → length (kept_numbers blank count numbers) ≡ count
 count_kept true count numbers capacity are = let zero_there : ℕ = 0 in length-replicate count zero_there
 count_kept false count numbers capacity are = are.all refl
 

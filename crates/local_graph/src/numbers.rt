@@ -20,13 +20,13 @@ pub struct EdgeNumbers {
 
 impl Model for EdgeNumbers {
     ghost use Rattle.std.specs.Prelude.{ℕ, List};
-    ghost use Rattle.local_graph.specs.Inner.Blank.{AreKept, kept_numbers};
+    ghost use Rattle.local_graph.specs.Inner.Blank.{AreNumbersKept, kept_numbers};
 
     ghost Value = { List ℕ };
 
     ghost view = { λ n. kept_numbers n.blank n.count n.numbers.items };
 
-    ghost invariant = { λ n. AreKept n.blank n.count n.numbers.items n.numbers.cap };
+    ghost invariant = { λ n. AreNumbersKept n.blank n.count n.numbers.items n.numbers.cap };
 }
 
 impl EdgeNumbers {

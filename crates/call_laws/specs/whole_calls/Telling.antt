@@ -52,7 +52,7 @@ abbrev pub HasNoWordAt : Cluster → ℕ → Type 0
 HasNoWordAt c a = (call_way c a ≡ []) × (report_way c a ≡ [])
 
 -- no snapshot is under way, and none is due
-pub record IsSettled (st : Setting) (c : Coordinator) : Type 0 where
+pub record AwaitsNoSnapshot (st : Setting) (c : Coordinator) : Type 0 where
   pub none : c.acknowledged ≡ c.begun
   pub due : SnapshotIsDue st c → ⊥
 
@@ -61,7 +61,7 @@ pub record AsksForNone (st : Setting) (c : Cluster) : Type 0 where
   pub stored : st.stored ≡ true
   pub half : 0 < half_window st
   pub quiet : (a : ℕ) → a < st.machines → HasNoWordAt c a
-  pub settled : IsSettled st c.coordinator
+  pub settled : AwaitsNoSnapshot st c.coordinator
 
 -- where as many snapshots are stored as may be, of each machine less than half of the window is outside the last one
 abbrev pub LacksNoSnapshot : Setting → Coordinator → EngineCall → Type 0

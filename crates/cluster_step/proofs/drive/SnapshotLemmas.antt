@@ -4,7 +4,7 @@ use Rattle.std.proofs.lemmas.Bool.{cases_eq}
 use Rattle.std.specs.Prelude.{IsTrue, not, ◌↔◌, ◌≢◌}
 use Rattle.call_laws.proofs.whole_calls.Leading.{behind_since, since}
 use Rattle.call_laws.specs.attempts.EngineCalls.{EngineCall}
-use Rattle.call_laws.specs.whole_calls.Telling.{IsSettled, LacksNoSnapshot, NeedsMoreStore}
+use Rattle.call_laws.specs.whole_calls.Telling.{AwaitsNoSnapshot, LacksNoSnapshot, NeedsMoreStore}
 use Rattle.cluster_laws.specs.cluster_model.Events as law
 use Rattle.cluster_laws.specs.cluster_model.Leading.{SnapshotIsDue}
 use Rattle.cluster_step.proofs.trace.Going.{setting_now}
@@ -65,7 +65,7 @@ module _ {M : Type 0} (stands : Setting → ℕ → Machine → M → Type 0) (v
       let there : SnapshotIsDue (since (first_setting st o) last.start last.base) c.coordinator = record { stored = due.stored; none = due.none; wanted = due.wanted } in
       subst (λ (s : Setting). SnapshotIsDue s c.coordinator) (sym (behind_since events (first_setting st o))) there
 
-  pub settled : (answer : Due) → IsDueOf v.now.coordinator answer → ((k : ℕ) → answer ≡ what.Snapshot k → ⊥) → saving.acknowledged ≡ saving.begun → IsSettled st c.coordinator
+  pub settled : (answer : Due) → IsDueOf v.now.coordinator answer → ((k : ℕ) → answer ≡ what.Snapshot k → ⊥) → saving.acknowledged ≡ saving.begun → AwaitsNoSnapshot st c.coordinator
   settled answer due none same = record {
     none = knows.acknowledged ∙ same ∙ sym knows.begun;
     due = λ asked. none (suc c.coordinator.begun) ((due.snapshot last c.coordinator (suc c.coordinator.begun) is.code.coordinator).1 (due_last asked, refl));

@@ -1,6 +1,6 @@
 //! Whether a store that has as many snapshots as may be lacks one.
 ghost use Rattle.std.specs.Prelude.{ℕ, ◌<◌, IsTrue};
-ghost use Rattle.call_laws.specs.whole_calls.Telling.{AsksForNone, HasNoWordAt, IsSettled, LacksNoSnapshot, NeedsMoreStore};
+ghost use Rattle.call_laws.specs.whole_calls.Telling.{AsksForNone, HasNoWordAt, AwaitsNoSnapshot, LacksNoSnapshot, NeedsMoreStore};
 ghost use Rattle.cluster_laws.specs.cluster_model.Working.{half_window};
 ghost use Rattle.cluster_step.specs.drive.Pauses.{InEachCourse, OfTheCall};
 
@@ -40,7 +40,7 @@ fn asks_for_none<M: SavingMachine>(course: &Course<M>) -> bool
 
 /// Whether no snapshot is under way, and none is due.
 fn is_settled<M: SavingMachine>(course: &Course<M>) -> bool
-    ensures { IsTrue result → InEachCourse M.stands course.now (λ st o events c. IsSettled st c.coordinator) }
+    ensures { IsTrue result → InEachCourse M.stands course.now (λ st o events c. AwaitsNoSnapshot st c.coordinator) }
 {
     match course.due() {
         Due::Snapshot(_) => false,

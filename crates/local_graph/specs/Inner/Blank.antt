@@ -11,7 +11,7 @@ kept_numbers true count numbers = replicate count 0
 kept_numbers false count numbers = numbers
 
 -- the list has none and room for all while each is 0, and else all
-pub record AreKept (blank : Bool) (count : ℕ) (numbers : List ℕ) (capacity : ℕ) : Type 0 where
+pub record AreNumbersKept (blank : Bool) (count : ℕ) (numbers : List ℕ) (capacity : ℕ) : Type 0 where
   pub none : blank ≡ true → numbers ≡ []
   pub room : blank ≡ true → count ≤ capacity
   pub all : blank ≡ false → length numbers ≡ count
