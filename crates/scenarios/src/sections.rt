@@ -37,6 +37,14 @@ fn is_text(line: &str) -> bool {
     line.starts_with('|') || line.starts_with('+')
 }
 
+/// Returns the number behind the first word, or 0 if there is none.
+fn vertices_of(counts: &str) -> u64 {
+    match words_behind(counts) {
+        "" => 0,
+        word => number_of(word),
+    }
+}
+
 /// Returns the section of the lines from one place up to another.
 fn section_of<'a>(lines: &'a [&'a str], start: usize, end: usize) -> Section<'a> {
     let lines = lines.get(start..end).unwrap_or(&[]);
@@ -57,8 +65,8 @@ impl Section<'_> {
         self.said == "any" || self.keyword == "any" || self.keyword == "any-disk"
     }
 
-    /// Returns the bytes that its text stands for, or none if it is malformed. The text of `stored NAME COUNT` is a store: the bytes
-    /// below, and so many snapshots.
+    /// Returns the bytes that its text stands for, or none if it is malformed. The text of `stored NAME COUNT VERTICES` is a store: the
+    /// bytes below, and so many snapshots of a graph with so many vertices, or with none if their number is left out.
     pub fn text(&self, alloc: Global) -> Option<Vec<u8>> {
         let mut text = Vec::new(alloc);
         for line in self.lines {
@@ -67,7 +75,8 @@ impl Section<'_> {
             }
         }
         if self.keyword == "stored" {
-            add_snapshots(&mut text, number_of(words_behind(self.said)));
+            let counts = words_behind(self.said);
+            add_snapshots(&mut text, number_of(word_of(counts)), vertices_of(counts));
         }
         Some(text)
     }

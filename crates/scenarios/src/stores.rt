@@ -1,12 +1,16 @@
 //! Stores that have many snapshots.
 
-/// Adds snapshots of a graph without vertices, as they stand behind the header of its store, and the gate that ends them: behind the
-/// first one, each has a restart more than the one before it.
-pub fn add_snapshots(store: &mut Vec<u8>, count: u64) {
+/// How many vertices the graph of such a store may have.
+const MOST_VERTICES: u64 = 64;
+
+/// Adds snapshots of the components of a graph without edges, as they stand behind the header of its store, and the gate that ends them:
+/// behind the first one, each has a restart more than the one before it. The vertices have the identifiers from 1 on, and no updates.
+pub fn add_snapshots(store: &mut Vec<u8>, count: u64, vertices: u64) {
+    let vertices = vertices.min(MOST_VERTICES);
     for place in 0..count.min(5000) {
         let restarts = place.min(1);
         add_number(store, 1, 1);
-        add_number(store, 16 + 16 * restarts, 8);
+        add_number(store, 16 + 16 * restarts + 12 * vertices, 8);
         add_number(store, place.saturating_add(1), 4);
         add_number(store, restarts, 4);
         if place > 0 {
@@ -14,7 +18,12 @@ pub fn add_snapshots(store: &mut Vec<u8>, count: u64) {
             add_number(store, 0, 7);
             add_number(store, place - 1, 8);
         }
-        add_number(store, 0, 8);
+        add_number(store, vertices, 4);
+        for vertex in 0..vertices {
+            add_number(store, vertex, 4);
+            add_number(store, vertex + 1, 8);
+        }
+        add_number(store, 0, 4);
     }
     add_number(store, 0, 1);
 }
