@@ -23,7 +23,7 @@ use Rattle.local_graph.specs.declared.playing.Beside.{Beside}
 use Rattle.local_graph.specs.declared.sides.Side.{Side}
 use Rattle.local_graph.specs.Lines.{half_of_line, halves_of_lines, line_out, line_into, links_from}
 use Rattle.local_graph.specs.Locals.{LocalView, AreTheirPlaces, at_place, got_at, place_of_vertex, is_own, links_at, sides_at, parts_at, part_at, machine_numbers}
-use Rattle.local_graph.specs.Played.{IsMadeOf, leads_to, meets, no_datum, side_of, sides_kept}
+use Rattle.local_graph.specs.Played.{IsMadeOf, IsSideTo, leads_to, meets, no_datum, side_of, sides_kept}
 use Rattle.local_graph.specs.Inner.AtPlaces.{halves_known, stands_near, machines_of, row_at, scope_numbers, sides_known}
 use Rattle.local_graph.specs.Inner.Beside.{AreBeside}
 use Rattle.local_graph.specs.Inner.ByPlace.{AreMadeTo, AreRowsOf, HaveEdgesBelow, LeadBack, known_vertices}
@@ -32,7 +32,7 @@ use Rattle.local_graph.specs.Inner.Kept.{HasAsMany, IsWellKept, links_of}
 use Rattle.local_graph.proofs.EndLemmas.{ends_at}
 use Rattle.local_graph.proofs.ListLemmas.{kept_all, length-links}
 use Rattle.local_graph.proofs.RowLemmas.{own_place}
-use Rattle.local_graph.proofs.ScopeLemmas.{kept_any}
+use Rattle.local_graph.proofs.ScopeLemmas.{kept_any, sides_lead}
 
 -- the lists as they were made by place, from vertices and ghosts and the half-edges at each vertex
 pub record IsMade (me : MachineNo) (own : List VertexLine) (ghosts : List GhostLine) (outline : Outline) (halves : List (List Half)) (order : List VertexLine) (l : LocalView) : Type 0 where
@@ -326,8 +326,8 @@ module _ (me : MachineNo) (own : List VertexLine) (ghosts : List GhostLine) (out
         own_known : (v : ℕ) → is_own l v ≡ true → is_some (place_of_vertex l.places v) ≡ true
         own_known v own = own_some (place_of_vertex l.places v) own
 
-  pub made_sound : HaveEdgesBelow outline.vertices outline.edges halves → IsWellKept l
-  made_sound edges =
+  pub made_sound : length known < 4294967295 → HaveEdgesBelow outline.vertices outline.edges halves → IsWellKept l
+  made_sound few edges =
       record {
         inside = λ x k at. let inside = made.places.inside x k at in omega (arith, many_sides);
         apart = apart;
@@ -354,6 +354,14 @@ module _ (me : MachineNo) (own : List VertexLine) (ghosts : List GhostLine) (out
               (All-map (λ (s : Side). s.edge.0 < length l.numbers) as_side (halves_known halves known k) listed))
           | inr past ↦ subst (All (λ (s : Side). s.edge.0 < length l.numbers)) (sym (get_or_past l.sides k [] (omega (arith, many_sides)))) (All-nil (λ (s : Side). s.edge.0 < length l.numbers))
         ];
+        leads = λ k. elim (cases_lt k (length known)) [
+          | inl inside ↦
+              subst (All (IsSideTo l.places)) (sym (sides_here k inside))
+              (All-filter (λ (s : Side). nat_lt k (length order) || nat_lt s.place (length order)) (IsSideTo l.places) (map as_side (halves_known halves known k))
+              (sides_lead me (length order) ghosts l.places (halves_known halves known k)))
+          | inr past ↦ subst (All (IsSideTo l.places)) (sym (get_or_past l.sides k [] (omega (arith, many_sides)))) (All-nil (IsSideTo l.places))
+        ];
+        few = omega (arith, many_sides);
       }
     where
       many_sides : length l.sides ≡ length known

@@ -1,5 +1,5 @@
 -- What is kept where a row moves out or in, and numbers are written.
-use Rattle.std.proofs.Common.{◌≡◌, ℕ, ◌<◌, ◌==◌, if◌then◌else◌, true, Option, Some, None, is_some, List, [], length, get_or, set, map, sym, ap, ◌∙◌, subst, arith, inl, inr}
+use Rattle.std.proofs.Common.{◌≡◌, ℕ, ◌<◌, ◌≤◌, ◌==◌, if◌then◌else◌, true, Option, Some, None, is_some, List, [], length, get_or, slice_get, set, map, refl, sym, ap, ◌∙◌, subst, arith, inl, inr}
 use Rattle.std.specs.List.{All}
 use Rattle.std.proofs.lemmas.Bool.{cases_eq, cases_lt, true≢false}
 use Rattle.std.proofs.lemmas.Option.{slice_get_past}
@@ -10,6 +10,7 @@ use Rattle.std.specs.declared.alloc.Global.{Global}
 use Rattle.update_api.specs.declared.links.Link.{Link}
 use Rattle.local_graph.specs.declared.sides.Side.{Side}
 use Rattle.local_graph.specs.Locals.{LocalView, at_place, got_at, place_of_vertex}
+use Rattle.local_graph.specs.Played.{place_or}
 use Rattle.local_graph.specs.Inner.Kept.{HasAsMany, IsWellKept, links_of}
 use Rattle.local_graph.proofs.PlaceLemmas.{at_written}
 
@@ -38,6 +39,8 @@ sound_after l k row numbers sound fits same =
                 subst (λ (o : Option (List Link)). HasAsMany (length (get_or l.sides j [])) o) (sym (get_or-set_other l.rows k j row None other)) (sound.fit j inside_too)
           ];
       edges = λ j. subst (λ (n : ℕ). All (λ (s : Side). s.edge.0 < n) (get_or l.sides j [])) (sym same) (sound.edges j);
+      leads = sound.leads;
+      few = sound.few;
     }
 
 -- an own vertex has its place among the own ones
@@ -47,6 +50,11 @@ own_place kept o k at own = elim (cases_lt k (length kept)) [
   | inr past ↦
       absurd (true≢false (sym own ∙ ap (λ p. is_some (got_at kept p)) at ∙ ap is_some (slice_get_past kept k past)))
 ]
+
+-- the datum at the place of an own vertex, and none at another place
+pub got_along : (kept : List Datum) (o : Option ℕ) (place : ℕ) → place ≡ place_or 4294967295 o → ((k : ℕ) → o ≡ Some k → k < 4294967295) → length kept ≤ 4294967295 → slice_get kept place ≡ got_at kept o
+got_along kept None place is low few = ap (slice_get kept) is ∙ slice_get_past kept 4294967295 few
+got_along kept (Some k) place is low few = let inside = low k refl in let at : place ≡ k = omega arith in ap (slice_get kept) at
 
 -- a row that is not out stands at a place of the rows
 pub row_place : (rows : List (Option (List Link))) (o : Option ℕ) (k : ℕ) → o ≡ Some k → is_some (at_place rows o None) ≡ true → k < length rows

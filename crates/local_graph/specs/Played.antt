@@ -30,6 +30,10 @@ abbrev pub place_or : ℕ → Option ℕ → ℕ
 place_or none None = none
 place_or none (Some k) = min k none
 
+-- the side has the place of its other end
+abbrev pub IsSideTo : List (Option ℕ) → Side → Type 0
+IsSideTo places s = s.place ≡ place_or 4294967295 (place_of_vertex places s.other.0)
+
 -- a half-edge as a side
 abbrev pub side_of : MachineNo → ℕ → List GhostLine → List (Option ℕ) → Half → Side
 side_of me many ghosts places h =

@@ -1,5 +1,7 @@
 //! The part of the graph that a machine owns.
 ghost use Rattle.std.specs.Prelude.{◌≡◌, ℕ, ◌<◌, ◌≤◌, ◌==◌, true, None, Some, is_some, length, if◌then◌else◌, vec_capacity};
+ghost use Rattle.std.specs.List.{All};
+ghost use Rattle.local_graph.specs.Played.{IsSideTo};
 ghost use Rattle.local_graph.specs.Locals.{place_at, is_placed, is_own, own_datum, id_at, links_at, sides_at, parts_at, part_at, edge_number_at, HasEdge, numbers_along, set_where, written};
 
 use crate::numbers::EdgeNumbers;
@@ -123,6 +125,31 @@ impl LocalGraph {
         match self.places.place(v) {
             Some(place) => self.sides.row(place),
             None => &[],
+        }
+    }
+
+    /// The same edges, each with the place of its other end.
+    pub fn ends(&self, v: Vertex) -> &[Side]
+        ensures sides { result.now ≡ sides_at self.now v.0 }
+        ensures places { All (IsSideTo self.now.places) result.now }
+    {
+        match self.places.place(v) {
+            Some(place) => self.sides.row(place),
+            None => &[],
+        }
+    }
+
+    /// The datum of the vertex at the end of a side that has its place, where that is an own one.
+    #[inline]
+    pub fn datum_along(&self, side: &Side) -> Option<Datum>
+        requires { IsSideTo self.now.places side.now }
+        ensures { result ≡ own_datum self.now side.now.other.0 }
+    {
+        let place = side.place as usize;
+        if place < self.kept.len() {
+            Some(self.kept[place])
+        } else {
+            None
         }
     }
 

@@ -9,7 +9,8 @@ use Rattle.update_api.specs.declared.links.Link.{Link}
 use Rattle.local_graph.specs.declared.sides.Side.{Side}
 use Rattle.local_graph.specs.Lines.{links_from}
 use Rattle.local_graph.specs.Locals.{place_of_vertex}
-use Rattle.local_graph.specs.Played.{meets, numbers_of, place_or, sides_kept}
+pub use Rattle.local_graph.specs.Played.{IsSideTo}
+use Rattle.local_graph.specs.Played.{meets, numbers_of, sides_kept}
 
 -- the half-edges at the vertex with place k among these
 abbrev pub halves_known : List (List Half) → List Vertex → ℕ → List Half
@@ -48,7 +49,3 @@ is_first_place many (Some k) = nat_lt k many
 pub record ArePlain (owned : List Vertex) (many : ℕ) (places : List (Option ℕ)) : Type 0 where
   pub ascend : Ascends (numbers_of owned)
   pub first : (x : ℕ) → number_among x (numbers_of owned) ≡ is_first_place many (place_of_vertex places x)
-
--- the side has the place of its other end
-abbrev pub IsSideTo : List (Option ℕ) → Side → Type 0
-IsSideTo places s = s.place ≡ place_or 4294967295 (place_of_vertex places s.other.0)

@@ -1,5 +1,7 @@
 //! The numbers of a machine, and the works that are taken of them.
 ghost use Rattle.std.specs.Prelude.{◌≡◌, ℕ, ◌≤◌, ◌==◌, true, None, Some, is_some, length, if◌then◌else◌, vec_capacity, IfOk};
+ghost use Rattle.std.specs.List.{All};
+ghost use Rattle.local_graph.specs.Played.{IsSideTo};
 ghost use Rattle.partition.specs.machine_numbers.Views.{HasEdge, is_own, links_at, sides_at, numbers_along, datum_here, value_here, edge_here, near_along};
 ghost use Rattle.partition.specs.machine_numbers.Steps.{HasTakenOut, HasRoom};
 
@@ -109,24 +111,41 @@ impl Numbers {
         Spare { edges, near }
     }
 
+    /// The number at the end of a side that has its place.
+    #[inline]
+    fn value_along(&self, side: &Side) -> u64
+        requires { IsSideTo self.now.local.places side.now }
+        ensures { result ≡ value_here self.now side.now.other.0 }
+    {
+        if let Some(datum) = self.local.datum_along(side) {
+            return datum.value;
+        }
+        if self.ghosts.has(side.other) {
+            self.ghosts.get(side.other).value
+        } else {
+            0
+        }
+    }
+
     /// The numbers at the other ends of the edges at a vertex, in a list that has room for them.
     fn gather(&self, v: Vertex, spare: Vec<u64>) -> Vec<u64>
         requires { length (sides_at self.now.local v.0) ≤ vec_capacity spare }
         ensures { result.items ≡ near_along (value_here self.now) (sides_at self.now.local v.0) }
     {
-        fill_near(spare, self.local.sides(v), self)
+        fill_near(spare, self.local.ends(v), self)
     }
 }
 
-/// The numbers at the other ends of these sides, in a list that has room for them.
+/// The numbers at the other ends of these sides, in a list that has room for them. The sides have the places of these ends.
 fn fill_near(spare: Vec<u64>, sides: &[Side], numbers: &Numbers) -> Vec<u64>
-    requires { length sides.now ≤ vec_capacity spare }
+    requires places { All (IsSideTo numbers.now.local.places) sides.now }
+    requires room { length sides.now ≤ vec_capacity spare }
     ensures { result.items ≡ near_along (value_here numbers.now) sides.now }
 {
     let mut near = spare;
     near.clear();
     for side in sides {
-        near.push_reserved(numbers.datum(side.other).value);
+        near.push_reserved(numbers.value_along(side));
     }
     near
 }

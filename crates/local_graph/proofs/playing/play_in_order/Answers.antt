@@ -59,7 +59,11 @@ invariant_of-result c =
     let made : IsMade c.args.me c.args.own.now c.args.ghosts.now c.args.outline c.args.halves.now c.args.order.now (joined c.args.me owned places lists c.in_ok-beside.beside) =
     joined_made c.args.me c.args.own.now c.args.ghosts.now c.args.outline c.args.halves.now c.args.order.now known owned places lists c.in_ok-beside.beside
     c.in_ok-known.ensures c.in_ok-owned.ensures c.requires.order stand below lists_made c.in_ok-beside.ensures in
-    made_sound c.args.me c.args.own.now c.args.ghosts.now c.args.outline c.args.halves.now c.args.order.now (joined c.args.me owned places lists c.in_ok-beside.beside) made c.requires.edges
+    let same = length_permutation c.args.own.now c.args.order.now c.requires.order in
+    let fit = c.requires.few in
+    let limit = c.requires.limit in
+    let few : length (known_vertices c.args.order.now c.args.ghosts.now) < 4294967295 = omega (arith, length-known c.args.order.now c.args.ghosts.now) in
+    made_sound c.args.me c.args.own.now c.args.ghosts.now c.args.outline c.args.halves.now c.args.order.now (joined c.args.me owned places lists c.in_ok-beside.beside) made few c.requires.edges
 
 pub returns : goal.returns
 returns c = λ at are back.
