@@ -144,6 +144,9 @@ impl VertexQueue {
         ensures { self.new ≡ slice_set self.old vertex.0 false }
     {
         let place = vertex.0 as usize;
+        if !self.standings[place].is_member() {
+            return;
+        }
         self.standings[place] = self.standings[place].done();
         drop_done(&mut self.standings, &mut self.queue);
     }
