@@ -20,5 +20,5 @@ pub use laws::{
     levels_are_levels, marks_are_tight, orders_go_on, paths_are_distances, tasks_are_vertices,
     updates_are_few,
 };
-pub use runs::{Played, SeqRun};
+pub use runs::{Played, SeqRun, least_start, start_values};
 pub use steps::update_vertex;

@@ -190,7 +190,11 @@ impl<'a, P: Program> SeqRun<'a, P> {
 }
 
 /// The numbers that the vertices start with.
-fn start_values<P: Program>(alloc: Global, graph: &Graph, program: &P) -> Result<Vec<u64>, NoMemory>
+pub fn start_values<P: Program>(
+    alloc: Global,
+    graph: &Graph,
+    program: &P,
+) -> Result<Vec<u64>, NoMemory>
     ensures { IfOk result (λ values. AreNumbers (size graph.now) (start_state graph.now (P.meaning program.now)).vertex values.items) }
 {
     let mut values = Vec::with_capacity(alloc, graph.n() as usize)?;
@@ -227,11 +231,12 @@ fn is_one_number(values: &[u64]) -> bool
     true
 }
 
-/// The first of the vertices with the least start number, and vertex 0 where there is none.
-fn least_start(values: &[u64], count: u32) -> Vertex
+/// The first of the vertices with the least number, and vertex 0 where there is none.
+pub fn least_start(values: &[u64], count: u32) -> Vertex
     requires { length values.now ≡ count }
     ensures inside { 0 < count → result.0 < count }
     ensures least { (v : ℕ) → v < count → slice_index values.now result.0 ≤ slice_index values.now v }
+    ensures first { (v : ℕ) → v < result.0 → slice_index values.now result.0 < slice_index values.now v }
 {
     let mut least = 0;
     for v in 0..count {

@@ -1,11 +1,11 @@
 //! The numbers with which a program starts.
 ghost use Rattle.std.specs.Prelude.{◌≡◌, IfOk};
-ghost use Rattle.graph_core.specs.DataGraph.{size};
 ghost use Rattle.placement.specs.graphs.Placed.{Setting};
-ghost use Rattle.placement.specs.graphs.Beginnings.{AreNumbers, BeginsWith, IsBaseFor, IsFirstBase, start_state};
+ghost use Rattle.placement.specs.graphs.Beginnings.{BeginsWith, IsBaseFor, IsFirstBase, start_state};
 
-use gl_base::{Base, NoMemory, Vertex};
+use gl_base::{Base, NoMemory};
 use graph_core::Graph;
+use seq_run::start_values;
 use std::alloc::Global;
 use update_api::Program;
 
@@ -24,15 +24,4 @@ pub fn first_base<P: Program>(alloc: Global, graph: &Graph, program: &P) -> Resu
         edges,
         length: 0,
     })
-}
-
-/// The number with which each vertex starts, by its identifier.
-fn start_values<P: Program>(alloc: Global, graph: &Graph, program: &P) -> Result<Vec<u64>, NoMemory>
-    ensures { IfOk result (λ values. AreNumbers (size graph.now) (start_state graph.now (P.meaning program.now)).vertex values.items) }
-{
-    let mut values = Vec::with_capacity(alloc, graph.n() as usize)?;
-    for v in 0..graph.n() {
-        values.push(program.start(graph.id(Vertex(v))))?;
-    }
-    Ok(values)
 }

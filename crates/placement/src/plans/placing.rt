@@ -13,6 +13,7 @@ use crate::plans::runs::RunPlan;
 use gl_base::{AtomNo, Base, MachineNo, NoMemory, Vertex};
 use graph_atoms::atom_gather::Cut;
 use graph_core::Graph;
+use seq_run::least_start;
 use std::alloc::Global;
 
 /// Where the plan places the graph, which is cut so. One machine has all of it, so it isn't cut.
@@ -92,20 +93,4 @@ pub fn first_of(graph: &Graph, base: &Base) -> Vertex
         slice_index base.now.values.items result.0 < slice_index base.now.values.items v }
 {
     least_start(&base.values, graph.n())
-}
-
-/// The first of the vertices with the least number, and vertex 0 where there is none.
-fn least_start(values: &[u64], count: u32) -> Vertex
-    requires { length values.now ≡ count }
-    ensures inside { 0 < count → result.0 < count }
-    ensures least { (v : ℕ) → v < count → slice_index values.now result.0 ≤ slice_index values.now v }
-    ensures first { (v : ℕ) → v < result.0 → slice_index values.now result.0 < slice_index values.now v }
-{
-    let mut least = 0;
-    for v in 0..count {
-        if values[v as usize] < values[least as usize] {
-            least = v;
-        }
-    }
-    Vertex(least)
 }
