@@ -6,6 +6,8 @@ mod driving;
 mod happenings;
 mod pauses;
 mod turns;
+mod unsaved;
 
 pub use driving::drive;
 pub use pauses::Pause;
+pub use unsaved::{UnsavedPause, drive_unsaved};

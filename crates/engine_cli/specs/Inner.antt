@@ -4,4 +4,3 @@ pub mod Writes
 pub mod Storing
 pub mod Prepares
 pub mod Printing
-pub mod Failing

@@ -2,6 +2,7 @@
 pub use Rattle.recovery.specs.Journals.{records_size, stored_in, stored_order}
 pub use Rattle.engine_runs.specs.answers.Images.{HoldsGood, orders_behind}
 pub use Rattle.engine_runs.specs.answers.Runs.{IsRunWithFailures, IsStoredRun, Shared, lists_of}
+pub use Rattle.engine_runs.specs.answers.Unstored.{HasRestartsFirst}
 pub use Rattle.engine_runs.specs.Runs.{BoundsSteps, HasRoomForRun, IsRunBy}
 use Rattle.std.specs.Prelude.{◌≡◌, ◌≤◌, ◌+◌, ◌*◌, ◌++◌, ◌∷◌, ℕ, Bool, true, false, List, [], length, sum_by, ⊤, Option, None, Some}
 use Rattle.graph_atoms.specs.declared.atom_gather.cuts.Cut.{Cut}
@@ -111,10 +112,12 @@ abbrev pub shared_by : JobSayings → DataGraph → (ℕ → ℕ) → Shared
 shared_by job g owner =
     record { graph = g; program = update_of job.fields.algorithm job.fields.source; owner = owner; failures = job.failures }
 
--- A run with failures from the start, which none of them outlasts: it keeps to the budget, and its numbers are the replay of its order. Where it left
--- no task, they are what the algorithm is to find; and else the budget is spent, which was not enough.
+-- A run with failures from the start, which none of them outlasts: it keeps to the budget, and its numbers are the replay of its order. All restarts of that stand before all its
+-- updates: no snapshot lies before a restart, so that each attempt begins from the start. Where it left no task, the numbers are what the algorithm is to find; and else the budget is
+-- spent, which was not enough.
 pub record BeginsAgain (job : JobSayings) (shared : Shared) (run : StoredRun) : Type 0 where
   pub is : IsRunWithFailures shared job.fields.machines [] false 0 (lists_of run)
+  pub again : HasRestartsFirst run.order.items
   pub few : sum_by (λ count. count) run.done.items ≤ job.fields.budget
   pub numbers_are : AreNumbers (size shared.graph) (replay shared.graph shared.program run.order.items).vertex run.numbers.items
   pub finished : run.end ≡ Finished → IsFinished shared.graph shared.program run.order.items

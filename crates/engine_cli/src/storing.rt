@@ -142,7 +142,7 @@ fn run_on_journal<R: Wait, D: Disk>(
 
 /// Runs the job's algorithm by its program on the graph, which is cut so, with snapshots as this window asks, and one of the end where that
 /// is saved.
-pub fn run_stored_on<R: Wait, D: Disk>(
+fn run_stored_on<R: Wait, D: Disk>(
     rt: &R,
     alloc: Global,
     graph: &Graph,

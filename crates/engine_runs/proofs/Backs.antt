@@ -19,7 +19,7 @@ use Rattle.engine_runs.specs.Calls.{CallOpening, CourseView, DiskPast, EngineSav
 use Rattle.engine_runs.specs.declared.calls.StoredCall.{StoredCall}
 use Rattle.update_api.specs.Updates.{Update}
 
-some_reached : {P : Type 0} (meaning : P → Update) (v : CourseView (EngineSaver P)) (header : Header) (start bodies : List (List ℕ)) (lost stored front order : List Entry) (st : Setting) (o : CallOpening)
+pub some_reached : {P : Type 0} (meaning : P → Update) (v : CourseView (EngineSaver P)) (header : Header) (start bodies : List (List ℕ)) (lost stored front order : List Entry) (st : Setting) (o : CallOpening)
     (known : IsKnownCourse (IsEngineSaverOf meaning) v header start bodies lost stored front order st o) (m : MachineNo) → PausesSo (IsEngineSaverOf meaning) v (pause.Reached m) → HasReachedSome v st known.was.cluster
 some_reached meaning v header start bodies lost stored front order st o known m reached =
     (m.0, low_machine (IsEngineSaverOf meaning) v st o known.was.events known.was.cluster known.was.now m.0 reached.0, reached.1 st o known.was.events known.was.cluster known.was.now)

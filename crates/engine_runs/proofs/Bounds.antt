@@ -45,7 +45,7 @@ flags_few test k (suc many) = either (test k) (total_from (suc k) many (λ a. if
     either true rest few = omega arith
     either false rest few = omega arith
 
-failures_few : (st : Setting) (c : Cluster) → failures_in st c ≤ st.machines
+pub failures_few : (st : Setting) (c : Cluster) → failures_in st c ≤ st.machines
 failures_few st c = flags_few (λ a. (c.machine a).failed) 0 st.machines
 
 -- ---- the restarts of an attempt
@@ -68,7 +68,7 @@ module _ (st : Setting) (failures : List FailureAt) (kept : List Entry) (resumed
   one_at_most false = omega arith
 
   -- one where the call resumes, and one for each failure
-  restarts_few : length (filter is_restart c.base.order) ≤ length (filter is_restart kept) + 1 + length failures
+  pub restarts_few : length (filter is_restart c.base.order) ≤ length (filter is_restart kept) + 1 + length failures
   restarts_few =
       all_few (length (filter is_restart c.base.order)) (length (filter is_restart call.last.made)) (length (filter is_restart kept)) (length are.new) (length (fired_of (shared_of st failures) call)) (struck_in call.failed) call.last.struck (length failures) (if call.resumed then 1 else 0)
       (sym (length-append (filter is_restart c.base.order) (filter is_restart call.last.made))

@@ -4,3 +4,4 @@ pub mod Restarted
 pub mod Keepings
 pub mod Attempts
 pub mod Refusals
+pub mod FromStart

@@ -2,3 +2,4 @@ pub mod CourseLemmas
 pub mod StartLemmas
 pub mod TicketLemmas
 pub mod TicketSteps
+pub mod StartingAlone

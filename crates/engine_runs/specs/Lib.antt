@@ -8,3 +8,4 @@ pub mod rollback
 pub mod finish
 pub mod append
 pub mod stores
+pub mod unstored

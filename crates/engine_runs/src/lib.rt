@@ -13,5 +13,7 @@ pub mod saver_courses;
 pub mod start;
 mod steps;
 pub mod stores;
+mod unstored;
 
 pub use running::run_stored;
+pub use unstored::run_unstored;

@@ -6,6 +6,8 @@ mod losing;
 mod next_attempts;
 mod reading;
 mod rooms;
+mod unstored;
 
 pub use failing::fail_reached;
 pub use going::go_back;
+pub(crate) use unstored::go_back_to_start;

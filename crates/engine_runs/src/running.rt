@@ -158,7 +158,11 @@ fn begin<D: Disk, P: Program>(
 }
 
 /// The call that has started, whose end is saved or not.
-fn call_of<P: Program>(alloc: Global, started: Started<P>, saves_end: bool) -> StoredCall<P>
+pub(crate) fn call_of<P: Program>(
+    alloc: Global,
+    started: Started<P>,
+    saves_end: bool,
+) -> StoredCall<P>
     ensures course { result.course ≡ started.course }
     ensures places { result.places ≡ started.places }
     ensures restarts { result.restarts ≡ started.restarts }
@@ -195,7 +199,7 @@ fn refused_by(why: JournalFault, length: u64) -> JournalFault
 }
 
 /// The run of a call that ended so, whose store has so many bytes.
-fn gathered<P: Program>(
+pub(crate) fn gathered<P: Program>(
     alloc: Global,
     graph: &Graph,
     failures: &[FailureAt],

@@ -5,5 +5,7 @@ mod openings;
 mod placing;
 mod starting;
 mod tickets;
+mod unstored;
 
 pub use starting::{Started, start_call};
+pub(crate) use unstored::start_unstored;

@@ -9,4 +9,4 @@ mod recovered;
 pub mod restarts;
 
 pub use laws::appends_keep_stores_good;
-pub use recovered::recover;
+pub use recovered::{recover, start_base};

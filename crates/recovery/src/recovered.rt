@@ -8,7 +8,7 @@ ghost use Rattle.recovery.specs.Recovered.{FitsGraph, IsStartBase, IsRecovered, 
 use gl_base::{Base, NoMemory};
 use gl_outside::Disk;
 use graph_core::Graph;
-use seq_run::SeqRun;
+use seq_run::start_values;
 use std::alloc::Global;
 use store::snap_journal::{Journal, JournalFault};
 use update_api::Program;
@@ -49,16 +49,17 @@ pub fn recover<D: Disk, P: Program>(
     }
 }
 
-/// The start, over a store without snapshots.
-fn start_base<P: Program>(alloc: Global, graph: &Graph, program: &P) -> Result<Base, NoMemory>
+/// The start, over a store without snapshots or without a store.
+pub fn start_base<P: Program>(alloc: Global, graph: &Graph, program: &P) -> Result<Base, NoMemory>
     ensures { IfOk result (IsStartBase graph.now (P.meaning program.now)) }
 {
-    let start = SeqRun::new(alloc, graph, *program)?.finish();
+    let values = start_values(alloc, graph, program)?;
+    let edges = vec![in alloc; 0u64; graph.m() as usize]?;
     Ok(Base {
         number: 0,
-        order: start.order,
-        values: start.values,
-        edges: start.edges,
+        order: Vec::new(alloc),
+        values,
+        edges,
         length: NEW_STORE,
     })
 }

@@ -65,7 +65,7 @@ fn last_pause<M: SavingMachine>(course: &Course<M>, saves_end: bool) -> Option<P
 }
 
 /// Whether no ticket is left of the budget, and a task is; and a store that has as many snapshots as may be lacks none.
-fn is_spent<M: SavingMachine>(course: &Course<M>) -> bool
+pub(crate) fn is_spent<M: SavingMachine>(course: &Course<M>) -> bool
     ensures spent { IsTrue result → IsSpentNow M.stands course.now }
     ensures task { IsTrue result → HasFlaggedTask M.stands course.now }
 {
@@ -79,7 +79,7 @@ fn is_spent<M: SavingMachine>(course: &Course<M>) -> bool
 }
 
 /// The first machine that has reached the count of a failure.
-fn first_reached<M: SavingMachine>(course: &Course<M>) -> Option<MachineNo>
+pub(crate) fn first_reached<M: SavingMachine>(course: &Course<M>) -> Option<MachineNo>
     ensures some { IfSome result (IsReachedAt M.stands course.now) }
     ensures none { IfNone result (NoneReached M.stands course.now) }
 {

@@ -47,6 +47,11 @@ module _ (g : DataGraph) (program : Update) (header : Header) (bodies : List (Li
   length_stored (inl start) = start.1.length ∙ ap (λ (l : List (List ℕ)). 65 + records_size l) (sym (none_stored bodies start.0))
   length_stored (inr last) = last.1.length
 
+-- the tickets of a store are low
+pub low_stored : (g : DataGraph) (program : Update) (header : Header) (seen : List ℕ) (base : Base) → IsRecovered g program header (stored_in header seen) base → ticket_above base.order.items ≤ 144115188075855872
+low_stored g program header seen base recovered =
+    subst (λ (order : List Entry). ticket_above order ≤ 144115188075855872) (sym (order_stored g program header (stored_in header seen) base recovered)) (tickets_low header seen)
+
 -- ---- the restarts of the base
 
 restarts_long : (resumed : Bool) (order : List Entry) (next : ℕ) → 16 * length (filter is_restart (order ++ (if resumed then Restart next ∷ [] else []))) ≡ 16 * length (filter is_restart order) + restart_room resumed
@@ -108,19 +113,13 @@ some_setting g program places machines failures graph are =
       refl,
     )
 
-module _ {P : Type 0} (meaning : P → Update) (g : DataGraph) (program : Update) (header : Header) (seen : List ℕ) (base : Base) (resumed : Bool) (opening : Opening) (course : CourseView (EngineSaver P)) (places : Places) (failures : List FailureAt) (budget machines : ℕ)
-    (recovered : IsRecovered g program header (stored_in header seen) base) (op : IsOpeningOf resumed base opening) where
-  abbrev bodies : List (List ℕ)
-  bodies = stored_in header seen
-
+module _ {P : Type 0} (meaning : P → Update) (g : DataGraph) (program : Update) (header : Header) (bodies : List (List ℕ)) (base : Base) (resumed : Bool) (opening : Opening) (course : CourseView (EngineSaver P)) (places : Places) (failures : List FailureAt) (budget machines : ℕ)
+    (recovered : IsRecovered g program header bodies base) (low : ticket_above base.order.items ≤ 144115188075855872) (op : IsOpeningOf resumed base opening) where
   abbrev kept : Base
   kept = base_with base.order opening.base
 
   order_is : base.order.items ≡ stored_order bodies
   order_is = order_stored g program header bodies base recovered
-
-  low : ticket_above base.order.items ≤ 144115188075855872
-  low = subst (λ (order : List Entry). ticket_above order ≤ 144115188075855872) (sym order_is) (tickets_low header seen)
 
   next_is : opening.next ≡ ticket_above base.order.items
   next_is = exact opening.next (ticket_above base.order.items) op.next low

@@ -130,7 +130,7 @@ fn base_with<D: Disk, P: Program>(
 }
 
 /// The next attempt from this base, with this store.
-fn attempt_from<P: Program>(
+pub(crate) fn attempt_from<P: Program>(
     alloc: Global,
     course: &Course<EngineSaver<P>>,
     graph: &Graph,

@@ -1,6 +1,6 @@
 -- The call has started from what the store has.
 use Rattle.std.proofs.Common.{false, length, sym, ◌∙◌, ◌≡◌}
-use Rattle.engine_runs.proofs.start.StartLemmas.{can_open, has_started, restarts_first, some_setting}
+use Rattle.engine_runs.proofs.start.StartLemmas.{can_open, has_started, low_stored, restarts_first, some_setting}
 use Rattle.engine_runs.specs.start.Starting.{shared_of}
 use Rattle.recovery.specs.Journals.{stored_in}
 use Rattle.engine_runs.proofs.start.starting.start_call.Goals as goal
@@ -20,13 +20,14 @@ returns-clause-started g c = λ told st runs good.
     let budget = c.args.plan.run.budget in
     let machines = c.args.plan.run.machines in
     let recovered = c.in_ok-base.ensures.base told in
+    let low = low_stored graph program header seen base recovered in
     let op = c.in_ok-opening.ensures.opening in
     let base_good = c.in_ok-base.ensures.good told (shared_of st failures) runs.placed.graph runs.program_is c.requires.graph good in
     let are = c.in-Ok.ensures.placed.are in
     let fresh : c.args.resumed ≡ false → length (stored_in header seen) ≡ 0 = λ is. sym (c.count-stored.ensures.stored told c.in_ok-base.ensures.well.0) ∙ c.count-stored.ensures.count ∙ c.requires.fresh is in
-    has_started meaning graph program header seen base c.args.resumed opening course places failures budget machines recovered op st runs good base_good c.requires.failures are c.requires.plan.budget fresh
+    has_started meaning graph program header (stored_in header seen) base c.args.resumed opening course places failures budget machines recovered low op st runs good base_good c.requires.failures are c.requires.plan.budget fresh
     (c.in-Ok-course_of.ensures.opened st c.args.resumed base.order runs
-    (can_open meaning graph program header seen base c.args.resumed opening course places failures budget machines recovered op st runs good base_good c.requires.failures are c.requires.plan.budget fresh))
+    (can_open meaning graph program header (stored_in header seen) base c.args.resumed opening course places failures budget machines recovered low op st runs good base_good c.requires.failures are c.requires.plan.budget fresh))
     c.in-Ok-course_of.ensures.failures c.requires.graph c.requires.machines
 
 pub returns-clause-setting : goal.returns-clause-setting

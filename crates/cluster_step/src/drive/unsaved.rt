@@ -1,0 +1,63 @@
+//! An attempt of a call without a store is driven until it pauses.
+ghost use Rattle.std.specs.Prelude.{IfOk, IfSome};
+ghost use Rattle.cluster_step.specs.drive.Pauses.{IsSameAttempt, NoneReached};
+ghost use Rattle.cluster_step.specs.drive.Unsaved.{PausesUnsaved};
+
+use crate::drive::pauses::{first_reached, is_spent};
+use crate::drive::turns::round;
+use crate::trace::{Course, SavingMachine};
+use gl_base::{MachineNo, NoMemory};
+use std::sync::Wait;
+
+/// Why the rounds of an attempt pause in a call that stores no snapshot.
+#[derive(Clone, Copy)]
+pub enum UnsavedPause {
+    /// The machine has reached the count of a failure.
+    Reached(MachineNo),
+    /// Nothing is left to do.
+    Quiet,
+    /// No ticket is left, and a task is.
+    Spent,
+}
+
+/// Makes rounds until the attempt pauses, and says why: it pauses as soon as nothing is left to do. For want of memory the course stays where
+/// it is. No snapshot is acknowledged, and no attempt begins.
+pub fn drive_unsaved<R: Wait, M: SavingMachine>(
+    rt: &R,
+    course: &mut Course<M>,
+) -> Result<UnsavedPause, NoMemory>
+    ensures same { IsSameAttempt course.old course.new }
+    ensures pause { IfOk result (PausesUnsaved M.stands course.new) }
+{
+    for _ in rt.forever() {
+        if let Some(pause) = unsaved_pause(course) {
+            return Ok(pause);
+        }
+        round(course)?;
+    }
+    unreachable!()
+}
+
+/// The pause, where the course is at one.
+fn unsaved_pause<M: SavingMachine>(course: &Course<M>) -> Option<UnsavedPause>
+    ensures { IfSome result (PausesUnsaved M.stands course.now) }
+{
+    match first_reached(course) {
+        Some(m) => Some(UnsavedPause::Reached(m)),
+        None => unsaved_end(course),
+    }
+}
+
+/// The pause, where no machine has reached the count of a failure.
+fn unsaved_end<M: SavingMachine>(course: &Course<M>) -> Option<UnsavedPause>
+    requires { NoneReached M.stands course.now }
+    ensures { IfSome result (PausesUnsaved M.stands course.now) }
+{
+    if course.leaves_nothing() {
+        Some(UnsavedPause::Quiet)
+    } else if is_spent(course) {
+        Some(UnsavedPause::Spent)
+    } else {
+        None
+    }
+}

@@ -1,0 +1,85 @@
+-- A call without a store goes on.
+use Rattle.std.proofs.Common.{◌≡◌, ℕ, ◌<◌, ◌≤◌, ◌∙◌, List, [], ap, length, subst, subst₂, sym}
+use Rattle.std.specs.Prelude.{false}
+use Rattle.engine_runs.proofs.Backs.{some_reached}
+use Rattle.engine_runs.proofs.Begun.{from_started}
+use Rattle.engine_runs.proofs.Playing.{same_first, same_on}
+use Rattle.cluster_step.specs.declared.drive.unsaved.UnsavedPause.TheVariants as unsaved
+use Rattle.engine_runs.specs.declared.start.starting.Started.{Started}
+use Rattle.engine_runs.specs.rollback.Returning.{HasReachedSome, IsKnownCourse}
+use Rattle.engine_runs.specs.start.Starting.{HasStarted}
+use Rattle.engine_runs.specs.unstored.Inner.Going.{ArePlacesOf, AreRestartsAlone, CallOpening, CanGoOnUnstored, GoesOnUnstored, HasBegunUnstored, Header, IsEngineSaverOf, IsHeaderOf, IsKnownAt, IsRunAt, IsSameCall, PausesUnsaved, Setting, StoredCall}
+use Rattle.gl_base.specs.declared.entries.Entry.{Entry}
+use Rattle.gl_base.specs.declared.jobs.FailureAt.{FailureAt}
+use Rattle.gl_base.specs.declared.numbers.MachineNo.{MachineNo}
+use Rattle.graph_core.specs.DataGraph.{DataGraph, size}
+use Rattle.placed_machines.specs.declared.savers.Places.{Places}
+use Rattle.update_api.specs.Updates.{Update}
+
+-- ---- as it begins
+
+pub has_begun : {P : Type 0} (meaning : P → Update) (started : Started P) (call : StoredCall P) (header : Header) (budget : ℕ) (st : Setting) → call.course ≡ started.course → call.restarts ≡ started.restarts → call.order ≡ started.order →
+    call.lost.items ≡ [] → HasStarted meaning started header [] false budget st → HasBegunUnstored meaning call header budget st
+has_begun meaning started call header budget st course restarts order lost has = record {
+  opening = has.opening;
+  resumed_is = has.resumed_is;
+  tickets = has.tickets;
+  known = subst (λ (ls : List Entry). IsKnownCourse (IsEngineSaverOf meaning) call.course header [] [] ls call.restarts.stored.items call.restarts.front.items call.order.items st has.opening) (sym lost)
+      (from_started meaning started call header [] st has.opening course restarts order has.known);
+}
+
+-- ---- as it goes on
+
+module _ {P : Type 0} (meaning : P → Update) (g : DataGraph) (program : Update) where
+  pub stays : (call : StoredCall P) → CanGoOnUnstored g call → GoesOnUnstored meaning g program call call
+  stays call can = record { can = can; same = same_first call; known = λ header st o runs known. known }
+
+  pub goes_then : (a b c : StoredCall P) → GoesOnUnstored meaning g program a b → GoesOnUnstored meaning g program b c → GoesOnUnstored meaning g program a c
+  goes_then a b c one other = record {
+    can = other.can;
+    same = same_on a b c one.same other.same;
+    known = λ header st o runs known. other.known header st o (subst (λ (p : Places). IsRunAt g program p st) (sym one.same.places) runs) (one.known header st o runs known);
+  }
+
+  -- to its next pause
+  pub goes_to : (call mid : StoredCall P) → mid ≡ record call { course = mid.course } → IsSameCall call mid →
+      ((header : Header) (start bodies : List (List ℕ)) (st : Setting) (o : CallOpening) → IsKnownAt meaning call.course call header start bodies st o → IsKnownAt meaning mid.course mid header start bodies st o) →
+      CanGoOnUnstored g call → GoesOnUnstored meaning g program call mid
+  goes_to call mid same attempt known can = record {
+    can = record {
+      places = subst₂ (λ (n : ℕ) (p : Places). ArePlacesOf g n p) (sym attempt.machines) (sym attempt.places) can.places;
+      machines = subst (λ (n : ℕ). n < 65535) (sym attempt.machines) can.machines;
+      failures = subst (λ (fs : List FailureAt). length fs ≤ 65536) (sym attempt.failures) can.failures;
+      running = attempt.stopped ∙ can.running;
+      stored = ap (λ (c : StoredCall P). c.restarts.stored.items) same ∙ can.stored;
+      snapshots = ap (λ (c : StoredCall P). c.snapshots.items) same ∙ can.snapshots;
+      saves = attempt.saves ∙ can.saves;
+      restarts = subst AreRestartsAlone (sym (ap (λ (c : StoredCall P). c.order.items) same)) can.restarts;
+    };
+    same = attempt;
+    known = λ header st o runs at. known header [] [] st o at;
+  }
+
+  -- back to the start
+  pub goes_back : (call later : StoredCall P) → IsSameCall call later → later.snapshots ≡ call.snapshots → later.restarts.stored ≡ call.restarts.stored → later.course.now.stopped ≡ false → AreRestartsAlone later.order.items →
+      (m : MachineNo) → PausesUnsaved (IsEngineSaverOf meaning) call.course (unsaved.Reached m) →
+      ((header : Header) (order : List Entry) (st : Setting) (o : CallOpening) → IsHeaderOf g header → IsRunAt g program call.places st →
+      (known : IsKnownCourse (IsEngineSaverOf meaning) call.course header [] [] call.lost.items call.restarts.stored.items call.restarts.front.items order st o) → HasReachedSome call.course st known.was.cluster →
+      IsKnownAt meaning later.course later header [] [] st o) →
+      CanGoOnUnstored g call → GoesOnUnstored meaning g program call later
+  goes_back call later attempt snapshots stored running alone m reached back can = record {
+    can = record {
+      places = subst₂ (λ (n : ℕ) (p : Places). ArePlacesOf g n p) (sym attempt.machines) (sym attempt.places) can.places;
+      machines = subst (λ (n : ℕ). n < 65535) (sym attempt.machines) can.machines;
+      failures = subst (λ (fs : List FailureAt). length fs ≤ 65536) (sym attempt.failures) can.failures;
+      running = running;
+      stored = ap (λ v. v.items) stored ∙ can.stored;
+      snapshots = ap (λ v. v.items) snapshots ∙ can.snapshots;
+      saves = attempt.saves ∙ can.saves;
+      restarts = alone;
+    };
+    same = attempt;
+    known = λ header st o runs at.
+        back header call.order.items st o (record { n = at.fits.n ∙ ap size runs.placed.graph; m = at.fits.m ∙ ap (λ (x : DataGraph). length x.edges) runs.placed.graph }) runs at
+        (some_reached meaning call.course header [] [] call.lost.items call.restarts.stored.items call.restarts.front.items call.order.items st o at m reached);
+  }

@@ -1,0 +1,119 @@
+//! A run without a store.
+ghost use Rattle.std.specs.Prelude.{All, List, [], false, length, ◌≡◌, ◌≤◌, ◌<◌, ◌*◌, ◌+◌, ℕ, IfErr, IfOk};
+ghost use Rattle.engine_runs.specs.Runs.{AreJobFailures, ArePlacedFor, BoundsSteps, CanBeCut, IsEndAt, IsEntryOf, IsInRange, IsPlacement, IsRunBy, lists_of, owned_shared};
+ghost use Rattle.engine_runs.specs.answers.Unstored.{IsUnstoredRun};
+ghost use Rattle.engine_runs.specs.declared.answers.runs.StoredEnd.TheVariants as ending;
+ghost use Rattle.engine_runs.specs.unstored.Inner.Going.{CallOpening, CanGoOnUnstored, HasBegunUnstored, Header, IsHeaderOf, IsRunAt, Setting};
+ghost use Rattle.gl_base.specs.declared.numbers.Vertex.{Vertex};
+ghost use Rattle.graph_core.specs.DataGraph.{IsDataGraph, size};
+ghost use Rattle.store.specs.declared.snap_journal.faults.JournalFault.TheVariants as fault;
+ghost use Rattle.update_api.specs.Updates.{Update};
+
+use crate::answers::{StoredEnd, StoredPlan, StoredRun};
+use crate::calls::StoredCall;
+use crate::placement_is_unique::placements_are_one;
+use crate::running::{call_of, gathered};
+use crate::start::start_unstored;
+use crate::unstored::steps::play_unstored;
+use gl_base::{EngineKind, FailureAt, NoMemory};
+use graph_atoms::atom_gather::Cut;
+use graph_core::Graph;
+use placement::plans::RunPlan;
+use std::alloc::Global;
+use std::sync::Wait;
+use store::snap_journal::JournalFault;
+use update_api::Program;
+
+/// A window in which no machine asks for a snapshot: half of it is the greatest budget that a job may have.
+const WIDEST_WINDOW: u32 = 33_554_432;
+
+/// Runs a program on the graph, which is cut so, from the start to the end of the run, without a store. Machines fail as the failures order,
+/// and all go back to the start, since no snapshot is taken. The run ends finished or at its budget, and is refused for want of memory alone.
+pub fn run_unstored<R: Wait, P: Program>(
+    rt: &R,
+    alloc: Global,
+    graph: &Graph,
+    program: P,
+    cut: &Cut,
+    plan: RunPlan,
+    engine: EngineKind,
+    failures: &[FailureAt],
+) -> Result<StoredRun, NoMemory>
+    requires cut { CanBeCut graph.now cut.now }
+    requires plan { IsInRange plan }
+    requires few { plan.machines < 65535 }
+    requires failures { AreJobFailures plan.machines failures.now }
+    requires places { length failures.now ≤ 65536 }
+
+    // What the run is, by the owners that the placement gives.
+    ensures run { IfOk result (λ run. (owner : ℕ → ℕ) → IsPlacement graph.now cut.now plan.machines owner →
+        IsUnstoredRun (owned_shared graph.now (P.meaning program) owner failures.now) plan.machines plan.budget run) }
+
+    // It is a run of machines of this engine, with the plan's pipeline.
+    ensures engine { IfOk result (λ run. (window : ℕ) ×
+        IsRunBy graph.now cut.now (P.meaning program) (record { run = plan; window = window; engine = engine; saves_end = false }) failures.now (lists_of run)) }
+
+    // Its budget is not spent, where each attempt has as many tickets as it may need.
+    ensures enough { IfOk result (λ run. (bound : ℕ) → BoundsSteps graph.now (P.meaning program) bound →
+        (1 + length failures.now) * bound ≤ plan.budget → (left : Vertex) → run.end ≡ ending.Spent left → ⊥) }
+
+    // The graph is placed for it, in the one way that there is.
+    ensures placed { IfOk result (λ run. (owner : ℕ → ℕ) × IsPlacement graph.now cut.now plan.machines owner) }
+    ensures numbers { IfOk result (λ run. length run.numbers.items ≡ size graph.now) }
+    ensures entries { IfOk result (λ run. All (IsEntryOf graph.now) run.order.items) }
+{
+    placements_are_one();
+    let all = StoredPlan {
+        run: plan,
+        window: WIDEST_WINDOW,
+        engine,
+        saves_end: false,
+    };
+    let mut call = begin(alloc, graph, program, cut, all, failures)?;
+    match play_unstored(rt, alloc, graph, program, &mut call) {
+        Ok(end) => match gathered(alloc, graph, failures, call, end, 0) {
+            Ok(run) => Ok(run),
+            Err(why) => Err(only_memory(why)),
+        },
+        Err(NoMemory) => {
+            drop(call);
+            Err(NoMemory)
+        }
+    }
+}
+
+/// The call as it starts.
+fn begin<P: Program>(
+    alloc: Global,
+    graph: &Graph,
+    program: P,
+    cut: &Cut,
+    plan: StoredPlan,
+    failures: &[FailureAt],
+) -> Result<StoredCall<P>, NoMemory>
+    requires cut { CanBeCut graph.now cut.now }
+    requires plan { IsInRange plan.run }
+    requires few { plan.run.machines < 65535 }
+    requires failures { AreJobFailures plan.run.machines failures.now }
+    requires places { length failures.now ≤ 65536 }
+    ensures can { IfOk result (CanGoOnUnstored graph.now) }
+    ensures begun { IfOk result (λ call. (header : Header) (st : Setting) →
+        IsHeaderOf graph.now header → header.machines ≡ plan.run.machines → IsRunAt graph.now (P.meaning program) call.places st →
+        HasBegunUnstored P.meaning call header plan.run.budget st) }
+    ensures graph { IfOk result (λ call. IsDataGraph graph.now) }
+    ensures places { IfOk result (λ call. ArePlacedFor graph.now cut.now plan call.places) }
+    ensures failures { IfOk result (λ call. call.course.failures ≡ failures.now) }
+{
+    let started = start_unstored(alloc, graph, program, cut, plan, failures)?;
+    Ok(call_of(alloc, started, false))
+}
+
+/// Want of memory, which is the only reason.
+fn only_memory(why: JournalFault) -> NoMemory
+    requires { why ≡ fault.NoMemory }
+{
+    match why {
+        JournalFault::NoMemory => NoMemory,
+        _ => unreachable!(),
+    }
+}

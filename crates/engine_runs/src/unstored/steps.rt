@@ -1,0 +1,97 @@
+//! A call without a store goes on, pause by pause, until it ends.
+ghost use Rattle.std.specs.Prelude.{List, ◌≡◌, ℕ, IfOk, IfSome, OnOk};
+ghost use Rattle.engine_runs.specs.unstored.Inner.Going.{CallOpening, CanGoOnUnstored, EndsCallUnstored, GoesOnUnstored, Header, IsEngineSaverOf, IsKnownAt, IsSameCall, PausesUnsaved, Setting};
+ghost use Rattle.gl_base.specs.declared.numbers.MachineNo.{MachineNo};
+
+use crate::answers::StoredEnd;
+use crate::calls::StoredCall;
+use crate::finish::task_left;
+use crate::rollback::go_back_to_start;
+use cluster_step::drive::{UnsavedPause, drive_unsaved};
+use gl_base::NoMemory;
+use graph_core::Graph;
+use std::alloc::Global;
+use std::sync::Wait;
+use update_api::Program;
+
+/// Goes on until the run ends.
+pub(crate) fn play_unstored<R: Wait, P: Program>(
+    rt: &R,
+    alloc: Global,
+    graph: &Graph,
+    program: P,
+    call: &mut StoredCall<P>,
+) -> Result<StoredEnd, NoMemory>
+    requires { CanGoOnUnstored graph.now call.old }
+    ensures on { IfOk result (λ end. GoesOnUnstored P.meaning graph.now (P.meaning program) call.old call.new) }
+    ensures ends { IfOk result (EndsCallUnstored P.meaning call.new) }
+{
+    for _ in rt.forever() {
+        if let Some(end) = step(rt, alloc, graph, program, call)? {
+            return Ok(end);
+        }
+    }
+    unreachable!()
+}
+
+/// Goes on to the next pause. All go back to the start where a machine has reached the count of a failure. Says how the run ended, where it
+/// has.
+fn step<R: Wait, P: Program>(
+    rt: &R,
+    alloc: Global,
+    graph: &Graph,
+    program: P,
+    call: &mut StoredCall<P>,
+) -> Result<Option<StoredEnd>, NoMemory>
+    requires { CanGoOnUnstored graph.now call.old }
+    ensures on { IfOk result (λ end. GoesOnUnstored P.meaning graph.now (P.meaning program) call.old call.new) }
+    ensures ends { IfOk result (λ end. IfSome end (EndsCallUnstored P.meaning call.new)) }
+{
+    match go_on(rt, call)? {
+        UnsavedPause::Reached(_) => {
+            go_back_from(alloc, graph, program, call)?;
+            Ok(None)
+        }
+        UnsavedPause::Quiet => Ok(Some(StoredEnd::Finished)),
+        UnsavedPause::Spent => Ok(Some(StoredEnd::Spent(task_left(&call.course)))),
+    }
+}
+
+/// Goes on to the next pause.
+fn go_on<R: Wait, P: Program>(rt: &R, call: &mut StoredCall<P>) -> Result<UnsavedPause, NoMemory>
+    ensures known { (header : Header) (start bodies : List (List ℕ)) (st : Setting) (o : CallOpening) →
+        IsKnownAt P.meaning call.old.course call.old header start bodies st o → IsKnownAt P.meaning call.new.course call.new header start bodies st o }
+    ensures pause { IfOk result (PausesUnsaved (IsEngineSaverOf P.meaning) call.new.course) }
+    ensures same { call.new ≡ record call.old { course = call.new.course } }
+    ensures attempt { IsSameCall call.old call.new }
+{
+    call.course.remember();
+    let pause = drive_unsaved(rt, &mut call.course);
+    // The reader tells that no snapshot was acknowledged since, and that no attempt began.
+    let _machines = call.course.machines();
+    pause
+}
+
+/// All machines go back to the start, where one has reached the count of a failure.
+fn go_back_from<P: Program>(
+    alloc: Global,
+    graph: &Graph,
+    program: P,
+    call: &mut StoredCall<P>,
+) -> Result<(), NoMemory>
+    requires can { CanGoOnUnstored graph.now call.old }
+    requires reached { (m : MachineNo) × PausesUnsaved (IsEngineSaverOf P.meaning) call.old.course (UnsavedPause.Reached m) }
+    ensures { OnOk result (GoesOnUnstored P.meaning graph.now (P.meaning program) call.old call.new) }
+{
+    let order = go_back_to_start(
+        alloc,
+        &mut call.course,
+        graph,
+        program,
+        &call.places,
+        &mut call.restarts,
+        &mut call.lost,
+    )?;
+    call.order = order;
+    Ok(())
+}
