@@ -91,7 +91,7 @@ fn go_on<R: Wait + AllocGlobal, P: Program>(rt: &R, call: &mut Call<'_, P>) -> R
         let pause = drive(rt, &mut call.course, true)?;
         call.pause = Some(pause);
         match pause {
-            Pause::Ended | Pause::Quiet | Pause::Spent => return Ok(()),
+            Pause::Ended | Pause::Quiet | Pause::Full | Pause::Spent => return Ok(()),
             Pause::Record(_) => {
                 take_due(rt.alloc(), call.beginning, &mut call.kept, &mut call.course)?;
             }
@@ -240,6 +240,7 @@ fn add_seen<P: Program>(call: &Call<'_, P>, line: &Line<'_>, page: &mut Page) {
 fn add_pause(pause: Option<Pause>, page: &mut Page) {
     page.add(match pause {
         Some(Pause::Ended | Pause::Quiet) => " ended",
+        Some(Pause::Full) => " full",
         Some(Pause::Spent) => " spent",
         _ => " none",
     });
