@@ -13,4 +13,5 @@ pub use coordinator::coord_core::{Coordinator, Due, Engine, Store};
 pub use coordinator::machine_api::SavingMachine;
 pub use events::{Event, Lead, Local, Passage};
 pub use laws::bases_stay_good;
+pub use link::Link;
 pub use parts::Parts;

@@ -90,7 +90,7 @@ module _ (st : Setting) (failures : List FailureAt) (a : ℕ) where
   grants_follow (x ∷ xs) s home c free = (tt, grants_follow xs s home (law.after_event st c (law.Grant a x)) (grant_reached c x ∙ free))
 
   -- they follow the job
-  follow_at_once : (c : Cluster) (v : ℕ) → has_reached failures c a ≡ false → FollowJob st failures c (events_at_once st a v (c.machine a))
+  pub follow_at_once : (c : Cluster) (v : ℕ) → has_reached failures c a ≡ false → FollowJob st failures c (events_at_once st a v (c.machine a))
   follow_at_once c v free = (tt, grants_follow (locks_at_once st v a) (next_scope a (c.machine a).part) refl (law.after_event st c (law.Admit a v)) (admit_reached c v ∙ free))
 
 -- ---- what these events are
